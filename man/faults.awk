@@ -1,5 +1,5 @@
-# Makes the manual page acpiset-faults.7 from docs/FAULTS.md.
-# usage: awk -f man/faults.awk docs/FAULTS.md > man/acpiset-faults.7
+# Prints the manual page acpiset-faults(7), made from docs/FAULTS.md. scripts/install makes and installs it.
+# usage: awk -f man/faults.awk docs/FAULTS.md
 
 # A text of the document in the form of the page: code in bold, only the words of links, special characters of roff escaped.
 function roff(text,   before, inside, out) {

@@ -200,7 +200,9 @@ rules=$(sed -n 's/^rule_row rule\.\([A-Za-z0-9]*\) = (\([0-9]*\), .*)$/\2 \1/p' 
 listed=$(sed -n '/^## Advice$/,/^## /s/^| \([0-9]* [A-Za-z0-9]*\) | .*/\1/p' docs/TABLES.md)
 same 'rules of advice (<) and those that TABLES.md lists (>)' "$rules" "$listed"
 same 'rules of advice (<) and their parts in FAULTS.md (>)' "$rules" "$advised"
-same 'rules of advice (<) and their parts in man/acpiset-faults.7 (>)' "$rules" "$(sed -n 's/^\.SS \([0-9]* [A-Za-z0-9]*\)$/\1/p' man/acpiset-faults.7 | awk '$1 > 100')"
+awk -f man/faults.awk docs/FAULTS.md >"$scratch/acpiset-faults.7"
+same 'codes and rules of advice (<) and their parts in acpiset-faults(7) (>)' "$codes"$'\n'"$rules" \
+  "$(sed -n 's/^\.SS \([0-9]* [A-Za-z0-9]*\)$/\1/p' "$scratch/acpiset-faults.7")"
 index=$(sed -n '/^### Index of advice$/,/^### What/p' docs/FAULTS.md)
 indexed=$(grep -o '[0-9][0-9]* \[[A-Za-z0-9]*\](#[a-z0-9-]*)' <<<"$index" | sed 's/\[\(.*\)\](#.*/\1/')
 same 'rules of advice (<) and their index by number in FAULTS.md (>)' "$rules" "$indexed"
@@ -245,34 +247,43 @@ parts=$(cat README.md docs/*.md | grep -o '`\(src\|specs\)/[A-Za-z0-9_/]*\.\(rt\
 there=$(while read -r part; do for crate in crates/*; do [ -e "$crate/$part" ] && printf '%s\n' "$part"; done; done <<<"$parts")
 same 'files of a crate that the documents name (<) and that are there (>)' "$parts" "$there"
 
-# touched CHANGE EXAMPLE: the files that a change touches by ARCHITECTURE.md are those that name the example, a pattern: all of
-# those in the crates, and some of the others.
-touched() {
+# listed CHANGE EXAMPLE: the files that a change touches by ARCHITECTURE.md; each of them has to name the example, a pattern.
+listed() {
   local told
   told=$(sed -n "/^### $1\$/,/^##/p" docs/ARCHITECTURE.md | awk -F ' [|] ' '/^[|] `/ {
     sub(/^[|] /, "", $1)
     count = split($2, files, /, /)
     for (i = 1; i <= count; i++) print $1 "/" files[i]
   }' | tr -d '` |')
-  within "$1: files that name $2, and that ARCHITECTURE.md does not list" "$(grep -rlE "$2" crates/*/src crates/*/specs crates/*/proofs)" "$told"
   # shellcheck disable=SC2086 # a list of names
   count "$1: listed files that do not name $2" "$(grep -LE "$2" ${told:-none-is-listed} 2>&1)"
+  files=$told
 }
-touched 'A fault code' '\bGsiPastEnd\b'
-touched 'A rule of advice' 'CacheShape|cache_shape'
-touched 'A kind of entry of the MADT' 'X2apicNmi|x2apic[_-]nmi'
+# touched CHANGE EXAMPLE [FOLDER..]: those are all files of the crates and of the folders that name the example, except those that
+# ARCHITECTURE.md excepts; and some of the others.
+touched() {
+  listed "$1" "$2"
+  within "$1: files that name $2, and that ARCHITECTURE.md does not list" \
+    "$(grep -rlE --exclude=ARCHITECTURE.md --exclude=documents.sh "$2" crates/*/src crates/*/specs crates/*/proofs "${@:3}")" \
+    "$files"$'\n'"$(sed -n "/^### $1\$/,/^##/p" docs/ARCHITECTURE.md | sed -n '/^Excepted: /,/^$/p' | grep -o '`[^`]*`' | tr -d '`')"
+}
+# Folders of which each file that names an example is listed.
+folders=(bindings docs man scripts share tests tools)
+touched 'A fault code' '\bGsiPastEnd\b|\bgsi_past_end\b' "${folders[@]}"
+touched 'A rule of advice' 'CacheShape|cache_shape' "${folders[@]}"
+touched 'A kind of entry of the MADT' 'X2apicNmi|x2apic[_-]nmi' "${folders[@]}"
 touched 'A stage' '\b[Ss]tage(::|\.)Overrides\b'
 touched 'An option' '(--|")hotplug\b|hotplug_|_hotplug|hotplug = '
 touched 'A line of show' '\bx2apic-nmi\b'
 touched 'A kind of answer of the library' '[Pp]iece_?[Pp]ast_?[Ee]nd|PIECE_PAST_END'
 touched 'A table' '[Ss]lit|SLIT'
+listed 'A table that lint alone reads' '[Ss]lit|SLIT'
 
 # wide COLUMNS: those lines of the output of `grep -n` that have more columns.
 wide() { LC_ALL=C.UTF-8 grep -E "^[^:]*:[0-9]+:.{$(($1 + 1)),}$"; }
 count 'lines of proofs with more than 120 columns that are no imports' "$(grep -rn '' crates/*/proofs --include='*.antt' | wide 120 | grep -vE '^[^:]*:[0-9]+:(pub )?use ')"
 count 'clauses with more than 100 columns' "$(grep -rnE '^ *(requires|ensures) ' crates/*/src --include='*.rt' | wide 100)"
 
-count 'man/acpiset-faults.7, made of docs/FAULTS.md (<) and as it is (>)' "$(awk -f man/faults.awk docs/FAULTS.md | diff - man/acpiset-faults.7 | grep '^[<>]')"
 version=$(sed -n 's/^const VERSION: &str = "\(.*\)";$/\1/p' crates/acpi_cli/src/reply.rt)
 same 'the version of the program (<) and the last one in CHANGELOG.md (>)' "$version" "$(sed -n 's/^## \([0-9.]*\).*/\1/p' CHANGELOG.md | head -n 1)"
 # page SECTION: the lines of a section of the manual page, with plain hyphens.
@@ -332,7 +343,7 @@ if asked shellcheck; then
   count 'shellcheck' "$(shellcheck --severity=info --format=gcc "${scripts[@]}" 2>&1)"
 fi
 if asked mandoc; then
-  count 'mandoc -T lint' "$(mandoc -T lint -W warning man/*.[0-9] 2>&1)"
+  count 'mandoc -T lint' "$(mandoc -T lint -W warning man/*.[0-9] "$scratch/acpiset-faults.7" 2>&1)"
 fi
 if asked gawk; then
   # POSIX defines what substr returns for an index past the end.

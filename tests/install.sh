@@ -78,7 +78,7 @@ wanted=$({
   echo bin/acpiset
   for tool in $there; do echo "bin/acpiset-$tool"; done
   for page in man/*.1; do echo "share/man/man1/${page#man/}"; done
-  for page in man/*.7; do echo "share/man/man7/${page#man/}"; done
+  echo share/man/man7/acpiset-faults.7
   for document in README.md CHANGELOG.md CONTRIBUTING.md NOTICES.md SECURITY.md docs/*.md; do echo "share/doc/acpiset/$document"; done
   [ -z "$licence" ] || echo "$licence"
   find share -name '*.py' 2>/dev/null
@@ -93,6 +93,7 @@ same 'make install' "$? $(cat "$scratch/log")" '0 '
 usr="$scratch/root/usr"
 same 'files that are installed' "$(files_in "$usr")" "$wanted"
 rm "$tree"/tools/*[~.]* "$tree"/tools/.[a-z]* "$tree"/man/*~ "$tree"/docs/.[a-z]* "$tree"/docs/*~
+same 'lines of acpiset-faults(7)' "$(wc -l <"$usr/share/man/man7/acpiset-faults.7")" "$(awk -f man/faults.awk docs/FAULTS.md | wc -l)"
 same 'the program' "$("$usr/bin/acpiset" check <tests/images/example.img.txt)" yes
 same 'acpiset-explain' "$(echo yes | "$usr/bin/acpiset-explain" | head -n 1)" yes
 same 'acpiset-acpidump2image' "$("$usr/bin/acpiset-acpidump2image" tests/images/example.acpidump.txt 2>"$scratch/log" | "$usr/bin/acpiset" check)" yes
@@ -158,6 +159,11 @@ mkdir -p "$scratch/none/usr/share/man/man7/acpiset-faults.7"
 rmdir "$scratch/none/usr/bin/acpiset"
 refused 'a folder in the place of a page' '/man7/acpiset-faults.7 is a folder' install "$given" "$none" PREFIX=/usr
 rm -r "$scratch/none"
+for name in docs/FAULTS.md man/faults.awk; do
+  mv "$tree/$name" "$scratch/moved"
+  refused "no $name" "$name is missing" install "$given" "$none" PREFIX=/usr
+  mv "$scratch/moved" "$tree/$name"
+done
 mkdir -p "$scratch/filed/usr"
 echo mine >"$scratch/filed/usr/bin"
 run install "$given" DESTDIR="$scratch/filed" PREFIX=/usr
@@ -248,6 +254,17 @@ same 'make fuzz without a program' "$? $(grep -c '`make build` first' "$scratch/
   printf '%d %d\n' "$passed" "$failed" >"$scratch/counts"
 )
 read -r passed failed <"$scratch/counts"
+# An awk that writes a part of a page into a file, and does not say so: with -v when names of commands are changed, with -f when a
+# page is made.
+mkdir "$scratch/silent"
+for option in -v -f; do
+  printf '#!/bin/sh\nif [ "$1" = %s ] && [ -f /dev/stdout ]; then %s "$@" | head -n 5; else exec %s "$@"; fi\n' \
+    "$option" "$(command -v awk)" "$(command -v awk)" >"$scratch/silent/awk"
+  chmod +x "$scratch/silent/awk"
+  PATH="$scratch/silent:$PATH" with_program install DESTDIR="$scratch/short" PREFIX=/usr
+  same "make install with an awk that writes a part, with $option" \
+    "$? $(grep -c 'could not be written$' "$scratch/log") $(files_in "$scratch/short/usr/share/man/man7")" '2 1 '
+done
 make -s -C "$tree" BINARY="$program" dist >/dev/full 2>"$scratch/log"
 same 'make dist where its answer cannot be written' "$?" 2
 rm -rf "$tree/dist" "$scratch/short"

@@ -74,9 +74,8 @@ ENTRIES = image_of(
         override(0, 2),
         override(9, 47, 0b1101),
         nmi_source(25),
-        lapic_nmi(255, 1),
+        *local_nmis(0xFFFFFFFF, 1),
         lapic_address(0xFEE00000),
-        x2apic_nmi(0xFFFFFFFF, 1),
     ),
     srat(
         *(apic_domain(apic_id, 0) for apic_id in (0, 2)),

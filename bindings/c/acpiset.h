@@ -57,7 +57,7 @@ struct acpiset_settings {
 
 /* A fault, or a finding of advice. What the three numbers are depends on the code or the rule: acpiset-faults(7). */
 struct acpiset_finding {
-    uint32_t number; /* enum acpiset_code (1 to 59) or enum acpiset_rule (101 to 128) */
+    uint32_t number; /* enum acpiset_code or enum acpiset_rule */
     uint64_t at;
     uint64_t other;
     uint64_t point;
@@ -74,7 +74,7 @@ enum acpiset_kind {
     ACPISET_BAD_PROCESSORS = 6,     /* settings.processors is neither 0 nor 1 */
     ACPISET_BAD_STAGE = 7,          /* settings.through is outside 1 to 18 */
     ACPISET_BAD_INPUTS = 8,         /* inputs[at].count is outside 1 to 256 */
-    ACPISET_BAD_CODE = 9,           /* finding.number is outside 1 to 59 */
+    ACPISET_BAD_CODE = 9,           /* finding.number is that of no code */
     ACPISET_PIECE_PAST_END = 10,    /* pieces[at] passes the address 2^64 - 1 */
     ACPISET_PIECES_OVERLAP = 11,    /* pieces[at] and an earlier piece share addresses; `other` is the least of them */
     /* of acpiset_check_text alone; lines count from 1: */
@@ -112,7 +112,9 @@ struct acpiset_answer acpiset_confirm(const struct acpiset_piece *pieces, size_t
                                       const struct acpiset_settings *settings, const struct acpiset_finding *finding);
 
 /* The most findings that acpiset_lint of this version reports. A shared library of a later version may count more. */
+/* begin: most, made by lists.py */
 #define ACPISET_MOST_FINDINGS 87
+/* end: most */
 
 /* All that is wrong: the first fault of each code that has one, and then the first finding of each rule of advice that is
  * broken, both by number. The answer is ACPISET_YES if there is no fault, else ACPISET_NO, with the number of faults in `at`
@@ -143,7 +145,7 @@ enum acpiset_code {
     ACPISET_RSDP_LENGTH = 5,              /* the RSDP's Length is below 36 */
     ACPISET_RSDP_LONG_OUT = 6,            /* the RSDP's Length bytes are not all in the image */
     ACPISET_RSDP_EXTENDED_SUM = 7,        /* the RSDP's extended checksum is wrong */
-    /* stage 2: the RSDT or XSDT */
+    /* stage 2: the XSDT or RSDT */
     ACPISET_NO_ROOT = 8,                  /* the RSDP gives the address of neither an XSDT nor an RSDT */
     ACPISET_ROOT_HEADER_OUT = 9,          /* the header of the XSDT or RSDT is not all in the image */
     ACPISET_ROOT_SIGNATURE = 10,          /* the XSDT or RSDT has another signature */
@@ -171,7 +173,7 @@ enum acpiset_code {
     ACPISET_FACS_SIGNATURE = 29,          /* the FACS does not begin with "FACS" */
     ACPISET_FACS_LENGTH = 30,             /* the FACS's Length is below 64 */
     ACPISET_FACS_OUT = 31,                /* the FACS is not all in the image */
-    /* stage 6: the MADT's entries */
+    /* stage 6: the MADT */
     ACPISET_MADT_SHORT = 32,              /* the MADT's Length is below 44 */
     ACPISET_MADT_ENTRY_CUT = 33,          /* a structure of the MADT is cut off, or its length is below 2 */
     ACPISET_MADT_ENTRY_LENGTH = 34,       /* a structure of the MADT does not have the length of its type */
@@ -183,7 +185,7 @@ enum acpiset_code {
     ACPISET_GSI_CLASH = 39,               /* two I/O APICs serve one interrupt number */
     /* stage 8: interrupt source overrides: none contradicts another */
     ACPISET_OVERRIDE_CLASH = 40,          /* two overrides give one source two interrupt numbers */
-    /* stage 9: the SRAT's entries */
+    /* stage 9: the SRAT */
     ACPISET_SRAT_SHORT = 41,              /* the SRAT's Length is below 48 */
     ACPISET_SRAT_ENTRY_CUT = 42,          /* a structure of the SRAT is cut off, or its length is below 2 */
     ACPISET_SRAT_ENTRY_LENGTH = 43,       /* a structure of the SRAT does not have the length of its type */
@@ -195,7 +197,7 @@ enum acpiset_code {
     ACPISET_SLIT_SIZE = 47,               /* the SLIT's Length does not fit its number of localities */
     ACPISET_SLIT_DIAGONAL = 48,           /* the distance of a locality to itself is not 10 */
     ACPISET_SLIT_LOW = 49,                /* a distance is below 10 */
-    /* stage 12: the PPTT's entries */
+    /* stage 12: the PPTT */
     ACPISET_PPTT_ENTRY_CUT = 50,          /* a structure of the PPTT is cut off, or its length is below 2 */
     ACPISET_PPTT_ENTRY_LENGTH = 51,       /* a structure of the PPTT does not have the length of its type */
     /* stage 13: references of the PPTT's entries */
@@ -221,7 +223,7 @@ enum acpiset_code {
 enum acpiset_rule {
     ACPISET_LISTED_TWICE = 101,         /* an address is listed twice */
     ACPISET_SECOND_TABLE = 102,         /* a second table of a kind is listed, of which only the first is read */
-    ACPISET_LISTED_APART = 103,         /* a DSDT or FACS is listed, which only the FADT has to name */
+    ACPISET_LISTED_APART = 103,         /* a DSDT or FACS is listed, which only the FADT should name */
     ACPISET_FADT_OF_REVISION = 104,     /* the FADT is too short for its Revision */
     ACPISET_FACS_DIFFERS = 105,         /* FIRMWARE_CTRL and X_FIRMWARE_CTRL differ */
     ACPISET_DSDT_DIFFERS = 106,         /* DSDT and X_DSDT differ */
@@ -232,7 +234,7 @@ enum acpiset_rule {
     ACPISET_IO_APIC_AT_ZERO = 111,      /* an I/O APIC has the address 0 */
     ACPISET_SAME_IO_APIC_ID = 112,      /* two I/O APICs have the same ID */
     ACPISET_SAME_IO_APIC_ADDRESS = 113, /* two I/O APICs have the same address */
-    ACPISET_NMI_NOWHERE = 114,          /* a Local APIC NMI is of a UID that no processor has */
+    ACPISET_NMI_NOWHERE = 114,          /* a Local APIC NMI names a UID that no processor has */
     ACPISET_SECOND_GICD = 115,          /* there is a second GIC Distributor */
     ACPISET_NO_PROCESSOR = 116,         /* no processor is usable */
     ACPISET_TWO_UID_DOMAINS = 117,      /* two GICC Affinity Structures put one UID in two proximity domains */
@@ -245,8 +247,8 @@ enum acpiset_rule {
     ACPISET_SAME_CACHE_ID = 124,        /* two caches have the same Cache ID */
     ACPISET_NO_LEAF = 125,              /* a usable processor has no leaf in the PPTT, and others have */
     ACPISET_LEAF_NOWHERE = 126,         /* a leaf's ACPI Processor ID is no UID, and the MADT has GIC CPU interfaces */
-    ACPISET_MADT_UNREAD = 127,          /* a structure of the MADT of a type that nothing here judges */
-    ACPISET_SRAT_UNREAD = 128           /* a structure of the SRAT of a type that nothing here judges */
+    ACPISET_MADT_UNREAD = 127,          /* a structure of the MADT of a type that is not checked */
+    ACPISET_SRAT_UNREAD = 128           /* a structure of the SRAT of a type that is not checked */
 };
 /* end: rules */
 

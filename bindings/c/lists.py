@@ -1,12 +1,12 @@
 #!/usr/bin/env python3
 """Writes the parts of acpiset.h that follow from the crates: the codes and the rules with their numbers, names and stages, the
-names of the kinds, and where the fields of each struct are.
+names of the kinds, how many findings there can be, and where the fields of each struct are.
 
 usage: bindings/c/lists.py [HEADER]          writes these parts anew, each between its marks
        bindings/c/lists.py --check [HEADER]  prints what differs from the crates, and ends with status 1 if anything does
 
 HEADER is bindings/c/acpiset.h if none is named. With --check the parts written by hand are compared too, as far as the crates say
-them: the numbers of the kinds, ACPISET_ABI and ACPISET_MOST_FINDINGS."""
+them: the numbers of the kinds, and ACPISET_ABI."""
 
 import difflib
 import re
@@ -189,6 +189,7 @@ def parts(crates):
     numbered = {**crates.codes, **crates.rules}
     return {
         "codes": ["enum acpiset_code {", *commented(code_lines(crates)), "};"],
+        "most": [f"#define ACPISET_MOST_FINDINGS {len(numbered)}"],
         "rules": ["enum acpiset_rule {", *commented(rule_lines(crates)), "};"],
         "names": switch("acpiset_number_name", "number", ((enumerator(it), crates.names[it]) for it in numbered)),
         "stages": stage_function(crates),
@@ -219,10 +220,9 @@ def by_hand(header, crates):
     for name in sorted(told.keys() | right.keys()):
         if told.get(name) != right.get(name):
             yield f"enum acpiset_kind: {name} is {told.get(name, 'not there')}, not {right.get(name, 'there')}"
-    for name, value in (("ACPISET_ABI", crates.abi), ("ACPISET_MOST_FINDINGS", len(crates.codes) + len(crates.rules))):
-        found = re.search(rf"^#define {name} (\d+)$", header, re.M)
-        if not found or int(found[1]) != value:
-            yield f"{name} is {found[1] if found else 'not there'}, not {value}"
+    found = re.search(r"^#define ACPISET_ABI (\d+)$", header, re.M)
+    if not found or int(found[1]) != crates.abi:
+        yield f"ACPISET_ABI is {found[1] if found else 'not there'}, not {crates.abi}"
     every = [enumerator(it) for it in (*crates.codes, *crates.rules, *crates.kinds)]
     for name in sorted({name for name in every if every.count(name) > 1}):
         yield f"{name} has two meanings"

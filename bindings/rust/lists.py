@@ -143,8 +143,7 @@ def declared_in_c():
     for result, name, parameters in re.findall(r"^(\w[\w ]*?) (acpiset_\w+)\(([^)]*)\);", text, re.M):
         told = [] if parameters == "void" else re.findall(rf"{value}(?:,|$)", parameters)
         yield name, [*(f"{own}: {TYPES[kind.strip()]}" for kind, own in told), TYPES[result]]
-    for name in ("ABI", "MOST_FINDINGS"):
-        yield name, re.findall(rf"^#define ACPISET_{name} (\d+)$", text, re.M)
+    yield "ABI", re.findall(r"^#define ACPISET_ABI (\d+)$", text, re.M)
 
 
 def declared_in_rust():
@@ -153,8 +152,7 @@ def declared_in_rust():
         yield name.lower(), re.findall(r"(\w+: (?!PhantomData)[\w*' <>]+),", body)
     for name, parameters, result in re.findall(r"^    fn (acpiset_\w+)\(([^)]*)\) -> (\w+);", text, re.M):
         yield name, [*re.findall(r"\w+: [\w*' <>]+[\w>]", parameters), result]
-    for name in ("ABI", "MOST_FINDINGS"):
-        yield name, re.findall(rf"^pub const {name}: \w+ = (\d+);", text, re.M)
+    yield "ABI", re.findall(r"^pub const ABI: \w+ = (\d+);", text, re.M)
 
 
 def differences():

@@ -40,7 +40,7 @@ def lines_without_image(tests):
             lines.append(f"no {stage} {name} 0x0 0x0 0x0" if int(code) < 100 else f"advice {name} 0x0 0x0 0x0")
             found = [part and part.title for part in map(parts.named, (code, name))]
             tests.count(titles[-1], "" if found == 2 * [titles[-1]] else f"the parts {found}")
-    tests.count("parts of faults and of rules", "" if len(titles) == 59 + 28 else f"{len(titles)}")
+    tests.count("parts of faults and of rules", "" if len(titles) == len(parts.codes) > 0 else f"{len(titles)}")
     tests.says("\n".join(lines), lines + titles)
     for word, title in (("43", "43 SratEntryLength"), ("Overlap", "45 Overlap"), ("128", "128 SratUnread"), ("NoLeaf", "125 NoLeaf")):
         tests.says(b"", [title, "..- Example: "], None, word)

@@ -3,8 +3,8 @@ rule, or just on the right one."""
 
 from layout import nowhere, somewhere
 from made_sets import (
-    FACS_SIZE, HEADER_SIZE, LOW, MADT_TYPES, REDUCED, RESET_REG_SUP, RSDP_SIZE, SRAT_TYPES, TOP, Item, apic_domain, io_apic,
-    lapic, lapic_address, lapic_nmi, little, memory_range, nmi_source, override, x2apic, x2apic_domain, x2apic_nmi,
+    FACS_SIZE, HEADER_SIZE, LOW, MADT_TYPES, REDUCED, RESET_REG_SUP, RSDP_SIZE, SRAT_TYPES, TOP, Item, apic_domain,
+    flagged_entries, io_apic, lapic, lapic_address, little, memory_range, nmi_source, override, x2apic, x2apic_domain,
 )
 
 PM1_EVT_LEN, PM1_CNT_LEN, PM_TMR_LEN, GPE0_BLK_LEN, GPE1_BLK_LEN = 88, 89, 91, 92, 93
@@ -282,8 +282,7 @@ def override_bus(made, is_wrong):
 def reserved_inti(made, is_wrong):
     wrong, right = (0b0010, 0b1000, 0b1010, 0b1110, 0b1001, 0xFFF2, 0xFFFB), (0, 5, 7, 13, 15, 0xFFF0)
     flags = made.dice.choice(wrong if is_wrong else right)
-    entries = (override(201, 0, flags), nmi_source(0, flags), lapic_nmi(255, flags), x2apic_nmi(LOW - 1, flags))
-    put(made, made.madt, made.dice.choice(entries))
+    put(made, made.madt, made.dice.choice(flagged_entries(flags)))
 
 
 def second_address(made, is_wrong):

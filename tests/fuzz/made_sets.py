@@ -91,6 +91,11 @@ def x2apic_nmi(uid, flags=0):
     return bytes([10, 12]) + little(flags, 2) + little(uid, 4) + b"\1" + RESERVED[:3]
 
 
+def flagged_entries(flags):
+    """An entry of each kind that has interrupt flags."""
+    return override(201, 0, flags), nmi_source(0, flags), lapic_nmi(255, flags), x2apic_nmi(LOW - 1, flags)
+
+
 MADT_TYPES = {0: 8, 1: 12, 2: 10, 3: 8, 4: 6, 5: 12, 9: 16, 10: 12}
 SRAT_TYPES = {0: 16, 1: 40, 2: 24}
 

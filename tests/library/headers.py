@@ -6,7 +6,7 @@ from advice import RULES
 from faults import STAGE_OF
 
 # Changes of parts that lists.py compares, and does not write.
-BY_HAND = ("a kind's number", "a kind", "the version", "the number of findings")
+BY_HAND = ("a kind's number", "a kind", "the version")
 
 
 def lists(cases, scratch):
@@ -25,7 +25,7 @@ def lists(cases, scratch):
         ("the stages", "1, 1, 1, 1, 1, 1, 1, 2", "1, 1, 1, 1, 1, 1, 2, 2"),
         ("a field", "ACPISET_FIELD(acpiset_answer, point, 32, 8);", ""),
         ("the version", "#define ACPISET_ABI 1", "#define ACPISET_ABI 2"),
-        ("the number of findings", "#define ACPISET_MOST_FINDINGS 87", "#define ACPISET_MOST_FINDINGS 86"),
+        ("the number of findings", "#define ACPISET_MOST_FINDINGS ", "#define ACPISET_MOST_FINDINGS 1"),
     ):
         cases.count(f"{name}, to be changed", "" if old in text else f"the header does not have {old}")
         other = scratch / "other.h"

@@ -135,6 +135,11 @@ def x2apic_nmi(uid, lint, flags=0):
     return bytes([10, 12]) + number(flags, 2) + number(uid, 4) + bytes([lint, 0, 0, 0])
 
 
+def local_nmis(uid, lint, flags=0):
+    """An NMI of a UID, of which a local APIC has one byte, of each kind."""
+    return lapic_nmi(uid % 256, lint, flags), x2apic_nmi(uid, lint, flags)
+
+
 # ---- SRAT (5.2.16)
 
 

@@ -9,7 +9,7 @@ numbered! {
     Stage {
         /// The RSDP (5.2.5.3).
         Rsdp = 1,
-        /// The RSDT or XSDT (5.2.7, 5.2.8).
+        /// The XSDT or RSDT (5.2.7, 5.2.8).
         Root = 2,
         /// Each listed table's header, length and checksum (5.2.6).
         Tables = 3,
@@ -17,19 +17,19 @@ numbered! {
         Fadt = 4,
         /// The FACS (5.2.10).
         Facs = 5,
-        /// The MADT's entries (5.2.12).
+        /// The MADT (5.2.12).
         Madt = 6,
         /// Interrupt numbers: none is served by two I/O APICs (5.2.12.3).
         Interrupts = 7,
         /// Interrupt source overrides: none contradicts another (5.2.12.5).
         Overrides = 8,
-        /// The SRAT's entries (5.2.16).
+        /// The SRAT (5.2.16).
         Srat = 9,
         /// Memory ranges: no address is in two (5.2.16.2).
         Ranges = 10,
         /// The SLIT (5.2.17).
         Slit = 11,
-        /// The PPTT's entries (5.2.30).
+        /// The PPTT (5.2.30).
         Pptt = 12,
         /// References of the PPTT's entries (5.2.30).
         References = 13,

@@ -1,5 +1,6 @@
 //! The functions and structs of `acpiset.h`. All unsafe code of the crate is here.
 
+use crate::lists::{Code, Rule};
 use crate::settings::Inputs;
 use core::marker::PhantomData;
 use core::mem::size_of;
@@ -8,7 +9,7 @@ use core::mem::size_of;
 pub const ABI: u32 = 1;
 
 /// The largest number of findings that a library with the codes and rules of this crate reports.
-pub const MOST_FINDINGS: usize = 87;
+pub const MOST_FINDINGS: usize = Code::ALL.len() + Rule::ALL.len();
 
 /// Bytes of the image. Pointer and length are those of a slice that is borrowed for `'a`.
 #[repr(C)]

@@ -3,19 +3,22 @@ use Rattle.std.proofs.Common.{◌≡◌, ◌^◌, ◌<◌, ℕ, List, Some, true
 use Rattle.std.specs.Prelude.{◌≢◌, ◌%◌}
 use Rattle.std.proofs.lemmas.Bool.{both_ways}
 use Rattle.std.proofs.lemmas.Option.{cond_some}
-use Rattle.acpi_base.specs.Memory.{Memory, IsImage, bytes_at}
+use Rattle.acpi_base.specs.Memory.{Memory, IsImage}
 use Rattle.acpi_base.specs.Number.{field}
 use Rattle.acpi_base.specs.Signature.{has_signature}
 use Rattle.acpi_base.specs.Tables.{length_of}
 use Rattle.acpi_base.specs.Listed.{fadt_signature}
 use Rattle.acpi_base.specs.Fadt.{is_reduced, wide_address, facs_address, IsFadt, IsSoundFadt}
-use Rattle.acpi_base.specs.Facs.{facs_signature, facs_length, IsFacs, HasSoundFacs, IsSoundFacs, NamedFacsFault, FacsFault}
+use Rattle.acpi_base.specs.Facs.{facs_signature, facs_frame, IsFacs, HasSoundFacs, IsSoundFacs, NamedFacsFault, FacsFault}
 use Rattle.acpi_base.specs.Codes.{stage_of}
 use Rattle.acpi_base.specs.declared.code.Code.{Code}
 use Rattle.acpi_base.specs.declared.code.Code.TheVariants as code
+use Rattle.acpi_base.specs.declared.frame.Question.TheVariants as question
 use Rattle.acpi_base.specs.declared.stage.Stage.TheVariants as stage
-use Rattle.acpi_base.proofs.Images.HeldBytes.{cases_Option, none_and_some, same_value, held_field_below}
-use Rattle.acpi_base.proofs.Faults.Deciding.{Decided, decided_as, both, all3, same, differs, below, at_most, is_false, is_none, is_some_with, not_below, not_other, not_false, not_none}
+use Rattle.acpi_base.proofs.Images.HeldBytes.{cases_Option, held_field_below}
+use Rattle.acpi_base.proofs.Faults.Deciding.{Decided, decided_as, all3, same, differs, is_false, not_other, not_false}
+use Rattle.acpi_base.proofs.Frames as frame
+use Rattle.acpi_base.proofs.Frames.{stands_wrong}
 use Rattle.acpi_base.proofs.Tables.Listed.{one_listed}
 
 -- ---- its address
@@ -37,9 +40,9 @@ named_place : (m : Memory) (fadt : List ℕ) (c : Code) (at : ℕ) → NamedFacs
 named_place m fadt code.NoFacs at (full, zero, is) = is ∙ sym zero
 named_place m fadt code.FacsAlign at (named, is, loose) = is
 named_place m fadt code.FacsHeaderOut at (named, is, out) = is
-named_place m fadt code.FacsSignature at (named, is, prefix, held, unsigned) = is
-named_place m fadt code.FacsLength at (named, is, prefix, held, short) = is
-named_place m fadt code.FacsOut at (named, is, prefix, held, least, out) = is
+named_place m fadt code.FacsSignature at (named, is, unsigned) = is
+named_place m fadt code.FacsLength at (named, is, short) = is
+named_place m fadt code.FacsOut at (named, is, out) = is
 named_place m fadt _ at fault = absurd fault
 
 pub place_fits : {m : Memory} {p : ℕ} → IsImage m → (c : Code) (at : ℕ) → FacsFault m p c at → at < 2 ^ 64
@@ -55,17 +58,11 @@ there_with fadt at P decide = all3 (differs (facs_address fadt) 0) (same at (fac
 named_decided : (m : Memory) (fadt : List ℕ) (c : Code) (at : ℕ) → Decided (NamedFacsFault m fadt c at)
 named_decided m fadt code.NoFacs at = all3 (is_false (is_reduced fadt)) (same (facs_address fadt) 0) (same at 0)
 named_decided m fadt code.FacsAlign at = there_with fadt at _ (differs (at % 64) 0)
-named_decided m fadt code.FacsHeaderOut at = there_with fadt at _ (is_none (bytes_at m at 8))
+named_decided m fadt code.FacsHeaderOut at = there_with fadt at _ (frame.decided facs_frame m at question.Header)
 named_decided m fadt code.FacsSignature at =
-    decided_as (λ h. (h.0, h.1, h.2.0, h.2.1, h.2.2)) (λ h. (h.0, h.1, (h.2, h.3, h.4)))
-    (there_with fadt at _ (is_some_with (bytes_at m at 8) _ (λ prefix. is_false (has_signature prefix facs_signature))))
-named_decided m fadt code.FacsLength at =
-    decided_as (λ h. (h.0, h.1, h.2.0, h.2.1, h.2.2)) (λ h. (h.0, h.1, (h.2, h.3, h.4)))
-    (there_with fadt at _ (is_some_with (bytes_at m at 8) _ (λ prefix. below (facs_length prefix) 64)))
-named_decided m fadt code.FacsOut at =
-    decided_as (λ h. (h.0, h.1, h.2.0, h.2.1, h.2.2.0, h.2.2.1)) (λ h. (h.0, h.1, (h.2, h.3, (h.4, h.5))))
-    (there_with fadt at _ (is_some_with (bytes_at m at 8) _
-    (λ prefix. both (at_most 64 (facs_length prefix)) (is_none (bytes_at m at (facs_length prefix))))))
+    there_with fadt at _ (frame.decided facs_frame m at (question.Signature facs_signature))
+named_decided m fadt code.FacsLength at = there_with fadt at _ (frame.decided facs_frame m at question.Length)
+named_decided m fadt code.FacsOut at = there_with fadt at _ (frame.decided facs_frame m at question.Bytes)
 named_decided m fadt _ at = inr (λ fault. fault)
 
 -- a FACS without a fault is sound
@@ -82,44 +79,27 @@ named_without_fault m fadt none = record { none = reduced; named = facs }
     facs : f ≢ 0 → (whole : List ℕ) × IsFacs m f whole
     facs named =
         let aligned = not_other (f % 64) 0 (λ loose. none code.FacsAlign f refl (named, refl, loose)) in
-        let prefix = not_none (bytes_at m f 8) (λ out. none code.FacsHeaderOut f refl (named, refl, out)) in
-        let signed = not_false (has_signature prefix.0 facs_signature)
-        (λ unsigned. none code.FacsSignature f refl (named, refl, prefix.0, prefix.1, unsigned)) in
-        let least = not_below (facs_length prefix.0) 64
-        (λ short. none code.FacsLength f refl (named, refl, prefix.0, prefix.1, short)) in
-        let whole = not_none (bytes_at m f (facs_length prefix.0))
-        (λ out. none code.FacsOut f refl (named, refl, prefix.0, prefix.1, least, out)) in (
-          whole.0,
-          record {
-            aligned = aligned;
-            prefix = prefix.0;
-            prefix_held = prefix.1;
-            signed = signed;
-            least = least;
-            held = whole.1;
-          },
-        )
+        let is = frame.stands facs_frame m f (λ out. none code.FacsHeaderOut f refl (named, refl, out))
+        (λ short. none code.FacsLength f refl (named, refl, short))
+        (λ out. none code.FacsOut f refl (named, refl, out)) in
+        let signed = not_false (has_signature is.0 facs_signature)
+        (λ unsigned. none code.FacsSignature f refl (named, refl, (is.0, is.2.header_held, unsigned))) in
+        (is.1, record { aligned = aligned; header = is.0; frame = is.2; signed = signed })
 
 -- a fault excludes that the FACS is sound
 named_excludes : (m : Memory) (fadt : List ℕ) (c : Code) (at : ℕ) → NamedFacsFault m fadt c at → ¬ HasSoundFacs m fadt
 named_excludes m fadt c at fault sound =
     by_code c (subst (λ (x : ℕ). NamedFacsFault m fadt c x) (named_place m fadt c at fault) fault)
   where
-    same_prefix : (named : facs_address fadt ≢ 0) (prefix : List ℕ) → bytes_at m (facs_address fadt) 8 ≡ Some prefix
-        → prefix ≡ (sound.named named).1.prefix
-    same_prefix named prefix held =
-        same_value prefix (sound.named named).1.prefix held (sound.named named).1.prefix_held
-
     by_code : (c : Code) → NamedFacsFault m fadt c (facs_address fadt) → ⊥
     by_code code.NoFacs (full, zero, is) = both_ways (is_reduced fadt) full (sound.none zero)
     by_code code.FacsAlign (named, is, loose) = loose (sound.named named).1.aligned
-    by_code code.FacsHeaderOut (named, is, out) = none_and_some out (sound.named named).1.prefix_held
-    by_code code.FacsSignature (named, is, prefix, held, unsigned) =
-        grind (arith, same_prefix named prefix held, (sound.named named).1.signed)
-    by_code code.FacsLength (named, is, prefix, held, short) =
-        grind (arith, same_prefix named prefix held, (sound.named named).1.least)
-    by_code code.FacsOut (named, is, prefix, held, least, out) =
-        grind (arith, none_and_some, same_prefix named prefix held, (sound.named named).1.held)
+    by_code code.FacsHeaderOut (named, is, out) = stands_wrong question.Header out (sound.named named).1.frame
+    by_code code.FacsSignature (named, is, unsigned) =
+        let facs = (sound.named named).1 in
+        both_ways _ (stands_wrong (question.Signature facs_signature) unsigned facs.frame) facs.signed
+    by_code code.FacsLength (named, is, short) = stands_wrong question.Length short (sound.named named).1.frame
+    by_code code.FacsOut (named, is, out) = stands_wrong question.Bytes out (sound.named named).1.frame
     by_code _ fault = fault
 
 -- ---- of a set's FACS

@@ -8,6 +8,7 @@ pub mod Examples
 pub mod Facs
 pub mod Fadt
 pub mod Faults
+pub mod Frames
 pub mod Images
 pub mod Layouts
 pub mod Lint

@@ -1,28 +1,28 @@
 -- The FACS (ACPI 6.5, 5.2.10). It has no checksum. Offsets are from its start.
-use Rattle.std.specs.Prelude.{◌≡◌, ◌≢◌, ℕ, ◌%◌, ◌<◌, ◌≤◌, List, length, codes, Some, None, true, false}
-use Rattle.acpi_base.specs.Memory.{Memory, bytes_at}
-use Rattle.acpi_base.specs.Number.{field}
+use Rattle.std.specs.Prelude.{◌≡◌, ◌≢◌, ℕ, ◌%◌, ◌≤◌, List, length, codes, true, false}
+use Rattle.acpi_base.specs.Frames.{IsFrame, FrameFault}
+use Rattle.acpi_base.specs.Memory.{Memory}
 use Rattle.acpi_base.specs.Signature.{has_signature}
 use Rattle.acpi_base.specs.Fadt.{IsFadt, is_reduced, facs_address}
 use Rattle.acpi_base.specs.declared.code.Code.{Code}
 use Rattle.acpi_base.specs.declared.code.Code.TheVariants as code
+use Rattle.acpi_base.specs.declared.frame.Frame.{Frame}
+use Rattle.acpi_base.specs.declared.frame.Question.TheVariants as question
 
 -- the FACS's signature
 abbrev pub facs_signature : List ℕ
 facs_signature = codes "FACS"
 
--- its length in bytes, as its first 8 bytes say
-abbrev pub facs_length : List ℕ → ℕ
-facs_length prefix = field prefix 4 4
+-- what is asked of a FACS beside its alignment; its header is its first 8 bytes
+abbrev pub facs_frame : Frame
+facs_frame = record { header = 8; length_at = 4; least = 64 }
 
 -- a FACS stands at f: at a multiple of 64, with its signature, a Length of at least 64, and all its bytes
 pub record IsFacs (m : Memory) (f : ℕ) (whole : List ℕ) : Type 0 where
   pub aligned : f % 64 ≡ 0
-  pub prefix : List ℕ
-  pub prefix_held : bytes_at m f 8 ≡ Some prefix
-  pub signed : has_signature prefix facs_signature ≡ true
-  pub least : 64 ≤ facs_length prefix
-  pub held : bytes_at m f (facs_length prefix) ≡ Some whole
+  pub header : List ℕ
+  pub frame : IsFrame facs_frame m f header whole
+  pub signed : has_signature header facs_signature ≡ true
 
 -- the FADT names a FACS, which is sound, or it names none and the hardware is reduced
 pub record HasSoundFacs (m : Memory) (fadt : List ℕ) : Type 0 where
@@ -39,10 +39,10 @@ IsSoundFacs m p = (fadt : List ℕ) → IsFadt m p fadt → HasSoundFacs m fadt
 abbrev pub NamedFacsFault : Memory → List ℕ → Code → ℕ → Type 0
 NamedFacsFault m fadt code.NoFacs at = (is_reduced fadt ≡ false) × (facs_address fadt ≡ 0) × (at ≡ 0)
 NamedFacsFault m fadt code.FacsAlign at = (facs_address fadt ≢ 0) × (at ≡ facs_address fadt) × (at % 64 ≢ 0)
-NamedFacsFault m fadt code.FacsHeaderOut at = (facs_address fadt ≢ 0) × (at ≡ facs_address fadt) × (bytes_at m at 8 ≡ None)
-NamedFacsFault m fadt code.FacsSignature at = (facs_address fadt ≢ 0) × (at ≡ facs_address fadt) × (prefix : List ℕ) × (bytes_at m at 8 ≡ Some prefix) × (has_signature prefix facs_signature ≡ false)
-NamedFacsFault m fadt code.FacsLength at = (facs_address fadt ≢ 0) × (at ≡ facs_address fadt) × (prefix : List ℕ) × (bytes_at m at 8 ≡ Some prefix) × (facs_length prefix < 64)
-NamedFacsFault m fadt code.FacsOut at = (facs_address fadt ≢ 0) × (at ≡ facs_address fadt) × (prefix : List ℕ) × (bytes_at m at 8 ≡ Some prefix) × (64 ≤ facs_length prefix) × (bytes_at m at (facs_length prefix) ≡ None)
+NamedFacsFault m fadt code.FacsHeaderOut at = (facs_address fadt ≢ 0) × (at ≡ facs_address fadt) × FrameFault facs_frame m at question.Header
+NamedFacsFault m fadt code.FacsSignature at = (facs_address fadt ≢ 0) × (at ≡ facs_address fadt) × FrameFault facs_frame m at (question.Signature facs_signature)
+NamedFacsFault m fadt code.FacsLength at = (facs_address fadt ≢ 0) × (at ≡ facs_address fadt) × FrameFault facs_frame m at question.Length
+NamedFacsFault m fadt code.FacsOut at = (facs_address fadt ≢ 0) × (at ≡ facs_address fadt) × FrameFault facs_frame m at question.Bytes
 NamedFacsFault m fadt _ at = ⊥
 
 -- The faults of stage 5, by their code: they ask a FADT of at least 116 bytes.

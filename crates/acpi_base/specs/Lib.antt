@@ -7,6 +7,7 @@ pub mod Examples
 pub mod Facs
 pub mod Fadt
 pub mod Faults
+pub mod Frames
 pub mod Header
 pub mod Image
 pub mod KindLayouts

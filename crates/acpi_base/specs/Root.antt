@@ -1,12 +1,14 @@
 -- The root, which is the XSDT or the RSDT, and its slots (ACPI 6.5, 5.2.7, 5.2.8).
-use Rattle.std.specs.Prelude.{◌≡◌, ◌≢◌, ℕ, ◌+◌, ◌-◌, ◌*◌, ◌%◌, ◌<◌, ◌≤◌, List, length, Option, Some, None, true, false, ◌⊎◌, ◌==◌, if◌then◌else◌}
+use Rattle.std.specs.Prelude.{◌≡◌, ◌≢◌, ℕ, ◌+◌, ◌-◌, ◌*◌, ◌%◌, ◌≤◌, List, length, Option, Some, None, true, ◌⊎◌, ◌==◌, if◌then◌else◌}
+use Rattle.acpi_base.specs.Frames.{FrameFault}
 use Rattle.acpi_base.specs.Memory.{Memory, bytes_at}
 use Rattle.acpi_base.specs.Number.{field, byte_sum}
 use Rattle.acpi_base.specs.Signature.{has_signature, rsdt_signature, xsdt_signature}
 use Rattle.acpi_base.specs.Rsdp.{Addresses, addresses_at}
-use Rattle.acpi_base.specs.Tables.{IsTable, length_of}
+use Rattle.acpi_base.specs.Tables.{table_frame, IsTable, length_of}
 use Rattle.acpi_base.specs.declared.code.Code.{Code}
 use Rattle.acpi_base.specs.declared.code.Code.TheVariants as code
+use Rattle.acpi_base.specs.declared.frame.Question.TheVariants as question
 
 -- where the root is, and the width of its slots in bytes
 pub record Root : Type 0 where
@@ -80,12 +82,12 @@ pub record IsSoundRoot (m : Memory) (p : ℕ) : Type 0 where
 
 -- The faults of a root at r with slots of d bytes, by their code.
 abbrev pub RootTableFault : Memory → ℕ → ℕ → Code → Type 0
-RootTableFault m r d code.RootHeaderOut = bytes_at m r 36 ≡ None
-RootTableFault m r d code.RootSignature = (header : List ℕ) × (bytes_at m r 36 ≡ Some header) × (has_signature header (root_signature d) ≡ false)
-RootTableFault m r d code.RootLength = (header : List ℕ) × (bytes_at m r 36 ≡ Some header) × (length_of header < 36)
-RootTableFault m r d code.RootOut = (header : List ℕ) × (bytes_at m r 36 ≡ Some header) × (36 ≤ length_of header) × (bytes_at m r (length_of header) ≡ None)
+RootTableFault m r d code.RootHeaderOut = FrameFault table_frame m r question.Header
+RootTableFault m r d code.RootSignature = FrameFault table_frame m r (question.Signature (root_signature d))
+RootTableFault m r d code.RootLength = FrameFault table_frame m r question.Length
+RootTableFault m r d code.RootOut = FrameFault table_frame m r question.Bytes
 RootTableFault m r d code.RootRagged = (header : List ℕ) × (bytes_at m r 36 ≡ Some header) × (36 ≤ length_of header) × ((length_of header - 36) % d ≢ 0)
-RootTableFault m r d code.RootSum = (header : List ℕ) × (whole : List ℕ) × IsTable m r header whole × (byte_sum whole ≢ 0)
+RootTableFault m r d code.RootSum = FrameFault table_frame m r question.Sum
 RootTableFault m r d _ = ⊥
 
 -- The faults of the root that an RSDP names, by their code.

@@ -1,19 +1,22 @@
 -- The RSDP (ACPI 6.5, 5.2.5.3): what it says, and when it is sound. Offsets are from its start.
-use Rattle.std.specs.Prelude.{◌≡◌, ◌≢◌, ℕ, ◌<◌, ◌≤◌, List, take, drop, Option, Some, None, true, false, nat_lt, if◌then◌else◌}
+use Rattle.std.specs.Prelude.{◌≡◌, ◌≢◌, ℕ, ◌≤◌, List, take, drop, Option, Some, None, true, false, nat_lt, if◌then◌else◌}
 use Rattle.std.specs.Option.{option_map, option_and_then}
+use Rattle.acpi_base.specs.Frames.{IsSoundFrame, FrameFault}
 use Rattle.acpi_base.specs.Memory.{Memory, bytes_at}
 use Rattle.acpi_base.specs.Number.{field, byte_sum}
 use Rattle.acpi_base.specs.Signature.{has_signature, rsdp_signature}
 use Rattle.acpi_base.specs.declared.code.Code.{Code}
 use Rattle.acpi_base.specs.declared.code.Code.TheVariants as code
+use Rattle.acpi_base.specs.declared.frame.Frame.{Frame}
+use Rattle.acpi_base.specs.declared.frame.Question.TheVariants as question
 
 -- the revision: 0 or 1 means the short form of 20 bytes, 2 or more the extended one of at least 36
 abbrev pub revision_of : List ℕ → ℕ
 revision_of head = field head 15 1
 
--- the whole structure's length in bytes, in the extended form
-abbrev pub rsdp_length : List ℕ → ℕ
-rsdp_length prefix = field prefix 20 4
+-- what is asked of the extended form beside what is asked of its first 20 bytes
+abbrev pub extended_frame : Frame
+extended_frame = record { header = 36; length_at = 20; least = 36 }
 
 -- the addresses of the RSDT and the XSDT; 0 names none
 pub record Addresses : Type 0 where
@@ -50,20 +53,9 @@ pub record IsRsdp (m : Memory) (p : ℕ) (v : RsdpValue) : Type 0 where
   pub revision : v.revision ≡ revision_of head
   pub named : addresses_at m p ≡ Some v.named
 
--- head and prefix are the first 20 and the first 36 bytes of an RSDP of the extended form at p
-pub record IsExtended (m : Memory) (p : ℕ) (head prefix : List ℕ) : Type 0 where
-  pub head_held : bytes_at m p 20 ≡ Some head
-  pub extended : 2 ≤ revision_of head
-  pub prefix_held : bytes_at m p 36 ≡ Some prefix
-
--- the extended form's Length is at least 36, and its Length bytes are held and sum to 0
-pub record IsSoundExtended (m : Memory) (p : ℕ) : Type 0 where
-  pub prefix : List ℕ
-  pub prefix_held : bytes_at m p 36 ≡ Some prefix
-  pub least : 36 ≤ rsdp_length prefix
-  pub whole : List ℕ
-  pub held : bytes_at m p (rsdp_length prefix) ≡ Some whole
-  pub zero_sum : byte_sum whole ≡ 0
+-- the 20 bytes at p are held and are those of the extended form
+abbrev pub IsExtended : Memory → ℕ → Type 0
+IsExtended m p = (head : List ℕ) × (bytes_at m p 20 ≡ Some head) × (2 ≤ revision_of head)
 
 -- Stage 1: the 20 bytes at p are held, begin with the signature and sum to 0; the extended form is
 -- sound whole.
@@ -72,15 +64,15 @@ pub record IsSoundRsdp (m : Memory) (p : ℕ) : Type 0 where
   pub head_held : bytes_at m p 20 ≡ Some head
   pub signed : has_signature head rsdp_signature ≡ true
   pub zero_sum : byte_sum head ≡ 0
-  pub extended : 2 ≤ revision_of head → IsSoundExtended m p
+  pub extended : 2 ≤ revision_of head → IsSoundFrame extended_frame m p
 
 -- The faults of stage 1, by their code.
 abbrev pub RsdpFault : Memory → ℕ → Code → Type 0
 RsdpFault m p code.RsdpOut = bytes_at m p 20 ≡ None
 RsdpFault m p code.RsdpSignature = (head : List ℕ) × (bytes_at m p 20 ≡ Some head) × (has_signature head rsdp_signature ≡ false)
 RsdpFault m p code.RsdpSum = (head : List ℕ) × (bytes_at m p 20 ≡ Some head) × (byte_sum head ≢ 0)
-RsdpFault m p code.RsdpTailOut = (head : List ℕ) × (bytes_at m p 20 ≡ Some head) × (2 ≤ revision_of head) × (bytes_at m p 36 ≡ None)
-RsdpFault m p code.RsdpLength = (head : List ℕ) × (prefix : List ℕ) × IsExtended m p head prefix × (rsdp_length prefix < 36)
-RsdpFault m p code.RsdpLongOut = (head : List ℕ) × (prefix : List ℕ) × IsExtended m p head prefix × (36 ≤ rsdp_length prefix) × (bytes_at m p (rsdp_length prefix) ≡ None)
-RsdpFault m p code.RsdpExtendedSum = (head : List ℕ) × (prefix : List ℕ) × (whole : List ℕ) × IsExtended m p head prefix × (36 ≤ rsdp_length prefix) × (bytes_at m p (rsdp_length prefix) ≡ Some whole) × (byte_sum whole ≢ 0)
+RsdpFault m p code.RsdpTailOut = IsExtended m p × FrameFault extended_frame m p question.Header
+RsdpFault m p code.RsdpLength = IsExtended m p × FrameFault extended_frame m p question.Length
+RsdpFault m p code.RsdpLongOut = IsExtended m p × FrameFault extended_frame m p question.Bytes
+RsdpFault m p code.RsdpExtendedSum = IsExtended m p × FrameFault extended_frame m p question.Sum
 RsdpFault m p _ = ⊥

@@ -5,6 +5,7 @@
 //!   read one from image text, `ImageText` from such a text in pieces, and `written_text::image_text` writes it.
 //! - `sum`, `find_rsdp`: a checksum, and the search for the RSDP.
 //! - `field`: numbers and bytes at an offset in a table, read and written.
+//! - `Frame`, `Question`: what is asked of a structure that says how long it is.
 //! - `Code`, `Stage`, `Witness`, `Verdict`: what can be wrong, in which part of the check, where, and the
 //!   result of a check. `witness_text` and `verdict_text` write them.
 //! - `Rule`, `Advice`: what is probably wrong but is not a fault, and where. `advice_text` writes it.
@@ -27,6 +28,7 @@ mod checksum;
 mod code;
 pub mod field;
 mod find;
+mod frame;
 mod image;
 pub mod laws;
 mod policy;
@@ -41,6 +43,7 @@ mod witness;
 pub use checksum::sum;
 pub use code::Code;
 pub use find::find_rsdp;
+pub use frame::{Frame, Question};
 pub use image::draft::DraftImage;
 pub use image::{Image, ImageFault};
 pub use policy::{HotPlug, Policy, PolicyFault, Processors};

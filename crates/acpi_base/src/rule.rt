@@ -1,7 +1,7 @@
 //! Advice: what breaks none of the statements, but is probably wrong.
 
-ghost use Rattle.std.specs.Prelude.{◌≡◌, ◌≤◌, ◌↔◌, IsSome, IfSome};
-ghost use Rattle.acpi_base.specs.Lint.Rules.{rule_name, rule_number};
+ghost use Rattle.std.specs.Prelude.{◌≡◌, ◌+◌, ◌<◌, ◌≤◌, ◌↔◌, length, IsSome, IfSome};
+ghost use Rattle.acpi_base.specs.Lint.Rules.{all_rules, rule_name, rule_number};
 
 /// A rule of advice. A set of tables may have a reason to break a rule, so none is a fault. A processor is usable if it
 /// is Enabled or Online Capable. Sections are those of ACPI 6.5.
@@ -11,7 +11,7 @@ pub enum Rule {
     ListedTwice,
     /// A second table of a kind is listed, of which only the first is read (5.2).
     SecondTable,
-    /// A DSDT or FACS is listed, which only the FADT has to name (5.2.9).
+    /// A DSDT or FACS is listed, which only the FADT should name (5.2.9).
     ListedApart,
     /// The FADT is too short for its Revision (5.2.9).
     FadtOfRevision,
@@ -33,7 +33,7 @@ pub enum Rule {
     SameIoApicId,
     /// Two I/O APICs have the same address (5.2.12.3).
     SameIoApicAddress,
-    /// A Local APIC NMI is of a UID that no processor has (5.2.12.7, 5.2.12.13).
+    /// A Local APIC NMI names a UID that no processor has (5.2.12.7, 5.2.12.13).
     NmiNowhere,
     /// There is a second GIC Distributor (5.2.12.15).
     SecondGicd,
@@ -59,9 +59,9 @@ pub enum Rule {
     NoLeaf,
     /// A leaf's ACPI Processor ID is no UID, and the MADT has GIC CPU interfaces (5.2.30.1).
     LeafNowhere,
-    /// A structure of the MADT of a type that nothing here judges (5.2.12).
+    /// A structure of the MADT of a type that is not checked (5.2.12).
     MadtUnread,
-    /// A structure of the SRAT of a type that nothing here judges (5.2.16).
+    /// A structure of the SRAT of a type that is not checked (5.2.16).
     SratUnread,
 }
 
@@ -69,7 +69,7 @@ pub enum Rule {
 const FIRST: u8 = 101;
 
 /// Each rule with its name, in the order of their numbers.
-const ROWS: [(Rule, &str); 28] = [
+const ROWS: [(Rule, &str); Rule::COUNT] = [
     (Rule::ListedTwice, "ListedTwice"),
     (Rule::SecondTable, "SecondTable"),
     (Rule::ListedApart, "ListedApart"),
@@ -101,9 +101,12 @@ const ROWS: [(Rule, &str); 28] = [
 ];
 
 impl Rule {
-    /// The rule with this number, from 101 to 128.
+    /// How many rules there are. Their numbers begin at 101.
+    pub const COUNT: usize = 28;
+
+    /// The rule with this number, from 101 on.
     pub fn new(number: u8) -> Option<Rule>
-        ensures some { IsSome result ↔ ((101 ≤ number) × (number ≤ 128)) }
+        ensures some { IsSome result ↔ ((101 ≤ number) × (number < 101 + length all_rules)) }
         ensures same { IfSome result (λ rule. rule_number rule ≡ number) }
     {
         let index = number.checked_sub(FIRST)?;
@@ -112,7 +115,7 @@ impl Rule {
         Some(*rule)
     }
 
-    /// The rule's number, from 101 to 128.
+    /// The rule's number, from 101 on.
     pub fn number(self) -> u8
         ensures { result ≡ rule_number self }
     {
@@ -123,7 +126,8 @@ impl Rule {
     pub fn name(self) -> &'static str
         ensures { result.now ≡ rule_name self }
     {
-        ROWS[self as usize].1
+        let rows = ROWS.as_slice();
+        rows[self as usize].1
     }
 }
 

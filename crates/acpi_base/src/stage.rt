@@ -8,7 +8,7 @@ ghost use Rattle.acpi_base.specs.Codes.{stage_number};
 pub enum Stage {
     /// The RSDP (5.2.5.3).
     Rsdp,
-    /// The RSDT or XSDT (5.2.7, 5.2.8).
+    /// The XSDT or RSDT (5.2.7, 5.2.8).
     Root,
     /// Each listed table's header, length and checksum (5.2.6).
     Tables,
@@ -16,19 +16,19 @@ pub enum Stage {
     Fadt,
     /// The FACS (5.2.10).
     Facs,
-    /// The MADT's entries (5.2.12).
+    /// The MADT (5.2.12).
     Madt,
     /// Interrupt numbers: none is served by two I/O APICs (5.2.12.3).
     Interrupts,
     /// Interrupt source overrides: none contradicts another (5.2.12.5).
     Overrides,
-    /// The SRAT's entries (5.2.16).
+    /// The SRAT (5.2.16).
     Srat,
     /// Memory ranges: no address is in two (5.2.16.2).
     Ranges,
     /// The SLIT (5.2.17).
     Slit,
-    /// The PPTT's entries (5.2.30).
+    /// The PPTT (5.2.30).
     Pptt,
     /// References of the PPTT's entries (5.2.30).
     References,

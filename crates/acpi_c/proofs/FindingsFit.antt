@@ -1,24 +1,14 @@
 -- There are no more findings than codes and rules.
 use Rattle.std.proofs.Common.{◌<◌, ◌≤◌, ◌+◌, ◌-◌, ℕ, zero, suc, List, [], ◌∷◌, length, arith}
 use Rattle.std.specs.List.{AllPairs, slice_index_or}
-use Rattle.acpi_base.specs.Codes.{code_number}
+use Rattle.acpi_base.specs.Codes.{all_codes, code_number}
 use Rattle.acpi_base.specs.Lint.Findings.{AreFindings}
-use Rattle.acpi_base.specs.Lint.Rules.{rule_number}
+use Rattle.acpi_base.specs.Lint.Rules.{all_rules, rule_number}
 use Rattle.acpi_base.specs.Memory.{Memory}
 use Rattle.acpi_base.specs.Policy.{PolicyValue}
 use Rattle.acpi_base.specs.declared.rule.Advice.{Advice}
-use Rattle.acpi_base.specs.declared.rule.Rule.{Rule}
-use Rattle.acpi_base.specs.declared.rule.Rule.TheVariants as rule
 use Rattle.acpi_base.specs.declared.witness.Witness.{Witness}
-use Rattle.acpi_base.proofs.Faults.Numbers.{code_below, code_from}
-
-rule_below : (r : Rule) → rule_number r < 129
-rule_below rule.ListedTwice = omega arith
-rule_below _ = omega arith
-
-rule_from : (r : Rule) → 101 ≤ rule_number r
-rule_from rule.ListedTwice = omega arith
-rule_from _ = omega arith
+use Rattle.acpi_base.proofs.Faults.Numbers.{code_below, code_from, rule_below, rule_from}
 
 -- numbers that rise from `low` on are at least that and their place
 rises : {X : Type 0} (number : X → ℕ) (low : ℕ) (xs : List X) (d : X) → ((x : X) → low ≤ number x)
@@ -41,10 +31,16 @@ fits number low high (x ∷ rest) from to rise =
     omega arith
 
 pub findings_fit : (m : Memory) (q : PolicyValue) (faults : List Witness) (advice : List Advice)
-    → AreFindings m q faults advice → (length faults ≤ 59) × (length advice ≤ 28)
+    → AreFindings m q faults advice → (length faults ≤ length all_codes) × (length advice ≤ length all_rules)
 findings_fit m q faults advice are = (
-  fits (λ (w : Witness). code_number w.code) 1 60 faults (λ w. code_from w.code) (λ w. code_below w.code)
-      are.faults.rise,
-  fits (λ (a : Advice). rule_number a.rule) 101 129 advice (λ a. rule_from a.rule) (λ a. rule_below a.rule)
-      are.advice.rise,
+  omega (
+    arith,
+    fits (λ (w : Witness). code_number w.code) 1 (1 + length all_codes) faults (λ w. code_from w.code)
+        (λ w. omega (arith, code_below w.code)) are.faults.rise,
+  ),
+  omega (
+    arith,
+    fits (λ (a : Advice). rule_number a.rule) 101 (101 + length all_rules) advice (λ a. rule_from a.rule)
+        (λ a. rule_below a.rule) are.advice.rise,
+  ),
 )

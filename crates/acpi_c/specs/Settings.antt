@@ -1,5 +1,6 @@
 -- The policy of settings and numbers of inputs.
-use Rattle.std.specs.Prelude.{ℕ, suc, ◌==◌, ◌&&◌, Bool, nat_le, List, [], ◌∷◌, Option, Some, None, Result, Ok, Err, if◌then◌else◌}
+use Rattle.std.specs.Prelude.{ℕ, suc, ◌==◌, ◌&&◌, Bool, nat_le, List, [], ◌∷◌, length, Option, Some, None, Result, Ok, Err, if◌then◌else◌}
+use Rattle.acpi_base.specs.Codes.{all_codes}
 use Rattle.acpi_base.specs.Policy.{PolicyValue, new_policy, with_input}
 use Rattle.acpi_base.specs.Text.ImageText.{on_ok}
 use Rattle.acpi_base.specs.declared.policy.HotPlug.{HotPlug}
@@ -74,6 +75,6 @@ policy_refusal s inputs = refusal_in (policy_of s inputs)
 abbrev pub stage_refusal : ℕ → Option Refusal
 stage_refusal n = if nat_le 1 n && nat_le n 18 then None else Some refusal.Stage
 
--- a fault code has a number from 1 to 59
+-- a fault code has a number from 1 on
 abbrev pub code_refusal : ℕ → Option Refusal
-code_refusal n = if nat_le 1 n && nat_le n 59 then None else Some refusal.Code
+code_refusal n = if nat_le 1 n && nat_le n (length all_codes) then None else Some refusal.Code

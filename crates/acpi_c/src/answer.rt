@@ -11,7 +11,7 @@ use acpi_base::{Advice, Verdict, Witness};
 #[repr(C)]
 #[derive(Clone, Copy)]
 pub struct Finding {
-    /// The number of the fault's code, 1 to 59, or of the rule of advice, 101 to 128.
+    /// The number of the fault's code, from 1 on, or of the rule of advice, from 101 on.
     pub number: u32,
     /// The first number: the meaning of the three depends on the code or the rule. One that is not used is 0.
     pub at: u64,
@@ -29,7 +29,7 @@ pub struct Answer {
     pub kind: u32,
     /// For a fault that a check reports: the stage, 1 to 18.
     pub stage: u32,
-    /// For a fault that a check reports: the number of its code, 1 to 59.
+    /// For a fault that a check reports: the number of its code, from 1 on.
     pub code: u32,
     /// For a fault: its first number. For a search: the RSDP's address. For all findings: how many faults there are.
     /// For a refusal: the index of the piece or of the number of inputs, from 0 on, or the line of the text, from 1

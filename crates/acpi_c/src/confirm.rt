@@ -54,7 +54,7 @@ fn confirmed(
 /// Whether the finding is a fault of the image that the pieces give. It need not be the first one.
 ///
 /// Refuses, in this order: `BadSize`, `BadDefaultInputs`, `BadHotPlug`, `BadProcessors`, `BadInputs`, as `acpiset_check`
-/// does; `BadCode` if the finding's number is outside 1 to 59, as that of a finding of advice is; `PiecePastEnd`,
+/// does; `BadCode` if the finding's number is that of no code, as that of a finding of advice is; `PiecePastEnd`,
 /// `PiecesOverlap`, `OutOfMemory`, as `acpiset_check` does.
 #[unsafe(no_mangle)]
 pub extern "C" fn acpiset_confirm(

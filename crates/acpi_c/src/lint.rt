@@ -15,14 +15,14 @@ use crate::kind::Kind;
 use crate::pieces::{Piece, image_of_pieces};
 use crate::refusal::Refusal;
 use crate::settings::{Inputs, Settings, add_inputs, tested_policy};
-use acpi_base::{Advice, Witness};
+use acpi_base::{Advice, Code, Rule, Witness};
 use acpi_lint::{Findings, lint};
 use std::alloc::{AllocError, Global};
 
 /// The most faults that `acpiset_lint` finds: one of each code.
-pub const MOST_FAULTS: usize = 59;
+pub const MOST_FAULTS: usize = Code::COUNT;
 /// The most findings of advice: one of each rule.
-pub const MOST_ADVICE: usize = 28;
+pub const MOST_ADVICE: usize = Rule::COUNT;
 
 /// All findings on the image of the pieces, and the same as numbers.
 fn searched(
@@ -118,7 +118,7 @@ fn answer_of(found: &Findings) -> Answer
 /// change. The last stage of the settings is ignored.
 ///
 /// Returns `Yes` if there is no fault, otherwise `No`, with the number of faults, at most `MOST_FAULTS`, and the number
-/// of findings of advice, at most `MOST_ADVICE`. An array of as many as both together, 87, is always long enough.
+/// of findings of advice, at most `MOST_ADVICE`. An array of as many as both together is always long enough.
 ///
 /// Refuses, in this order, and then writes nothing: `BadSize`, `BadDefaultInputs`, `BadHotPlug`, `BadProcessors`, `BadInputs`,
 /// `PiecePastEnd`, `PiecesOverlap`, `OutOfMemory`, as `acpiset_check` does.

@@ -23,7 +23,7 @@ pub enum Refusal {
     Inputs { index: u64 },
     /// The number of the last stage is outside 1 to 18.
     Stage,
-    /// The number of the fault code is outside 1 to 59.
+    /// The number is that of no fault code.
     Code,
     /// The piece at this index passes the address 2^64 - 1.
     PiecePastEnd { index: u64 },

@@ -2,11 +2,9 @@
 pub mod Collecting
 pub mod Filled
 pub mod Kept
-pub mod MadtPass
 pub mod OverridesPass
 pub mod Passes
-pub mod PpttPass
 pub mod RisingKeys
-pub mod SratPass
+pub mod TablePass
 pub mod TypedPass
 pub mod ValuesPass

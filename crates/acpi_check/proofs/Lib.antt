@@ -1,6 +1,6 @@
 pub mod EntryPasses
 pub mod ListedSets
-mod NodeLinks
+pub mod NodeLinks
 mod ProcessorNumbers
 mod Spans
 mod WholeSets

@@ -17,8 +17,8 @@ use acpi_graph::{Stray, first_stray};
 use acpi_read::{Pptt, PpttEntry};
 use std::alloc::{AllocError, Global};
 
-/// The offset that an entry refers to, if the entry is a node of such chains.
-fn named_offset(chain: Chain, entry: &PpttEntry<'_>) -> Option<u32>
+/// The offset that an entry refers to, if the entry is a node of such chains. 0 is none.
+pub fn named_offset(chain: Chain, entry: &PpttEntry<'_>) -> Option<u32>
     ensures { result ≡ named_offset chain (pptt_value entry.now) }
 {
     match (chain, entry) {

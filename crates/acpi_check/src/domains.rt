@@ -14,9 +14,8 @@ use crate::first_seen::{Given, OtherValue, pass_given};
 use crate::processors::{Key, numbers_of};
 use crate::refusal::Refusal;
 use crate::search::binary_search;
-use crate::srat::is_enabled;
 use acpi_base::{Code, Processors, Witness};
-use acpi_read::{Madt, Srat, SratEntry};
+use acpi_read::{Madt, Srat, SratEntry, is_enabled};
 use std::alloc::{AllocError, Global};
 
 /// A processor in a proximity domain.

@@ -6,19 +6,18 @@ ghost use Rattle.acpi_check.specs.Set.{IsReady, IsSetResult};
 
 use crate::chains::{caches_end, parents_end};
 use crate::domains::one_domain;
+use crate::entries::sound_entries;
 use crate::interrupts::apart_interrupts;
 use crate::leaves::known_leaves;
-use crate::madt::sound_madt;
 use crate::overrides::agreeing_overrides;
-use crate::pptt::sound_pptt;
 use crate::ranges::apart_ranges;
 use crate::references::sound_references;
 use crate::refusal::Refusal;
 use crate::served::named_served;
 use crate::set::Set;
 use crate::slit::sound_slit;
-use crate::srat::sound_srat;
 use acpi_base::{Stage, TableKind};
+use acpi_read::{MadtEntry, PpttEntry, SratEntry};
 use std::alloc::Global;
 
 /// Runs one stage from the MADT's on. A stage holds if the set does not list what it looks at.
@@ -38,13 +37,13 @@ fn found(alloc: Global, set: &Set<'_, '_>, stage: Stage) -> Option<Result<(), Re
     let tables = &set.listed.tables;
     let policy = set.policy;
     Some(match stage {
-        Stage::Madt => sound_madt(policy, tables.first(TableKind::Madt)?),
+        Stage::Madt => sound_entries::<MadtEntry<'_>>(policy, tables.first(TableKind::Madt)?),
         Stage::Interrupts => apart_interrupts(alloc, policy, &set.madt()?),
         Stage::Overrides => agreeing_overrides(&set.madt()?),
-        Stage::Srat => sound_srat(tables.first(TableKind::Srat)?),
+        Stage::Srat => sound_entries::<SratEntry<'_>>(policy, tables.first(TableKind::Srat)?),
         Stage::Ranges => apart_ranges(alloc, policy.hotplug(), &set.srat()?),
         Stage::Slit => sound_slit(tables.first(TableKind::Slit)?),
-        Stage::Pptt => sound_pptt(tables.first(TableKind::Pptt)?),
+        Stage::Pptt => sound_entries::<PpttEntry<'_>>(policy, tables.first(TableKind::Pptt)?),
         Stage::References => sound_references(alloc, &set.pptt()?),
         Stage::Parents => parents_end(alloc, &set.pptt()?),
         Stage::Caches => caches_end(alloc, &set.pptt()?),

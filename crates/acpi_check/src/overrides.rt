@@ -59,7 +59,7 @@ pub fn agreeing_overrides(madt: &Madt<'_>) -> Result<(), Refusal>
         (OverrideFault (madt_contents madt.now)) result }
     ensures memory { IfErr result (λ refusal. refusal ≢ Refusal.OutOfMemory) }
 {
-    // Clearing the table below takes some 6,000 instructions, more than the rest of a check of firmware.
+    // Clearing the table below takes some 6,000 instructions, about half of a check of firmware.
     if do_sources_rise(madt) {
         return Ok(());
     }

@@ -13,10 +13,9 @@ ghost use Rattle.acpi_check.specs.RangeKinds.{counts, IsOfKind};
 use crate::collecting::collected;
 use crate::range_kind::RangeKind;
 use crate::refusal::Refusal;
-use crate::srat::is_enabled;
 use acpi_base::{Code, HotPlug, Witness};
 use acpi_graph::{Clash, Span, first_clash};
-use acpi_read::{EntryAt, Srat, SratEntry};
+use acpi_read::{EntryAt, Srat, SratEntry, is_enabled};
 use std::alloc::{AllocError, Global};
 
 /// Whether a range with these flags is hot-pluggable.

@@ -62,8 +62,9 @@ fn places_of(alloc: Global, pptt: &Pptt<'_>) -> Result<Places, AllocError>
     Ok(places)
 }
 
-/// The first of a node's private resources that is not at one of these offsets: its number, and its own offset.
-fn first_dangling(offsets: &OffsetSet, count: u32, references: &[u8]) -> Option<(u32, u32)>
+/// The first of a node's private resources that is not at one of these offsets: its number, from 0, and its own offset.
+/// `references` has 4 bytes for each of the `count` resources (ACPI 6.5, 5.2.30.1).
+pub fn first_dangling(offsets: &OffsetSet, count: u32, references: &[u8]) -> Option<(u32, u32)>
     requires { length references.now ≡ 4 * count }
     ensures { MatchOption result ((j : ℕ) → j < count
         → IsIn offsets.now (field references.now (4 * j) 4))

@@ -2,8 +2,9 @@
 
 ghost use Rattle.std.specs.Prelude.{◌≡◌, ◌≤◌, ◌↔◌, List, ℕ, IsTrue, IfSome, Some, length};
 ghost use Rattle.acpi_base.specs.Faults.{FaultCondition};
+ghost use Rattle.acpi_base.specs.Frames.{frame_length};
 ghost use Rattle.acpi_base.specs.Memory.{bytes_at};
-ghost use Rattle.acpi_base.specs.Rsdp.{revision_of, IsExtended, rsdp_length, RsdpFault};
+ghost use Rattle.acpi_base.specs.Rsdp.{extended_frame, IsExtended, RsdpFault};
 ghost use Rattle.acpi_base.specs.declared.stage.Stage.{Stage};
 
 use acpi_base::field::{is_signed, u8_at, u32_at};
@@ -45,8 +46,7 @@ fn has_fault(image: &Image, address: u64, code: Code) -> bool
 
 /// Whether the 20 bytes of an RSDP of the extended form, of revision 2 or more, are present.
 fn is_extended(image: &Image, address: u64) -> bool
-    ensures { IsTrue result ↔ ((head : List ℕ) × (bytes_at image.now address 20 ≡ Some head)
-        × (2 ≤ revision_of head)) }
+    ensures { IsTrue result ↔ IsExtended image.now address }
 {
     image
         .window(address, 20)
@@ -56,10 +56,11 @@ fn is_extended(image: &Image, address: u64) -> bool
 /// The Length of an RSDP of the extended form whose 36 bytes are present.
 fn extended_length(image: &Image, address: u64) -> Option<u32>
     ensures found { IfSome result
-        (λ length. (head : List ℕ) × (prefix : List ℕ) × IsExtended image.now address head prefix
-        × (rsdp_length prefix ≡ length)) }
-    ensures every { (head prefix : List ℕ) → IsExtended image.now address head prefix
-        → result ≡ Some (rsdp_length prefix) }
+        (λ length. IsExtended image.now address × (prefix : List ℕ)
+        × (bytes_at image.now address 36 ≡ Some prefix) × (frame_length extended_frame prefix ≡ length)) }
+    ensures every { (prefix : List ℕ) → IsExtended image.now address
+        → bytes_at image.now address 36 ≡ Some prefix
+        → result ≡ Some (frame_length extended_frame prefix) }
 {
     if !is_extended(image, address) {
         return None;

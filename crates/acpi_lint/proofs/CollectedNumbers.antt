@@ -1,27 +1,26 @@
 -- Numbers that are collected from the entries of a table, each with its place for its value.
-use Rattle.std.proofs.Common.{◌≡◌, ℕ, List, Option, Some, None, Result, Ok, Err, Vec, Global, refl, sym, ap, subst}
+use Rattle.std.proofs.Common.{◌≡◌, ℕ, List, Option, Some, None, Result, Ok, Err, Vec, Global, refl, sym, ◌∙◌, ap, subst}
 use Rattle.std.specs.Prelude.{◌↔◌, Contains, IfOk, option_map}
 use Rattle.std.specs.List.{filter_map}
+use Rattle.std.proofs.lemmas.List.{map-id}
 use Rattle.std.proofs.lemmas.Option.{same_Some}
 use denote.Ref.{Bor}
 use Rattle.acpi_base.specs.Entries.{PlacedEntry}
-use Rattle.acpi_base.specs.Lint.Numbered.{NamesAt, IsLater}
-use Rattle.acpi_base.specs.Madt.{MadtEntry, madt_contents}
-use Rattle.acpi_base.specs.Pptt.{PpttEntry, pptt_contents}
-use Rattle.acpi_read.specs.Madts.{madt_value}
-use Rattle.acpi_read.specs.Pptts.{pptt_value}
+use Rattle.acpi_base.specs.Lint.Numbered.{NamesAt, IsNamed, IsLater, Repeats}
 use Rattle.acpi_read.specs.TypedEntries.{entry_at_value}
-use Rattle.acpi_read.specs.declared.madt.MadtEntry as madts
-use Rattle.acpi_read.specs.declared.pptt.PpttEntry as pptts
 use Rattle.acpi_read.specs.declared.typed_entries.EntryAt.{EntryAt}
 use Rattle.acpi_check.specs.CollectedValues.{Picks, Collects}
-use Rattle.acpi_check.proofs.EntryPasses.Collecting.{gathered_same}
-use Rattle.acpi_check.proofs.EntryPasses.Kept.{AreRising, kept_has, kept_from, keys_rise, madt_rising, pptt_rising}
+use Rattle.acpi_check.proofs.EntryPasses.Collecting.{are_collected, gathered_same}
+use Rattle.acpi_check.proofs.EntryPasses.Kept.{AreRising, kept_has, kept_from, keys_rise}
+use Rattle.acpi_lint.specs.EntryNumbers.{FindsRepeated, AreGathered}
+use Rattle.acpi_lint.specs.KnownNumbers.{AreKnown}
 use Rattle.acpi_lint.specs.Numbered.{at_place, HasAt, AreNumbersAt}
 use Rattle.acpi_lint.specs.Places.{FindsLeast}
 use Rattle.acpi_lint.specs.declared.numbered.Numbered.{Numbered}
 use Rattle.acpi_lint.specs.declared.place.Place.{Place}
+use Rattle.acpi_lint.proofs.KnownOnes.{are_known}
 use Rattle.acpi_lint.proofs.LeastPlaces.{least_as}
+use Rattle.acpi_lint.proofs.SameNumbers.{found_later}
 
 -- ---- collected
 
@@ -95,29 +94,17 @@ gathered_numbers value read StandsAt low {entries = entries} r rises stands foun
     gathered_same value (λ s. option_map (at_place s.offset) (read s)) (AreNumbersAt StandsAt) r found same each
     (λ given is. are_numbers read StandsAt low entries given rises is stands)
 
--- those of a MADT
-pub madt_numbers : {X : Type 0} (read : MadtEntry → Option ℕ) (whole : List ℕ)
-    {Answers : Bor (EntryAt madts.MadtEntry) → Option Numbered → Type 0} {said : List (PlacedEntry MadtEntry)}
-    (r : Result (Vec Numbered Global) X) → IfOk r (λ v. Collects (Picks madt_value Answers) said v.items)
-    → said ≡ (madt_contents whole).entries
-    → ((at : Bor (EntryAt madts.MadtEntry)) (picked : Option Numbered) → Answers at picked
-    → picked ≡ option_map (at_place at.now.offset) (read (madt_value at.now.entry)))
-    → IfOk r (λ v. AreNumbersAt (NamesAt read (madt_contents whole).entries) v.items)
-madt_numbers read whole r found same each =
-    gathered_numbers madt_value (λ s. read s.entry) (NamesAt read (madt_contents whole).entries) 44 r
-    (madt_rising whole) (as_named read (madt_contents whole).entries) found same each
+-- what is collected is what a function gives of the entries, if each call gives that of its entry
+itself : {T : Type 0} (picked : Option T) → option_map (λ x. x) picked ≡ picked
+itself None = refl
+itself (Some value) = refl
 
--- and of a PPTT
-pub pptt_numbers : {X : Type 0} (read : PpttEntry → Option ℕ) (whole : List ℕ)
-    {Answers : Bor (EntryAt pptts.PpttEntry) → Option Numbered → Type 0} {said : List (PlacedEntry PpttEntry)}
-    (r : Result (Vec Numbered Global) X) → IfOk r (λ v. Collects (Picks pptt_value Answers) said v.items)
-    → said ≡ (pptt_contents whole).entries
-    → ((at : Bor (EntryAt pptts.PpttEntry)) (picked : Option Numbered) → Answers at picked
-    → picked ≡ option_map (at_place at.now.offset) (read (pptt_value at.now.entry)))
-    → IfOk r (λ v. AreNumbersAt (NamesAt read (pptt_contents whole).entries) v.items)
-pptt_numbers read whole r found same each =
-    gathered_numbers pptt_value (λ s. read s.entry) (NamesAt read (pptt_contents whole).entries) 36 r
-    (pptt_rising whole) (as_named read (pptt_contents whole).entries) found same each
+pub collected_same : {S T : Type 0} {Gives : S → Option T → Type 0} (h : S → Option T) (all : List S) (found : List T)
+    → Collects Gives all found → ((s : S) (picked : Option T) → Gives s picked → picked ≡ h s)
+    → found ≡ filter_map h all
+collected_same h all found collects each =
+    sym (map-id found)
+    ∙ are_collected (λ x. x) h all found collects (λ s picked here gives. itself picked ∙ each s picked gives)
 
 -- where A and B put the same numbers at places, those of A are those of B
 pub numbers_as : {A B : ℕ → ℕ → Type 0} (given : List Numbered) → ((at n : ℕ) → A at n ↔ B at n)
@@ -157,3 +144,33 @@ found_twice given r are least =
     (λ at other point later. same_later at other point (λ p n stands. (are.all p n).1 stands)
     (λ p n has. (are.all p n).0 has) later)
     holds) least
+
+-- ---- numbers that are gathered from entries, where each call answers the number that `read` gives
+
+pub repeated_read : {E Said : Type 0} (value : E → Said) {Answers : Bor (EntryAt E) → Option Numbered → Type 0}
+    (read : Said → Option ℕ) (low : ℕ) (entries : List (PlacedEntry Said)) (found : Option Place)
+    → AreRising low entries → FindsRepeated (Picks value Answers) entries found
+    → ((at : Bor (EntryAt E)) (picked : Option Numbered) → Answers at picked
+    → picked ≡ option_map (at_place at.now.offset) (read (value at.now.entry)))
+    → FindsLeast (Repeats read entries) found
+repeated_read {E} {Said} value read low entries found rises (given, collects, least) each =
+    found_twice {X = E} given (Ok found) are (found_later given found are.placed least)
+  where
+    are : AreNumbersAt (NamesAt read entries) given
+    are =
+        are_numbers (λ s. read s.entry) (NamesAt read entries) low entries given rises
+        (collected_same (λ s. option_map (at_place s.offset) (read s.entry)) entries given collects
+        (λ s picked (at, is, answers). each at picked answers
+        ∙ ap (λ (t : PlacedEntry Said). option_map (at_place t.offset) (read t.entry)) is))
+        (as_named read entries)
+
+pub known_read : {E Said : Type 0} (value : E → Said) {Answers : Bor (EntryAt E) → Option ℕ → Type 0}
+    (read : Said → Option ℕ) (entries : List (PlacedEntry Said)) (known : List ℕ)
+    → AreGathered (Picks value Answers) entries known
+    → ((at : Bor (EntryAt E)) (number : Option ℕ) → Answers at number → number ≡ read (value at.now.entry))
+    → AreKnown (IsNamed read entries) known
+known_read {Said = Said} value read entries known (rise, (given, collects, same)) each =
+    are_known read entries given known
+    (collected_same (λ s. read s.entry) entries given collects
+    (λ s number (at, is, answers). each at number answers ∙ ap (λ (t : PlacedEntry Said). read t.entry) is))
+    rise same

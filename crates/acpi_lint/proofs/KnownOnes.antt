@@ -12,13 +12,10 @@ use Rattle.acpi_lint.specs.declared.numbered.Numbered.{Numbered}
 use Rattle.acpi_lint.proofs.SameNumbers.{has_at}
 
 -- those of entries are those that entries name
-pub are_known : {E X : Type 0} (read : E → Option ℕ) (entries : List (PlacedEntry E)) (gathered : List ℕ)
-    (r : Result (Vec ℕ Global) X) → gathered ≡ filter_map (λ s. read s.entry) entries
-    → IfOk r (λ numbers. AllPairs (λ i j. i < j) numbers.items)
-    → IfOk r (λ numbers. (n : ℕ) → Contains numbers.items n ↔ Contains gathered n)
-    → IfOk r (λ numbers. AreKnown (IsNamed read entries) numbers.items)
-are_known read entries gathered (Err e) is rise same = tt
-are_known {E} read entries gathered (Ok numbers) is rise same =
+pub are_known : {E : Type 0} (read : E → Option ℕ) (entries : List (PlacedEntry E)) (gathered known : List ℕ)
+    → gathered ≡ filter_map (λ s. read s.entry) entries → AllPairs (λ i j. i < j) known
+    → ((n : ℕ) → Contains known n ↔ Contains gathered n) → AreKnown (IsNamed read entries) known
+are_known {E} read entries gathered known is rise same =
     record {
       rise = rise;
       all = λ n. (

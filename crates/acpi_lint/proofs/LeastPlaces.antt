@@ -1,10 +1,9 @@
 -- The least place of findings, by what is said of it.
-use Rattle.std.proofs.Common.{◌≡◌, ℕ, ◌<◌, ◌≤◌, List, Option, Some, None, subst, inl, inr, refl, sym, arith}
+use Rattle.std.proofs.Common.{◌≡◌, ℕ, ◌<◌, ◌≤◌, List, Option, Some, None, subst, inl, inr, refl, arith}
 use Rattle.std.specs.Prelude.{◌⊎◌, IfSome}
 use Rattle.std.proofs.lemmas.Option.{same_Some}
 use Rattle.std.proofs.lemmas.Bool.{cases_lt}
 use Rattle.acpi_base.specs.Entries.{PlacedEntry, StandsWith, AreUnused}
-use Rattle.acpi_base.specs.Lint.Numbered.{IsLater}
 use Rattle.acpi_lint.specs.Places.{IsNotAfter, IsLeast, FindsLeast}
 use Rattle.acpi_lint.specs.declared.place.Place.{Place}
 
@@ -118,41 +117,4 @@ first_two {IsAt} first (Some p) least behind =
       here = (here, rw is least.here.0, omega (arith, later, is), unused);
       least = after_two first.at p is unused (at_least least)
           (λ at there less. place_upto (behind.least at first.at 0 (there, less, refl, refl)));
-    }
-
--- the least two of a kind are the first number that occurs again, if the number of each of the kind is 0
-two_of_later : {IsAt : ℕ → Type 0} (HasAt : ℕ → ℕ → Type 0) → ((o x : ℕ) → HasAt o x → IsAt o × (x ≡ 0))
-    → (at other x : ℕ) → IsLater HasAt at other x → AreTwo IsAt at other x
-two_of_later HasAt of at other x later =
-    let here = of at x later.here in
-    (here.0, (of other x later.earlier).0, later.before, here.1)
-
--- of the least two the other one comes before each of the kind
-first_of_two : {IsAt : ℕ → Type 0} (p : Place) → IsLeast (AreTwo IsAt) p → (q : ℕ) → IsAt q → p.other ≤ q
-first_of_two p least q is =
-    let (here, other, less, unused) = least.here in
-    elim (cases_lt q p.at) [
-      | inl below ↦
-          elim (least.least p.at q 0 (here, is, below, refl)) [
-            | inl before ↦ omega (arith, before)
-            | inr (same, inl earlier) ↦ omega (arith, earlier)
-            | inr (same, inr (equal, rest)) ↦ omega (arith, equal)
-          ]
-      | inr high ↦ omega (arith, high, less)
-    ]
-
-pub later_of_two : {IsAt : ℕ → Type 0} (HasAt : ℕ → ℕ → Type 0) (found : Option Place)
-    → ((o x : ℕ) → HasAt o x → IsAt o × (x ≡ 0)) → ((o : ℕ) → IsAt o → HasAt o 0)
-    → FindsLeast (AreTwo IsAt) found → FindsLeast (IsLater HasAt) found
-later_of_two HasAt None of to none = λ at other x later. none at other x (two_of_later HasAt of at other x later)
-later_of_two HasAt (Some p) of to least =
-    let (here, other, less, unused) = least.here in
-    record {
-      here = record {
-        here = subst (HasAt p.at) (sym unused) (to p.at here);
-        earlier = subst (HasAt p.other) (sym unused) (to p.other other);
-        before = less;
-        first = λ q has. first_of_two p least q (of q p.point has).0;
-      };
-      least = λ at other x later. least.least at other x (two_of_later HasAt of at other x later);
     }

@@ -1,24 +1,25 @@
 -- What the entries of a PPTT name that is at none of some offsets, and where it dangles.
-use Rattle.std.proofs.Common.{◌≡◌, ℕ, ◌*◌, ◌<◌, ◌≤◌, Bool, true, true≢false, List, map, Option, Some, None, Result, Ok, Err, refl, sym, ◌∙◌, ap, subst, inl, inr, arith}
-use Rattle.std.specs.Prelude.{◌↔◌, ◌⊎◌, Contains, IfOk, is_some, not, slice_get}
-use Rattle.std.specs.List.{filter_map, range_with_len}
+use Rattle.std.proofs.Common.{◌≡◌, ℕ, ◌*◌, ◌<◌, ◌≤◌, Bool, true, true≢false, List, Option, Some, None, Result, Ok, Err, refl, sym, ◌∙◌, ap, subst, inl, inr, arith}
+use Rattle.std.specs.Prelude.{◌↔◌, ◌⊎◌, Contains, IfOk, is_some, not}
+use Rattle.std.specs.List.{filter_map}
 use Rattle.std.proofs.lemmas.Bool.{cases_order, eqb-false, not-true, ne_eqb}
-use Rattle.std.proofs.lemmas.List.FromFn.{length-map-range_with_len, get_or-map-range_with_len}
-use Rattle.std.proofs.lemmas.Option.{cond_some, slice_get_within, slice_get-get_or, get_or_from_slice_get}
+use Rattle.std.proofs.lemmas.Option.{cond_some}
 use Rattle.acpi_base.specs.Chains.{IsAt}
 use Rattle.acpi_base.specs.Entries.{PlacedEntry, Stands, StandsWith}
 use Rattle.acpi_base.specs.Number.{field}
 use Rattle.acpi_base.specs.Pptt.{PpttEntry, Node, NodeValue, PpttContents, pptt_contents, Says, IsResourceAt, ReferenceFault}
 use Rattle.acpi_base.specs.declared.code.Code.TheVariants as code
 use Rattle.acpi_check.proofs.EntryPasses.Kept.{kept_has, kept_from}
+use Rattle.acpi_check.proofs.NodeLinks.NamedPlaces.{numbers_in, number_is, is_number}
 use Rattle.acpi_base.proofs.Images.HeldBytes.{cases_Option}
+use Rattle.acpi_check.specs.ChainCycles.{named_offset}
 use Rattle.acpi_check.specs.OffsetSets.{IsIn}
+use Rattle.acpi_check.specs.declared.nodes.Chain.{Chain}
 use Rattle.acpi_check.specs.declared.offset_set.OffsetSet.{OffsetSet}
 use Rattle.acpi_lint.specs.FirstPicked.{FindsOwn}
 use Rattle.acpi_lint.specs.Places.{FindsLeast}
-use Rattle.acpi_lint.specs.References.{linked, offset_where, is_linked, is_resource, AreOffsets, IsDanglingLink, NamesNoLink, NamesNoResource}
+use Rattle.acpi_lint.specs.References.{offset_where, is_linked, is_resource, AreOffsets, IsDanglingLink, NamesNoLink, NamesNoResource}
 use Rattle.acpi_lint.specs.declared.place.Place.{Place}
-use Rattle.acpi_lint.specs.declared.references.Link.{Link}
 use Rattle.acpi_lint.proofs.FirstEntries.{IsFaultAt}
 use Rattle.acpi_lint.proofs.LeastPlaces.{least_as}
 
@@ -43,14 +44,14 @@ stand test entries o = (
         (s.entry, subst (λ (k : ℕ). Stands entries k s.entry) (sym same) found, passes)
 
 -- a set of the offsets of entries with a link has the places of their kind
-pub linked_there : (kind : Link) (whole offsets : List ℕ)
+pub linked_there : (kind : Chain) (whole offsets : List ℕ)
     → offsets ≡ filter_map (offset_where (is_linked kind)) (pptt_contents whole).entries
-    → (o : ℕ) → Contains offsets o ↔ IsAt (Says (linked kind) (pptt_contents whole)) o
+    → (o : ℕ) → Contains offsets o ↔ IsAt (Says (named_offset kind) (pptt_contents whole)) o
 linked_there kind whole offsets are o =
     let said = (pptt_contents whole).entries in
     rw are (
       λ listed. (let (e, stands, is) = (stand (is_linked kind) said o).0 listed in
-          elim (cases_Option (linked kind e)) [
+          elim (cases_Option (named_offset kind e)) [
             | inl (p, names) ↦ (p, (e, stands, names))
             | inr none ↦ absurd (true≢false (sym is ∙ ap is_some none))
           ]),
@@ -79,8 +80,8 @@ same_places offsets (Err e) there same = tt
 -- ---- what dangles
 
 -- an entry that is linked to none of the places of its kind dangles
-pub links_dangle : (kind : Link) (c : PpttContents) (offsets : OffsetSet) (found : Option Place)
-    → AreOffsets (IsAt (Says (linked kind) c)) offsets
+pub links_dangle : (kind : Chain) (c : PpttContents) (offsets : OffsetSet) (found : Option Place)
+    → AreOffsets (IsAt (Says (named_offset kind) c)) offsets
     → FindsLeast (IsFaultAt (NamesNoLink kind offsets) c.entries) found
     → FindsLeast (IsDanglingLink kind c) found
 links_dangle kind c offsets found are least =
@@ -103,29 +104,6 @@ resources_dangle c offsets found are least =
     least
 
 -- ---- private resources
-
--- the numbers in the bytes of so many references
-abbrev numbers_in : List ℕ → ℕ → List ℕ
-numbers_in references count = map (λ j. field references (4 * j) 4) (range_with_len 0 count)
-
--- resource j is the number in its place
-number_is : (references : List ℕ) (count j r : ℕ) → slice_get (numbers_in references count) j ≡ Some r
-    → (j < count) × (r ≡ field references (4 * j) 4)
-number_is references count j r is =
-    let size = length-map-range_with_len (λ i. field references (4 * i) 4) 0 count in
-    let within = slice_get_within (numbers_in references count) j r is in (
-      omega arith,
-      sym (get_or_from_slice_get (numbers_in references count) j r 0 is)
-          ∙ get_or-map-range_with_len (λ i. field references (4 * i) 4) 0 count j j 0 (omega arith) (omega arith),
-    )
-
--- and each number in its place is a resource
-is_number : (references : List ℕ) (count j : ℕ) → j < count
-    → slice_get (numbers_in references count) j ≡ Some (field references (4 * j) 4)
-is_number references count j below =
-    let size = length-map-range_with_len (λ i. field references (4 * i) 4) 0 count in
-    slice_get-get_or (numbers_in references count) j 0 (omega arith)
-    ∙ ap Some (get_or-map-range_with_len (λ i. field references (4 * i) 4) 0 count j j 0 (omega arith) (omega arith))
 
 -- a node all of whose private resources are there
 pub none_missing : (offsets : OffsetSet) (references : List ℕ) (count : ℕ) (s : PlacedEntry PpttEntry) (v : NodeValue)

@@ -1,6 +1,6 @@
 -- Numbers that are given at places, once they are sorted.
-use Rattle.std.proofs.Common.{◌≡◌, ℕ, ◌<◌, ◌≤◌, ◌⊎◌, List, get_or, Option, false, Ordering, arith}
-use Rattle.std.specs.Prelude.{AllPairs, Contains}
+use Rattle.std.proofs.Common.{◌≡◌, ℕ, ◌<◌, ◌≤◌, ◌⊎◌, List, get_or, Option, Result, Ok, Err, false, Ordering, arith}
+use Rattle.std.specs.Prelude.{AllPairs, Contains, OnOk}
 use Rattle.std.specs.Cmp.{IsTotalOrder}
 use Rattle.std.specs.List.Sorted.{IsPermutation, IsSorted}
 use Rattle.std.specs.Ordering.{nat_cmp, ordering_then, is_lt}
@@ -51,6 +51,12 @@ moved_unlike given others g f to from unlike =
       same = unlike.same;
       differ = unlike.differ;
     }
+
+-- and where the sort may run out of memory
+pub in_order_ok : {X Y : Type 0} (r : Result X Y) (sorted : List Numbered) → OnOk r (IsSorted numbered_cmp sorted)
+    → OnOk r (AllPairs IsNotAbove sorted)
+in_order_ok (Ok x) sorted order = in_order sorted order
+in_order_ok (Err y) sorted order = tt
 
 pub found_moved : (order : Order) (given sorted : List Numbered) (found : Option Place) → IsPermutation given sorted
     → FindsLeast (IsUnlikeAt order sorted) found → FindsLeast (IsUnlikeAt order given) found

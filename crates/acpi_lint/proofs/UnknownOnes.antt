@@ -1,14 +1,15 @@
 -- Numbers that are none of those that are known: what is found of entries by lists of known numbers is what the rules
 -- say.
 use Rattle.std.proofs.Common.{◌≡◌, ◌≢◌, ℕ, ◌<◌, ◌⊎◌, List, length, Option, Some, None, Bool, true, false, refl, sym, ◌∙◌, inl, inr, arith}
-use Rattle.std.specs.Prelude.{if◌then◌else◌, Contains, MatchOption, slice_index}
+use Rattle.std.specs.Prelude.{◌↔◌, if◌then◌else◌, Contains, IsTrue, MatchOption, slice_index}
+use Rattle.std.specs.Bool.{then_some}
 use Rattle.std.specs.Option.{is_some, option_and_then}
 use Rattle.std.proofs.lemmas.List.Elements.{Contains-get_or}
 use Rattle.std.proofs.lemmas.List.{get_or_default}
 use Rattle.std.proofs.lemmas.Option.{none-some, same_Some}
 use Rattle.acpi_base.specs.Entries.{PlacedEntry}
 use Rattle.acpi_base.specs.Lint.Numbered.{NamesAt}
-use Rattle.acpi_base.specs.Lint.Processors.{Processor, is_gicc, apic_id_on, gicc_uid_on, placed_apic_id, placed_uid}
+use Rattle.acpi_base.specs.Lint.Processors.{Processor, is_gicc, apic_id_on, gicc_uid_on, placed_apic_id, placed_uid, AreProcessorsRead}
 use Rattle.acpi_base.specs.Madt as madt
 use Rattle.acpi_base.specs.Number.{field, has_bit}
 use Rattle.acpi_base.specs.Srat as srat
@@ -16,7 +17,7 @@ use Rattle.acpi_lint.specs.FirstPicked.{FindsOwn}
 use Rattle.acpi_lint.specs.KnownNumbers.{AreKnown}
 use Rattle.acpi_lint.specs.Numbered.{at_place, AreNumbersAt}
 use Rattle.acpi_lint.specs.Places.{FindsLeast}
-use Rattle.acpi_lint.specs.UnknownNumbers.{IsUnknown, IsUnknownOf, IsUnknownAt}
+use Rattle.acpi_lint.specs.UnknownNumbers.{IsUnknown, IsUnknownOf, IsUnknownAt, IsWhereRead}
 use Rattle.acpi_lint.specs.declared.numbered.Numbered.{Numbered}
 use Rattle.acpi_lint.specs.declared.place.Place.{Place}
 use Rattle.acpi_lint.proofs.FirstEntries.{IsFaultAt}
@@ -68,6 +69,20 @@ unknown_named read IsKnown entries known found are least =
     (λ at other point ((e, stands, is), none, unused).
     (e, stands, (is, λ listed. none ((are.all point).0 listed), unused)))
     least
+
+-- a place that is asked only where the rules read all processors
+pub read_place : (c : madt.MadtContents) (p : Place) (b : Bool) → IsTrue b ↔ AreProcessorsRead c
+    → IsWhereRead c (Some p) (then_some b p)
+read_place c p true test = (refl, test.0 refl)
+read_place c p false test = λ read. let no : IsTrue false = test.1 read in absurd cc
+
+pub where_all_read : (c : madt.MadtContents) (P : ℕ → ℕ → ℕ → Type 0) (place found : Option Place)
+    → IsWhereRead c place found → FindsLeast P place
+    → FindsLeast (λ at other point. AreProcessorsRead c × P at other point) found
+where_all_read c P None found is none = rw is (λ at other point (_, holds). none at other point holds)
+where_all_read c P (Some p) None not least = λ at other point (read, holds). not read
+where_all_read c P (Some p) (Some r) (is, read) least =
+    least_as (Some r) (λ at other point holds. (read, holds)) (λ at other point (_, holds). holds) (rw is least)
 
 -- ---- entries of one of two numbers
 

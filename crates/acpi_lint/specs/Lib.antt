@@ -1,22 +1,18 @@
 -- What the contracts of the linter cite.
 pub mod EntryNumbers
+pub mod EntryPlaces
 pub mod FacsPlaces
 pub mod FadtPlaces
 pub mod FirstPicked
 pub mod KnownNumbers
 pub mod Leaves
-pub mod MadtPlaces
 pub mod Numbered
 pub mod Overrides
-pub mod OwnAdvice
 pub mod Places
-pub mod PpttPlaces
 pub mod References
 pub mod SlitPlaces
 pub mod Slots
-pub mod SratPlaces
 pub mod StageFaults
-pub mod TableRules
 pub mod UnknownNumbers
 pub mod Verdicts
 pub mod WholeTables

@@ -2,23 +2,18 @@
 use Rattle.std.specs.Prelude.{◌≡◌, ◌≢◌, ◌↔◌, ℕ, Bool, Option, Some, None, is_some, not, ◌==◌, if◌then◌else◌}
 use Rattle.acpi_base.specs.Chains.{Dangles}
 use Rattle.acpi_base.specs.Entries.{PlacedEntry}
-use Rattle.acpi_base.specs.Pptt.{PpttEntry, PpttContents, parent_of, next_level_of, resource_of, pptt_type, Says}
+use Rattle.acpi_base.specs.Pptt.{PpttEntry, PpttContents, resource_of, pptt_type, Says}
+use Rattle.acpi_check.specs.ChainCycles.{named_offset}
 use Rattle.acpi_check.specs.OffsetSets.{IsIn}
+use Rattle.acpi_check.specs.declared.nodes.Chain.{Chain}
 use Rattle.acpi_check.specs.declared.offset_set.OffsetSet.{OffsetSet}
-use Rattle.acpi_lint.specs.declared.references.Link.{Link}
-use Rattle.acpi_lint.specs.declared.references.Link.TheVariants as link
-
--- what an entry refers to: a node to its Parent, a cache to its Next Level
-abbrev pub linked : Link → PpttEntry → Option ℕ
-linked link.Parent = parent_of
-linked link.NextLevel = next_level_of
 
 -- the offset of an entry that passes the test
 abbrev pub offset_where : (PpttEntry → Bool) → PlacedEntry PpttEntry → Option ℕ
 offset_where test s = if test s.entry then Some s.offset else None
 
-abbrev pub is_linked : Link → PpttEntry → Bool
-is_linked kind e = is_some (linked kind e)
+abbrev pub is_linked : Chain → PpttEntry → Bool
+is_linked kind e = is_some (named_offset kind e)
 
 abbrev pub is_resource : PpttEntry → Bool
 is_resource e = not (pptt_type e == 0)
@@ -28,13 +23,13 @@ abbrev pub AreOffsets : (ℕ → Type 0) → OffsetSet → Type 0
 AreOffsets IsThere offsets = (o : ℕ) → IsIn offsets o ↔ IsThere o
 
 -- where a link dangles
-abbrev pub IsDanglingLink : Link → PpttContents → ℕ → ℕ → ℕ → Type 0
-IsDanglingLink kind c at other point = Dangles (Says (linked kind) c) at other × (point ≡ 0)
+abbrev pub IsDanglingLink : Chain → PpttContents → ℕ → ℕ → ℕ → Type 0
+IsDanglingLink kind c at other point = Dangles (Says (named_offset kind) c) at other × (point ≡ 0)
 
 -- the entry refers to an offset that is not among these, and is not 0, which refers to nothing
-abbrev pub NamesNoLink : Link → OffsetSet → ℕ → PpttEntry → ℕ → ℕ → Type 0
+abbrev pub NamesNoLink : Chain → OffsetSet → ℕ → PpttEntry → ℕ → ℕ → Type 0
 NamesNoLink kind offsets at e other point =
-    (linked kind e ≡ Some other) × (other ≢ 0) × (¬ IsIn offsets other) × (point ≡ 0)
+    (named_offset kind e ≡ Some other) × (other ≢ 0) × (¬ IsIn offsets other) × (point ≡ 0)
 
 -- a private resource of the entry is not among these
 abbrev pub NamesNoResource : OffsetSet → ℕ → PpttEntry → ℕ → ℕ → Type 0

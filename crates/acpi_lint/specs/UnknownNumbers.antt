@@ -1,9 +1,10 @@
 -- Numbers that are not among the known ones.
-use Rattle.std.specs.Prelude.{◌≡◌, ℕ, ◌≤◌, ◌⊎◌, List, Contains, Option, Some}
-use Rattle.acpi_base.specs.Lint.Processors.{apic_id_on, gicc_uid_on, placed_apic_id, placed_uid, any_domain}
-use Rattle.acpi_base.specs.Madt.{MadtEntry}
+use Rattle.std.specs.Prelude.{◌≡◌, ℕ, ◌⊎◌, List, Contains, Option, Some, None, MatchOption}
+use Rattle.acpi_base.specs.Lint.Processors.{apic_id_on, gicc_uid_on, placed_apic_id, placed_uid, AreProcessorsRead}
+use Rattle.acpi_base.specs.Madt.{MadtEntry, MadtContents}
 use Rattle.acpi_base.specs.Srat.{SratEntry}
 use Rattle.acpi_lint.specs.declared.numbered.Numbered.{Numbered}
+use Rattle.acpi_lint.specs.declared.place.Place.{Place}
 
 -- the number at `at`, if any, is `point`, which is not among the known ones
 abbrev pub IsUnknown : List ℕ → ℕ → Option ℕ → ℕ → ℕ → Type 0
@@ -23,12 +24,12 @@ abbrev pub IsUnplaced : List ℕ → List ℕ → ℕ → MadtEntry → ℕ → 
 IsUnplaced ids uids at e other point =
     IsUnknown ids at (apic_id_on e) other point ⊎ IsUnknown uids at (gicc_uid_on e) other point
 
--- the entry is for a domain that is not one of the localities
-abbrev pub IsPastHere : ℕ → ℕ → SratEntry → ℕ → ℕ → Type 0
-IsPastHere localities at e other point =
-    (any_domain e ≡ Some point) × (localities ≤ point) × (other ≡ localities)
-
 -- one of these numbers is at `at` and is not among the known ones
 abbrev pub IsUnknownAt : List ℕ → List Numbered → ℕ → ℕ → ℕ → Type 0
 IsUnknownAt known given at other point =
     (g : Numbered) × Contains given g × (g.at ≡ at) × IsUnknown known at (Some g.number) other point
+
+-- the place, if the rules read all processors of the MADT
+abbrev pub IsWhereRead : MadtContents → Option Place → Option Place → Type 0
+IsWhereRead c None found = found ≡ None
+IsWhereRead c (Some p) found = MatchOption found (¬ AreProcessorsRead c) (λ r. (r ≡ p) × AreProcessorsRead c)

@@ -1,5 +1,5 @@
 -- The tables of a set that are looked at, as far as they are complete.
-use Rattle.std.specs.Prelude.{◌≡◌, ℕ, ◌<◌, ◌≤◌, List, length, Option, Some, None, MatchOption}
+use Rattle.std.specs.Prelude.{◌≡◌, ℕ, ◌<◌, ◌≤◌, List, length, Option, Some, None, MatchOption, option_map}
 use Rattle.acpi_base.specs.Memory.{Memory}
 use Rattle.acpi_base.specs.Listed.{IsListedTable}
 use Rattle.acpi_base.specs.Root.{IsSlot}
@@ -33,3 +33,8 @@ pub record AreWholeTables (m : Memory) (p : ℕ) (tables : WholeTables) : Type 0
 abbrev pub IsLong : ℕ → Option (List ℕ) → Option (List ℕ) → Type 0
 IsLong least found None = (whole : List ℕ) → found ≡ Some whole → length whole < least
 IsLong least found (Some whole) = (found ≡ Some whole) × (least ≤ length whole)
+
+-- and these are its entries, as `read` gives them
+abbrev pub AreEntries : {E : Type 0} → ℕ → (List ℕ → E) → Option (List ℕ) → Option E → Type 0
+AreEntries least read found entries =
+    (view : Option (List ℕ)) × IsLong least found view × (entries ≡ option_map read view)

@@ -1,141 +1,43 @@
 //! The first finding of each rule of advice.
 
 ghost use Rattle.std.specs.Prelude.{IfOk};
-ghost use Rattle.acpi_base.specs.Lint.Advice.{IsBroken};
+ghost use Rattle.acpi_base.specs.Lint.Rules.{IsBroken};
 ghost use Rattle.acpi_base.specs.Lint.Findings.{AreFirstAdvice};
-ghost use Rattle.acpi_base.specs.Lint.Sets.{OfFadt, OfMadt, OfSrat};
-ghost use Rattle.acpi_base.specs.Contents.{HasPptt};
 ghost use Rattle.acpi_base.specs.Memory.{Memory};
 ghost use Rattle.acpi_base.specs.Policy.{PolicyValue};
 ghost use Rattle.acpi_base.specs.declared.rule.Rule.{Rule};
 ghost use Rattle.acpi_lint.specs.Places.{FindsLeast};
 ghost use Rattle.acpi_lint.specs.StageFaults.{FindsFirstAdvice};
-ghost use Rattle.acpi_lint.specs.TableRules.{FadtRule, MadtRule, SratRule, DomainRule, PpttRule, LeafRule};
 ghost use Rattle.acpi_lint.specs.WholeTables.{AreWholeTables};
 
-use crate::nowhere::domain_past_slit;
+use crate::fadt_advice::{block_differs, dsdt_differs, facs_differs, fadt_of_revision};
+use crate::nowhere::{
+    affinity_nowhere, leaf_nowhere, nmi_nowhere, no_domain, no_leaf, no_processor,
+};
+use crate::numbered::at_place;
+use crate::own::{cache_shape, domain_past_slit, io_apic_at_zero, madt_unread, own, srat_unread};
 use crate::place::Place;
+use crate::processors::{apic_id_on, gicd, io_apic_id, nonzero_io_apic_address, uid_on};
+use crate::repeated::{repeated, same_cache_id, same_leaf, two_uid_domains};
 use crate::sci::sci_nowhere;
 use crate::slit::{rows, slit_differs};
 use crate::slot_advice::{listed_apart, listed_twice, second_table};
-use crate::table_rules::{domain_rule, fadt_rule, leaf_rule, madt_rule, pptt_rule, srat_rule};
 use crate::whole_tables::WholeTables;
 use acpi_base::{Advice, Image, Policy, Rule, TableKind};
 use std::alloc::{AllocError, Global};
 
-/// The first finding of a rule on a set's FADT alone.
-fn of_fadt(tables: &WholeTables<'_>, rule: Rule) -> Option<Place>
-    ensures { (m : Memory) (q : PolicyValue) → AreWholeTables m q.rsdp tables.now
-        → FindsLeast (λ at other point. OfFadt m q (λ fadt. FadtRule rule fadt at other point))
-        result }
-{
-    fadt_rule(rule, &tables.fadt()?)
-}
-
-/// The first finding of a rule on a set's MADT alone.
-fn of_madt(alloc: Global, tables: &WholeTables<'_>, rule: Rule) -> Result<Option<Place>, AllocError>
-    ensures { (m : Memory) (q : PolicyValue) → AreWholeTables m q.rsdp tables.now
-        → IfOk result (FindsLeast
-        (λ at other point. OfMadt m q (λ madt. MadtRule rule madt at other point))) }
-{
-    match tables.madt() {
-        Some(madt) => madt_rule(alloc, rule, &madt),
-        None => Ok(None),
-    }
-}
-
-/// The first finding of a rule on a set's SRAT alone.
-fn of_srat(alloc: Global, tables: &WholeTables<'_>, rule: Rule) -> Result<Option<Place>, AllocError>
-    ensures { (m : Memory) (q : PolicyValue) → AreWholeTables m q.rsdp tables.now
-        → IfOk result (FindsLeast
-        (λ at other point. OfSrat m q (λ srat. SratRule rule srat at other point))) }
-{
-    match tables.srat() {
-        Some(srat) => srat_rule(alloc, rule, &srat),
-        None => Ok(None),
-    }
-}
-
-/// The first finding of a rule on a set's PPTT alone.
-fn of_pptt(alloc: Global, tables: &WholeTables<'_>, rule: Rule) -> Result<Option<Place>, AllocError>
-    ensures { (m : Memory) (q : PolicyValue) → AreWholeTables m q.rsdp tables.now
-        → IfOk result (FindsLeast
-        (λ at other point. HasPptt m q (λ pptt. PpttRule rule pptt at other point))) }
-{
-    match tables.pptt() {
-        Some(pptt) => pptt_rule(alloc, rule, &pptt),
-        None => Ok(None),
-    }
-}
-
-/// The first finding of a rule on a set's MADT and SRAT.
-fn of_domains(
-    alloc: Global,
-    tables: &WholeTables<'_>,
-    rule: Rule,
-) -> Result<Option<Place>, AllocError>
-    ensures { (m : Memory) (q : PolicyValue) → AreWholeTables m q.rsdp tables.now
-        → IfOk result (FindsLeast (λ at other point. OfMadt m q (λ madt. OfSrat m q
-        (λ srat. DomainRule rule madt srat at other point)))) }
-{
-    let Some(madt) = tables.madt() else {
-        return Ok(None);
-    };
-    let Some(srat) = tables.srat() else {
-        return Ok(None);
-    };
-    domain_rule(alloc, rule, &madt, &srat)
-}
-
-/// The first finding of a rule on a set's MADT and PPTT.
-fn of_leaves(
-    alloc: Global,
-    tables: &WholeTables<'_>,
-    rule: Rule,
-) -> Result<Option<Place>, AllocError>
-    ensures { (m : Memory) (q : PolicyValue) → AreWholeTables m q.rsdp tables.now
-        → IfOk result (FindsLeast (λ at other point. OfMadt m q (λ madt. HasPptt m q
-        (λ pptt. LeafRule rule madt pptt at other point)))) }
-{
-    let Some(madt) = tables.madt() else {
-        return Ok(None);
-    };
-    let Some(pptt) = tables.pptt() else {
-        return Ok(None);
-    };
-    leaf_rule(alloc, rule, &madt, &pptt)
-}
-
-/// The first finding of the rule on SCI_INT, which is about a set's FADT and MADT.
-fn of_sci(tables: &WholeTables<'_>, policy: &Policy) -> Option<Place>
-    ensures { (m : Memory) → AreWholeTables m policy.now.rsdp tables.now
-        → FindsLeast (IsBroken Rule.SciNowhere m policy.now) result }
-{
-    let fadt = tables.fadt()?;
-    let madt = tables.madt()?;
-    sci_nowhere(policy, &fadt, &madt)
-}
-
-/// The first finding of the rule on the distances of a set's SLIT.
-fn of_distances(tables: &WholeTables<'_>) -> Option<Place>
-    ensures { (m : Memory) (q : PolicyValue) → AreWholeTables m q.rsdp tables.now
-        → FindsLeast (IsBroken Rule.SlitDiffers m q) result }
-{
-    slit_differs(tables.table(TableKind::Slit)?)
-}
-
-/// The first finding of the rule that the domains of a set's SRAT are localities of its SLIT.
-fn of_localities(tables: &WholeTables<'_>) -> Option<Place>
+/// The place of the first entry of a set's SRAT whose domain is not one of the localities of its SLIT.
+fn past_slit(tables: &WholeTables<'_>) -> Option<Place>
     ensures { (m : Memory) (q : PolicyValue) → AreWholeTables m q.rsdp tables.now
         → FindsLeast (IsBroken Rule.DomainPastSlit m q) result }
 {
-    let srat = tables.srat()?;
     let slit = tables.table(TableKind::Slit)?;
-    let localities = rows(slit.bytes())?;
-    domain_past_slit(localities as u64, &srat)
+    let localities = rows(slit.bytes())? as u64;
+    own(tables.srat_entries(), |at| domain_past_slit(localities, at))
 }
 
-/// The place of the first finding of a rule.
+/// The place of the first finding of a rule: one line for each, in the order of what they look at. What is found in a
+/// table is none if the set lists no complete one with all its fields.
 fn first_place(
     alloc: Global,
     image: &Image,
@@ -146,29 +48,66 @@ fn first_place(
     requires { AreWholeTables image.now policy.now.rsdp tables.now }
     ensures { IfOk result (FindsLeast (IsBroken rule image.now policy.now)) }
 {
+    let (fadt, madt, srat, pptt) = (tables.fadt(), tables.madt(), tables.srat(), tables.pptt());
+    let in_madt = tables.madt_entries();
     match rule {
+        // Slots of the root table.
         Rule::ListedTwice => listed_twice(alloc, tables),
         Rule::SecondTable => Ok(second_table(tables)),
         Rule::ListedApart => Ok(listed_apart(tables)),
-        Rule::FadtOfRevision | Rule::FacsDiffers | Rule::DsdtDiffers | Rule::BlockDiffers => {
-            Ok(of_fadt(tables, rule))
-        }
-        Rule::SciNowhere => Ok(of_sci(tables, policy)),
-        Rule::SameUid
-        | Rule::SameApicId
-        | Rule::IoApicAtZero
-        | Rule::SameIoApicId
-        | Rule::SameIoApicAddress
-        | Rule::NmiNowhere
-        | Rule::SecondGicd
-        | Rule::NoProcessor
-        | Rule::MadtUnread => of_madt(alloc, tables, rule),
-        Rule::TwoUidDomains | Rule::SratUnread => of_srat(alloc, tables, rule),
-        Rule::AffinityNowhere | Rule::NoDomain => of_domains(alloc, tables, rule),
-        Rule::DomainPastSlit => Ok(of_localities(tables)),
-        Rule::SlitDiffers => Ok(of_distances(tables)),
-        Rule::SameLeaf | Rule::CacheShape | Rule::SameCacheId => of_pptt(alloc, tables, rule),
-        Rule::NoLeaf | Rule::LeafNowhere => of_leaves(alloc, tables, rule),
+        // Fields.
+        Rule::FadtOfRevision => Ok(fadt.and_then(|fadt| fadt_of_revision(&fadt))),
+        Rule::FacsDiffers => Ok(fadt.and_then(|fadt| facs_differs(&fadt))),
+        Rule::DsdtDiffers => Ok(fadt.and_then(|fadt| dsdt_differs(&fadt))),
+        Rule::BlockDiffers => Ok(fadt.and_then(|fadt| block_differs(&fadt))),
+        Rule::SlitDiffers => Ok(tables.table(TableKind::Slit).and_then(slit_differs)),
+        // Entries by themselves.
+        Rule::IoApicAtZero => Ok(own(in_madt, io_apic_at_zero)),
+        Rule::MadtUnread => Ok(own(in_madt, madt_unread)),
+        Rule::SratUnread => Ok(own(tables.srat_entries(), srat_unread)),
+        Rule::DomainPastSlit => Ok(past_slit(tables)),
+        Rule::CacheShape => Ok(own(tables.pptt_entries(), cache_shape)),
+        // Numbers that repeat.
+        Rule::SameUid => repeated(alloc, in_madt, |at| at_place(at.offset, uid_on(&at.entry))),
+        Rule::SameApicId => repeated(
+            alloc,
+            in_madt,
+            |at| at_place(at.offset, apic_id_on(&at.entry)),
+        ),
+        Rule::SameIoApicId => repeated(
+            alloc,
+            in_madt,
+            |at| at_place(at.offset, io_apic_id(&at.entry)),
+        ),
+        Rule::SameIoApicAddress => repeated(
+            alloc,
+            in_madt,
+            |at| at_place(at.offset, nonzero_io_apic_address(&at.entry)),
+        ),
+        Rule::SecondGicd => repeated(alloc, in_madt, |at| at_place(at.offset, gicd(&at.entry))),
+        Rule::TwoUidDomains => srat.map_or(Ok(None), |srat| two_uid_domains(alloc, &srat)),
+        Rule::SameLeaf => pptt.map_or(Ok(None), |pptt| same_leaf(alloc, &pptt)),
+        Rule::SameCacheId => pptt.map_or(Ok(None), |pptt| same_cache_id(alloc, &pptt)),
+        // Numbers that are looked up, and what is not there.
+        Rule::SciNowhere => Ok(
+            fadt.zip(madt)
+                .and_then(|(fadt, madt)| sci_nowhere(policy, &fadt, &madt)),
+        ),
+        Rule::NoProcessor => Ok(madt.and_then(|madt| no_processor(&madt))),
+        Rule::NmiNowhere => madt.map_or(Ok(None), |madt| nmi_nowhere(alloc, &madt)),
+        Rule::AffinityNowhere => madt.zip(srat).map_or(
+            Ok(None),
+            |(madt, srat)| affinity_nowhere(alloc, &madt, &srat),
+        ),
+        Rule::NoDomain => madt
+            .zip(srat)
+            .map_or(Ok(None), |(madt, srat)| no_domain(alloc, &madt, &srat)),
+        Rule::NoLeaf => madt
+            .zip(pptt)
+            .map_or(Ok(None), |(madt, pptt)| no_leaf(alloc, &madt, &pptt)),
+        Rule::LeafNowhere => madt
+            .zip(pptt)
+            .map_or(Ok(None), |(madt, pptt)| leaf_nowhere(alloc, &madt, &pptt)),
     }
 }
 

@@ -12,9 +12,8 @@ ghost use Rattle.acpi_lint.specs.WholeTables.{AreWholeTables};
 
 use crate::place::Place;
 use crate::whole_tables::WholeTables;
-use acpi_base::field::{is_signed, u32_at};
-use acpi_base::{Code, Image, TableKind};
-use acpi_read::{Fadt, Table};
+use acpi_base::{Code, Frame, Image, Question, TableKind};
+use acpi_read::{Fadt, Table, fails};
 
 /// Whether the FACS at the address that a FADT names, which is not 0, has the fault with this code. Each code is
 /// looked for, even if earlier bytes are wrong.
@@ -23,17 +22,15 @@ fn has_fault(image: &Image, fadt: &Fadt<'_>, address: u64, code: Code) -> bool
     requires some { address ≢ 0 }
     ensures { IsTrue result ↔ NamedFacsFault image.now fadt.now code address }
 {
-    let Some(prefix) = image.window(address, 8) else {
-        return code == Code::FacsHeaderOut || (code == Code::FacsAlign && address % 64 != 0);
+    let question = match code {
+        Code::FacsAlign => return address % 64 != 0,
+        Code::FacsHeaderOut => Question::Header,
+        Code::FacsSignature => Question::Signature(*b"FACS"),
+        Code::FacsLength => Question::Length,
+        Code::FacsOut => Question::Bytes,
+        _ => return false,
     };
-    let length = u32_at(prefix, 4);
-    match code {
-        Code::FacsAlign => address % 64 != 0,
-        Code::FacsSignature => !is_signed(prefix, b"FACS"),
-        Code::FacsLength => length < 64,
-        Code::FacsOut => length >= 64 && image.window(address, u64::from(length)).is_none(),
-        _ => false,
-    }
+    fails(image, address, Frame::FACS, question)
 }
 
 /// The fault with this code of the FACS that a FADT names, at its address, or at 0 if none is named.

@@ -1,7 +1,7 @@
 //! Codes 19 to 25: the FADT (ACPI 6.5, 5.2.9).
 
-ghost use Rattle.std.specs.Prelude.{◌≡◌, ◌≤◌, ◌<◌, ◌↔◌, ℕ, IsTrue, length};
-ghost use Rattle.acpi_base.specs.Fadt.{has_flag, gas_at, HasNoFadt, IsNoResetRegister};
+ghost use Rattle.std.specs.Prelude.{◌≡◌, ◌≤◌, ◌↔◌, ℕ, IsTrue, length};
+ghost use Rattle.acpi_base.specs.Fadt.{gas_at, HasNoFadt, IsNoResetRegister};
 ghost use Rattle.acpi_base.specs.Memory.{Memory};
 ghost use Rattle.acpi_base.specs.Policy.{PolicyValue};
 ghost use Rattle.acpi_base.specs.declared.stage.Stage.{Stage};
@@ -12,22 +12,12 @@ ghost use Rattle.acpi_lint.specs.WholeTables.{AreWholeTables};
 
 use crate::place::Place;
 use crate::whole_tables::WholeTables;
-use acpi_base::field::{u8_at, u32_at};
+use acpi_base::field::u8_at;
 use acpi_base::{Code, TableKind};
-use acpi_read::{Fadt, Table};
+use acpi_read::{Fadt, Table, has_flag};
 
 /// RESET_REG_SUP, a bit of Flags: the reset register may be used.
 const RESET_REG_SUP: u32 = 10;
-
-/// Whether a bit of Flags, at 112, is set.
-#[tactic(auto, unfolding(acpi_base::specs::Fadt::has_flag))]
-fn has_flag(bytes: &[u8], bit: u32) -> bool
-    requires bit { bit < 32 }
-    requires room { 116 ≤ length bytes.now }
-    ensures { result ≡ has_flag bytes.now bit }
-{
-    u32_at(bytes, 112) >> bit & 1 == 1
-}
 
 /// Whether RESET_REG, at 116, has a space above 2, a width other than 8 bits or a bit offset other than 0.
 fn is_no_reset_register(bytes: &[u8]) -> bool

@@ -8,21 +8,20 @@ ghost use Rattle.acpi_lint.specs.WholeTables.{AreWholeTables};
 
 use crate::facs::facs_fault;
 use crate::fadt::fadt_fault;
-use crate::madt::madt_fault;
 use crate::one_code::{
-    cache_cycle, gsi_clash, gsi_nowhere, leaf_unknown, overlap, override_clash, parent_cycle,
-    two_domains,
+    cycle_place, gsi_clash, gsi_nowhere, leaf_unknown, overlap, override_clash, two_domains,
 };
+use crate::passes::listed_fault;
 use crate::place::Place;
-use crate::pptt::pptt_fault;
 use crate::references::reference_fault;
 use crate::root::root_fault;
 use crate::rsdp::rsdp_fault;
 use crate::slit::slit_fault;
 use crate::slots::slot_fault;
-use crate::srat::srat_fault;
 use crate::whole_tables::WholeTables;
-use acpi_base::{Code, Image, Policy, Stage, Witness};
+use acpi_base::{Code, Image, Policy, Stage, TableKind, Witness};
+use acpi_check::Chain;
+use acpi_read::{MadtEntry, PpttEntry, SratEntry};
 use std::alloc::{AllocError, Global};
 
 /// The place of the first fault with a code, whether or not earlier stages hold.
@@ -36,22 +35,26 @@ fn first_place(
     requires { AreWholeTables image.now policy.now.rsdp tables.now }
     ensures { IfOk result (FindsFirstAt code image.now policy.now) }
 {
+    let (slit, pptt) = (tables.table(TableKind::Slit), tables.pptt());
     match code.stage() {
         Stage::Rsdp => Ok(rsdp_fault(image, policy, code)),
         Stage::Root => Ok(root_fault(image, policy, code)),
         Stage::Tables => Ok(slot_fault(tables, code)),
         Stage::Fadt => Ok(fadt_fault(tables, code)),
         Stage::Facs => Ok(facs_fault(image, tables, code)),
-        Stage::Madt => Ok(madt_fault(tables, policy, code)),
+        Stage::Madt => Ok(listed_fault::<MadtEntry<'_>>(tables, TableKind::Madt, policy, code)),
         Stage::Interrupts => gsi_clash(alloc, tables, policy),
         Stage::Overrides => override_clash(tables, policy),
-        Stage::Srat => Ok(srat_fault(tables, policy, code)),
+        Stage::Srat => Ok(listed_fault::<SratEntry<'_>>(tables, TableKind::Srat, policy, code)),
         Stage::Ranges => overlap(alloc, tables, policy),
-        Stage::Slit => Ok(slit_fault(tables, policy, code)),
-        Stage::Pptt => Ok(pptt_fault(tables, policy, code)),
-        Stage::References => reference_fault(alloc, tables, policy, code),
-        Stage::Parents => parent_cycle(alloc, tables, policy),
-        Stage::Caches => cache_cycle(alloc, tables, policy),
+        Stage::Slit => Ok(slit.and_then(|slit| slit_fault(code, slit))),
+        Stage::Pptt => Ok(listed_fault::<PpttEntry<'_>>(tables, TableKind::Pptt, policy, code)),
+        Stage::References => pptt.map_or(Ok(None), |pptt| reference_fault(alloc, code, &pptt)),
+        Stage::Parents => pptt.map_or(Ok(None), |pptt| cycle_place(alloc, Chain::Parents, &pptt)),
+        Stage::Caches => pptt.map_or(
+            Ok(None),
+            |pptt| cycle_place(alloc, Chain::NextLevels, &pptt),
+        ),
         Stage::Domains => two_domains(alloc, tables, policy),
         Stage::Served => gsi_nowhere(alloc, tables, policy),
         Stage::Leaves => leaf_unknown(alloc, tables, policy),

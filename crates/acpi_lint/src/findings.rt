@@ -9,7 +9,7 @@ use crate::whole_tables::WholeTables;
 use acpi_base::{Advice, Image, Policy, Witness};
 use std::alloc::{AllocError, Global};
 
-/// All that is wrong with an image: at most 59 faults and 28 findings of advice.
+/// All that is wrong with an image: at most one fault of each code and one finding of each rule.
 #[derive(Drop)]
 pub struct Findings {
     /// The first fault of each code that has one, by the codes' numbers.

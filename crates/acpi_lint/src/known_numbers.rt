@@ -2,65 +2,39 @@
 //! of the leaves of a PPTT. Also whether tables have entries of a kind without which a rule does not apply.
 
 ghost use Rattle.std.specs.Prelude.{◌≡◌, ◌≤◌, ◌↔◌, ℕ, length, map, IfOk, IsTrue};
-ghost use Rattle.acpi_base.specs.Entries.{StandsWith};
-ghost use Rattle.acpi_base.specs.Lint.Numbered.{IsNamed};
-ghost use Rattle.acpi_base.specs.Lint.Processors.{uid_on, placed_apic_id, placed_uid, processor_domain, IsGicc, IsOtherProcessor, AreProcessorsRead, IsLeafId};
+ghost use denote.Ref.{Bor};
+ghost use Rattle.acpi_base.specs.Entries.{StandsWith, entries_read_by};
+ghost use Rattle.acpi_base.specs.Lint.Processors.{uid_on, processor_domain, IsGicc, IsOtherProcessor, AreProcessorsRead, IsLeafId};
 ghost use Rattle.acpi_base.specs.Madt.{madt_contents};
 ghost use Rattle.acpi_base.specs.Madt as madts;
 ghost use Rattle.acpi_base.specs.Pptt.{pptt_contents};
 ghost use Rattle.acpi_base.specs.Srat.{srat_contents};
 ghost use Rattle.acpi_read.specs.Madts.{madt_value, IsWholeEntry};
-ghost use Rattle.acpi_lint.specs.EntryNumbers.{madt_number};
+ghost use Rattle.acpi_check.specs.CollectedValues.{Picks};
+ghost use Rattle.acpi_lint.specs.EntryNumbers.{AreGathered};
 ghost use Rattle.acpi_lint.specs.KnownNumbers.{AreKnown, IsAnyNamed};
 
 use crate::leaves::leaves_of;
 use crate::numbered::Numbered;
 use crate::passes::first_picked;
-use crate::processors::{
-    MadtNumber, is_gicc, madt_number, placed_apic_id, placed_uid, processor_domain, uid_on,
-};
+use crate::processors::{is_gicc, processor_domain, uid_on};
 use acpi_check::{collected, sorted_unique};
-use acpi_read::{GICC, Madt, MadtEntry, Pptt, Srat};
+use acpi_read::{EntryAt, GICC, Madt, MadtEntry, Pptt, Srat, TableEntry, TypedEntries};
 use std::alloc::{AllocError, Global};
 
 // ---- numbers
 
-/// The numbers of this kind of a MADT's entries. Allocates for each.
-// Each caller names one kind: inlined, it asks for no kind at each entry.
-#[inline(always)]
-pub fn known_in_madt(
+/// The numbers that `pick` returns for the entries of a table, in rising order. Allocates for each.
+pub fn known<'a, E: TableEntry<'a> + Copy, F: Fn(&EntryAt<E>) -> Option<u64>>(
     alloc: Global,
-    madt: &Madt<'_>,
-    number: MadtNumber,
+    entries: TypedEntries<'a, E>,
+    pick: F,
 ) -> Result<Vec<u64>, AllocError>
-    ensures { IfOk result (λ known.
-        AreKnown (IsNamed (madt_number number) (madt_contents madt.now).entries) known.items) }
+    requires { (at : Bor (EntryAt E)) → F.pre pick at }
+    ensures { IfOk result (λ known. AreGathered (Picks E.value (F.post pick))
+        (entries_read_by E.said_by entries.entry.entries.entries) known.items) }
 {
-    let numbers = collected(alloc, madt.entries(), |at| {
-        madt_number(number, &at.entry).map(u64::from)
-    })?;
-    sorted_unique(numbers)
-}
-
-/// The APIC IDs and x2APIC IDs that an SRAT's enabled affinities place. Allocates for each.
-pub fn placed_apic_ids(alloc: Global, srat: &Srat<'_>) -> Result<Vec<u64>, AllocError>
-    ensures { IfOk result (λ ids.
-        AreKnown (IsNamed placed_apic_id (srat_contents srat.now).entries) ids.items) }
-{
-    let numbers = collected(alloc, srat.entries(), |at| {
-        placed_apic_id(&at.entry).map(u64::from)
-    })?;
-    sorted_unique(numbers)
-}
-
-/// The UIDs that an SRAT's enabled GICC affinities place. Allocates for each.
-pub fn placed_uids(alloc: Global, srat: &Srat<'_>) -> Result<Vec<u64>, AllocError>
-    ensures { IfOk result (λ uids.
-        AreKnown (IsNamed placed_uid (srat_contents srat.now).entries) uids.items) }
-{
-    let numbers = collected(alloc, srat.entries(), |at| {
-        placed_uid(&at.entry).map(u64::from)
-    })?;
+    let numbers = collected(alloc, entries, pick)?;
     sorted_unique(numbers)
 }
 

@@ -33,7 +33,6 @@
 #![tactic(auto)]
 
 mod advice;
-mod caches;
 mod facs;
 mod fadt;
 mod fadt_advice;
@@ -43,26 +42,22 @@ mod first_slots;
 mod known_numbers;
 mod leaves;
 mod listed;
-mod madt;
 mod nowhere;
 mod numbered;
 mod one_code;
+mod own;
 mod passes;
 mod place;
-mod pptt;
 mod processors;
 mod references;
+mod repeated;
 mod root;
 mod rsdp;
-mod same;
 mod sci;
 mod slit;
 mod slot_advice;
 mod slots;
-mod srat;
 mod table_at;
-mod table_rules;
-mod unread;
 mod verdicts;
 mod whole_tables;
 

@@ -1,12 +1,12 @@
 //! Rules on numbers that are looked up elsewhere and are not there: UIDs, APIC IDs and x2APIC IDs among those of the
-//! MADT's processors, of the SRAT's affinities or of the PPTT's leaves, and domains among the SLIT's localities.
-//! Whether a rule applies to the tables is tested first.
+//! MADT's processors, of the SRAT's affinities or of the PPTT's leaves. A rule that asks whether the rules read all
+//! processors of the MADT looks at that last: mostly there is nothing to report.
 
-ghost use Rattle.std.specs.Prelude.{◌<◌, AllPairs, IfOk};
+ghost use Rattle.std.specs.Prelude.{◌≡◌, ◌<◌, AllPairs, IfOk};
 ghost use Rattle.acpi_base.specs.Lint.MadtAdvice.{nmi_uid, IsNmiNowhere, IsNoProcessor};
 ghost use Rattle.acpi_base.specs.Lint.PpttAdvice.{IsNoLeaf, IsLeafNowhere};
 ghost use Rattle.acpi_base.specs.Lint.Processors.{uid_on};
-ghost use Rattle.acpi_base.specs.Lint.SratAdvice.{IsAffinityNowhere, IsNoDomain, IsDomainPastSlit};
+ghost use Rattle.acpi_base.specs.Lint.SratAdvice.{IsAffinityNowhere, IsNoDomain};
 ghost use Rattle.acpi_base.specs.Madt.{madt_contents};
 ghost use Rattle.acpi_base.specs.Pptt.{pptt_contents};
 ghost use Rattle.acpi_base.specs.Srat.{srat_contents};
@@ -15,18 +15,17 @@ ghost use Rattle.acpi_read.specs.Srats.{srat_value};
 ghost use Rattle.acpi_read.specs.TypedEntries.{entry_at_value};
 ghost use Rattle.acpi_lint.specs.FirstPicked.{FindsOwn};
 ghost use Rattle.acpi_lint.specs.Places.{FindsLeast};
-ghost use Rattle.acpi_lint.specs.UnknownNumbers.{IsUnknown, IsUnknownOf, IsUnknownAffinity, IsUnplaced, IsPastHere, IsUnknownAt};
+ghost use Rattle.acpi_lint.specs.UnknownNumbers.{IsUnknown, IsUnknownOf, IsUnknownAffinity, IsUnplaced, IsUnknownAt, IsWhereRead};
 
 use crate::known_numbers::{
-    are_processors_read, has_gicc, is_any_on, is_any_placed, known_in_madt, leaf_ids,
-    placed_apic_ids, placed_uids,
+    are_processors_read, has_gicc, is_any_on, is_any_placed, known, leaf_ids,
 };
 use crate::leaves::leaves_of;
 use crate::numbered::Numbered;
 use crate::passes::first_picked;
 use crate::place::Place;
 use crate::processors::{
-    MadtNumber, any_domain, apic_id_on, gicc_uid_on, nmi_uid, placed_apic_id, placed_uid, uid_on,
+    apic_id_of, apic_id_on, gicc_uid_on, nmi_uid, placed_apic_id, placed_uid, uid_of, uid_on,
 };
 use acpi_check::{binary_search, has};
 use acpi_read::{EntryAt, Madt, MadtEntry, Pptt, Srat, SratEntry};
@@ -48,22 +47,27 @@ fn unknown_place(known: &[u64], at: u64, number: Option<u32>) -> Option<Place>
     })
 }
 
+/// A place that counts only if the rules read all processors of a MADT.
+fn where_read(madt: &Madt<'_>, place: Option<Place>) -> Option<Place>
+    ensures { IsWhereRead (madt_contents madt.now) place result }
+{
+    let place = place?;
+    are_processors_read(madt).then_some(place)
+}
+
 // ---- the MADT alone
 
 /// The place of a MADT that has no processor that is on, if the rules read all of them.
 pub fn no_processor(madt: &Madt<'_>) -> Option<Place>
     ensures { FindsLeast (IsNoProcessor (madt_contents madt.now)) result }
 {
-    if !are_processors_read(madt) {
-        return None;
-    }
     if is_any_on(madt) {
         return None;
     }
-    Some(Place::at(0))
+    where_read(madt, Some(Place::at(0)))
 }
 
-/// The place of a local APIC NMI or local x2APIC NMI for a UID that is not among these.
+/// The place of a local NMI for a UID that is not among these.
 fn unknown_nmi(uids: &[u64], at: &EntryAt<MadtEntry<'_>>) -> Option<Place>
     requires { AllPairs (λ i j. i < j) uids.now }
     ensures { FindsOwn (IsUnknownOf nmi_uid uids.now) (entry_at_value madt_value at.now) result }
@@ -71,17 +75,15 @@ fn unknown_nmi(uids: &[u64], at: &EntryAt<MadtEntry<'_>>) -> Option<Place>
     unknown_place(uids, at.offset, nmi_uid(&at.entry))
 }
 
-/// The first local APIC NMI or local x2APIC NMI for a UID that no processor has, if the rules read all of them;
-/// `point` is the UID. Allocates for the UID of each processor.
+/// The first local NMI for a UID that no processor has, if the rules read all of them; `point` is the UID. Allocates
+/// for the UID of each processor.
 pub fn nmi_nowhere(alloc: Global, madt: &Madt<'_>) -> Result<Option<Place>, AllocError>
     ensures { IfOk result (FindsLeast (IsNmiNowhere (madt_contents madt.now))) }
 {
-    if !are_processors_read(madt) {
-        return Ok(None);
-    }
-    let uids = known_in_madt(alloc, madt, MadtNumber::Uid)?;
+    let uids = known(alloc, madt.entries(), |at| uid_of(&at.entry).map(u64::from))?;
     let uids = uids.as_slice();
-    Ok(first_picked(madt.entries(), |at| unknown_nmi(uids, at)))
+    let place = first_picked(madt.entries(), |at| unknown_nmi(uids, at));
+    Ok(where_read(madt, place))
 }
 
 // ---- the MADT and the SRAT
@@ -109,14 +111,16 @@ pub fn affinity_nowhere(
     ensures { IfOk result (FindsLeast
         (IsAffinityNowhere (madt_contents madt.now) (srat_contents srat.now))) }
 {
-    if !are_processors_read(madt) {
-        return Ok(None);
-    }
-    let ids = known_in_madt(alloc, madt, MadtNumber::ApicId)?;
-    let uids = known_in_madt(alloc, madt, MadtNumber::Uid)?;
+    let ids = known(
+        alloc,
+        madt.entries(),
+        |at| apic_id_of(&at.entry).map(u64::from),
+    )?;
+    let uids = known(alloc, madt.entries(), |at| uid_of(&at.entry).map(u64::from))?;
     let ids = ids.as_slice();
     let uids = uids.as_slice();
-    Ok(first_picked(srat.entries(), |at| unknown_affinity(ids, uids, at)))
+    let place = first_picked(srat.entries(), |at| unknown_affinity(ids, uids, at));
+    Ok(where_read(madt, place))
 }
 
 /// The place of a processor that is on and whose number is unknown: its APIC ID or x2APIC ID, or for a GIC CPU
@@ -142,36 +146,23 @@ pub fn no_domain(
     ensures { IfOk result (FindsLeast
         (IsNoDomain (madt_contents madt.now) (srat_contents srat.now))) }
 {
-    if !are_processors_read(madt) || !is_any_placed(srat) {
+    if !is_any_placed(srat) {
         return Ok(None);
     }
-    let ids = placed_apic_ids(alloc, srat)?;
-    let uids = placed_uids(alloc, srat)?;
+    let ids = known(
+        alloc,
+        srat.entries(),
+        |at| placed_apic_id(&at.entry).map(u64::from),
+    )?;
+    let uids = known(
+        alloc,
+        srat.entries(),
+        |at| placed_uid(&at.entry).map(u64::from),
+    )?;
     let ids = ids.as_slice();
     let uids = uids.as_slice();
-    Ok(first_picked(madt.entries(), |at| unplaced(ids, uids, at)))
-}
-
-// ---- the SRAT and the SLIT
-
-/// The place of an entry whose domain is not one of the localities.
-fn past_place(localities: u64, at: &EntryAt<SratEntry<'_>>) -> Option<Place>
-    ensures { FindsOwn (IsPastHere localities) (entry_at_value srat_value at.now) result }
-{
-    let domain = u64::from(any_domain(&at.entry)?);
-    (domain >= localities).then_some(Place {
-        at: at.offset,
-        other: localities,
-        point: domain,
-    })
-}
-
-/// The first entry of an SRAT whose domain, `point`, is not one of a SLIT's localities; `other` is the number of
-/// localities.
-pub fn domain_past_slit(localities: u64, srat: &Srat<'_>) -> Option<Place>
-    ensures { FindsLeast (IsDomainPastSlit (srat_contents srat.now) localities) result }
-{
-    first_picked(srat.entries(), |at| past_place(localities, at))
+    let place = first_picked(madt.entries(), |at| unplaced(ids, uids, at));
+    Ok(where_read(madt, place))
 }
 
 // ---- the MADT and the PPTT
@@ -190,15 +181,13 @@ pub fn no_leaf(alloc: Global, madt: &Madt<'_>, pptt: &Pptt<'_>) -> Result<Option
     ensures { IfOk result (FindsLeast
         (IsNoLeaf (madt_contents madt.now) (pptt_contents pptt.now))) }
 {
-    if !are_processors_read(madt) {
-        return Ok(None);
-    }
     let ids = leaf_ids(alloc, pptt)?;
     if ids.is_empty() {
         return Ok(None);
     }
     let ids = ids.as_slice();
-    Ok(first_picked(madt.entries(), |at| leafless(ids, at)))
+    let place = first_picked(madt.entries(), |at| leafless(ids, at));
+    Ok(where_read(madt, place))
 }
 
 /// The place of the first of these numbers that is not among the known ones, which rise. Their places rise.
@@ -230,10 +219,10 @@ pub fn leaf_nowhere(
     ensures { IfOk result (FindsLeast
         (IsLeafNowhere (madt_contents madt.now) (pptt_contents pptt.now))) }
 {
-    if !are_processors_read(madt) || !has_gicc(madt) {
+    if !has_gicc(madt) {
         return Ok(None);
     }
-    let uids = known_in_madt(alloc, madt, MadtNumber::Uid)?;
+    let uids = known(alloc, madt.entries(), |at| uid_of(&at.entry).map(u64::from))?;
     let leaves = leaves_of(alloc, pptt)?;
-    Ok(first_unknown(&uids, &leaves))
+    Ok(where_read(madt, first_unknown(&uids, &leaves)))
 }

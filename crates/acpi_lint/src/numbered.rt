@@ -1,6 +1,7 @@
 //! Numbers with values at places, and those that occur again with another value.
 
-ghost use Rattle.std.specs.Prelude.{◌≡◌, ◌⊎◌, AllPairs, Contains, IfOk, IfSome, Some};
+ghost use Rattle.std.specs.Prelude.{◌≡◌, ◌⊎◌, AllPairs, Contains, IfOk, IfSome, OnOk, Some};
+ghost use Rattle.std.specs.List.Sorted.{IsPermutation};
 ghost use Rattle.std.specs.Option.{option_map};
 ghost use Rattle.acpi_base.specs.Lint.Numbered.{IsLater};
 ghost use Rattle.acpi_lint.specs.Numbered.{IsNotAbove, IsUnlikeAt, HasAt, at_place, unlike_place};
@@ -89,11 +90,27 @@ fn least_unlike(sorted: &[Numbered], order: Order) -> Option<Place>
     least
 }
 
+/// How many numbers are few. Sets of firmware have some ten slots, and as many entries with a number of a kind.
+const FEW: usize = 20;
+
+/// Sorts numbers. Refuses if out of memory, for more than `FEW` that are not in order.
+fn sort_numbers(given: &mut Vec<Numbered>) -> Result<(), AllocError>
+    ensures permutation { IsPermutation given.old.items given.new.items }
+    ensures sorted { OnOk result (AllPairs IsNotAbove given.new.items) }
+{
+    // The other sort clears a buffer of 4 KiB first, which takes as long as all finders on a set of firmware.
+    if given.len() <= FEW {
+        given.sort_unstable();
+        return Ok(());
+    }
+    sort_unless_sorted(given)
+}
+
 /// The lowest place of a number whose value differs from that at its first place. Allocates while it sorts them.
 pub fn first_unlike(mut given: Vec<Numbered>, order: Order) -> Result<Option<Place>, AllocError>
     ensures { IfOk result (FindsLeast (IsUnlikeAt order given.items)) }
 {
-    sort_unless_sorted(&mut given)?;
+    sort_numbers(&mut given)?;
     Ok(least_unlike(&given, order))
 }
 

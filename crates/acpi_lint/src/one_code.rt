@@ -1,8 +1,9 @@
 //! Codes 39, 40, 45 and 55 to 59: those of stages that have one code. The stage's finder is called on the set's
 //! tables, whatever the earlier stages find.
 
-ghost use Rattle.std.specs.Prelude.{IfOk};
+ghost use Rattle.std.specs.Prelude.{◌≡◌, IfOk};
 ghost use Rattle.acpi_base.specs.Chains.{IsCycle};
+ghost use Rattle.acpi_base.specs.Madt.{madt_contents};
 ghost use Rattle.acpi_base.specs.Memory.{Memory};
 ghost use Rattle.acpi_base.specs.Pptt.{pptt_contents};
 ghost use Rattle.acpi_base.specs.declared.code.Code.{Code};
@@ -12,7 +13,7 @@ ghost use Rattle.acpi_lint.specs.Places.{FindsLeast};
 ghost use Rattle.acpi_lint.specs.StageFaults.{IsFaultOfStage, FindsFirstAt};
 ghost use Rattle.acpi_lint.specs.WholeTables.{AreWholeTables};
 
-use crate::madt::madt_cut;
+use crate::passes::cut;
 use crate::place::Place;
 use crate::verdicts::place_of;
 use crate::whole_tables::WholeTables;
@@ -21,7 +22,7 @@ use acpi_check::{
     Chain, agreeing_overrides, apart_interrupts, apart_ranges, first_cycle, known_leaves,
     named_served, one_domain,
 };
-use acpi_read::{Madt, Pptt};
+use acpi_read::{Madt, MadtEntry, Pptt, Table};
 use std::alloc::{AllocError, Global};
 
 /// The place of the first override of a set's MADT that gives its Source another interrupt number than an earlier one.
@@ -85,8 +86,13 @@ pub fn overlap(
     }
 }
 
-/// The place of the first node of a PPTT whose chain has a cycle.
-fn cycle_place(alloc: Global, chain: Chain, pptt: &Pptt<'_>) -> Result<Option<Place>, AllocError>
+/// The place of the first node of a PPTT whose chain has a cycle; a dangling reference ends a chain. Allocates for each
+/// node.
+pub fn cycle_place(
+    alloc: Global,
+    chain: Chain,
+    pptt: &Pptt<'_>,
+) -> Result<Option<Place>, AllocError>
     ensures { IfOk result (FindsLeast
         (IsCycle (Names chain (pptt_contents pptt.now)) (most_of chain (pptt_contents pptt.now)))) }
 {
@@ -96,37 +102,6 @@ fn cycle_place(alloc: Global, chain: Chain, pptt: &Pptt<'_>) -> Result<Option<Pl
             other: fault.other,
             point: fault.point,
         })),
-        None => Ok(None),
-    }
-}
-
-/// The place of the first node of a set's PPTT whose chain of Parents has a cycle; a dangling Parent ends a chain.
-/// Allocates for each node.
-pub fn parent_cycle(
-    alloc: Global,
-    tables: &WholeTables<'_>,
-    policy: &Policy,
-) -> Result<Option<Place>, AllocError>
-    ensures { (m : Memory) → AreWholeTables m policy.now.rsdp tables.now
-        → IfOk result (FindsLeast (IsFaultOfStage Stage.Parents Code.ParentCycle m policy.now)) }
-{
-    match tables.pptt() {
-        Some(pptt) => cycle_place(alloc, Chain::Parents, &pptt),
-        None => Ok(None),
-    }
-}
-
-/// The same for caches and their Next Levels. Allocates for each cache.
-pub fn cache_cycle(
-    alloc: Global,
-    tables: &WholeTables<'_>,
-    policy: &Policy,
-) -> Result<Option<Place>, AllocError>
-    ensures { (m : Memory) → AreWholeTables m policy.now.rsdp tables.now
-        → IfOk result (FindsLeast (IsFaultOfStage Stage.Caches Code.CacheCycle m policy.now)) }
-{
-    match tables.pptt() {
-        Some(pptt) => cycle_place(alloc, Chain::NextLevels, &pptt),
         None => Ok(None),
     }
 }
@@ -148,6 +123,14 @@ pub fn two_domains(
         return Ok(None);
     };
     place_of(one_domain(alloc, policy.processors(), &madt, &srat))
+}
+
+/// The cut of a MADT: the offset of the bytes after its entries, if there are any.
+#[tactic(auto, unfolding(acpi_base::specs::Madt::madt_contents))]
+fn madt_cut(table: &Table<'_>) -> Option<u64>
+    ensures { result ≡ (madt_contents table.now).cut }
+{
+    cut::<MadtEntry<'_>>(table)
 }
 
 /// The place of the first leaf of a set's PPTT whose ID is the UID of no processor of its MADT, if the MADT's entries

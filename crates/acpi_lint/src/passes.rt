@@ -1,15 +1,25 @@
-//! Passes over the entries of a table.
+//! Passes over the entries of a table, and the faults of a table of entries: codes 32 to 38 (the MADT, ACPI 6.5,
+//! 5.2.12), 41 to 44 (the SRAT, 5.2.16), and 50 and 51 (the PPTT, 5.2.30).
 
 ghost use Rattle.std.specs.Prelude.{◌≡◌, Contains, length};
 ghost use denote.Ref.{Bor};
-ghost use Rattle.acpi_base.specs.Entries.{entries_read_by};
+ghost use Rattle.acpi_base.specs.Entries.{cut_of, entries_of, entries_read_by};
+ghost use Rattle.acpi_base.specs.Listed.{HasListed};
+ghost use Rattle.acpi_base.specs.Memory.{Memory};
+ghost use Rattle.acpi_base.specs.TableKinds.{signature_of};
 ghost use Rattle.acpi_check.specs.CollectedValues.{Picks};
-ghost use Rattle.acpi_lint.specs.FirstPicked.{PicksFirst};
+ghost use Rattle.acpi_lint.specs.EntryPlaces.{IsSought};
+ghost use Rattle.acpi_lint.specs.FirstPicked.{FindsOwn, PicksFirst};
 ghost use Rattle.acpi_lint.specs.Places.{IsShort, FindsLeast};
+ghost use Rattle.acpi_lint.specs.WholeTables.{AreWholeTables};
+ghost use Rattle.acpi_read.specs.EntryTables.{entry_table, IsAbout};
 ghost use Rattle.acpi_read.specs.TypedEntries.{entry_at_value};
+ghost use Rattle.acpi_read.specs.declared.entry_codes.Subject.{Subject};
 
 use crate::place::Place;
-use acpi_read::{Entries, EntryAt, Table, TableEntry, TypedEntries};
+use crate::whole_tables::WholeTables;
+use acpi_base::{Code, Policy, TableKind};
+use acpi_read::{EntryAt, Subject, Table, TableEntry, TypedEntries};
 
 /// The result of `pick` for the first entry for which it returns one.
 pub fn first_picked<'a, E: TableEntry<'a> + Copy, T: Drop, F: Fn(&EntryAt<E>) -> Option<T>>(
@@ -30,14 +40,6 @@ pub fn first_picked<'a, E: TableEntry<'a> + Copy, T: Drop, F: Fn(&EntryAt<E>) ->
     None
 }
 
-/// The cut of a table: the offset of the bytes after its entries, if there are any.
-pub fn cut(mut entries: Entries<'_>) -> Option<u64>
-    ensures { result ≡ entries.entry.cut }
-{
-    while entries.next().is_some() {}
-    entries.cut()
-}
-
 /// The place of a table that ends before the place of its first entry.
 pub fn short_place(table: &Table<'_>, first: usize) -> Option<Place>
     ensures { FindsLeast (IsShort first (length table.now)) result }
@@ -46,4 +48,123 @@ pub fn short_place(table: &Table<'_>, first: usize) -> Option<Place>
         return Some(Place::at(0));
     }
     None
+}
+
+/// The cut of a table: the offset of the bytes after its entries, if there are any.
+pub fn cut<'a, E: TableEntry<'a>>(table: &Table<'a>) -> Option<u64>
+    ensures { result ≡ cut_of E.first table.now }
+{
+    let mut entries = match E::entries(table.copied()) {
+        Ok(entries) => entries,
+        Err(_) => return None,
+    };
+    while entries.next().is_some() {}
+    entries.cut()
+}
+
+/// What is looked for among the entries of a table.
+#[derive(Clone, Copy, Debug, PartialEq, Eq)]
+pub enum Sought {
+    /// One that has the fault with this code by itself.
+    Own(Code),
+    /// One of those of which a table has at most one.
+    Single,
+    /// One of these after the first, which is at this offset.
+    SingleAfter(u64),
+}
+
+/// The place of an entry that is looked for.
+#[inline(always)]
+fn sought_place<'a, E: TableEntry<'a>>(
+    policy: &Policy,
+    sought: Sought,
+    at: &EntryAt<E>,
+) -> Option<Place>
+    requires { E.IsRead at.now.entry }
+    ensures { FindsOwn
+        (IsSought (entry_table E.first E.said_by (E.IsOwn policy.now) E.IsSingle) sought)
+        (entry_at_value E.value at.now) result }
+{
+    let (is_sought, other) = match sought {
+        Sought::Own(code) => (at.entry.has_fault(policy, code), 0),
+        Sought::Single => (at.entry.single_code().is_some(), 0),
+        Sought::SingleAfter(first) => (
+            at.offset > first && at.entry.single_code().is_some(),
+            first,
+        ),
+    };
+    is_sought.then_some(Place {
+        at: at.offset,
+        other,
+        point: 0,
+    })
+}
+
+/// The place of the first entry that is looked for, if the table has the place of its first entry.
+#[inline(always)]
+fn first_sought<'a, E: TableEntry<'a> + Copy>(
+    policy: &Policy,
+    sought: Sought,
+    table: &Table<'a>,
+) -> Option<Place>
+    ensures { PicksFirst
+        (FindsOwn (IsSought (entry_table E.first E.said_by (E.IsOwn policy.now) E.IsSingle) sought))
+        (entries_read_by E.said_by (entries_of E.first table.now)) result }
+{
+    let entries = match E::entries(table.copied()) {
+        Ok(entries) => TypedEntries::<E>::from(entries),
+        Err(_) => return None,
+    };
+    for at in entries {
+        if let Some(place) = sought_place(policy, sought, &at) {
+            return Some(place);
+        }
+    }
+    None
+}
+
+/// The place of the second entry of those of which a table has at most one, beside the first.
+fn second_single<'a, E: TableEntry<'a> + Copy>(
+    policy: &Policy,
+    code: Code,
+    table: &Table<'a>,
+) -> Option<Place>
+    ensures { FindsLeast
+        (IsAbout (entry_table E.first E.said_by (E.IsOwn policy.now) E.IsSingle) table.now
+        Subject.Second code) result }
+{
+    let first = first_sought::<E>(policy, Sought::Single, table)?;
+    first_sought::<E>(policy, Sought::SingleAfter(first.at), table)
+}
+
+/// The place of the first fault of a table with this code. None for a code of another stage.
+fn table_fault<'a, E: TableEntry<'a> + Copy>(
+    policy: &Policy,
+    code: Code,
+    table: &Table<'a>,
+) -> Option<Place>
+    ensures { FindsLeast (E.IsFault policy.now table.now code) result }
+{
+    let entries = E::entries(table.copied());
+    match E::codes().subject(code) {
+        Subject::Short => entries.is_err().then_some(Place::at(0)),
+        Subject::Cut => Some(Place::at(cut::<E>(table)?)),
+        Subject::Second => second_single::<E>(policy, code, table),
+        Subject::Own => first_sought::<E>(policy, Sought::Own(code), table),
+    }
+}
+
+/// The place of the first fault with this code of a set's table of a kind. None for a code of another stage, and if
+/// the set lists no complete table of the kind.
+pub fn listed_fault<'a, E: TableEntry<'a> + Copy>(
+    tables: &WholeTables<'a>,
+    kind: TableKind,
+    policy: &Policy,
+    code: Code,
+) -> Option<Place>
+    ensures { (m : Memory) → AreWholeTables m policy.now.rsdp tables.now
+        → FindsLeast (λ at other point. HasListed m policy.now.rsdp (signature_of kind)
+        (λ whole. E.IsFault policy.now whole code at other point)) result }
+{
+    table_fault::<E>(policy, code, &tables.table(kind)?)
 }

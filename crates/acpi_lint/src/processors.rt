@@ -2,18 +2,18 @@
 
 ghost use Rattle.std.specs.Prelude.{◌≡◌, ◌≤◌, ◌||◌, length, IsTrue};
 ghost use Rattle.std.specs.Option.{option_map};
-ghost use Rattle.acpi_base.specs.Lint.MadtAdvice.{io_apic_address, io_apic_id, nmi_uid};
+ghost use Rattle.acpi_base.specs.Lint.MadtAdvice.{io_apic_address, io_apic_id, nonzero_io_apic_address, nmi_uid, gicd};
 ghost use Rattle.acpi_base.specs.Lint.PpttAdvice.{cache_id};
 ghost use Rattle.acpi_base.specs.Lint.Processors.{is_gicc, processor_of, uid_of, uid_on, apic_id_of, apic_id_on, gicc_uid_on, is_gicc_affinity, placed_apic_id, placed_uid, processor_domain, any_domain};
 ghost use Rattle.acpi_base.specs.Number.{has_bit};
 ghost use Rattle.acpi_read.specs.Madts.{madt_value};
 ghost use Rattle.acpi_read.specs.Pptts.{pptt_value};
 ghost use Rattle.acpi_read.specs.Srats.{srat_value};
-ghost use Rattle.acpi_lint.specs.EntryNumbers.{processor_value, madt_number, nonzero_io_apic_address};
+ghost use Rattle.acpi_lint.specs.EntryNumbers.{processor_value};
 
 use acpi_base::field::u32_at;
 use acpi_read::{
-    GICC, GICC_AFFINITY, GICC_AFFINITY_LEN, GICC_LEN, MadtEntry, PpttEntry, SratEntry,
+    GICC, GICC_AFFINITY, GICC_AFFINITY_LEN, GICC_LEN, MadtEntry, PpttEntry, SratEntry, is_enabled,
 };
 
 /// A processor, as an entry of a MADT describes it.
@@ -27,30 +27,8 @@ pub struct Processor {
     pub on: bool,
 }
 
-/// A number of an entry of a MADT that is looked up, or that each should have alone.
-#[derive(Clone, Copy)]
-pub enum MadtNumber {
-    /// The UID of a processor.
-    Uid,
-    /// The UID of a processor that is on.
-    UidOn,
-    /// The APIC ID or x2APIC ID of a processor.
-    ApicId,
-    /// The APIC ID or x2APIC ID of a processor that is on.
-    ApicIdOn,
-    /// The ID of an I/O APIC.
-    IoApicId,
-    /// The address of an I/O APIC, if it is not 0.
-    IoApicAddress,
-}
-
-/// Whether flags have bit 0, which is Enabled in the flags of each entry for which this is used.
-#[tactic(auto, unfolding(acpi_base::specs::Number::has_bit))]
-fn is_enabled(flags: u32) -> bool
-    ensures { result ≡ has_bit flags 0 }
-{
-    flags & 1 == 1
-}
+/// The type of a GIC distributor (ACPI 6.5, 5.2.12.15).
+pub const GICD: u8 = 12;
 
 /// Whether the flags of a local APIC or a local x2APIC say Enabled or Online Capable.
 #[tactic(auto, unfolding(acpi_base::specs::Number::has_bit))]
@@ -96,7 +74,7 @@ fn processor_of(entry: &MadtEntry<'_>) -> Option<Processor>
 }
 
 /// The UID of a processor.
-fn uid_of(entry: &MadtEntry<'_>) -> Option<u32>
+pub fn uid_of(entry: &MadtEntry<'_>) -> Option<u32>
     ensures { result ≡ uid_of (madt_value entry.now) }
 {
     let processor = processor_of(entry)?;
@@ -112,7 +90,7 @@ pub fn uid_on(entry: &MadtEntry<'_>) -> Option<u32>
 }
 
 /// The APIC ID or x2APIC ID of a processor that has one.
-fn apic_id_of(entry: &MadtEntry<'_>) -> Option<u32>
+pub fn apic_id_of(entry: &MadtEntry<'_>) -> Option<u32>
     ensures { result ≡ apic_id_of (madt_value entry.now) }
 {
     processor_of(entry)?.apic_id
@@ -152,7 +130,7 @@ pub fn nmi_uid(entry: &MadtEntry<'_>) -> Option<u32>
 }
 
 /// The ID of an I/O APIC.
-fn io_apic_id(entry: &MadtEntry<'_>) -> Option<u32>
+pub fn io_apic_id(entry: &MadtEntry<'_>) -> Option<u32>
     ensures { result ≡ io_apic_id (madt_value entry.now) }
 {
     match entry {
@@ -172,25 +150,20 @@ pub fn io_apic_address(entry: &MadtEntry<'_>) -> Option<u32>
 }
 
 /// The address of an I/O APIC, if it is not 0.
-fn nonzero_io_apic_address(entry: &MadtEntry<'_>) -> Option<u32>
+pub fn nonzero_io_apic_address(entry: &MadtEntry<'_>) -> Option<u32>
     ensures { result ≡ nonzero_io_apic_address (madt_value entry.now) }
 {
     let address = io_apic_address(entry)?;
     (address != 0).then_some(address)
 }
 
-/// The number of this kind.
-#[inline(always)]
-pub fn madt_number(number: MadtNumber, entry: &MadtEntry<'_>) -> Option<u32>
-    ensures { result ≡ madt_number number (madt_value entry.now) }
+/// The number 0 of a GIC distributor, the same for all, since there is only one.
+pub fn gicd(entry: &MadtEntry<'_>) -> Option<u32>
+    ensures { result ≡ gicd (madt_value entry.now) }
 {
-    match number {
-        MadtNumber::Uid => uid_of(entry),
-        MadtNumber::UidOn => uid_on(entry),
-        MadtNumber::ApicId => apic_id_of(entry),
-        MadtNumber::ApicIdOn => apic_id_on(entry),
-        MadtNumber::IoApicId => io_apic_id(entry),
-        MadtNumber::IoApicAddress => nonzero_io_apic_address(entry),
+    match entry {
+        MadtEntry::Opaque(bytes) if bytes.first() == Some(&GICD) => Some(0),
+        _ => None,
     }
 }
 

@@ -1,25 +1,26 @@
 //! Codes 8 to 14: the root table, which is the XSDT or the RSDT (ACPI 6.5, 5.2.7, 5.2.8).
 
 ghost use Rattle.std.specs.Prelude.{◌≡◌, ◌↔◌, IsTrue};
-ghost use Rattle.acpi_base.specs.Root.{root_signature, IsSlotWidth, RootTableFault};
+ghost use Rattle.acpi_base.specs.Root.{IsSlotWidth, RootTableFault};
+ghost use Rattle.acpi_base.specs.declared.code.Code.{Code};
 ghost use Rattle.acpi_base.specs.declared.stage.Stage.{Stage};
 ghost use Rattle.acpi_lint.specs.Places.{FindsLeast};
 ghost use Rattle.acpi_lint.specs.StageFaults.{IsFaultOfStage};
 
 use crate::place::Place;
-use acpi_base::field::{is_signed, u32_at};
-use acpi_base::{Code, Image, Policy};
-use acpi_read::{Root, RootPlace, named_root};
+use acpi_base::field::u32_at;
+use acpi_base::{Code, Frame, Image, Policy, Question};
+use acpi_read::{RootPlace, fails, named_root};
 
-/// The signature of a root table with slots of this width.
-fn signature(width: u32) -> &'static [u8; 4]
-    ensures { result.now ≡ root_signature width }
+/// Whether the header at a place is present, and its Length is at least 36 and ends within a slot.
+fn is_ragged(image: &Image, root: RootPlace) -> bool
+    requires { IsSlotWidth root.width }
+    ensures { IsTrue result ↔ RootTableFault image.now root.address root.width Code.RootRagged }
 {
-    if width == Root::XSDT_SLOT {
-        b"XSDT"
-    } else {
-        b"RSDT"
-    }
+    image.window(root.address, 36).is_some_and(|header| {
+        let length = u32_at(header, 4);
+        length >= 36 && (length - 36) % root.width != 0
+    })
 }
 
 /// Whether the root table at a place has the fault with this code. Each code is looked for, even if earlier bytes are
@@ -28,19 +29,16 @@ fn has_fault(image: &Image, root: RootPlace, code: Code) -> bool
     requires { IsSlotWidth root.width }
     ensures { IsTrue result ↔ RootTableFault image.now root.address root.width code }
 {
-    let Some(header) = image.window(root.address, 36) else {
-        return code == Code::RootHeaderOut;
+    let question = match code {
+        Code::RootHeaderOut => Question::Header,
+        Code::RootSignature => Question::Signature(root.signature()),
+        Code::RootLength => Question::Length,
+        Code::RootOut => Question::Bytes,
+        Code::RootRagged => return is_ragged(image, root),
+        Code::RootSum => Question::Sum,
+        _ => return false,
     };
-    let length = u32_at(header, 4);
-    let total = image.window_sum(root.address, u64::from(length));
-    match code {
-        Code::RootSignature => !is_signed(header, signature(root.width)),
-        Code::RootLength => length < 36,
-        Code::RootOut => length >= 36 && total.is_none(),
-        Code::RootRagged => length >= 36 && (length - 36) % root.width != 0,
-        Code::RootSum => length >= 36 && total.is_some_and(|total| total != 0),
-        _ => false,
-    }
+    fails(image, root.address, Frame::TABLE, question)
 }
 
 /// The fault of the root table with this code: the RSDP names no root table, or the one that it names has it. There

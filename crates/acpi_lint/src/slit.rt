@@ -74,7 +74,7 @@ fn low_place(bytes: &[u8], count: usize) -> Option<Place>
 }
 
 /// The place of a SLIT's first fault with this code. None for a code of another stage.
-fn table_fault(code: Code, table: Table<'_>) -> Option<Place>
+pub fn slit_fault(code: Code, table: Table<'_>) -> Option<Place>
     ensures { FindsLeast (SlitFault (slit_contents table.entry) code) result }
 {
     let bytes = table.bytes();
@@ -85,15 +85,6 @@ fn table_fault(code: Code, table: Table<'_>) -> Option<Place>
         Code::SlitLow => low_place(bytes, rows(bytes)?),
         _ => None,
     }
-}
-
-/// The place of the first fault with this code of a set's SLIT. None for a code of another stage, and if the set
-/// lists no complete SLIT.
-pub fn slit_fault(tables: &WholeTables<'_>, policy: &Policy, code: Code) -> Option<Place>
-    ensures { (m : Memory) → AreWholeTables m policy.now.rsdp tables.now
-        → FindsLeast (IsFaultOfStage Stage.Slit code m policy.now) result }
-{
-    table_fault(code, tables.table(TableKind::Slit)?)
 }
 
 /// The place of the first distance from locality i to a later one that differs from the distance back.

@@ -1,14 +1,20 @@
 //! The tables of a set that are looked at.
 
-ghost use Rattle.std.specs.Prelude.{◌≡◌, ℕ, IfOk};
+ghost use Rattle.std.specs.Prelude.{◌≡◌, ℕ, IfOk, option_map};
+ghost use Rattle.acpi_base.specs.Entries.{entries_read_by};
+ghost use Rattle.acpi_base.specs.Madt.{madt_contents, madt_entry};
+ghost use Rattle.acpi_base.specs.Pptt.{pptt_contents, pptt_entry};
+ghost use Rattle.acpi_base.specs.Srat.{srat_contents, srat_entry};
 ghost use Rattle.acpi_base.specs.TableKinds.{signature_of};
 ghost use Rattle.acpi_lint.specs.Slots.{AreFirstSlots};
-ghost use Rattle.acpi_lint.specs.WholeTables.{IsFound, IsLong, table_of, AreWholeTables};
+ghost use Rattle.acpi_lint.specs.WholeTables.{IsFound, IsLong, AreEntries, table_of, AreWholeTables};
 
 use crate::first_slots::FirstSlots;
 use crate::listed::{Slot, listed_slots};
 use acpi_base::{Image, TableKind};
-use acpi_read::{Fadt, Madt, Pptt, Root, Srat, Table};
+use acpi_read::{
+    Fadt, Madt, MadtEntry, Pptt, PpttEntry, Root, Srat, SratEntry, Table, TypedEntries,
+};
 use std::alloc::{AllocError, Global};
 
 /// The root table of a set and the first listed table of each kind, if they are complete, whatever their checksums.
@@ -102,5 +108,29 @@ impl<'a> WholeTables<'a> {
         ensures { result ≡ self.now.pptt }
     {
         Some(Pptt::of(self.table(TableKind::Pptt)?))
+    }
+
+    /// The entries of the MADT, if it has the 44 bytes of its fields.
+    pub fn madt_entries(&self) -> Option<TypedEntries<'a, MadtEntry<'a>>>
+        ensures { AreEntries 44 (λ whole. (madt_contents whole).entries) self.now.madt
+            (option_map (λ e. entries_read_by madt_entry e.entries.entries) result) }
+    {
+        Some(self.madt()?.entries())
+    }
+
+    /// The entries of the SRAT, if it has the 48 bytes of its fields.
+    pub fn srat_entries(&self) -> Option<TypedEntries<'a, SratEntry<'a>>>
+        ensures { AreEntries 48 (λ whole. (srat_contents whole).entries) self.now.srat
+            (option_map (λ e. entries_read_by srat_entry e.entries.entries) result) }
+    {
+        Some(self.srat()?.entries())
+    }
+
+    /// The entries of the PPTT.
+    pub fn pptt_entries(&self) -> Option<TypedEntries<'a, PpttEntry<'a>>>
+        ensures { option_map (λ e. entries_read_by pptt_entry e.entries.entries) result
+            ≡ option_map (λ whole. (pptt_contents whole).entries) self.now.pptt }
+    {
+        Some(self.pptt()?.entries())
     }
 }

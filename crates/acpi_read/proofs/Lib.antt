@@ -1,5 +1,8 @@
 pub mod EntriesLeft
 pub mod FirstsKept
 mod ListedTables
+pub mod MadtFaults
+pub mod PpttFaults
 pub mod PpttKinds
 pub mod SlitCells
+pub mod SratFaults

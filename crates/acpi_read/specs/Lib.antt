@@ -1,7 +1,10 @@
 pub mod Entries
+pub mod EntryFaults
+pub mod EntryTables
 pub mod Fadts
 pub mod FilledTables
 pub mod FirstTables
+pub mod Frames
 pub mod Gases
 pub mod Headers
 pub mod Madts

@@ -4,12 +4,13 @@ ghost use Rattle.std.specs.Prelude.{◌≡◌, ◌≢◌, ◌≤◌, ◌<◌, �
 ghost use Rattle.acpi_base.specs.Codes.{code_number, stage_of};
 ghost use Rattle.acpi_base.specs.declared.stage.Stage.{Stage};
 ghost use Rattle.acpi_base.specs.Fadt.{facs_address, is_reduced};
-ghost use Rattle.acpi_base.specs.Facs.{facs_length, IsFacs, HasSoundFacs, NamedFacsFault};
+ghost use Rattle.acpi_base.specs.Frames.{frame_length};
+ghost use Rattle.acpi_base.specs.Facs.{facs_frame, IsFacs, HasSoundFacs, NamedFacsFault};
 ghost use Rattle.acpi_base.specs.declared.code.Code.{Code};
 
 use crate::fadt::Fadt;
-use acpi_base::field::{is_signed, u32_at};
-use acpi_base::{Code, Image};
+use crate::frame::bytes_of;
+use acpi_base::{Code, Frame, Image, Question};
 use std::marker::Model;
 
 /// The firmware ACPI control structure (ACPI 6.5, 5.2.10): as many bytes as its Length says, from 64 to
@@ -25,7 +26,8 @@ pub struct Facs<'a> {
 
 impl<'a> Model for Facs<'a> {
     ghost use Rattle.std.specs.Prelude.{◌≡◌, ◌≢◌, ◌≤◌, ◌<◌, ◌^◌, ◌%◌, length};
-    ghost use Rattle.acpi_base.specs.Facs.{facs_length};
+    ghost use Rattle.acpi_base.specs.Facs.{facs_frame};
+    ghost use Rattle.acpi_base.specs.Frames.{frame_length};
     ghost use Rattle.acpi_read.specs.Fadts.{FacsValue};
 
     ghost Value = { FacsValue };
@@ -34,7 +36,7 @@ impl<'a> Model for Facs<'a> {
 
     ghost invariant = { λ facs. (facs.address % 64 ≡ 0) × (facs.address ≢ 0)
         × (64 ≤ length facs.bytes.now) × (length facs.bytes.now < 2 ^ 32)
-        × (facs_length facs.bytes.now ≡ length facs.bytes.now) };
+        × (frame_length facs_frame facs.bytes.now ≡ length facs.bytes.now) };
 }
 
 impl<'a> Facs<'a> {
@@ -45,7 +47,6 @@ impl<'a> Facs<'a> {
     /// address that it names is not a multiple of 64; `FacsHeaderOut` if the 8 bytes there are not all present;
     /// `FacsSignature` if they do not begin with `FACS`; `FacsLength` if its Length is below 64; `FacsOut` if its
     /// Length bytes are not all present.
-    #[tactic(auto, using(acpi_base::proofs::Images::HeldBytes::says_length))]
     pub fn read(image: &'a Image, fadt: &Fadt<'_>) -> Result<Option<Facs<'a>>, Code>
         ensures ok { IsOk result ↔ HasSoundFacs image.now fadt.now }
         ensures none { (result ≡ Ok None)
@@ -70,20 +71,13 @@ impl<'a> Facs<'a> {
         if address % 64 != 0 {
             return Err(Code::FacsAlign);
         }
-        let Some(prefix) = image.window(address, 8) else {
-            return Err(Code::FacsHeaderOut);
-        };
-        if !is_signed(prefix, b"FACS") {
-            return Err(Code::FacsSignature);
+        match bytes_of(image, address, Frame::FACS, Some(*b"FACS")) {
+            Ok(bytes) => Ok(Some(Facs { address, bytes })),
+            Err(Question::Signature(_)) => Err(Code::FacsSignature),
+            Err(Question::Length) => Err(Code::FacsLength),
+            Err(Question::Bytes) => Err(Code::FacsOut),
+            Err(_) => Err(Code::FacsHeaderOut),
         }
-        let length = u32_at(prefix, 4);
-        if length < 64 {
-            return Err(Code::FacsLength);
-        }
-        let Some(bytes) = image.window(address, u64::from(length)) else {
-            return Err(Code::FacsOut);
-        };
-        Ok(Some(Facs { address, bytes }))
     }
 
     /// The address that it was read at, which is a multiple of 64 and not 0.
@@ -98,7 +92,7 @@ impl<'a> Facs<'a> {
     pub fn bytes(&self) -> &'a [u8]
         ensures bytes { result.now ≡ self.now.bytes }
         ensures count { (64 ≤ length self.now.bytes) × (length self.now.bytes < 2 ^ 32) }
-        ensures said { facs_length self.now.bytes ≡ length self.now.bytes }
+        ensures said { frame_length facs_frame self.now.bytes ≡ length self.now.bytes }
     {
         self.bytes
     }

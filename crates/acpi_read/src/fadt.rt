@@ -100,9 +100,9 @@ fn field_place(index: u8) -> Place
     PLACES[index as usize]
 }
 
-/// Whether a bit of Flags is set.
+/// Whether a bit of Flags, from 0 to 31, is set in the bytes of a FADT (ACPI 6.5, 5.2.9).
 #[tactic(auto, unfolding(acpi_base::specs::Fadt::has_flag))]
-fn has_flag(bytes: &[u8], bit: u32) -> bool
+pub fn has_flag(bytes: &[u8], bit: u32) -> bool
     requires bit { bit < 32 }
     requires room { 116 ≤ length bytes.now }
     ensures { result ≡ has_flag bytes.now bit }

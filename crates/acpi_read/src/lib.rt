@@ -47,10 +47,12 @@
 
 mod entries;
 mod entry;
+mod entry_codes;
 mod entry_tables;
 mod facs;
 mod fadt;
 mod first_tables;
+mod frame;
 mod gas;
 mod header;
 mod kind;
@@ -68,10 +70,12 @@ mod typed_entries;
 
 pub use entries::Entries;
 pub use entry::Entry;
+pub use entry_codes::{EntryCodes, Subject};
 pub use entry_tables::{Madt, Pptt, Srat};
 pub use facs::Facs;
-pub use fadt::{Block, Fadt};
+pub use fadt::{Block, Fadt, has_flag};
 pub use first_tables::{FirstTables, Listed};
+pub use frame::fails;
 pub use gas::Gas;
 pub use header::Header;
 pub use kind::EntryKind;
@@ -86,7 +90,7 @@ pub use root::{Root, RootPlace, named_root};
 pub use rsdp::Rsdp;
 pub use slit::Slit;
 pub use srat::{
-    ApicDomain, GICC_AFFINITY, GICC_AFFINITY_LEN, MemoryRange, SratEntry, X2apicDomain,
+    ApicDomain, GICC_AFFINITY, GICC_AFFINITY_LEN, MemoryRange, SratEntry, X2apicDomain, is_enabled,
 };
 pub use table::{Table, sums_to_zero};
 pub use typed_entries::{EntryAt, TableEntry, TypedEntries};

@@ -2,9 +2,18 @@
 
 mod kinds;
 
+ghost use Rattle.std.specs.Prelude.{◌+◌, ◌<◌, ◌^◌, ◌↔◌, IsTrue};
+ghost use Rattle.acpi_base.specs.Entries.{IsTypeOf};
+ghost use Rattle.acpi_base.specs.Madt.{madt_kinds, IsReservedInti, HasReservedInti};
+ghost use Rattle.acpi_base.specs.Policy.{inputs_of};
+ghost use Rattle.acpi_read.specs.Madts.{madt_value};
+
+use crate::entries::Entries;
+use crate::entry_codes::EntryCodes;
 use crate::kind::{FixedKind, typed};
+use crate::table::Table;
 use crate::typed_entries::TableEntry;
-use acpi_base::Code;
+use acpi_base::{Code, Policy};
 pub use kinds::{
     AddressOverride, IoApic, LocalApic, LocalNmi, NmiSource, Override, X2apic, X2apicNmi,
 };
@@ -80,9 +89,51 @@ impl<'a> MadtEntry<'a> {
     }
 }
 
+/// Whether a type is one of the eight whose entries are read.
+#[inline(always)]
+fn is_typed(number: u8) -> bool
+    ensures { IsTrue result ↔ IsTypeOf madt_kinds number }
+{
+    matches!(number, 0..=5 | 9 | 10)
+}
+
+/// Whether flags have a reserved polarity, in bits 1:0, or a reserved trigger mode, in bits 3:2.
+#[inline(always)]
+fn is_reserved_inti(flags: u16) -> bool
+    ensures { IsTrue result ↔ IsReservedInti flags }
+{
+    flags & 0b11 == 0b10 || flags >> 2 & 0b11 == 0b10
+}
+
+/// Whether an entry has a reserved polarity or trigger mode.
+#[inline(always)]
+fn has_reserved_inti(entry: &MadtEntry<'_>) -> bool
+    ensures { IsTrue result ↔ HasReservedInti (madt_value entry.now) }
+{
+    match entry {
+        MadtEntry::Override(source) => is_reserved_inti(source.flags),
+        MadtEntry::NmiSource(nmi) => is_reserved_inti(nmi.flags),
+        MadtEntry::LocalNmi(nmi) => is_reserved_inti(nmi.flags),
+        MadtEntry::X2apicNmi(nmi) => is_reserved_inti(nmi.flags),
+        _ => false,
+    }
+}
+
+/// Whether the interrupt numbers of an I/O APIC end past 2^32.
+#[inline(always)]
+fn is_past_end(policy: &Policy, io_apic: &IoApic) -> bool
+    ensures { IsTrue result
+        ↔ (2 ^ 32 < io_apic.now.gsi_base + inputs_of policy.now io_apic.now.address) }
+{
+    policy.is_past_end(io_apic.gsi_base, io_apic.address)
+}
+
 impl<'a> TableEntry<'a> for MadtEntry<'a> {
+    ghost use Rattle.std.specs.Prelude.{◌≡◌};
     ghost use Rattle.acpi_base.specs.Madt as said;
-    ghost use Rattle.acpi_base.specs.Madt.{madt_entry};
+    ghost use Rattle.acpi_base.specs.Madt.{madt_entry, madt_contents, IsAddressOverride, IsSoundMadt, MadtEntryFault, MadtFault};
+    ghost use Rattle.acpi_base.specs.declared.stage.Stage.{Stage};
+    ghost use Rattle.acpi_read.specs.EntryFaults.{madt_codes, madt_own_code};
     ghost use Rattle.acpi_read.specs.Madts.{madt_value, IsWholeEntry};
 
     ghost Said = { said.MadtEntry };
@@ -93,8 +144,66 @@ impl<'a> TableEntry<'a> for MadtEntry<'a> {
 
     ghost IsRead = { IsWholeEntry };
 
+    ghost first = { 44 };
+
+    ghost codes = { madt_codes };
+
+    ghost IsOwn = { MadtEntryFault };
+
+    ghost own_code = { madt_own_code };
+
+    ghost IsSingle = { IsAddressOverride };
+
+    ghost stage = { Stage.Madt };
+
+    ghost IsFault = { λ q whole. MadtFault q (madt_contents whole) };
+
+    ghost IsSound = { λ q whole. IsSoundMadt q (madt_contents whole) };
+
     #[inline(always)]
     fn of(bytes: &'a [u8]) -> MadtEntry<'a> {
         MadtEntry::read(bytes).unwrap_or(MadtEntry::Opaque(bytes))
+    }
+
+    fn codes() -> EntryCodes
+        ensures { result ≡ madt_codes }
+    {
+        EntryCodes {
+            short: Some(Code::MadtShort),
+            cut: Code::MadtEntryCut,
+            second: Some(Code::SecondAddressOverride),
+        }
+    }
+
+    #[tactic(auto, using(crate::proofs::MadtFaults::madt_faults))]
+    fn entries(table: Table<'a>) -> Result<Entries<'a>, Code> {
+        Entries::madt(table)
+    }
+
+    #[inline(always)]
+    fn has_fault(&self, policy: &Policy, code: Code) -> bool {
+        match (code, self) {
+            (Code::MadtEntryLength, MadtEntry::Opaque(bytes)) => is_typed(bytes[0]),
+            (Code::OverrideBus, MadtEntry::Override(source)) => source.bus != 0,
+            (Code::ReservedInti, entry) => has_reserved_inti(entry),
+            (Code::GsiPastEnd, MadtEntry::IoApic(io_apic)) => is_past_end(policy, io_apic),
+            _ => false,
+        }
+    }
+
+    #[tactic(auto, using(crate::proofs::MadtFaults::madt_lowest))]
+    #[inline(always)]
+    fn own_code(&self) -> Code {
+        match self {
+            MadtEntry::Opaque(_) => Code::MadtEntryLength,
+            MadtEntry::Override(source) if source.bus != 0 => Code::OverrideBus,
+            MadtEntry::IoApic(_) => Code::GsiPastEnd,
+            _ => Code::ReservedInti,
+        }
+    }
+
+    #[inline(always)]
+    fn single_code(&self) -> Option<Code> {
+        matches!(self, MadtEntry::AddressOverride(_)).then_some(Code::SecondAddressOverride)
     }
 }

@@ -3,10 +3,13 @@
 mod kinds;
 mod node_head;
 
+use crate::entries::Entries;
+use crate::entry_codes::EntryCodes;
 use crate::kind::{FixedKind, laid, typed};
 use crate::layout::Layout;
+use crate::table::Table;
 use crate::typed_entries::TableEntry;
-use acpi_base::Code;
+use acpi_base::{Code, Policy};
 pub use kinds::{Cache24, Cache28};
 pub use node_head::NodeHead;
 
@@ -62,8 +65,11 @@ impl<'a> PpttEntry<'a> {
 }
 
 impl<'a> TableEntry<'a> for PpttEntry<'a> {
+    ghost use Rattle.std.specs.Prelude.{◌≡◌};
     ghost use Rattle.acpi_base.specs.Pptt as said;
-    ghost use Rattle.acpi_base.specs.Pptt.{pptt_entry};
+    ghost use Rattle.acpi_base.specs.Pptt.{pptt_entry, pptt_contents, IsCutPptt, PpttFault};
+    ghost use Rattle.acpi_base.specs.declared.stage.Stage.{Stage};
+    ghost use Rattle.acpi_read.specs.EntryFaults.{pptt_codes, pptt_own_code, PpttEntryFault};
     ghost use Rattle.acpi_read.specs.Pptts.{pptt_value, HasReferences, IsWholeEntry};
 
     ghost Said = { said.PpttEntry };
@@ -74,8 +80,61 @@ impl<'a> TableEntry<'a> for PpttEntry<'a> {
 
     ghost IsRead = { λ entry. HasReferences entry × IsWholeEntry entry };
 
+    ghost first = { 36 };
+
+    ghost codes = { pptt_codes };
+
+    ghost IsOwn = { λ q. PpttEntryFault };
+
+    ghost own_code = { pptt_own_code };
+
+    ghost IsSingle = { λ e. ⊥ };
+
+    ghost stage = { Stage.Pptt };
+
+    ghost IsFault = { λ q whole. PpttFault (pptt_contents whole) };
+
+    ghost IsSound = { λ q whole. IsCutPptt (pptt_contents whole) };
+
     #[inline(always)]
     fn of(bytes: &'a [u8]) -> PpttEntry<'a> {
         PpttEntry::read(bytes).unwrap_or(PpttEntry::Opaque(bytes))
+    }
+
+    fn codes() -> EntryCodes
+        ensures { result ≡ pptt_codes }
+    {
+        EntryCodes {
+            short: None,
+            cut: Code::PpttEntryCut,
+            second: None,
+        }
+    }
+
+    #[tactic(auto, using(crate::proofs::PpttFaults::pptt_faults))]
+    fn entries(table: Table<'a>) -> Result<Entries<'a>, Code> {
+        // Makes the invariant of `Table` available to the proof, and does nothing at run time: a table has at least
+        // 36 bytes.
+        let _ = table.bytes();
+        Ok(Entries::pptt(table))
+    }
+
+    #[inline(always)]
+    fn has_fault(&self, _: &Policy, code: Code) -> bool {
+        match (code, self) {
+            (Code::PpttEntryLength, PpttEntry::Opaque(bytes)) => bytes[0] <= 1,
+            _ => false,
+        }
+    }
+
+    #[tactic(auto, using(crate::proofs::PpttFaults::pptt_lowest))]
+    #[inline(always)]
+    fn own_code(&self) -> Code {
+        Code::PpttEntryLength
+    }
+
+    #[inline(always)]
+    fn single_code(&self) -> Option<Code> {
+        None
     }
 }

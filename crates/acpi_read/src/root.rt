@@ -13,12 +13,12 @@ ghost use Rattle.acpi_base.specs.declared.code.Code.{Code};
 ghost use Rattle.acpi_read.specs.Headers.{header_value};
 ghost use Rattle.acpi_read.specs.Roots.{RootValue, place_value, slots_of, IsSoundNamedRoot, IsWholeRoot};
 
+use crate::frame::bytes_of;
 use crate::header::{Header, header_at};
 use crate::layout::Layout;
 use crate::rsdp::Rsdp;
-use crate::table::Table;
-use acpi_base::field::{is_signed, u8_at, u32_at, u64_at};
-use acpi_base::{Code, Image, sum};
+use acpi_base::field::{u8_at, u32_at, u64_at};
+use acpi_base::{Code, Frame, Image, Question, sum};
 use std::marker::Model;
 
 /// The root table (ACPI 6.5, 5.2.7 and 5.2.8): the XSDT or the RSDT, whose slots after the header are the addresses
@@ -60,6 +60,19 @@ pub struct RootPlace {
     pub address: u64,
     /// The width of a slot in bytes: 8 in an XSDT, 4 in an RSDT.
     pub width: u32,
+}
+
+impl RootPlace {
+    /// The signature of a root table with slots of this width.
+    pub fn signature(self) -> [u8; 4]
+        ensures { result ≡ root_signature self.width }
+    {
+        if self.width == Root::XSDT_SLOT {
+            *b"XSDT"
+        } else {
+            *b"RSDT"
+        }
+    }
 }
 
 /// The addresses that an RSDP names; 0 for none.
@@ -135,19 +148,7 @@ fn place_of(rsdp: &Rsdp) -> Option<RootPlace>
     })
 }
 
-/// The signature of a root table with slots of this width.
-fn signature(width: u32) -> &'static [u8; 4]
-    ensures { result.now ≡ root_signature width }
-{
-    if width == Root::XSDT_SLOT {
-        b"XSDT"
-    } else {
-        b"RSDT"
-    }
-}
-
 /// The root table at a place.
-#[tactic(auto, using(acpi_base::proofs::Images::HeldBytes::says_length))]
 fn read_at(image: &Image, place: RootPlace) -> Result<Root<'_>, Code>
     requires { IsSlotWidth place.width }
     ensures ok { IfOk result
@@ -162,20 +163,14 @@ fn read_at(image: &Image, place: RootPlace) -> Result<Root<'_>, Code>
         → code_number code ≤ code_number other) }
 {
     let RootPlace { address, width } = place;
-    let Some(header) = image.window(address, Header::LEN as u64) else {
-        return Err(Code::RootHeaderOut);
+    let bytes = match bytes_of(image, address, Frame::TABLE, Some(place.signature())) {
+        Ok(bytes) => bytes,
+        Err(Question::Signature(_)) => return Err(Code::RootSignature),
+        Err(Question::Length) => return Err(Code::RootLength),
+        Err(Question::Bytes) => return Err(Code::RootOut),
+        Err(_) => return Err(Code::RootHeaderOut),
     };
-    if !is_signed(header, signature(width)) {
-        return Err(Code::RootSignature);
-    }
-    let length = u32_at(header, 4);
-    if length < Header::LEN as u32 {
-        return Err(Code::RootLength);
-    }
-    let Some(bytes) = image.window(address, u64::from(length)) else {
-        return Err(Code::RootOut);
-    };
-    if (length - Header::LEN as u32) % width != 0 {
+    if (bytes.len() as u32 - Header::LEN as u32) % width != 0 {
         return Err(Code::RootRagged);
     }
     if sum(bytes) != 0 {
@@ -221,17 +216,13 @@ impl<'a> Root<'a> {
     /// The root table that the RSDP at an address names, if it is a complete table with its kind's signature,
     /// whatever its bytes and those of the RSDP sum to, and even if its Length ends within a slot. None if the RSDP
     /// cannot be read or names none, and if no such table is there.
-    #[tactic(auto, using(acpi_base::proofs::Tables::Whole::signed_table))]
     pub fn whole(image: &'a Image, rsdp: u64) -> Option<Root<'a>>
         ensures { MatchOption result ((root : RootValue) → ¬ IsWholeRoot image.now rsdp root)
             (IsWholeRoot image.now rsdp) }
     {
-        let RootPlace { address, width } = named_root(image, rsdp)??;
-        let table = Table::whole(image, address)?;
-        let bytes = table.bytes();
-        if !is_signed(bytes, signature(width)) {
-            return None;
-        }
+        let place = named_root(image, rsdp)??;
+        let RootPlace { address, width } = place;
+        let bytes = bytes_of(image, address, Frame::TABLE, Some(place.signature())).ok()?;
         Some(Root {
             address,
             width,

@@ -6,8 +6,9 @@ ghost use Rattle.acpi_base.specs.declared.stage.Stage.{Stage};
 ghost use Rattle.acpi_base.specs.Rsdp.{revision_of, short_addresses, IsRsdp, IsSoundRsdp, RsdpFault};
 ghost use Rattle.acpi_base.specs.declared.code.Code.{Code};
 
+use crate::frame::bytes_of;
 use acpi_base::field::{bytes_at, is_signed, u8_at, u32_at, u64_at};
-use acpi_base::{Code, Image, sum};
+use acpi_base::{Code, Frame, Image, Question, sum};
 use std::marker::Model;
 
 /// The root system description pointer (ACPI 6.5, 5.2.5.3), which names the RSDT and the XSDT.
@@ -79,7 +80,7 @@ impl Rsdp {
     /// with `RSD PTR `; `RsdpSum` if they do not sum to 0; and of a revision of 2 or more `RsdpTailOut` if its 36
     /// bytes are not all present; `RsdpLength` if its Length is below 36; `RsdpLongOut` if its Length bytes are not
     /// all present; `RsdpExtendedSum` if they do not sum to 0.
-    #[tactic(auto, unfolding(acpi_base::specs::Rsdp::addresses_at))]
+    #[tactic(auto, using(acpi_base::proofs::Rsdp::Naming::extended_named), unfolding(acpi_base::specs::Rsdp::addresses_at))]
     pub fn read(image: &Image, address: u64) -> Result<Rsdp, Code>
         ensures ok { IsOk result ↔ IsSoundRsdp image.now address }
         ensures value { IfOk result (IsRsdp image.now address) }
@@ -101,22 +102,18 @@ impl Rsdp {
         if rsdp.revision < 2 {
             return Ok(rsdp);
         }
-        let Some(extended) = image.window(address, Rsdp::EXTENDED_LENGTH) else {
-            return Err(Code::RsdpTailOut);
-        };
-        let length = u32_at(extended, 20);
-        if u64::from(length) < Rsdp::EXTENDED_LENGTH {
-            return Err(Code::RsdpLength);
-        }
-        let Some(whole) = image.window(address, u64::from(length)) else {
-            return Err(Code::RsdpLongOut);
+        let whole = match bytes_of(image, address, Frame::EXTENDED_RSDP, None) {
+            Ok(whole) => whole,
+            Err(Question::Length) => return Err(Code::RsdpLength),
+            Err(Question::Bytes) => return Err(Code::RsdpLongOut),
+            Err(_) => return Err(Code::RsdpTailOut),
         };
         if sum(whole) != 0 {
             return Err(Code::RsdpExtendedSum);
         }
         Ok(Rsdp {
-            rsdt: u32_at(extended, 16),
-            xsdt: u64_at(extended, 24),
+            rsdt: u32_at(whole, 16),
+            xsdt: u64_at(whole, 24),
             ..rsdp
         })
     }

@@ -2,9 +2,17 @@
 
 mod kinds;
 
+ghost use Rattle.std.specs.Prelude.{◌≡◌, ◌+◌, ◌<◌, ◌^◌, ◌↔◌, IsTrue, true};
+ghost use Rattle.acpi_base.specs.Entries.{IsTypeOf};
+ghost use Rattle.acpi_base.specs.Srat as said;
+ghost use Rattle.acpi_base.specs.Srat.{srat_kinds};
+
+use crate::entries::Entries;
+use crate::entry_codes::EntryCodes;
 use crate::kind::{FixedKind, typed};
+use crate::table::Table;
 use crate::typed_entries::TableEntry;
-use acpi_base::Code;
+use acpi_base::{Code, Policy};
 pub use kinds::{ApicDomain, MemoryRange, X2apicDomain};
 
 /// The type of a GICC affinity (ACPI 6.5, 5.2.16.4). Only `lint` reads its fields.
@@ -57,9 +65,37 @@ impl<'a> SratEntry<'a> {
     }
 }
 
+/// Whether a type is one of the three whose entries are read.
+#[inline(always)]
+fn is_typed(number: u8) -> bool
+    ensures { IsTrue result ↔ IsTypeOf srat_kinds number }
+{
+    number <= 2
+}
+
+/// Whether an entry of an SRAT with these flags is enabled.
+#[tactic(auto, unfolding(acpi_base::specs::Number::has_bit))]
+pub fn is_enabled(flags: u32) -> bool
+    ensures { result ≡ said.is_enabled flags }
+{
+    flags & 1 == 1
+}
+
+/// Whether a range is enabled and ends past 2^64.
+#[inline(always)]
+fn is_past_end(range: &MemoryRange) -> bool
+    ensures { IsTrue result ↔ ((said.is_enabled range.now.flags ≡ true)
+        × (2 ^ 64 < range.now.base + range.now.size)) }
+{
+    is_enabled(range.flags) && u128::from(range.base) + u128::from(range.size) > 1 << 64
+}
+
 impl<'a> TableEntry<'a> for SratEntry<'a> {
+    ghost use Rattle.std.specs.Prelude.{◌≡◌};
     ghost use Rattle.acpi_base.specs.Srat as said;
-    ghost use Rattle.acpi_base.specs.Srat.{srat_entry};
+    ghost use Rattle.acpi_base.specs.Srat.{srat_entry, srat_contents, IsSoundSrat, SratEntryFault, SratFault};
+    ghost use Rattle.acpi_base.specs.declared.stage.Stage.{Stage};
+    ghost use Rattle.acpi_read.specs.EntryFaults.{srat_codes, srat_own_code};
     ghost use Rattle.acpi_read.specs.Srats.{srat_value, IsWholeEntry};
 
     ghost Said = { said.SratEntry };
@@ -70,8 +106,62 @@ impl<'a> TableEntry<'a> for SratEntry<'a> {
 
     ghost IsRead = { IsWholeEntry };
 
+    ghost first = { 48 };
+
+    ghost codes = { srat_codes };
+
+    ghost IsOwn = { λ q. SratEntryFault };
+
+    ghost own_code = { srat_own_code };
+
+    ghost IsSingle = { λ e. ⊥ };
+
+    ghost stage = { Stage.Srat };
+
+    ghost IsFault = { λ q whole. SratFault (srat_contents whole) };
+
+    ghost IsSound = { λ q whole. IsSoundSrat (srat_contents whole) };
+
     #[inline(always)]
     fn of(bytes: &'a [u8]) -> SratEntry<'a> {
         SratEntry::read(bytes).unwrap_or(SratEntry::Opaque(bytes))
+    }
+
+    fn codes() -> EntryCodes
+        ensures { result ≡ srat_codes }
+    {
+        EntryCodes {
+            short: Some(Code::SratShort),
+            cut: Code::SratEntryCut,
+            second: None,
+        }
+    }
+
+    #[tactic(auto, using(crate::proofs::SratFaults::srat_faults))]
+    fn entries(table: Table<'a>) -> Result<Entries<'a>, Code> {
+        Entries::srat(table)
+    }
+
+    #[inline(always)]
+    fn has_fault(&self, _: &Policy, code: Code) -> bool {
+        match (code, self) {
+            (Code::SratEntryLength, SratEntry::Opaque(bytes)) => is_typed(bytes[0]),
+            (Code::RangePastEnd, SratEntry::MemoryRange(range)) => is_past_end(range),
+            _ => false,
+        }
+    }
+
+    #[tactic(auto, using(crate::proofs::SratFaults::srat_lowest))]
+    #[inline(always)]
+    fn own_code(&self) -> Code {
+        match self {
+            SratEntry::MemoryRange(_) => Code::RangePastEnd,
+            _ => Code::SratEntryLength,
+        }
+    }
+
+    #[inline(always)]
+    fn single_code(&self) -> Option<Code> {
+        None
     }
 }

@@ -10,10 +10,9 @@ ghost use Rattle.acpi_base.specs.Tables.{length_of, IsTable, IsSoundTable, Table
 ghost use Rattle.acpi_base.specs.declared.code.Code.{Code};
 ghost use Rattle.acpi_read.specs.Headers.{header_value};
 
+use crate::frame::bytes_of;
 use crate::header::{Header, header_at};
-use crate::layout::Layout;
-use acpi_base::field::u32_at;
-use acpi_base::{Code, Image, sum};
+use acpi_base::{Code, Frame, Image, Question, sum};
 use std::marker::Model;
 
 /// A system description table of any kind (ACPI 6.5, 5.2.6): as many bytes as its Length says, from 36 to 2^32 - 1. A
@@ -44,6 +43,7 @@ const FEW: usize = 256;
 
 /// Whether the bytes, which are those at the address, sum to 0 modulo 256. Fewer than 256 of them are read, however many
 /// there are.
+#[inline(always)]
 pub fn sums_to_zero(image: &Image, address: u64, bytes: &[u8]) -> bool
     requires { bytes_at image.now address (length bytes.now) ≡ Some bytes.now }
     ensures { IsTrue result ↔ (byte_sum bytes.now ≡ 0) }
@@ -68,16 +68,11 @@ impl<'a> Table<'a> {
         ensures least { IfErr result (λ code. (other : Code) → TableFault image.now address other
             → code_number code ≤ code_number other) }
     {
-        let run = image.bytes_from(address);
-        let Some(header) = run.get(..Header::LEN) else {
-            return Err(Code::TableHeaderOut);
-        };
-        let length = u32_at(header, 4);
-        if length < Header::LEN as u32 {
-            return Err(Code::TableLength);
-        }
-        let Some(bytes) = run.get(..length as usize) else {
-            return Err(Code::TableOut);
+        let bytes = match bytes_of(image, address, Frame::TABLE, None) {
+            Ok(bytes) => bytes,
+            Err(Question::Length) => return Err(Code::TableLength),
+            Err(Question::Bytes) => return Err(Code::TableOut),
+            Err(_) => return Err(Code::TableHeaderOut),
         };
         if !sums_to_zero(image, address, bytes) {
             return Err(Code::TableSum);
@@ -90,9 +85,9 @@ impl<'a> Table<'a> {
         requires { IsSoundTable image.now address }
         ensures { (header : List ℕ) × IsTable image.now address header result }
     {
-        let rest = image.bytes_from(address);
-        let length = u32_at(rest, 4);
-        let bytes = &rest[..length as usize];
+        let Ok(bytes) = bytes_of(image, address, Frame::TABLE, None) else {
+            unreachable!()
+        };
         Table { bytes }
     }
 
@@ -103,13 +98,7 @@ impl<'a> Table<'a> {
             ((header bytes : List ℕ) → ¬ IsTable image.now address header bytes)
             (λ bytes. (header : List ℕ) × IsTable image.now address header bytes) }
     {
-        let run = image.bytes_from(address);
-        let header = run.get(..Header::LEN)?;
-        let length = u32_at(header, 4);
-        if length < Header::LEN as u32 {
-            return None;
-        }
-        let bytes = run.get(..length as usize)?;
+        let bytes = bytes_of(image, address, Frame::TABLE, None).ok()?;
         Some(Table { bytes })
     }
 

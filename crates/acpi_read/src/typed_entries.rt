@@ -1,16 +1,27 @@
 //! The entries of a table by contents.
 
-ghost use Rattle.std.specs.Prelude.{◌≡◌, ℕ, List};
+ghost use Rattle.std.specs.Prelude.{◌≡◌, ◌≤◌, ◌<◌, ◌↔◌, ℕ, List, length, IsTrue, IfOk, IfErr, MatchOption};
 ghost use Rattle.std.specs.Iterator.{item_count};
+ghost use Rattle.acpi_base.specs.Codes.{code_number};
 ghost use Rattle.acpi_base.specs.Entries.{IsEntry};
+ghost use Rattle.acpi_base.specs.Policy.{PolicyValue};
+ghost use Rattle.acpi_base.specs.declared.code.Code.{Code};
+ghost use Rattle.acpi_base.specs.declared.stage.Stage.{Stage};
+ghost use Rattle.acpi_read.specs.Entries.{entries_from_place};
+ghost use Rattle.acpi_read.specs.EntryTables.{entry_table, subject_of, AreFaults};
 ghost use Rattle.acpi_read.specs.TypedEntries.{GivesTyped};
+ghost use Rattle.acpi_read.specs.declared.entry_codes.EntryCodes.{EntryCodes};
+ghost use Rattle.acpi_read.specs.declared.entry_codes.Subject.{Subject};
 
 use crate::entries::Entries;
 use crate::entry::Entry;
+use crate::entry_codes::EntryCodes;
+use crate::table::Table;
+use acpi_base::{Code, Policy};
 use std::marker::PhantomData;
 
 /// The contents of an entry of a kind of table: one variant for each type of entry that is read, and one for all
-/// others.
+/// others; and what is wrong with an entry by itself.
 pub trait TableEntry<'a>: Sized {
     ghost Said: { Type 0 };
 
@@ -23,12 +34,66 @@ pub trait TableEntry<'a>: Sized {
     /// What holds for every value that was read.
     ghost IsRead: { Self → Type 0 } = { λ _. Unit {0} };
 
+    /// The offset of the first entry.
+    ghost first: { ℕ };
+
+    /// The codes of the table's faults that are not about an entry by itself.
+    ghost codes: { EntryCodes };
+
+    /// The faults that an entry has by itself, by their code.
+    ghost IsOwn: { PolicyValue → Code → Said → Type 0 };
+
+    /// The code of the lowest fault that an entry can have by itself.
+    ghost own_code: { Said → Code };
+
+    /// The entries of which a table has at most one.
+    ghost IsSingle: { Said → Type 0 };
+
+    /// The stage that looks at each entry by itself.
+    ghost stage: { Stage };
+
+    /// Its faults, of a table with these bytes.
+    ghost IsFault: { PolicyValue → List ℕ → Code → ℕ → ℕ → ℕ → Type 0 };
+
+    /// It holds for a table with these bytes.
+    ghost IsSound: { PolicyValue → List ℕ → Type 0 };
+
     /// The contents of an entry with these bytes. One whose length is wrong for its type is opaque, like one of
     /// another type.
     fn of(bytes: &'a [u8]) -> Self
         requires { IsEntry bytes.now }
         ensures value { value result ≡ said_by bytes.now }
         ensures read { IsRead result };
+
+    /// The codes of the table's faults that are not about an entry by itself.
+    fn codes() -> EntryCodes
+        ensures { result ≡ codes };
+
+    /// The entries of a table. Refuses one that ends before the first entry's place, with the code of that.
+    fn entries(table: Table<'a>) -> Result<Entries<'a>, Code>
+        ensures ok { IfOk result
+            (λ entries. (first ≤ length table.entry) × (entries ≡ entries_from_place first table.entry)) }
+        ensures err { IfErr result
+            (λ code. (length table.entry < first) × (subject_of codes code ≡ Subject.Short)) }
+        ensures faults { AreFaults stage codes
+            (λ q. entry_table first said_by (IsOwn q) IsSingle) IsFault IsSound };
+
+    /// Whether the entry has the fault with a code by itself.
+    fn has_fault(&self, policy: &Policy, code: Code) -> bool
+        requires { IsRead self.now }
+        ensures { IsTrue result ↔ IsOwn policy.now code (value self.now) };
+
+    /// The code of the lowest fault that the entry can have by itself.
+    fn own_code(&self) -> Code
+        ensures value { result ≡ own_code (value self.now) }
+        ensures lowest { (q : PolicyValue) (code : Code) → IsOwn q code (value self.now)
+            → IsOwn q (own_code (value self.now)) (value self.now)
+            × (code_number (own_code (value self.now)) ≤ code_number code) };
+
+    /// The code of a second entry like this one, if a table has at most one.
+    fn single_code(&self) -> Option<Code>
+        ensures { MatchOption result (¬ IsSingle (value self.now))
+            (λ code. IsSingle (value self.now) × (subject_of codes code ≡ Subject.Second)) };
 }
 
 /// The contents of an entry, and its offset.

@@ -4,36 +4,21 @@ from . import entries, fixed
 from .document import FIRST_RULE
 from .report import Report
 
-OF_MADT = {*range(32, 41), 58, *range(109, 117), 119, 125, 127}
-OF_SRAT = {*range(41, 46), 57, 117, 118, 120, 128}
-OF_SLIT = {*range(46, 50), 121}
-OF_PPTT = {*range(50, 57), 59, 122, 123, 124, 126}
+# What says more of a fault's structures, by its stage, and of those of a finding of advice, by its number.
+OF_STAGES = {entries.madt: (6, 7, 8, 17), entries.srat: (9, 10, 16), entries.pptt: (12, 13, 14, 15, 18)}
+OF_RULES = {entries.madt: (*range(109, 117), 119, 125, 127), entries.srat: (117, 118, 120, 128), entries.pptt: (122, 123, 124, 126)}
 
 
 def about(line, tables, settings):
     """The lines of text on it."""
     report = Report(tables, settings)
-    code, (at, other, point) = line.part.code, line.numbers
+    code, numbers = line.part.code, line.numbers
     if code == 0:
         of_yes(report)
-    elif code <= 8:
-        fixed.rsdp(report, code, at)
-    elif code <= 14:
-        fixed.root(report, code, at)
-    elif code <= 18 or FIRST_RULE <= code <= 103:
-        fixed.listed(report, code, at, other, point)
-    elif code == 19:
-        fixed.signatures(report)
-    elif code <= 26:
-        fixed.fadt(report, code, at)
-    elif code <= 31:
-        fixed.facs(report, code, at)
-    elif 104 <= code <= 107:
-        fixed.fadt_advice(report, code, at, point)
-    elif code == 108:
-        entries.sci(report)
+    elif code < FIRST_RULE:
+        of_fault(report, int(line.part.stage), code, *numbers)
     else:
-        of_structures(report, code, at, other, point)
+        of_advice(report, code, *numbers)
     return report.lines
 
 
@@ -44,14 +29,43 @@ def of_yes(report):
         entries.unread(report, "SRAT")
 
 
-def of_structures(report, code, at, other, point):
-    if code in OF_SLIT:
+def of_fault(report, stage, code, at, other, point):
+    # Code 8 is about what the RSDP names, and code 26 about what the FADT names.
+    if stage == 1 or code == 8:
+        fixed.rsdp(report, code, at)
+    elif stage == 2:
+        fixed.root(report, code, at)
+    elif stage == 3:
+        fixed.listed(report, code, at, other, point)
+    elif code == 19:
+        fixed.signatures(report)
+    elif stage == 4 or code == 26:
+        fixed.fadt(report, code, at)
+    elif stage == 5:
+        fixed.facs(report, code, at)
+    elif stage == 11:
         fixed.slit(report, code, at, other)
-        return
-    tables = ((OF_MADT, entries.madt), (OF_SRAT, entries.srat), (OF_PPTT, entries.pptt))
-    explain = next((explain for codes, explain in tables if code in codes), None)
-    if explain:
-        explain(report, code, at, other, point)
+    else:
+        of_structures(report, OF_STAGES, stage, code, at, other, point)
+
+
+def of_advice(report, rule, at, other, point):
+    if rule <= 103:
+        fixed.listed(report, rule, at, other, point)
+    elif rule <= 107:
+        fixed.fadt_advice(report, rule, at, point)
+    elif rule == 108:
+        entries.sci(report)
+    elif rule == 121:
+        fixed.slit(report, rule, at, other)
+    else:
+        of_structures(report, OF_RULES, rule, rule, at, other, point)
+
+
+def of_structures(report, by, number, code, at, other, point):
+    for explain, numbers in by.items():
+        if number in numbers:
+            explain(report, code, at, other, point)
 
 
 def is_pluggable(line, tables):

@@ -1,10 +1,10 @@
 -- The examples of advice on the MADT, by computing.
-use Rattle.std.proofs.Common.{◌≡◌, ℕ, ◌≤◌, [], ◌∷◌, refl, sym, subst, inl, inr, arith}
-use Rattle.std.specs.Prelude.{◌-◌, ◌^◌, List, slice_index, Some}
+use Rattle.std.proofs.Common.{◌≡◌, ℕ, ◌≤◌, [], ◌∷◌, refl, subst, inl, inr, arith}
+use Rattle.std.specs.Prelude.{◌-◌, ◌^◌, List, Some}
 use Rattle.std.proofs.lemmas.Option.{none-some, same_Some}
 use Rattle.acpi_base.specs.Number.{field, has_bit}
 use Rattle.acpi_base.specs.Madt.{Opaque}
-use Rattle.acpi_base.specs.Lint.MadtAdvice.{nmi_uid, io_apic_address, io_apic_id, gicd, IsUnreadEntry}
+use Rattle.acpi_base.specs.Lint.MadtAdvice.{nmi_uid, io_apic_id, nonzero_io_apic_address, gicd, IsIoApicAtZero, IsUnreadEntry, IsMadtUnread}
 use Rattle.acpi_base.specs.Lint.Numbered.{IsNamed, NamesAt}
 use Rattle.acpi_base.specs.Lint.Processors.{uid_of, uid_on, apic_id_on}
 use Rattle.acpi_base.specs.Examples.Madts.{said_madt}
@@ -88,20 +88,19 @@ nmis_nowhere = record {
 
 controllers : AreControllers
 controllers = record {
-  at_zero = ((_, (1, omega arith, refl), refl), (refl, refl));
+  at_zero = (_, (1, omega arith, refl), (refl, (refl, refl)));
   not_at_zero =
       λ at other point it. none_stands (io_apics 0xfec00000 2 0xfec01000).entries at
-      (λ o e. io_apic_address e ≡ Some 0) (
-        other_number 0xfec00000 0 (λ same. omega arith),
-        (other_number 0xfec01000 0 (λ same. omega arith), tt),
-      ) it.0;
+      (λ o e. IsIoApicAtZero e other point) (
+        (λ is. other_number 0xfec00000 0 (λ same. omega arith) is.0),
+        ((λ is. other_number 0xfec01000 0 (λ same. omega arith) is.0), tt),
+      ) it;
   same_id = both_say io_apic_id 44 _ 56 _ 1 refl refl (omega arith);
   ids_differ = two_differ io_apic_id 44 _ 56 _ (λ n one two. omega (arith, same_Some 1 n one, same_Some 2 n two));
-  same_address = (both_say io_apic_address 44 _ 56 _ 0xfec00000 refl refl (omega arith), λ same. omega arith);
-  addresses_differ = λ at other point it. two_differ io_apic_address 44 _ 56 _
-      (λ n one two. omega (arith, same_Some 0xfec00000 n one, same_Some 0xfec01000 n two)) at other point it.0;
-  both_at_zero = λ at other point it. none_stands (io_apics 0 2 0).entries at (λ o e. io_apic_address e ≡ Some point)
-      ((λ is. it.1 (sym (same_Some 0 point is))), ((λ is. it.1 (sym (same_Some 0 point is))), tt)) it.0.here;
+  same_address = both_say nonzero_io_apic_address 44 _ 56 _ 0xfec00000 refl refl (omega arith);
+  addresses_differ = two_differ nonzero_io_apic_address 44 _ 56 _
+      (λ n one two. omega (arith, same_Some 0xfec00000 n one, same_Some 0xfec01000 n two));
+  both_at_zero = two_differ nonzero_io_apic_address 44 _ 56 _ (λ n one two. none-some n one);
   second = both_say gicd 44 _ 68 _ 0 refl refl (omega arith);
   one = λ at other point it. omega (arith, it.before, alone at point it.here, alone other point it.earlier);
 }
@@ -110,38 +109,36 @@ controllers = record {
     alone o n (e, stands, is) = each_entry (one_entry 24 distributor).entries (λ o e. o ≡ 44) (refl, tt) o e stands
 
 -- what is said of entries that are not read does not hold of these bytes
-read_bytes : (bytes : List ℕ) (other : ℕ) → ¬ IsUnreadEntry bytes
-    → ¬ ((e : List ℕ) × (Opaque bytes ≡ Opaque e) × IsUnreadEntry e × (other ≡ slice_index e 0))
-read_bytes bytes other read (e, is, unread, _) = read (subst IsUnreadEntry same unread)
+read_bytes : (bytes : List ℕ) (other point : ℕ) → ¬ IsUnreadEntry bytes → ¬ IsMadtUnread (Opaque bytes) other point
+read_bytes bytes other point read ((e, is, unread, _), _) = read (subst IsUnreadEntry same unread)
   where
     same : e ≡ bytes
     same = cc
 
 unread : AreMadtUnread
 unread = record {
-  six = ((_, (0, omega arith, refl), (_, refl, six, refl)), refl);
-  short = ((_, (0, omega arith, refl), (_, refl, inr (refl, omega arith), refl)), refl);
+  six = (_, (0, omega arith, refl), ((_, refl, six, refl), refl));
+  short = (_, (0, omega arith, refl), ((_, refl, inr (refl, omega arith), refl), refl));
   all_read =
-      λ at other point it. none_stands read_entries.entries at
-      (λ o e. (bytes : List ℕ) × (e ≡ Opaque bytes) × IsUnreadEntry bytes × (other ≡ slice_index bytes 0)) (
-        (λ h. of_processor h.0 h.1),
+      λ at other point it. none_stands read_entries.entries at (λ o e. IsMadtUnread e other point) (
+        (λ h. of_processor h.0.0 h.0.1),
         (
-          read_bytes _ other (λ is. elim is [ inl h ↦ h.3 refl | inr h ↦ omega (arith, h.1) ]),
+          read_bytes _ other point (λ is. elim is [ inl h ↦ h.3 refl | inr h ↦ omega (arith, h.1) ]),
           (
-            read_bytes _ other (λ is. elim is [ inl h ↦ h.4 refl | inr h ↦ omega (arith, h.0) ]),
+            read_bytes _ other point (λ is. elim is [ inl h ↦ h.4 refl | inr h ↦ omega (arith, h.0) ]),
             (
-              read_bytes _ other (λ is. omega arith),
+              read_bytes _ other point (λ is. omega arith),
               (
-                read_bytes _ other (λ is. omega arith),
+                read_bytes _ other point (λ is. omega arith),
                 (
-                  read_bytes _ other (λ is. omega arith),
-                  (read_bytes _ other (λ is. elim is [ inl h ↦ h.4 refl | inr h ↦ omega (arith, h.0) ]), tt),
+                  read_bytes _ other point (λ is. omega arith),
+                  (read_bytes _ other point (λ is. elim is [ inl h ↦ h.4 refl | inr h ↦ omega (arith, h.0) ]), tt),
                 ),
               ),
             ),
           ),
         ),
-      ) it.0;
+      ) it;
 }
   where
     six : IsUnreadEntry (6 ∷ 4 ∷ 0 ∷ 0 ∷ [])

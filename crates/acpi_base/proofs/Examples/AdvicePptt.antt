@@ -9,7 +9,7 @@ use Rattle.acpi_base.specs.Number.{field, has_bit}
 use Rattle.acpi_base.specs.Pptt.{Node, CacheValue, Cache, parent_of}
 use Rattle.acpi_base.specs.Lint.Processors.{uid_of, uid_on, IsGicc, IsParent, IsLeafAt, IsLeafId}
 use Rattle.acpi_base.specs.Lint.Numbered.{IsNamed}
-use Rattle.acpi_base.specs.Lint.PpttAdvice.{IsPowerOfTwo, HasOddShape, cache_id}
+use Rattle.acpi_base.specs.Lint.PpttAdvice.{IsPowerOfTwo, HasOddShape, IsCacheShape, cache_id}
 use Rattle.acpi_base.specs.Examples.Advice.{one_entry, processor, gicc}
 use Rattle.acpi_base.specs.Examples.AdvicePptt.{two_nodes, one_node, one_cache, AreSameLeaves, AreCacheShapes, AreSameCacheIds, AreNoLeaves, AreLeavesNowhere, IsPpttAdvised}
 use Rattle.acpi_base.proofs.Examples.{each_entry, none_stands, never}
@@ -94,8 +94,8 @@ not_0 : ¬ IsPowerOfTwo 0
 not_0 (k, is) = omega (arith, pow_pos k)
 
 -- a cache whose shape is not odd is none that has an odd one
-not_odd : (v : CacheValue) → ¬ HasOddShape v → ¬ ((w : CacheValue) × (Cache v ≡ Cache w) × HasOddShape w)
-not_odd v none (w, is, odd) = none (subst HasOddShape same odd)
+not_odd : (v : CacheValue) (other point : ℕ) → ¬ HasOddShape v → ¬ IsCacheShape (Cache v) other point
+not_odd v other point none ((w, is, odd), _) = none (subst HasOddShape same odd)
   where
     same : w ≡ v
     same = cc
@@ -103,17 +103,15 @@ not_odd v none (w, is, odd) = none (subst HasOddShape same odd)
 cache_shapes : AreCacheShapes
 unfolding has_bit
 cache_shapes = record {
-  no_sets = ((_, (0, omega arith, refl), (_, refl, inl (refl, refl))), (refl, refl));
-  odd_line = ((_, (0, omega arith, refl), (_, refl, inr (refl, not_48))), (refl, refl));
-  no_line = ((_, (0, omega arith, refl), (_, refl, inr (refl, not_0))), (refl, refl));
+  no_sets = (_, (0, omega arith, refl), ((_, refl, inl (refl, refl)), (refl, refl)));
+  odd_line = (_, (0, omega arith, refl), ((_, refl, inr (refl, not_48)), (refl, refl)));
+  no_line = (_, (0, omega arith, refl), ((_, refl, inr (refl, not_0)), (refl, refl)));
   least =
-      λ at other point it. none_stands (one_cache 0x42 1 1).entries at
-      (λ o e. (v : CacheValue) × (e ≡ Cache v) × HasOddShape v)
-      (not_odd _ (λ odd. elim odd [ inl h ↦ omega (arith, h.1) | inr h ↦ h.1 (0, refl) ]), tt) it.0;
+      λ at other point it. none_stands (one_cache 0x42 1 1).entries at (λ o e. IsCacheShape e other point)
+      (not_odd _ other point (λ odd. elim odd [ inl h ↦ omega (arith, h.1) | inr h ↦ h.1 (0, refl) ]), tt) it;
   not_valid =
-      λ at other point it. none_stands (one_cache 0xbd 0 48).entries at
-      (λ o e. (v : CacheValue) × (e ≡ Cache v) × HasOddShape v)
-      (not_odd _ (λ odd. elim odd [ inl h ↦ both_ways _ refl h.0 | inr h ↦ both_ways _ refl h.0 ]), tt) it.0;
+      λ at other point it. none_stands (one_cache 0xbd 0 48).entries at (λ o e. IsCacheShape e other point)
+      (not_odd _ other point (λ odd. elim odd [ inl h ↦ both_ways _ refl h.0 | inr h ↦ both_ways _ refl h.0 ]), tt) it;
 }
 
 same_cache_ids : AreSameCacheIds

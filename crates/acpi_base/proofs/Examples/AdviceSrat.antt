@@ -1,6 +1,6 @@
 -- The examples of advice on the SRAT and the SLIT, by computing.
 use Rattle.std.proofs.Common.{◌≡◌, ℕ, zero, suc, ◌<◌, ◌≤◌, refl, sym, ◌∙◌, subst, inl, inr, arith}
-use Rattle.std.specs.Prelude.{List, slice_index, Some}
+use Rattle.std.specs.Prelude.{List, Some}
 use Rattle.std.specs.List.{AllByRecursion}
 use Rattle.std.proofs.lemmas.Option.{none-some, same_Some}
 use Rattle.acpi_base.specs.Number.{field, has_bit}
@@ -8,8 +8,8 @@ use Rattle.acpi_base.specs.Madt.{MadtEntry, MadtContents}
 use Rattle.acpi_base.specs.Srat.{SratEntry, Opaque, SratContents}
 use Rattle.acpi_base.specs.Slit.{distance}
 use Rattle.acpi_base.specs.Lint.Numbered.{NamesAt, IsNamed}
-use Rattle.acpi_base.specs.Lint.Processors.{uid_of, apic_id_of, apic_id_on, gicc_uid_on, placed_apic_id, placed_uid, processor_domain, any_domain}
-use Rattle.acpi_base.specs.Lint.SratAdvice.{IsTwoUidDomains, IsAffinityNowhere, IsNoDomain, IsUnreadEntry}
+use Rattle.acpi_base.specs.Lint.Processors.{uid_of, apic_id_of, apic_id_on, gicc_uid_on, placed_apic_id, placed_uid, processor_domain}
+use Rattle.acpi_base.specs.Lint.SratAdvice.{IsTwoUidDomains, IsAffinityNowhere, IsNoDomain, IsDomainPastSlit, IsUnreadEntry, IsSratUnread}
 use Rattle.acpi_base.specs.Examples.Slits.{low_diagonal}
 use Rattle.acpi_base.specs.Examples.Advice.{IsKept, one_entry, processor, gicc}
 use Rattle.acpi_base.specs.Examples.AdviceSrat.{one_affinity, apic_affinity, x2apic_affinity, gicc_affinity, empty_range, two_giccs, read_affinities, AreTwoUidDomains, AreAffinitiesNowhere, AreNoDomains, AreDomainsPastSlit, AreSratUnread, AreSlitsAdvised, IsSratAdvised}
@@ -174,39 +174,38 @@ no_domains = record {
 domains_past : AreDomainsPastSlit
 unfolding has_bit
 domains_past = record {
-  past = ((_, (0, omega arith, refl), refl), omega arith, refl);
+  past = (_, (0, omega arith, refl), (refl, omega arith, refl));
   within =
       λ at other point it. none_stands (one_affinity 16 (apic_affinity 5 2 1)).entries at
-      (λ o e. any_domain e ≡ Some point) ((λ is. omega (arith, same_Some 2 point is, it.1)), tt) it.0;
-  range_past = ((_, (0, omega arith, refl), refl), omega arith, refl);
+      (λ o e. IsDomainPastSlit 3 e other point)
+      ((λ (is, past, count). omega (arith, same_Some 2 point is, past)), tt) it;
+  range_past = (_, (0, omega arith, refl), (refl, omega arith, refl));
   range_disabled =
-      λ at other point it. none_stands (one_affinity 40 (empty_range 0)).entries at (λ o e. any_domain e ≡ Some point)
-      (none-some point, tt) it.0;
+      λ at other point it. none_stands (one_affinity 40 (empty_range 0)).entries at
+      (λ o e. IsDomainPastSlit 2 e other point) ((λ is. none-some point is.0), tt) it;
 }
 
 -- ---- entries that are not read
 
 -- what is said of them does not hold of these bytes
-read_bytes : (bytes : List ℕ) (other : ℕ) → ¬ IsUnreadEntry bytes
-    → ¬ ((e : List ℕ) × (Opaque bytes ≡ Opaque e) × IsUnreadEntry e × (other ≡ slice_index e 0))
-read_bytes bytes other read (e, is, unread, _) = read (subst IsUnreadEntry same unread)
+read_bytes : (bytes : List ℕ) (other point : ℕ) → ¬ IsUnreadEntry bytes → ¬ IsSratUnread (Opaque bytes) other point
+read_bytes bytes other point read ((e, is, unread, _), _) = read (subst IsUnreadEntry same unread)
   where
     same : e ≡ bytes
     same = cc
 
 unread : AreSratUnread
 unread = record {
-  four = ((_, (0, omega arith, refl), (_, refl, inl (omega arith), refl)), refl);
-  short = ((_, (0, omega arith, refl), (_, refl, inr (refl, λ same. omega arith), refl)), refl);
+  four = (_, (0, omega arith, refl), ((_, refl, inl (omega arith), refl), refl));
+  short = (_, (0, omega arith, refl), ((_, refl, inr (refl, λ same. omega arith), refl), refl));
   all_read =
-      λ at other point it. none_stands read_affinities.entries at
-      (λ o e. (bytes : List ℕ) × (e ≡ Opaque bytes) × IsUnreadEntry bytes × (other ≡ slice_index bytes 0)) (
-        read_bytes _ other (λ is. elim is [ inl h ↦ omega arith | inr h ↦ h.1 refl ]),
+      λ at other point it. none_stands read_affinities.entries at (λ o e. IsSratUnread e other point) (
+        read_bytes _ other point (λ is. elim is [ inl h ↦ omega arith | inr h ↦ h.1 refl ]),
         (
-          (λ h. of_processor h.0 h.1),
-          (read_bytes _ other (λ is. elim is [ inl h ↦ omega arith | inr h ↦ omega (arith, h.0) ]), tt),
+          (λ h. of_processor h.0.0 h.0.1),
+          (read_bytes _ other point (λ is. elim is [ inl h ↦ omega arith | inr h ↦ omega (arith, h.0) ]), tt),
         ),
-      ) it.0;
+      ) it;
 }
   where
     of_processor : (bytes : List ℕ) → ¬ (apic_affinity 5 0 1 ≡ Opaque bytes)

@@ -77,14 +77,9 @@ held_rsdp : (a : ℕ) (byte : Option ℕ) (n : ℕ)
 held_rsdp a byte n = bytes_at_altered a byte rsdp_at n
 
 -- it is of the extended form
-extended : (a : ℕ) (byte : Option ℕ) {head prefix : List ℕ} → run_of (with_one a byte) rsdp_at 20 ≡ Some head
-    → 2 ≤ revision_of head → run_of (with_one a byte) rsdp_at 36 ≡ Some prefix
-    → IsExtended (altered_set a byte) rsdp_at head prefix
-extended a byte head revision prefix = record {
-  head_held = held_rsdp a byte 20 ∙ head;
-  extended = revision;
-  prefix_held = held_rsdp a byte 36 ∙ prefix;
-}
+extended : (a : ℕ) (byte : Option ℕ) {head : List ℕ} → run_of (with_one a byte) rsdp_at 20 ≡ Some head
+    → 2 ≤ revision_of head → IsExtended (altered_set a byte) rsdp_at
+extended a byte head revision = (_, held_rsdp a byte 20 ∙ head, revision)
 
 pub rsdp_faults : AreRsdpFaults
 unfolding run_of cons_both has_signature byte_sum field
@@ -93,19 +88,25 @@ rsdp_faults = record {
   signature = of_rsdp 0xe0000 (Some 0x72) code.RsdpSignature refl (_, held_rsdp 0xe0000 (Some 0x72) 20, refl);
   sum = of_rsdp 0xe0000 (Some 0x72) code.RsdpSum refl (_, held_rsdp 0xe0000 (Some 0x72) 20, λ same. omega arith);
   tail_out = of_rsdp 0xe0023 None code.RsdpTailOut refl
-      (_, held_rsdp 0xe0023 None 20, omega arith, held_rsdp 0xe0023 None 36);
+      (extended 0xe0023 None refl (omega arith), held_rsdp 0xe0023 None 36);
   size = of_rsdp 0xe0014 (Some 35) code.RsdpLength refl
-      (_, _, extended 0xe0014 (Some 35) refl (omega arith) refl, omega arith);
-  long_out = of_rsdp 0xe0014 (Some 37) code.RsdpLongOut refl
-      (_, _, extended 0xe0014 (Some 37) refl (omega arith) refl, omega arith, held_rsdp 0xe0014 (Some 37) 37);
+      (extended 0xe0014 (Some 35) refl (omega arith), (_, held_rsdp 0xe0014 (Some 35) 36, omega arith));
+  long_out = of_rsdp 0xe0014 (Some 37) code.RsdpLongOut refl (
+    extended 0xe0014 (Some 37) refl (omega arith),
+    (_, held_rsdp 0xe0014 (Some 37) 36, omega arith, held_rsdp 0xe0014 (Some 37) 37),
+  );
   extended_sum = of_rsdp 0xe0021 (Some 1) code.RsdpExtendedSum refl (
-    _,
-    _,
-    _,
-    extended 0xe0021 (Some 1) refl (omega arith) refl,
-    omega arith,
-    held_rsdp 0xe0021 (Some 1) 36,
-    λ same. omega arith,
+    extended 0xe0021 (Some 1) refl (omega arith),
+    (
+      _,
+      _,
+      record {
+        header_held = held_rsdp 0xe0021 (Some 1) 36;
+        least = omega arith;
+        held = held_rsdp 0xe0021 (Some 1) 36;
+      },
+      λ same. omega arith,
+    ),
   );
 }
   where
@@ -299,11 +300,11 @@ facs_faults = record {
       ((λ same. omega arith), refl, λ same. omega arith);
   header_out = named 0x3007 None code.FacsHeaderOut (omega arith) (omega arith) refl (there, refl, held 0x3007 None 8);
   signature = named 0x3000 (Some 0x66) code.FacsSignature (omega arith) (omega arith) refl
-      (there, refl, _, held 0x3000 (Some 0x66) 8, refl);
+      (there, refl, (_, held 0x3000 (Some 0x66) 8, refl));
   size = named 0x3004 (Some 63) code.FacsLength (omega arith) (omega arith) refl
-      (there, refl, _, held 0x3004 (Some 63) 8, omega arith);
+      (there, refl, (_, held 0x3004 (Some 63) 8, omega arith));
   out = named 0x303f None code.FacsOut (omega arith) (omega arith) refl
-      (there, refl, _, held 0x303f None 8, omega arith, held 0x303f None 64);
+      (there, refl, (_, held 0x303f None 8, omega arith, held 0x303f None 64));
 }
   where
     held : (a : ℕ) (byte : Option ℕ) (n : ℕ)

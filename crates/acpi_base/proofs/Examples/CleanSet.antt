@@ -89,11 +89,13 @@ sound_rsdp = record {
   signed = refl;
   zero_sum = refl;
   extended = λ _. record {
-    prefix = rsdp_bytes;
-    prefix_held = whole_has_root.rsdp_held;
-    least = omega arith;
+    header = rsdp_bytes;
     whole = rsdp_bytes;
-    held = whole_has_root.rsdp_held;
+    frame = record {
+      header_held = whole_has_root.rsdp_held;
+      least = omega arith;
+      held = whole_has_root.rsdp_held;
+    };
     zero_sum = refl;
   };
 }
@@ -118,7 +120,7 @@ sound_tables k a slot =
     slot)
   where
     sound : {a : ℕ} (whole : List ℕ) → set.IsAt a whole → byte_sum whole ≡ 0 → IsSoundTable whole_set a
-    sound whole stands zero_sum = record { header = take 36 whole; whole = whole; table = stands; zero_sum = zero_sum }
+    sound whole stands zero_sum = record { header = take 36 whole; whole = whole; frame = stands; zero_sum = zero_sum }
 
 sound_fadt : IsSoundFadt whole_set rsdp_at
 unfolding has_flag field
@@ -141,11 +143,13 @@ pub named_facs : IsFacs whole_set (facs_address fadt_bytes) facs_bytes
 unfolding run_of cons_both has_signature wide_address field
 named_facs = record {
   aligned = refl;
-  prefix = take 8 facs_bytes;
-  prefix_held = bytes_at_whole_set 0x3000 8;
+  header = take 8 facs_bytes;
+  frame = record {
+    header_held = bytes_at_whole_set 0x3000 8;
+    least = omega arith;
+    held = bytes_at_whole_set 0x3000 64;
+  };
   signed = refl;
-  least = omega arith;
-  held = bytes_at_whole_set 0x3000 64;
 }
 
 sound_facs : IsSoundFacs whole_set rsdp_at

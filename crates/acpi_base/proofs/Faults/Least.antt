@@ -1,8 +1,8 @@
 -- What holds of nothing, or of a first: by a number, by several in turn, and of witnesses by their four.
-use Rattle.std.proofs.Common.{◌≡◌, ℕ, zero, suc, ◌+◌, ◌<◌, ◌≤◌, refl, sym, ◌∙◌, subst, inl, inr, arith}
+use Rattle.std.proofs.Common.{◌≡◌, ℕ, zero, suc, ◌+◌, ◌<◌, ◌≤◌, length, refl, sym, ◌∙◌, subst, inl, inr, arith}
 use Rattle.std.specs.Prelude.{◌⊎◌}
 use Rattle.std.proofs.lemmas.Bool.{cases_lt, cases_order}
-use Rattle.acpi_base.specs.Codes.{code_number}
+use Rattle.acpi_base.specs.Codes.{all_codes, code_number}
 use Rattle.acpi_base.specs.Faults.{NotAfter}
 use Rattle.acpi_base.specs.declared.code.Code.{Code}
 use Rattle.acpi_base.specs.declared.witness.Witness.{Witness}
@@ -160,7 +160,8 @@ pub first_witness : (P : Witness → Type 0) (n : ℕ) → ((w : Witness) → P 
     → ((w : Witness) → Decided (P w)) → NoneOrFirst NotAfter P
 first_witness P n below decide =
     first_by (λ w. w.at) ByCode P n (λ w here. (below w here).0)
-    (λ a. first_by (λ w. code_number w.code) ByOther (AtPlace P a) 60 (λ w _. code_below w.code)
+    (λ a. first_by (λ w. code_number w.code) ByOther (AtPlace P a) (suc (length all_codes))
+    (λ w _. omega (arith, code_below w.code))
     (λ c. first_by (λ w. w.other) ByPoint (WithCode P a c) n (λ w here. (below w here.0.0).1)
     (λ o. first_at (λ w. w.point) (WithOther P a c o) n (λ w here. (below w here.0.0.0).2)
     (decide_numbers P decide a c o))))

@@ -10,7 +10,7 @@ use Rattle.acpi_base.proofs.Images.HeldBytes.{bytes_below, held_field_below}
 use Rattle.acpi_base.proofs.Faults.Deciding.{decided_as}
 use Rattle.acpi_base.proofs.Faults.HoldsOrFault.{AreJudged}
 use Rattle.acpi_base.proofs.Tables.Listed.{IsListedOrNone, none_and_listed, one_listed}
-use Rattle.acpi_base.proofs.Tables.Whole.{length-table}
+use Rattle.acpi_base.proofs.Frames.{length_frame}
 
 -- a fault of the table that is listed first is one of this table
 pub of_listed : {m : Memory} {p : ℕ} {signature whole : List ℕ} (P : List ℕ → Type 0)
@@ -57,7 +57,7 @@ listed_fits {m} {whole = whole} image listed =
       bytes_below m image listed.a (length_of listed.header) whole table.held,
       omega (
         arith,
-        length-table m listed.a listed.header whole table,
+        length_frame table,
         held_field_below m image listed.a 36 listed.header table.header_held 4 4,
       ),
     )

@@ -1,12 +1,15 @@
--- A code or a stage is the only one with its number.
-use Rattle.std.proofs.Common.{◌≡◌, ◌<◌, ◌≤◌, ℕ, List, [], ◌∷◌, Some, refl, sym, ap, ◌∙◌, inl, inr, arith}
+-- A code, a stage or a rule is the only one with its number.
+use Rattle.std.proofs.Common.{◌≡◌, ◌+◌, ◌-◌, ◌<◌, ◌≤◌, ℕ, List, [], ◌∷◌, length, Some, refl, sym, ap, ◌∙◌, inl, inr, arith}
 use Rattle.std.specs.Prelude.{◌⊎◌}
 use Rattle.std.specs.List.{slice_get}
 use Rattle.std.proofs.lemmas.Bool.{cases_eq}
 use Rattle.std.proofs.lemmas.Option.{same_Some}
 use Rattle.acpi_base.specs.Codes.{all_codes, code_number, stage_number}
+use Rattle.acpi_base.specs.Lint.Rules.{all_rules, rule_number}
 use Rattle.acpi_base.specs.declared.code.Code.{Code}
 use Rattle.acpi_base.specs.declared.code.Code.TheVariants as code
+use Rattle.acpi_base.specs.declared.rule.Rule.{Rule}
+use Rattle.acpi_base.specs.declared.rule.Rule.TheVariants as rule
 use Rattle.acpi_base.specs.declared.stage.Stage.{Stage}
 use Rattle.acpi_base.specs.declared.stage.Stage.TheVariants as stage
 use Rattle.acpi_base.proofs.Images.HeldBytes.{cases_Option, none_and_some}
@@ -41,8 +44,8 @@ same_code c d e = grind (arith, same_Some, code_at_number c, code_at_number d)
 pub same_stage : (s t : Stage) → stage_number s ≡ stage_number t → s ≡ t
 same_stage s t e = grind (arith, same_Some, stage_at_number s, stage_at_number t)
 
--- the numbers of codes end at 59
-pub code_below : (c : Code) → code_number c < 60
+-- the numbers of codes end with the last one's
+pub code_below : (c : Code) → code_number c ≤ length all_codes
 code_below code.RsdpOut = omega arith
 code_below _ = omega arith
 
@@ -50,6 +53,25 @@ code_below _ = omega arith
 pub code_from : (c : Code) → 1 ≤ code_number c
 code_from code.RsdpOut = omega arith
 code_from _ = omega arith
+
+-- a rule stands at its number, from 101 on
+rule_at_number : (r : Rule) → slice_get all_rules (rule_number r - 101) ≡ Some r
+rule_at_number rule.ListedTwice = refl
+rule_at_number _ = refl
+
+pub rule_from : (r : Rule) → 101 ≤ rule_number r
+rule_from rule.ListedTwice = omega arith
+rule_from _ = omega arith
+
+pub rule_below : (r : Rule) → rule_number r < 101 + length all_rules
+rule_below rule.ListedTwice = omega arith
+rule_below _ = omega arith
+
+-- two rules with one number are one
+pub same_rule : (r s : Rule) → rule_number r ≡ rule_number s → r ≡ s
+same_rule r s same =
+    same_Some r s
+    (sym (rule_at_number r) ∙ ap (λ (n : ℕ). slice_get all_rules (n - 101)) same ∙ rule_at_number s)
 
 -- those of stages begin at 1
 pub stage_from_1 : (s : Stage) → 0 < stage_number s

@@ -1,15 +1,12 @@
 -- Bytes that an image holds, and the numbers in them.
 use Rattle.std.proofs.Common.{◌≡◌, ℕ, zero, suc, ◌+◌, ◌-◌, ◌^◌, ◌<◌, ◌≤◌, List, [], length, take, drop, Option, Some, None, refl, sym, ◌∙◌, subst, inl, inr, arith}
 use Rattle.std.specs.Prelude.{◌⊎◌, slice_index}
-use Rattle.std.proofs.lemmas.Bool.{cases_lt}
-use Rattle.std.proofs.lemmas.Bool.Decides.{nat_tests}
-use Rattle.std.proofs.lemmas.List.{get_or-drop, drop-take, length-take-le}
+use Rattle.std.proofs.lemmas.List.{get_or-drop, drop-take}
 use Rattle.std.proofs.lemmas.Option.{none-some, same_Some}
 use Rattle.byteorder.specs.Numbers.{little_from-lt, little_from-take}
 use Rattle.acpi_base.specs.Memory.{Memory, IsImage, byte_of, bytes_at, run_of}
 use Rattle.acpi_base.specs.Number.{field}
-use Rattle.acpi_base.specs.Image.Windows.{AreBytesFrom}
-use Rattle.acpi_base.proofs.Images.ByteRuns.{run_of-split, run_of-count, run_of-take}
+use Rattle.acpi_base.proofs.Images.ByteRuns.{run_of-split, run_of-count}
 
 -- there is a value or none
 pub cases_Option : {X : Type 0} (o : Option X) → ((x : X) × (o ≡ Some x)) ⊎ (o ≡ None)
@@ -62,34 +59,3 @@ field-take bytes n offset width h =
       little_from-take 0 width (n - offset) (drop offset bytes)
           (omega arith),
     )
-
--- bytes that are as many as their prefix says at 4 say so themselves
-pub says_length : (m : Memory) (a k : ℕ) (prefix whole : List ℕ) → 8 ≤ k → k ≤ field prefix 4 4
-    → bytes_at m a k ≡ Some prefix
-    → bytes_at m a (field prefix 4 4) ≡ Some whole → field whole 4 4 ≡ length whole
-says_length m a k prefix whole wide least prefix_held held =
-    grind (
-      arith,
-      same_value,
-      run_of-take (byte_of m) a (field prefix 4 4) k whole held least,
-      field-take whole k 4 4 wide,
-      length-bytes_at m a (field prefix 4 4) whole held,
-    )
-
--- ---- the bytes from an address on, up to the first one that is not held
-
--- n bytes that are held there are the first n
-pub held_of_rest : (m : Memory) (a : ℕ) (rest : List ℕ) → AreBytesFrom m a rest → (n : ℕ) (bytes : List ℕ)
-    → bytes_at m a n ≡ Some bytes → (n ≤ length rest) × (bytes ≡ take n rest)
-held_of_rest m a rest from n bytes held =
-    elim (cases_lt (length rest) n) [
-      | inl short ↦ absurd (grind (arith, nat_tests, from n))
-      | inr within ↦ (within, grind (arith, nat_tests, from n))
-    ]
-
--- the first n say that they are n where a longer or shorter beginning does
-pub rest_says_length : (rest prefix whole : List ℕ) (k n : ℕ) → 8 ≤ k → k ≤ n → n ≤ length rest
-    → prefix ≡ take k rest → whole ≡ take n rest → n ≡ field prefix 4 4
-    → (length whole ≡ n) × (field whole 4 4 ≡ length whole)
-rest_says_length rest prefix whole k n wide least within first all says =
-    grind (arith, field-take rest k 4 4 wide, field-take rest n 4 4, length-take-le n rest within)

@@ -1,86 +1,71 @@
 -- The faults of the root: each can be decided, excludes that it is sound, and where there is none it is sound.
 use Rattle.std.proofs.Common.{◌≡◌, ◌<◌, ◌^◌, ◌+◌, ℕ, List, Some, refl, sym, ap, subst, inl, inr, arith}
 use Rattle.std.specs.Prelude.{◌-◌, ◌%◌}
+use Rattle.std.proofs.lemmas.Bool.{both_ways}
 use Rattle.acpi_base.specs.Memory.{Memory, IsImage, bytes_at}
 use Rattle.acpi_base.specs.Signature.{has_signature}
 use Rattle.acpi_base.specs.Rsdp.{Addresses, addresses_at}
 use Rattle.acpi_base.specs.Root.{IsRoot, root_signature, IsSoundRootTable, IsSoundRoot, RootTableFault, RootFault}
-use Rattle.acpi_base.specs.Tables.{length_of, IsSoundTable, TableFault}
+use Rattle.acpi_base.specs.Tables.{length_of, table_frame}
 use Rattle.acpi_base.specs.Codes.{code_number, stage_of}
 use Rattle.acpi_base.specs.declared.code.Code.{Code}
 use Rattle.acpi_base.specs.declared.code.Code.TheVariants as code
+use Rattle.acpi_base.specs.declared.frame.Question.TheVariants as question
 use Rattle.acpi_base.specs.declared.stage.Stage.TheVariants as stage
 use Rattle.acpi_base.proofs.Images.HeldBytes.{same_value}
-use Rattle.acpi_base.proofs.Faults.Deciding.{Decided, decided_as, both, same, at_most, differs, is_false, is_some_with, not_other, not_false}
+use Rattle.acpi_base.proofs.Faults.Deciding.{Decided, decided_as, both, same, at_most, differs, is_some_with, not_other, not_false}
 use Rattle.acpi_base.proofs.Faults.Numbers.{same_code}
 use Rattle.acpi_base.proofs.Root.Named.{one_root, root_or_none, no_root_and_root, root_fits}
-use Rattle.acpi_base.proofs.Tables.Faults as table
-use Rattle.acpi_base.proofs.Tables.Whole.{length-table}
+use Rattle.acpi_base.proofs.Frames as frame
+use Rattle.acpi_base.proofs.Frames.{length_frame, stands_wrong}
 
 -- ---- of the root at a place
 
 table_decided : (m : Memory) (r d : ℕ) (c : Code) → Decided (RootTableFault m r d c)
-table_decided m r d code.RootHeaderOut = table.decided m r code.TableHeaderOut
-table_decided m r d code.RootSignature =
-    is_some_with (bytes_at m r 36) _ (λ header. is_false (has_signature header (root_signature d)))
-table_decided m r d code.RootLength = table.decided m r code.TableLength
-table_decided m r d code.RootOut = table.decided m r code.TableOut
+table_decided m r d code.RootHeaderOut = frame.decided table_frame m r question.Header
+table_decided m r d code.RootSignature = frame.decided table_frame m r (question.Signature (root_signature d))
+table_decided m r d code.RootLength = frame.decided table_frame m r question.Length
+table_decided m r d code.RootOut = frame.decided table_frame m r question.Bytes
 table_decided m r d code.RootRagged =
     decided_as (λ h. (h.0, h.1, h.2.0, h.2.1)) (λ h. (h.0, h.1, (h.2, h.3)))
     (is_some_with (bytes_at m r 36) _
     (λ header. both (at_most 36 (length_of header)) (differs ((length_of header - 36) % d) 0)))
-table_decided m r d code.RootSum = table.decided m r code.TableSum
+table_decided m r d code.RootSum = frame.decided table_frame m r question.Sum
 table_decided m r d _ = inr (λ fault. fault)
 
 -- a root table without a fault is sound
 table_without_fault : (m : Memory) (r d : ℕ) → ((c : Code) → stage_of c ≡ stage.Root → ¬ RootTableFault m r d c)
     → (whole : List ℕ) × IsSoundRootTable m r d whole
 table_without_fault m r d none =
-    let sound = table.sound_without_fault m r tables in
+    let sound = frame.sound_without_fault table_frame m r (none code.RootHeaderOut refl) (none code.RootLength refl)
+    (none code.RootOut refl) (none code.RootSum refl) in
     let header = sound.header in
-    let held = sound.table.header_held in
+    let held = sound.frame.header_held in
     let signed = not_false (has_signature header (root_signature d))
     (λ unsigned. none code.RootSignature refl (header, held, unsigned)) in
     let slots = not_other ((length_of header - 36) % d) 0
-    (λ ragged. none code.RootRagged refl (header, held, sound.table.least, ragged)) in (
+    (λ ragged. none code.RootRagged refl (header, held, sound.frame.least, ragged)) in (
       sound.whole,
       record {
-        table = record { header = header; table = sound.table; signed = signed };
-        slots = rw (length-table m r header sound.whole sound.table) slots;
+        table = record { header = header; table = sound.frame; signed = signed };
+        slots = rw (length_frame sound.frame) slots;
         zero_sum = sound.zero_sum;
       },
     )
-  where
-    tables : (c : Code) → stage_of c ≡ stage.Tables → ¬ TableFault m r c
-    tables code.TableHeaderOut own = none code.RootHeaderOut refl
-    tables code.TableLength own = none code.RootLength refl
-    tables code.TableOut own = none code.RootOut refl
-    tables code.TableSum own = none code.RootSum refl
-    tables _ own = λ fault. fault
 
 -- a fault excludes that the root table is sound
 table_excludes : (m : Memory) (r d : ℕ) (whole : List ℕ) (c : Code) → RootTableFault m r d c
     → ¬ IsSoundRootTable m r d whole
-table_excludes m r d whole c fault sound = by_code c fault
-  where
-    header : List ℕ
-    header = sound.table.header
-
-    same_header : (other : List ℕ) → bytes_at m r 36 ≡ Some other → other ≡ header
-    same_header other held = same_value other header held sound.table.table.header_held
-
-    as_table : IsSoundTable m r
-    as_table = record { header = header; whole = whole; table = sound.table.table; zero_sum = sound.zero_sum }
-
-    by_code : (c : Code) → RootTableFault m r d c → ⊥
-    by_code code.RootHeaderOut fault = table.excludes m r code.TableHeaderOut fault as_table
-    by_code code.RootSignature (other, held, unsigned) = grind (arith, same_header other held, sound.table.signed)
-    by_code code.RootLength fault = table.excludes m r code.TableLength fault as_table
-    by_code code.RootOut fault = table.excludes m r code.TableOut fault as_table
-    by_code code.RootRagged (other, held, least, ragged) =
-        grind (arith, same_header other held, length-table m r header whole sound.table.table, sound.slots)
-    by_code code.RootSum fault = table.excludes m r code.TableSum fault as_table
-    by_code _ fault = fault
+table_excludes m r d whole code.RootHeaderOut fault sound = stands_wrong question.Header fault sound.table.table
+table_excludes m r d whole code.RootSignature fault sound =
+    both_ways _ (stands_wrong (question.Signature (root_signature d)) fault sound.table.table) sound.table.signed
+table_excludes m r d whole code.RootLength fault sound = stands_wrong question.Length fault sound.table.table
+table_excludes m r d whole code.RootOut fault sound = stands_wrong question.Bytes fault sound.table.table
+table_excludes m r d whole code.RootRagged (header, held, least, ragged) sound =
+    let same = same_value header sound.table.header held sound.table.table.header_held in
+    grind (arith, same, length_frame sound.table.table, sound.slots)
+table_excludes m r d whole code.RootSum fault sound = stands_wrong question.Sum fault sound.table.table sound.zero_sum
+table_excludes m r d whole _ fault sound = absurd fault
 
 -- ---- of the root that an RSDP names
 

@@ -8,7 +8,7 @@ use Rattle.acpi_base.specs.Rsdp.{Addresses, addresses_at}
 use Rattle.acpi_base.specs.Root.{chosen_root, IsRoot, HasNoRoot, IsRootTable, IsSlotWidth}
 use Rattle.acpi_base.proofs.Images.HeldBytes.{cases_Option, none_and_some, same_value}
 use Rattle.acpi_base.proofs.Rsdp.Naming.{named_fit}
-use Rattle.acpi_base.proofs.Tables.Whole.{one_table}
+use Rattle.acpi_base.proofs.Frames.{one_frame}
 
 -- which root is chosen: the RSDT or the XSDT
 pub chosen_is : (named : Addresses) (r d : ℕ) → chosen_root named ≡ Some (record { address = r; width = d })
@@ -54,7 +54,7 @@ pub one_root_table : {m : Memory} {p r d r' d' : ℕ} (whole whole' : List ℕ) 
     → IsRootTable m r d whole → IsRootTable m r' d' whole' → whole ≡ whole'
 one_root_table {m} {r' = r'} {d' = d'} whole whole' one other table table' =
     let moved = at_root (λ x y. IsRootTable m x y whole) one other table in
-    one_table m r' moved.header whole table'.header whole' moved.table table'.table
+    one_frame moved.table table'.table
 
 -- what is true of a root's width and bytes is true of the one root's
 pub of_root : {m : Memory} {p r d r' d' : ℕ} {whole whole' : List ℕ} (P : ℕ → List ℕ → Type 0) → IsRoot m p r d

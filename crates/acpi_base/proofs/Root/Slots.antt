@@ -8,7 +8,7 @@ use Rattle.acpi_base.specs.Root.{IsSlotWidth, IsRoot, IsRootTable, HasSlot, IsSl
 use Rattle.acpi_base.specs.Tables.{length_of}
 use Rattle.acpi_base.proofs.Images.HeldBytes.{held_field_below}
 use Rattle.acpi_base.proofs.Root.Named.{of_root, root_width}
-use Rattle.acpi_base.proofs.Tables.Whole.{length-table}
+use Rattle.acpi_base.proofs.Frames.{length_frame}
 
 -- a slot stands below the end of the root's bytes, whatever its width
 pub slot_below : (whole : List ℕ) (d k a : ℕ) → IsSlotWidth d → HasSlot whole d k a → k < length whole
@@ -27,7 +27,7 @@ slot_fits {m = m} {k = k} {a = a} image slot =
     let length_fits = held_field_below m image slot.r 36 slot.table.header table.header_held 4 4 in
     let below = slot_below slot.whole slot.d k a (root_width slot.root) slot.slot in
     let number_below = held_field_below m image slot.r (length_of slot.table.header) slot.whole table.held in (
-      grind (arith, length_fits, length-table m slot.r slot.table.header slot.whole table, below),
+      grind (arith, length_fits, length_frame table, below),
       address_fits slot.whole slot.d k a number_below (root_width slot.root) slot.slot,
     )
 

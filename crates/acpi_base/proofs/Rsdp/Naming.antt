@@ -1,10 +1,12 @@
 -- What an RSDP names: it is read in one of two forms, and its numbers fit.
-use Rattle.std.proofs.Common.{◌≡◌, ℕ, ◌^◌, ◌<◌, List, Some, inl, inr, arith}
+use Rattle.std.proofs.Common.{◌≡◌, ℕ, ◌^◌, ◌<◌, ◌≤◌, List, Some, inl, inr, arith}
 use Rattle.std.specs.Prelude.{◌⊎◌}
 use Rattle.std.proofs.lemmas.Bool.{cases_lt}
 use Rattle.std.proofs.lemmas.Option.{same_Some}
 use Rattle.acpi_base.specs.Memory.{Memory, IsImage, bytes_at}
-use Rattle.acpi_base.specs.Rsdp.{Addresses, addresses_at, revision_of, short_addresses, extended_addresses, IsSoundRsdp}
+use Rattle.acpi_base.specs.Rsdp.{Addresses, addresses_at, revision_of, short_addresses, extended_addresses, extended_frame, IsSoundRsdp}
+use Rattle.acpi_base.specs.Frames.{IsFrame}
+use Rattle.acpi_base.proofs.Frames.{header_field}
 use Rattle.acpi_base.proofs.Images.HeldBytes.{cases_Option, held_field_below}
 
 -- an RSDP is read in the short form or in the extended one
@@ -21,10 +23,19 @@ sound_read m p sound =
     elim (cases_lt (revision_of sound.head) 2) [
       | inl short ↦ (short_addresses sound.head, grind (arith, sound.head_held))
       | inr more ↦ (
-        extended_addresses (sound.extended more).prefix,
-        grind (arith, sound.head_held, (sound.extended more).prefix_held),
+        extended_addresses (sound.extended more).header,
+        grind (arith, sound.head_held, (sound.extended more).frame.header_held),
       )
     ]
+
+-- an RSDP of the extended form names what its bytes say, if they are all held
+pub extended_named : {m : Memory} {p : ℕ} {header whole : List ℕ} (head : List ℕ) → bytes_at m p 20 ≡ Some head
+    → 2 ≤ revision_of head → IsFrame extended_frame m p header whole
+    → addresses_at m p ≡ Some (extended_addresses whole)
+unfolding addresses_at
+extended_named head held more is =
+    let same = header_field is (omega arith) in
+    grind (arith, held, is.header_held, same 16 4 (omega arith), same 24 8 (omega arith))
 
 -- the addresses that an RSDP of an image names fit their fields
 pub named_fit : (m : Memory) → IsImage m → (p : ℕ) (named : Addresses) → addresses_at m p ≡ Some named

@@ -12,7 +12,7 @@ use Rattle.acpi_base.proofs.Faults.Deciding.{Decided, decided_as, is_some_with, 
 use Rattle.acpi_base.proofs.Faults.Least.{least_below}
 use Rattle.acpi_base.proofs.Root.Named.{of_root, root_width}
 use Rattle.acpi_base.proofs.Root.Slots.{one_slot, root_slot, slot_below, slot_or_none}
-use Rattle.acpi_base.proofs.Tables.Whole.{one_table}
+use Rattle.acpi_base.proofs.Frames.{one_frame}
 
 -- ---- in the slots of a root's bytes
 
@@ -92,8 +92,7 @@ one_listed m p signature whole whole' one other =
     let first : IsFirstTable m p signature other.a = other.first in
     let same = one_first_listed m first.whole first.d signature one.a other.a
     (listed_of_root first.root first.table one.first) first.first in
-    one_table m other.a one.header whole other.header whole'
-    (subst (λ (b : ℕ). IsTable m b one.header whole) same one.table) other.table
+    one_frame (subst (λ (b : ℕ). IsTable m b one.header whole) same one.table) other.table
 
 -- where a set lists none there is none
 pub none_and_listed : {m : Memory} {p : ℕ} {signature whole : List ℕ} → ListsNone m p signature
@@ -129,5 +128,5 @@ listed_or_none m p signature root tables =
       | inl none ↦ (None, none_in_root root.root root.sound.table none)
       | inr (a, first) ↦
           let sound = tables first.k a (root_slot root.root root.sound.table first.slot) in
-          (Some sound.whole, listed_in_root root.root root.sound.table first sound.table)
+          (Some sound.whole, listed_in_root root.root root.sound.table first sound.frame)
     ]

@@ -124,19 +124,6 @@ whole_read : (bytes : List ℕ) (start end : ReaderState) → start ≡ initial_
 whole_read bytes start end first is =
     ap text_result (sym is ∙ ap (λ s. run s bytes) first) ∙ run_reads_text bytes
 
-pub whole_ends : (bytes : List ℕ) (start end : ReaderState) (result : Result Memory TextFault) → start ≡ initial_state
-    → run start bytes ≡ end → IfOk result (EndsAs end) → IfOk result (IsText bytes)
-whole_ends bytes start end (Ok image) first is ok = (ok.0, sym (whole_read bytes start end first is) ∙ ok.1, ok.2)
-whole_ends bytes start end (Err fault) first is ok = tt
-
-pub whole_refused : (bytes : List ℕ) (start end : ReaderState) (result : Result Memory TextFault)
-    → start ≡ initial_state → run start bytes ≡ end → IfErr result (Refuses (text_result end))
-    → IfErr result (λ fault. (fault ≡ text.Memory) ⊎ IsRefused bytes fault)
-whole_refused bytes start end (Ok image) first is err = tt
-whole_refused bytes start end (Err fault) first is (inl memory) = inl memory
-whole_refused bytes start end (Err fault) first is (inr refused) =
-    inr (sym (whole_read bytes start end first is) ∙ refused.0)
-
 pub whole_stopped : (bytes : List ℕ) (start : ReaderState) (told fault : TextFault) → start ≡ initial_state
     → fault ≡ told → (told ≡ text.Memory) ⊎ (run start bytes ≡ Stopped told)
     → (fault ≡ text.Memory) ⊎ IsRefused bytes fault

@@ -139,11 +139,7 @@ pub record GoesOn (first : Result Reading TextFault) (text : List ℕ)
   pub last : last_line rest ≡ last_line text
   pub found : HasPlacedData middle rest → HasPlacedData first text
 
--- at its start
-pub goes_on_first : (x : Result Reading TextFault) (text : List ℕ) → GoesOn x text x text
-goes_on_first x text = record { lines = refl; last = refl; found = λ there. there }
-
--- behind a line
+-- after a line
 pub goes_on_behind : (first x y : Result Reading TextFault) (whole text : List ℕ) (n : ℕ) (rest : List ℕ)
     → GoesOn first whole x text → n < length text → ((k : ℕ) → k < n → get_or text k 0 ≢ 10) → get_or text n 0 ≡ 10
     → on_ok x (λ r. read_line r (take n text) 1) ≡ y → rest ≡ drop (suc n) text → GoesOn first whole y rest

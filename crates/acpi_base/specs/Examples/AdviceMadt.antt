@@ -1,7 +1,9 @@
 -- Examples of advice on the MADT: each rule broken, and kept (ACPI 6.5, 5.2.12).
 use Rattle.std.specs.Prelude.{ℕ, ◌-◌, ◌^◌, [], ◌∷◌, replicate}
 use Rattle.acpi_base.specs.Madt.{MadtEntry, IoApic, LocalNmi, X2apic, X2apicNmi, Opaque, MadtContents}
-use Rattle.acpi_base.specs.Lint.MadtAdvice.{IsSameUid, IsSameApicId, IsIoApicAtZero, IsSameIoApicId, IsSameIoApicAddress, IsNmiNowhere, IsSecondGicd, IsNoProcessor, IsMadtUnread}
+use Rattle.acpi_base.specs.Lint.MadtAdvice.{io_apic_id, nonzero_io_apic_address, gicd, IsIoApicAtZero, IsNmiNowhere, IsNoProcessor, IsMadtUnread}
+use Rattle.acpi_base.specs.Lint.Numbered.{OnEntry, Repeats}
+use Rattle.acpi_base.specs.Lint.Processors.{uid_on, apic_id_on}
 use Rattle.acpi_base.specs.Examples.{placed_entry}
 use Rattle.acpi_base.specs.Examples.Madts.{said_madt}
 use Rattle.acpi_base.specs.Examples.Advice.{IsKept, one_entry, two_entries, processor, gicc, short_gicc, sapic}
@@ -64,16 +66,16 @@ read_entries =
 -- UIDs and APIC IDs: two that are on have one, where bit 1 is Online Capable, save of a GIC CPU interface; not so where
 -- the second is off, or has another. Of three the first is named, not the second.
 pub record AreSameProcessors : Type 0 where
-  pub uid : IsSameUid (two_processors 3 6 2) 0x34 0x2c 3
-  pub third : IsSameUid three_processors 0x44 0x2c 3
-  pub not_second : ¬ IsSameUid three_processors 0x44 0x34 3
-  pub uids_differ : IsKept (IsSameUid (two_processors 4 5 2))
-  pub uid_off : IsKept (IsSameUid (two_processors 3 5 0))
-  pub gicc_uid : IsSameUid (two_entries 8 (processor 1) 40 (gicc 3 1)) 0x34 0x2c 3
-  pub gicc_off : IsKept (IsSameUid (two_entries 8 (processor 1) 40 (gicc 3 2)))
-  pub id : IsSameApicId (two_processors 4 5 2) 0x34 0x2c 5
-  pub ids_differ : IsKept (IsSameApicId (two_processors 3 6 2))
-  pub id_off : IsKept (IsSameApicId (two_processors 3 5 0))
+  pub uid : Repeats uid_on (two_processors 3 6 2).entries 0x34 0x2c 3
+  pub third : Repeats uid_on three_processors.entries 0x44 0x2c 3
+  pub not_second : ¬ Repeats uid_on three_processors.entries 0x44 0x34 3
+  pub uids_differ : IsKept (Repeats uid_on (two_processors 4 5 2).entries)
+  pub uid_off : IsKept (Repeats uid_on (two_processors 3 5 0).entries)
+  pub gicc_uid : Repeats uid_on (two_entries 8 (processor 1) 40 (gicc 3 1)).entries 0x34 0x2c 3
+  pub gicc_off : IsKept (Repeats uid_on (two_entries 8 (processor 1) 40 (gicc 3 2)).entries)
+  pub id : Repeats apic_id_on (two_processors 4 5 2).entries 0x34 0x2c 5
+  pub ids_differ : IsKept (Repeats apic_id_on (two_processors 3 6 2).entries)
+  pub id_off : IsKept (Repeats apic_id_on (two_processors 3 5 0).entries)
 
 -- no processor is on, or there is none; not so where one is Online Capable, or where a local SAPIC is not read
 pub record AreNoProcessors : Type 0 where
@@ -95,22 +97,22 @@ pub record AreNmisNowhere : Type 0 where
 
 -- interrupt controllers: one at 0; two of an ID or an address, save that two at 0 have none; a second distributor
 pub record AreControllers : Type 0 where
-  pub at_zero : IsIoApicAtZero (io_apics 0xfec00000 2 0) 0x38 0 0
-  pub not_at_zero : IsKept (IsIoApicAtZero (io_apics 0xfec00000 2 0xfec01000))
-  pub same_id : IsSameIoApicId (io_apics 0xfec00000 1 0xfec01000) 0x38 0x2c 1
-  pub ids_differ : IsKept (IsSameIoApicId (io_apics 0xfec00000 2 0xfec00000))
-  pub same_address : IsSameIoApicAddress (io_apics 0xfec00000 2 0xfec00000) 0x38 0x2c 0xfec00000
-  pub addresses_differ : IsKept (IsSameIoApicAddress (io_apics 0xfec00000 1 0xfec01000))
-  pub both_at_zero : IsKept (IsSameIoApicAddress (io_apics 0 2 0))
-  pub second : IsSecondGicd (two_entries 24 distributor 24 distributor) 0x44 0x2c 0
-  pub one : IsKept (IsSecondGicd (one_entry 24 distributor))
+  pub at_zero : OnEntry IsIoApicAtZero (io_apics 0xfec00000 2 0).entries 0x38 0 0
+  pub not_at_zero : IsKept (OnEntry IsIoApicAtZero (io_apics 0xfec00000 2 0xfec01000).entries)
+  pub same_id : Repeats io_apic_id (io_apics 0xfec00000 1 0xfec01000).entries 0x38 0x2c 1
+  pub ids_differ : IsKept (Repeats io_apic_id (io_apics 0xfec00000 2 0xfec00000).entries)
+  pub same_address : Repeats nonzero_io_apic_address (io_apics 0xfec00000 2 0xfec00000).entries 0x38 0x2c 0xfec00000
+  pub addresses_differ : IsKept (Repeats nonzero_io_apic_address (io_apics 0xfec00000 1 0xfec01000).entries)
+  pub both_at_zero : IsKept (Repeats nonzero_io_apic_address (io_apics 0 2 0).entries)
+  pub second : Repeats gicd (two_entries 24 distributor 24 distributor).entries 0x44 0x2c 0
+  pub one : IsKept (Repeats gicd (one_entry 24 distributor).entries)
 
 -- entries that are not read, from type 6 on; not so those of a type that is read, whatever their length, but for a GIC CPU
 -- interface that is too short
 pub record AreMadtUnread : Type 0 where
-  pub six : IsMadtUnread (one_entry 4 (small_entry 6)) 0x2c 6 0
-  pub short : IsMadtUnread (one_entry 39 short_gicc) 0x2c 11 0
-  pub all_read : IsKept (IsMadtUnread read_entries)
+  pub six : OnEntry IsMadtUnread (one_entry 4 (small_entry 6)).entries 0x2c 6 0
+  pub short : OnEntry IsMadtUnread (one_entry 39 short_gicc).entries 0x2c 11 0
+  pub all_read : IsKept (OnEntry IsMadtUnread read_entries.entries)
 
 -- all of them
 pub record IsMadtAdvised : Type 0 where

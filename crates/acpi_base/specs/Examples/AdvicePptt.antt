@@ -2,6 +2,7 @@
 use Rattle.std.specs.Prelude.{ℕ, List, [], ◌∷◌, Option, Some, None}
 use Rattle.acpi_base.specs.Entries.{PlacedEntry}
 use Rattle.acpi_base.specs.Pptt.{PpttEntry, Node, Cache, PpttContents}
+use Rattle.acpi_base.specs.Lint.Numbered.{OnEntry}
 use Rattle.acpi_base.specs.Lint.PpttAdvice.{IsSameLeaf, IsCacheShape, IsSameCacheId, IsNoLeaf, IsLeafNowhere}
 use Rattle.acpi_base.specs.Examples.{placed_entry}
 use Rattle.acpi_base.specs.Examples.Advice.{IsKept, one_entry, two_entries, processor, gicc, short_gicc, sapic}
@@ -59,11 +60,11 @@ pub record AreSameLeaves : Type 0 where
 
 -- no sets, and Line Sizes that are no powers of two; not so 1 set and a Line Size of 1, nor where neither is valid
 pub record AreCacheShapes : Type 0 where
-  pub no_sets : IsCacheShape (one_cache 2 0 64) 0x24 0 0
-  pub odd_line : IsCacheShape (one_cache 0x40 1 48) 0x24 0 0
-  pub no_line : IsCacheShape (one_cache 0x40 1 0) 0x24 0 0
-  pub least : IsKept (IsCacheShape (one_cache 0x42 1 1))
-  pub not_valid : IsKept (IsCacheShape (one_cache 0xbd 0 48))
+  pub no_sets : OnEntry IsCacheShape (one_cache 2 0 64).entries 0x24 0 0
+  pub odd_line : OnEntry IsCacheShape (one_cache 0x40 1 48).entries 0x24 0 0
+  pub no_line : OnEntry IsCacheShape (one_cache 0x40 1 0).entries 0x24 0 0
+  pub least : IsKept (OnEntry IsCacheShape (one_cache 0x42 1 1).entries)
+  pub not_valid : IsKept (OnEntry IsCacheShape (one_cache 0xbd 0 48).entries)
 
 -- two caches of one Cache ID; not so at Revision 2, or where the second's is not valid, is another one, or is not there
 pub record AreSameCacheIds : Type 0 where

@@ -1,6 +1,7 @@
 -- Examples of advice on the SRAT and the SLIT: each rule broken, and kept (ACPI 6.5, 5.2.16, 5.2.17).
 use Rattle.std.specs.Prelude.{ℕ, ◌+◌, [], ◌∷◌, replicate}
 use Rattle.acpi_base.specs.Srat.{SratEntry, ApicDomain, MemoryRange, X2apicDomain, Opaque, SratContents}
+use Rattle.acpi_base.specs.Lint.Numbered.{OnEntry}
 use Rattle.acpi_base.specs.Lint.SratAdvice.{IsTwoUidDomains, IsAffinityNowhere, IsNoDomain, IsDomainPastSlit, IsSratUnread}
 use Rattle.acpi_base.specs.Lint.SlitAdvice.{IsSlitDiffers}
 use Rattle.acpi_base.specs.Examples.{placed_entry}
@@ -79,17 +80,17 @@ pub record AreNoDomains : Type 0 where
 
 -- domain 2 beside two localities; not so beside three, or where the range is not enabled
 pub record AreDomainsPastSlit : Type 0 where
-  pub past : IsDomainPastSlit (one_affinity 16 (apic_affinity 5 2 1)) 2 0x30 2 2
-  pub within : IsKept (IsDomainPastSlit (one_affinity 16 (apic_affinity 5 2 1)) 3)
-  pub range_past : IsDomainPastSlit (one_affinity 40 (empty_range 1)) 2 0x30 2 2
-  pub range_disabled : IsKept (IsDomainPastSlit (one_affinity 40 (empty_range 0)) 2)
+  pub past : OnEntry (IsDomainPastSlit 2) (one_affinity 16 (apic_affinity 5 2 1)).entries 0x30 2 2
+  pub within : IsKept (OnEntry (IsDomainPastSlit 3) (one_affinity 16 (apic_affinity 5 2 1)).entries)
+  pub range_past : OnEntry (IsDomainPastSlit 2) (one_affinity 40 (empty_range 1)).entries 0x30 2 2
+  pub range_disabled : IsKept (OnEntry (IsDomainPastSlit 2) (one_affinity 40 (empty_range 0)).entries)
 
 -- entries that are not read, from type 4 on; not so those of a type that is read, whatever their length, but for a GICC
 -- affinity of other than 18 bytes
 pub record AreSratUnread : Type 0 where
-  pub four : IsSratUnread (one_affinity 4 (Opaque (4 ∷ 4 ∷ 0 ∷ 0 ∷ []))) 0x30 4 0
-  pub short : IsSratUnread (one_affinity 17 (Opaque (3 ∷ 17 ∷ replicate 15 0))) 0x30 3 0
-  pub all_read : IsKept (IsSratUnread read_affinities)
+  pub four : OnEntry IsSratUnread (one_affinity 4 (Opaque (4 ∷ 4 ∷ 0 ∷ 0 ∷ []))).entries 0x30 4 0
+  pub short : OnEntry IsSratUnread (one_affinity 17 (Opaque (3 ∷ 17 ∷ replicate 15 0))).entries 0x30 3 0
+  pub all_read : IsKept (OnEntry IsSratUnread read_affinities.entries)
 
 -- 21 from locality 0 to 1 and 20 back; not so where both are 20, whatever the diagonal says
 pub record AreSlitsAdvised : Type 0 where

@@ -1,5 +1,5 @@
 -- Pieces of an image in the order in which they arrive; repeated addresses are looked for at the end.
-use Rattle.std.specs.Prelude.{◌≡◌, ℕ, ◌+◌, ◌-◌, ◌<◌, ◌≤◌, min, List, [], ◌∷◌, length, slice_index_or, nat_lt, if◌then◌else◌, Result, Ok, Err}
+use Rattle.std.specs.Prelude.{◌≡◌, ℕ, ◌+◌, ◌-◌, ◌<◌, ◌≤◌, min, List, [], ◌∷◌, length, slice_index_or, nat_lt, if◌then◌else◌, Result, Ok}
 use Rattle.std.specs.List.{AllByRecursion}
 use Rattle.acpi_base.specs.Memory.{Memory}
 use Rattle.acpi_base.specs.Image.Adding.{added}

@@ -1,19 +1,12 @@
 -- Advice on the MADT (5.2.12). `at` is an entry's offset from the table's start.
 use Rattle.std.specs.Prelude.{◌≡◌, ◌≢◌, ℕ, ◌-◌, ◌^◌, ◌<◌, ◌≤◌, ◌⊎◌, List, length, slice_index, Option, Some, None, ◌==◌, if◌then◌else◌}
-use Rattle.acpi_base.specs.Entries.{StandsWith, AreUnused}
+use Rattle.std.specs.Option.{option_and_then}
+use Rattle.acpi_base.specs.Entries.{AreUnused}
 use Rattle.acpi_base.specs.Madt.{MadtEntry, IoApic, LocalNmi, X2apicNmi, Opaque, MadtContents}
-use Rattle.acpi_base.specs.Lint.Numbered.{NamesAt, IsNamed, IsLater}
-use Rattle.acpi_base.specs.Lint.Processors.{uid_of, uid_on, apic_id_on, AreProcessorsRead}
+use Rattle.acpi_base.specs.Lint.Numbered.{NamesAt, IsNamed}
+use Rattle.acpi_base.specs.Lint.Processors.{uid_of, uid_on, AreProcessorsRead}
 
 -- ---- processors
-
--- two processors that are on have the UID `point`; `other` is the first that has it
-abbrev pub IsSameUid : MadtContents → ℕ → ℕ → ℕ → Type 0
-IsSameUid c at other point = IsLater (NamesAt uid_on c.entries) at other point
-
--- the same of an APIC ID or x2APIC ID, which are one number space
-abbrev pub IsSameApicId : MadtContents → ℕ → ℕ → ℕ → Type 0
-IsSameApicId c at other point = IsLater (NamesAt apic_id_on c.entries) at other point
 
 -- no processor is on; asked where the rules read all processors
 abbrev pub IsNoProcessor : MadtContents → ℕ → ℕ → ℕ → Type 0
@@ -42,26 +35,18 @@ abbrev pub io_apic_id : MadtEntry → Option ℕ
 io_apic_id (IoApic v) = Some v.id
 io_apic_id _ = None
 
--- an I/O APIC has the address 0
-abbrev pub IsIoApicAtZero : MadtContents → ℕ → ℕ → ℕ → Type 0
-IsIoApicAtZero c at other point = NamesAt io_apic_address c.entries at 0 × AreUnused other point
+-- the address of an I/O APIC, if it is not 0
+abbrev pub nonzero_io_apic_address : MadtEntry → Option ℕ
+nonzero_io_apic_address e = option_and_then (λ a. if a == 0 then None else Some a) (io_apic_address e)
 
--- two I/O APICs have the ID `point`; `other` is the first that has it
-abbrev pub IsSameIoApicId : MadtContents → ℕ → ℕ → ℕ → Type 0
-IsSameIoApicId c at other point = IsLater (NamesAt io_apic_id c.entries) at other point
+-- the entry is an I/O APIC with the address 0
+abbrev pub IsIoApicAtZero : MadtEntry → ℕ → ℕ → Type 0
+IsIoApicAtZero e other point = (io_apic_address e ≡ Some 0) × AreUnused other point
 
--- the same of an address that is not 0
-abbrev pub IsSameIoApicAddress : MadtContents → ℕ → ℕ → ℕ → Type 0
-IsSameIoApicAddress c at other point = IsLater (NamesAt io_apic_address c.entries) at other point × (point ≢ 0)
-
--- a GIC distributor (5.2.12.15); all have the number 0, which is then `point`
+-- a GIC distributor (5.2.12.15); all are given the number 0
 abbrev pub gicd : MadtEntry → Option ℕ
 gicd (Opaque e) = if slice_index e 0 == 12 then Some 0 else None
 gicd _ = None
-
--- a second GIC distributor; `other` is the first
-abbrev pub IsSecondGicd : MadtContents → ℕ → ℕ → ℕ → Type 0
-IsSecondGicd c at other point = IsLater (NamesAt gicd c.entries) at other point
 
 -- ---- entries that are not looked at
 
@@ -72,7 +57,6 @@ IsUnreadEntry e =
     ⊎ ((slice_index e 0 ≡ 11) × (length e < 40))
 
 -- the entry is one; `other` is its type
-abbrev pub IsMadtUnread : MadtContents → ℕ → ℕ → ℕ → Type 0
-IsMadtUnread c at other point =
-    StandsWith c.entries at (λ e. (bytes : List ℕ) × (e ≡ Opaque bytes) × IsUnreadEntry bytes × (other ≡ slice_index bytes 0))
-    × (point ≡ 0)
+abbrev pub IsMadtUnread : MadtEntry → ℕ → ℕ → Type 0
+IsMadtUnread e other point =
+    ((bytes : List ℕ) × (e ≡ Opaque bytes) × IsUnreadEntry bytes × (other ≡ slice_index bytes 0)) × (point ≡ 0)

@@ -1,7 +1,11 @@
--- Numbers that stand at places: at the offsets of entries, or in slots. A relation `HasAt at x` says that the number x stands
--- at the place `at`.
+-- What rules ask of the entries of a table: of one by itself, and of numbers that stand at places, which are the offsets of
+-- entries, or slots. A relation `HasAt at x` says that the number x stands at the place `at`.
 use Rattle.std.specs.Prelude.{◌≡◌, ℕ, ◌<◌, ◌≤◌, List, Option, Some}
 use Rattle.acpi_base.specs.Entries.{PlacedEntry, StandsWith}
+
+-- the entry that stands at `at` is one by itself, with these two numbers
+abbrev pub OnEntry : {E : Type 0} → (E → ℕ → ℕ → Type 0) → List (PlacedEntry E) → ℕ → ℕ → ℕ → Type 0
+OnEntry Is entries at other point = StandsWith entries at (λ e. Is e other point)
 
 -- an entry stands at o of which `read` gives the number n
 abbrev pub NamesAt : {E : Type 0} → (E → Option ℕ) → List (PlacedEntry E) → ℕ → ℕ → Type 0
@@ -17,3 +21,7 @@ pub record IsLater (HasAt : ℕ → ℕ → Type 0) (at other x : ℕ) : Type 0 
   pub earlier : HasAt other x
   pub before : other < at
   pub first : (p : ℕ) → HasAt p x → other ≤ p
+
+-- two entries have the number `point`, as `read` gives it; `other` is the first that has it
+abbrev pub Repeats : {E : Type 0} → (E → Option ℕ) → List (PlacedEntry E) → ℕ → ℕ → ℕ → Type 0
+Repeats read entries = IsLater (NamesAt read entries)

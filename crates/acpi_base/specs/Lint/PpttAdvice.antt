@@ -4,7 +4,7 @@ use Rattle.acpi_base.specs.Entries.{StandsWith, AreUnused}
 use Rattle.acpi_base.specs.Number.{has_bit}
 use Rattle.acpi_base.specs.Madt.{MadtContents}
 use Rattle.acpi_base.specs.Pptt.{PpttEntry, Cache, CacheValue, PpttContents}
-use Rattle.acpi_base.specs.Lint.Numbered.{NamesAt, IsNamed, IsLater}
+use Rattle.acpi_base.specs.Lint.Numbered.{NamesAt, IsNamed, IsLater, Repeats}
 use Rattle.acpi_base.specs.Lint.Processors.{uid_of, uid_on, AreProcessorsRead, IsGicc, IsLeafAt, IsLeafId}
 
 -- two leaves have the ACPI processor ID `point`; `other` is the first that has it (5.2.30.1)
@@ -20,9 +20,8 @@ IsPowerOfTwo n = (k : ℕ) × (n ≡ 2 ^ k)
 abbrev pub HasOddShape : CacheValue → Type 0
 HasOddShape v = ((has_bit v.flags 1 ≡ true) × (v.sets ≡ 0)) ⊎ ((has_bit v.flags 6 ≡ true) × ¬ IsPowerOfTwo v.line_size)
 
-abbrev pub IsCacheShape : PpttContents → ℕ → ℕ → ℕ → Type 0
-IsCacheShape c at other point =
-    StandsWith c.entries at (λ e. (v : CacheValue) × (e ≡ Cache v) × HasOddShape v) × AreUnused other point
+abbrev pub IsCacheShape : PpttEntry → ℕ → ℕ → Type 0
+IsCacheShape e other point = ((v : CacheValue) × (e ≡ Cache v) × HasOddShape v) × AreUnused other point
 
 -- the Cache ID of a cache that has a valid one, bit 7
 abbrev pub cache_id : PpttEntry → Option ℕ
@@ -31,7 +30,7 @@ cache_id _ = None
 
 -- two caches have the Cache ID `point`, of a PPTT of Revision 3 or later; `other` is the first that has it
 abbrev pub IsSameCacheId : PpttContents → ℕ → ℕ → ℕ → Type 0
-IsSameCacheId c at other point = (3 ≤ c.revision) × IsLater (NamesAt cache_id c.entries) at other point
+IsSameCacheId c at other point = (3 ≤ c.revision) × Repeats cache_id c.entries at other point
 
 -- the entry of the MADT is of a processor that is on, whose UID `point` no leaf has, though there are
 -- leaves; asked where the rules read all processors

@@ -1,8 +1,7 @@
 -- Advice on the SRAT (5.2.16), beside the MADT and the SLIT. `at` is an entry's offset from the start of its table.
-use Rattle.std.specs.Prelude.{◌≡◌, ◌≢◌, ℕ, ◌≤◌, ◌⊎◌, List, length, slice_index}
-use Rattle.acpi_base.specs.Entries.{StandsWith}
+use Rattle.std.specs.Prelude.{◌≡◌, ◌≢◌, ℕ, ◌≤◌, ◌⊎◌, List, length, slice_index, Some}
 use Rattle.acpi_base.specs.Madt.{MadtContents}
-use Rattle.acpi_base.specs.Srat.{Opaque, SratContents}
+use Rattle.acpi_base.specs.Srat.{SratEntry, Opaque, SratContents}
 use Rattle.acpi_base.specs.Lint.Numbered.{NamesAt, IsNamed}
 use Rattle.acpi_base.specs.Lint.Processors.{uid_of, apic_id_of, apic_id_on, gicc_uid_on, placed_apic_id, placed_uid, processor_domain, any_domain, AreProcessorsRead}
 
@@ -39,16 +38,14 @@ IsNoDomain madt srat at other point =
     × (other ≡ 0)
 
 -- the entry is of the domain `point`, and the SLIT has `other` localities, so none with this number (5.2.17)
-abbrev pub IsDomainPastSlit : SratContents → ℕ → ℕ → ℕ → ℕ → Type 0
-IsDomainPastSlit srat localities at other point =
-    NamesAt any_domain srat.entries at point × (localities ≤ point) × (other ≡ localities)
+abbrev pub IsDomainPastSlit : ℕ → SratEntry → ℕ → ℕ → Type 0
+IsDomainPastSlit localities e other point = (any_domain e ≡ Some point) × (localities ≤ point) × (other ≡ localities)
 
 -- the bytes of an entry that neither the stages nor these rules read
 abbrev pub IsUnreadEntry : List ℕ → Type 0
 IsUnreadEntry e = (4 ≤ slice_index e 0) ⊎ ((slice_index e 0 ≡ 3) × (length e ≢ 18))
 
 -- the entry is one; `other` is its type
-abbrev pub IsSratUnread : SratContents → ℕ → ℕ → ℕ → Type 0
-IsSratUnread c at other point =
-    StandsWith c.entries at (λ e. (bytes : List ℕ) × (e ≡ Opaque bytes) × IsUnreadEntry bytes × (other ≡ slice_index bytes 0))
-    × (point ≡ 0)
+abbrev pub IsSratUnread : SratEntry → ℕ → ℕ → Type 0
+IsSratUnread e other point =
+    ((bytes : List ℕ) × (e ≡ Opaque bytes) × IsUnreadEntry bytes × (other ≡ slice_index bytes 0)) × (point ≡ 0)

@@ -10,8 +10,8 @@ pub record HasRoom (next : Option ℕ) (count : ℕ) : Type 0 where
   pub placed : next ≡ Some address
   pub fits : address + count ≤ 2 ^ 64
 
--- A line is data for which there are addresses. No line before it has a fault, by what reading them came to, and neither this
--- line nor the text through its end is too long. `ending` is 1 if an LF ends it, and 0 if the text does.
+-- A line is data for which there are addresses. `lines_before` is the result of reading the lines before it: none has a fault.
+-- Neither this line nor the text through its end is too long. `ending` is 1 if an LF ends it, and 0 if the text does.
 pub record IsPlacedData (lines_before : Result Reading TextFault) (line : List ℕ) (ending : ℕ) : Type 0 where
   pub r : Reading
   pub bytes : List ℕ

@@ -71,20 +71,20 @@ fn first_twice(pieces: &[(u64, Span)], count: usize) -> Option<u64>
     Some(found)
 }
 
-/// Whether the pieces came in the order of their addresses, with an address without a byte between neighbours, as those of
-/// firmware do.
+/// Whether the pieces came in the order of their addresses, with at least one address without a byte between each two, as
+/// those of firmware do.
 fn are_apart(pieces: &[(u64, Span)]) -> bool
     requires { AllByRecursion (λ p. 0 < p.1.len) pieces.now }
     ensures { result ≡ true → AreSegmentsApart pieces.now }
 {
-    // Where the piece behind begins: no piece ends at 2^65.
+    // Where the next piece begins; after the last one a number above all ends.
     let mut next: u128 = 1 << 65;
     for i in (0..pieces.len()).rev() {
         let (first, span) = pieces[i];
-        if next <= first as u128 + span.len as u128 {
+        if next <= u128::from(first) + span.len as u128 {
             return false;
         }
-        next = first as u128;
+        next = u128::from(first);
     }
     true
 }

@@ -44,7 +44,7 @@ const PIECE: usize = 65_536;
 /// `Memory`: out of memory for the line or the image. Until the text is refused, it can be returned instead of any other
 /// result. A refused text stays refused with the same fault.
 ///
-/// Each `feed` goes over the list of the runs of data so far, to see whether an address came twice, and copies and sorts it
+/// Each `feed` goes over the list of the pieces so far, to see whether an address came twice, and copies and sorts it
 /// if they did not come in the order of their addresses. If there are many of them, `parse_image` and `read_image`, which
 /// look only once, take less time.
 #[derive(Drop)]
@@ -165,7 +165,7 @@ pub fn parse_image(alloc: Global, text: &[u8]) -> Result<Image, TextFault>
 {
     let mut buffer = LineBuffer::new(alloc);
     match buffer.end_lines(text) {
-        Ok(last) => buffer.finish_at(last),
+        Ok(last) => buffer.finish_with(last),
         Err(fault) => Err(buffer.first_fault(fault)),
     }
 }

@@ -63,7 +63,7 @@ AreRising low [] = Unit {0}
 AreRising low (s ∷ rest) = (low ≤ s.offset) × AreRising (suc s.offset) rest
 
 -- so they do from any lower offset
-pub rising_from_less : {E : Type 0} (low high : ℕ) (entries : List (PlacedEntry E)) → low ≤ high
+rising_from_less : {E : Type 0} (low high : ℕ) (entries : List (PlacedEntry E)) → low ≤ high
     → AreRising high entries → AreRising low entries
 rising_from_less low high [] less rises = tt
 rising_from_less low high (s ∷ rest) less rises = (omega (arith, rises.0), rises.1)

@@ -29,7 +29,7 @@ unfolding RiseFrom
 without {least = least} before none =
     record { all_rise = λ rise. before.all_rise (least, omega arith, (λ k d gives. absurd (none k d gives)), rise) }
 
--- an entry gives this key alone one
+-- an entry gives a value to this key alone
 pub with_one : {E : Type 0} {Gives : ℕ → ℕ → E → Type 0} {all left : List (PlacedEntry E)} {s : PlacedEntry E}
     {least : ℕ} (key : ℕ) → DoRiseTo Gives all (s ∷ left) least → least ≤ key
     → ((k d : ℕ) → Gives k d s.entry → k ≡ key) → DoRiseTo Gives all left (key + 1)

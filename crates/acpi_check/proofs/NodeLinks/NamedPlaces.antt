@@ -19,7 +19,7 @@ use Rattle.acpi_check.specs.declared.places.Places.{Places}
 -- ---- private resources
 
 -- resource j of the bytes of so many references
-abbrev numbers_in : List ℕ → ℕ → List ℕ
+abbrev pub numbers_in : List ℕ → ℕ → List ℕ
 numbers_in references count = map (λ j. field references (4 * j) 4) (range_with_len 0 count)
 
 -- is the number in its place

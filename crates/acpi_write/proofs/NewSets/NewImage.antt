@@ -7,10 +7,12 @@ use Rattle.std.specs.Option.{option_or}
 use Rattle.std.specs.FinMap.{empty}
 use Rattle.acpi_base.specs.Memory.{Memory, byte_of, bytes_at, with_bytes}
 use Rattle.acpi_base.specs.Header.{HeadValue}
-use Rattle.acpi_base.specs.Rsdp.{addresses_at, extended_addresses, IsSoundRsdp}
+use Rattle.acpi_base.specs.Rsdp.{addresses_at, extended_addresses, extended_frame, IsSoundRsdp}
 use Rattle.acpi_base.specs.Root.{chosen_root, IsRoot, IsSoundRootTable}
 use Rattle.acpi_base.specs.Signature.{has_signature, xsdt_signature}
-use Rattle.acpi_base.specs.Tables.{IsTable, length_of}
+use Rattle.acpi_base.specs.Frames.{IsFrame, frame_length}
+use Rattle.acpi_base.specs.Tables.{table_frame}
+use Rattle.acpi_base.specs.declared.frame.Frame.{Frame}
 use Rattle.acpi_base.proofs.Images.HeldBytes.{field-take}
 use Rattle.acpi_base.proofs.Images.ByteRuns.{run_of-take, run_of-from_each}
 use Rattle.acpi_base.specs.Image.Runs.{run_at}
@@ -162,13 +164,15 @@ pub signed_front : (bytes signature : List ℕ) (k : ℕ) → length signature �
 unfolding has_signature
 signed_front bytes signature k h = rw (take-take (length signature) k bytes h) refl
 
--- a table
-pub table_held : (m : Memory) (a : ℕ) (bytes : List ℕ) → Holds m a bytes → 36 ≤ length bytes
-    → length_of bytes ≡ length bytes → IsTable m a (take 36 bytes) bytes
-table_held m a bytes held least count =
-    let size : length_of (take 36 bytes) ≡ length bytes = field-take bytes 36 4 4 (omega arith) ∙ count in
+-- a structure that says how long it is
+pub frame_held : (f : Frame) {m : Memory} {a : ℕ} {bytes : List ℕ} → f.header ≤ f.least → f.length_at + 4 ≤ f.header
+    → Holds m a bytes → f.least ≤ length bytes → frame_length f bytes ≡ length bytes
+    → IsFrame f m a (take f.header bytes) bytes
+frame_held f {m} {a} {bytes} fits inside held least count =
+    let size : frame_length f (take f.header bytes) ≡ length bytes =
+    field-take bytes f.header f.length_at 4 inside ∙ count in
     record {
-      header_held = front_held m a 36 bytes held least;
+      header_held = front_held m a f.header bytes held (omega (arith, fits, least));
       least = omega (arith, size, least);
       held = ap (λ (k : ℕ). bytes_at m a k) size ∙ held;
     }
@@ -181,7 +185,7 @@ xsdt_held m a head xs bytes held xsdt =
     record {
       table = record {
         header = take 36 bytes;
-        table = table_held m a bytes held xsdt.table.least xsdt.table.size;
+        table = frame_held table_frame (omega arith) (omega arith) held xsdt.table.least xsdt.table.size;
         signed = signed_front bytes xsdt_signature 36 (omega arith) ∙ xsdt.table.signed;
       };
       slots = omega (arith, count);
@@ -200,11 +204,9 @@ rsdp_held m a xsdt oemid bytes held rsdp =
       signed = rsdp.signed;
       zero_sum = rsdp.head_sum;
       extended = λ _. record {
-        prefix = bytes;
-        prefix_held = ap (λ (k : ℕ). bytes_at m a k) (sym count) ∙ held;
-        least = omega (arith, size);
+        header = take 36 bytes;
         whole = bytes;
-        held = ap (λ (k : ℕ). bytes_at m a k) (size ∙ sym count) ∙ held;
+        frame = frame_held extended_frame (omega arith) (omega arith) held (omega (arith, count)) (size ∙ sym count);
         zero_sum = rsdp.zero_sum;
       };
     }

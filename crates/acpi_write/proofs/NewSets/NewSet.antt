@@ -1,15 +1,15 @@
 -- The tables and the FACS of a rebuilt image.
-use Rattle.std.proofs.Common.{ℕ, List, [], ◌∷◌, take, drop, map, refl, sym, ap, ◌∙◌, subst, inr, arith, ◌≡◌, ◌^◌, ◌<◌, length, Option, Some, None}
+use Rattle.std.proofs.Common.{ℕ, List, [], ◌∷◌, take, drop, map, refl, sym, ap, ◌∙◌, subst, inr, arith, ◌≡◌, ◌^◌, ◌<◌, Option, Some, None}
 use Rattle.std.specs.List.{AllByRecursion, AllZip, list_any}
-use Rattle.acpi_base.specs.Memory.{Memory, IsImage, bytes_at}
+use Rattle.acpi_base.specs.Memory.{Memory, IsImage}
+use Rattle.acpi_base.specs.Tables.{table_frame}
 use Rattle.acpi_base.specs.Header.{head_of}
 use Rattle.acpi_base.specs.Listed.{listed_addresses, fadt_signature, IsListedTable}
 use Rattle.acpi_base.specs.Policy.{PolicyValue}
 use Rattle.acpi_base.specs.Statements.{IsClean, AreSoundTables}
 use Rattle.acpi_base.proofs.Root.Slots.{slot_of_root}
 use Rattle.acpi_base.specs.Fadt.{facs_address, is_reduced}
-use Rattle.acpi_base.specs.Facs.{facs_signature, facs_length, IsFacs, HasSoundFacs}
-use Rattle.acpi_base.proofs.Images.HeldBytes.{field-take}
+use Rattle.acpi_base.specs.Facs.{facs_signature, facs_frame, IsFacs, HasSoundFacs}
 use Rattle.acpi_write.specs.Encoded.{table_bytes, encoded_bytes_with}
 use Rattle.acpi_write.specs.FadtBody.{with_facs}
 use Rattle.acpi_write.specs.Laws.{NamesFacs}
@@ -21,7 +21,7 @@ use Rattle.acpi_write.specs.Views.{IsWholeTable}
 use Rattle.acpi_write.proofs.OldSets.FirstListed.{AreListed, slot_table, listed_first, first_of_listed}
 use Rattle.acpi_write.proofs.OldSets.FirstTables.{AreCleanTables, new_tables, clean_first}
 use Rattle.acpi_write.proofs.NewSets.NamedFacs.{fadts_name_facs}
-use Rattle.acpi_write.proofs.NewSets.NewImage.{Holds, table_held, leads_to_tables, front_held, signed_front}
+use Rattle.acpi_write.proofs.NewSets.NewImage.{Holds, frame_held, leads_to_tables, signed_front}
 use Rattle.acpi_write.proofs.NewSets.NewParts.{HasFacsPlace, parts_stand, tables_stand, facs_stands, IsFacsPlace}
 use Rattle.acpi_write.proofs.NewSets.NewTables.{new_whole, fadt_again, narrow_first}
 use Rattle.acpi_write.proofs.SetParts.PartPlaces.{clean_parts_are_laid}
@@ -38,15 +38,11 @@ place_fits m n old (Some bytes) f is place =
 
 stands_again : (n : Memory) (bytes : List ℕ) (f : ℕ) → IsFacsBytes bytes → IsFacsPlace n bytes f → IsFacs n f bytes
 stands_again n bytes f are place =
-    let least = are.least in
-    let size : facs_length (take 8 bytes) ≡ length bytes = field-take bytes 8 4 4 (omega arith) ∙ are.size in
     record {
       aligned = place.aligned;
-      prefix = take 8 bytes;
-      prefix_held = front_held n f 8 bytes place.stands (omega (arith, least));
+      header = take 8 bytes;
+      frame = frame_held facs_frame (omega arith) (omega arith) place.stands are.least are.size;
       signed = signed_front bytes facs_signature 8 (omega arith) ∙ are.signed;
-      least = omega (arith, size, least);
-      held = ap (λ (k : ℕ). bytes_at n f k) size ∙ place.stands;
     }
 
 -- it is what the new FADT names
@@ -75,8 +71,10 @@ all_held : (n : Memory) (xs : List ℕ) (blocks : List (List ℕ)) → AllZip (H
 all_held n [] [] held whole = tt
 all_held n [] (b ∷ bs) held whole = absurd held
 all_held n (x ∷ xs) [] held whole = absurd held
-all_held n (x ∷ xs) (b ∷ bs) held whole =
-    ((take 36 b, table_held n x b held.0 whole.0.least whole.0.size), all_held n xs bs held.1 whole.1)
+all_held n (x ∷ xs) (b ∷ bs) held whole = (
+  (take 36 b, frame_held table_frame (omega arith) (omega arith) held.0 whole.0.least whole.0.size),
+  all_held n xs bs held.1 whole.1,
+)
 
 -- the rebuilt image of a set that lists these tables
 pub record IsNewSet (v : SetValue) (base : ℕ) (ts : List (List ℕ)) : Type 0 where
@@ -131,7 +129,7 @@ new_sound_tables v base ts new k a slot =
     let there = slot_of_root n base leads.r 8 k a leads.root_bytes leads.root leads.sound.table slot in
     let its = slot_table n IsWholeTable leads.root_bytes 8 (new_tables facs ts) k a (inr refl) new.each
     (new_whole facs ts new.clean) there in
-    record { header = its.stands.0; whole = its.t; table = its.stands.1; zero_sum = its.holds.zero_sum }
+    record { header = its.stands.0; whole = its.t; frame = its.stands.1; zero_sum = its.holds.zero_sum }
 
 -- ---- the FADT
 

@@ -20,7 +20,8 @@ use Rattle.acpi_base.proofs.Root.Slots.{root_slot}
 use Rattle.acpi_base.proofs.Root.Named.{root_width}
 use Rattle.acpi_base.proofs.Tables.Kinds.{length-signature_of}
 use Rattle.acpi_base.proofs.Tables.Listed.{listed_in_root}
-use Rattle.acpi_base.proofs.Tables.Whole.{one_table, signed_table}
+use Rattle.acpi_base.proofs.Frames.{one_frame}
+use Rattle.acpi_base.proofs.Tables.Whole.{signed_table}
 use Rattle.acpi_write.specs.Kinds.{AreReadable, IsKindBehind, is_among}
 use Rattle.acpi_write.specs.SetValues.{IsWholeAt, is_first}
 use Rattle.acpi_write.specs.Bodies.{IsReadableAs}
@@ -163,8 +164,7 @@ first_listed_table m p r d root ts k none signature named table zip below four i
 -- a table that stands where a sound one does sums to 0
 zero_sum : (m : Memory) (a : ℕ) (whole : List ℕ) → IsSoundTable m a → IsWholeAt m a whole → byte_sum whole ≡ 0
 zero_sum m a whole sound stands =
-    subst (λ (b : List ℕ). byte_sum b ≡ 0) (one_table m a sound.header sound.whole stands.0 whole sound.table stands.1)
-    sound.zero_sum
+    subst (λ (b : List ℕ). byte_sum b ≡ 0) (one_frame sound.frame stands.1) sound.zero_sum
 
 pub sound_slots : (m : Memory) (q : PolicyValue) (r d : ℕ) (root : List ℕ) → IsClean m q → IsRoot m q.rsdp r d
     → IsRootTable m r d root → (k a : ℕ) → HasSlot root d k a → IsSoundTable m a

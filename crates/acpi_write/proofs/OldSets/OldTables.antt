@@ -3,9 +3,9 @@ use Rattle.std.proofs.Common.{◌≡◌, ℕ, zero, suc, ◌^◌, ◌<◌, ◌�
 use Rattle.std.specs.List.{AllByRecursion, AllZip, All}
 use Rattle.std.proofs.lemmas.List.{length-take-le}
 use Rattle.std.proofs.lemmas.List.Elements.{All-cons, All-nil}
-use Rattle.acpi_base.specs.Memory.{Memory, IsImage, byte_of, bytes_at}
-use Rattle.acpi_base.specs.Fadt.{IsSoundFadtTable, IsFadt, facs_address}
-use Rattle.acpi_base.specs.Facs.{IsFacs, facs_signature, facs_length}
+use Rattle.acpi_base.specs.Memory.{Memory, IsImage}
+use Rattle.acpi_base.specs.Fadt.{IsSoundFadtTable, IsFadt}
+use Rattle.acpi_base.specs.Facs.{IsFacs, facs_signature}
 use Rattle.acpi_base.specs.Listed.{listed_addresses, fadt_signature}
 use Rattle.acpi_base.specs.Policy.{PolicyValue}
 use Rattle.acpi_base.specs.Signature.{has_signature}
@@ -13,11 +13,10 @@ use Rattle.acpi_base.specs.Tables.{length_of}
 use Rattle.acpi_base.specs.Statements.{IsClean}
 use Rattle.acpi_base.specs.TableKinds.{signature_of}
 use Rattle.acpi_base.specs.declared.stage.Stage.TheVariants as stage
-use Rattle.acpi_base.proofs.Images.HeldBytes.{bytes_below, held_field_below, says_length, length-bytes_at, same_value}
-use Rattle.acpi_base.proofs.Images.ByteRuns.{run_of-take}
+use Rattle.acpi_base.proofs.Images.HeldBytes.{bytes_below, held_field_below, length-bytes_at, same_value}
 use Rattle.acpi_base.proofs.Tables.Kinds.{length-signature_of}
 use Rattle.acpi_base.proofs.Tables.Listed.{one_listed}
-use Rattle.acpi_base.proofs.Tables.Whole.{length-table, one_table}
+use Rattle.acpi_base.proofs.Frames.{length_frame, header_is, says_length, one_frame}
 use Rattle.acpi_base.specs.Header.{head_of}
 use Rattle.acpi_base.proofs.Root.Named.{one_root, one_root_table}
 use Rattle.acpi_write.specs.Encoded.{FitsHead}
@@ -55,15 +54,15 @@ pub held_bytes : (m : Memory) (a : ℕ) (whole : List ℕ) → IsImage m → IsW
 held_bytes m a whole image (header, table) = bytes_below m image a (length_of header) whole table.held
 
 pub held_least : (m : Memory) (a : ℕ) (whole : List ℕ) → IsWholeAt m a whole → 36 ≤ length whole
-held_least m a whole (header, table) = omega (arith, length-table m a header whole table, table.least)
+held_least m a whole (header, table) = omega (arith, length_frame table, table.least)
 
 held_size : (m : Memory) (a : ℕ) (whole : List ℕ) → IsWholeAt m a whole → length_of whole ≡ length whole
 held_size m a whole (header, table) =
-    says_length m a 36 header whole (omega arith) table.least table.header_held table.held
+    says_length table (omega arith) (omega arith)
 
 held_small : (m : Memory) (a : ℕ) (whole : List ℕ) → IsImage m → IsWholeAt m a whole → length whole < 2 ^ 32
 held_small m a whole image (header, table) =
-    omega (arith, length-table m a header whole table, held_field_below m image a 36 header table.header_held 4 4)
+    omega (arith, length_frame table, held_field_below m image a 36 header table.header_held 4 4)
 
 -- ---- the tables of a clean set
 
@@ -121,19 +120,16 @@ root_fits_head m p v image is =
 -- all bytes of a FACS
 pub record IsFacsBytes (bytes : List ℕ) : Type 0 where
   pub signed : has_signature bytes facs_signature ≡ true
-  pub size : facs_length bytes ≡ length bytes
+  pub size : length_of bytes ≡ length bytes
   pub least : 64 ≤ length bytes
 
 pub facs_bytes : (m : Memory) (f : ℕ) (bytes : List ℕ) → IsFacs m f bytes → IsFacsBytes bytes
 facs_bytes m f bytes is =
-    let front : is.prefix ≡ take 8 bytes = same_value is.prefix (take 8 bytes) is.prefix_held
-    (run_of-take (byte_of m) f (facs_length is.prefix) 8 bytes is.held (omega (arith, is.least))) in
-    let count = length-bytes_at m f (facs_length is.prefix) bytes is.held in
     record {
       signed = sym (signed_front bytes facs_signature 8 (omega arith))
-          ∙ ap (λ (h : List ℕ). has_signature h facs_signature) (sym front) ∙ is.signed;
-      size = says_length m f 8 is.prefix bytes (omega arith) (omega (arith, is.least)) is.prefix_held is.held;
-      least = omega (arith, count, is.least);
+          ∙ ap (λ (h : List ℕ). has_signature h facs_signature) (sym (header_is is.frame (omega arith))) ∙ is.signed;
+      size = says_length is.frame (omega arith) (omega arith);
+      least = omega (arith, length_frame is.frame, is.frame.least);
     }
 
 -- a FACS has bytes, since it has at least 64
@@ -141,9 +137,8 @@ facs_of : (m : Memory) (fadt : List ℕ) (facs : Option (List ℕ)) → IsFacsOf
     → All (λ bytes. 0 < length bytes) (option_list facs)
 facs_of m fadt None is = All-nil (λ (bytes : List ℕ). 0 < length bytes)
 facs_of m fadt (Some bytes) is =
-    let count = length-bytes_at m _ _ bytes is.1.held in
-    let least = is.1.least in
-    All-cons (λ (b : List ℕ). 0 < length b) bytes [] (omega (arith, count, least))
+    All-cons (λ (b : List ℕ). 0 < length b) bytes []
+    (omega (arith, length_frame is.1.frame, is.1.frame.least))
     (All-nil (λ (b : List ℕ). 0 < length b))
 
 pub facs_some : (m : Memory) (q : PolicyValue) (v : SetValue) → IsClean m q → IsSetValue m q.rsdp v
@@ -160,7 +155,7 @@ one_list m [] (t ∷ ts) us a b = absurd a
 one_list m (x ∷ xs) [] us a b = absurd a
 one_list m (x ∷ xs) (t ∷ ts) [] a b = absurd b
 one_list m (x ∷ xs) (t ∷ ts) (u ∷ us) a b =
-    let same = one_table m x a.0.0 t b.0.0 u a.0.1 b.0.1 in
+    let same = one_frame a.0.1 b.0.1 in
     let rest = one_list m xs ts us a.1 b.1 in
     λ i. same i ∷ rest i
 
@@ -168,11 +163,7 @@ one_facs : (m : Memory) (fadt : List ℕ) (f g : Option (List ℕ)) → IsFacsOf
 one_facs m fadt None None a b = refl
 one_facs m fadt None (Some y) a b = absurd (b.0 a)
 one_facs m fadt (Some x) None a b = absurd (a.0 b)
-one_facs m fadt (Some x) (Some y) a b =
-    let prefix : a.1.prefix ≡ b.1.prefix = same_value a.1.prefix b.1.prefix a.1.prefix_held b.1.prefix_held in
-    let count : bytes_at m (facs_address fadt) (facs_length a.1.prefix) ≡ bytes_at m (facs_address fadt)
-    (facs_length b.1.prefix) = ap (λ (h : List ℕ). bytes_at m (facs_address fadt) (facs_length h)) prefix in
-    ap Some (same_value x y a.1.held (count ∙ b.1.held))
+one_facs m fadt (Some x) (Some y) a b = ap Some (one_frame a.1.frame b.1.frame)
 
 pub one_value : (m : Memory) (p : ℕ) (v w : SetValue) (fadt : List ℕ) → IsFadt m p fadt → IsSetValue m p v
     → IsSetValue m p w → v ≡ w

@@ -10,7 +10,7 @@ use Rattle.acpi_base.specs.Signature.{xsdt_signature}
 use Rattle.acpi_base.specs.Tables.{IsTable}
 use Rattle.acpi_base.proofs.Images.HeldBytes.{length-bytes_at}
 use Rattle.acpi_base.proofs.Layouts.RoundTrip.{length-number_bytes}
-use Rattle.acpi_base.proofs.Tables.Whole.{length-table}
+use Rattle.acpi_base.proofs.Frames.{length_frame}
 use Rattle.acpi_write.specs.Encoded.{table_bytes, encoded_length, encoded_bytes_with}
 use Rattle.acpi_write.specs.Kinds.{IsKindBehind}
 use Rattle.acpi_write.specs.Rebuilt.{aligned_address, blocks_from, block_places, option_list, part_lengths, part_places, part_bytes, facs_place, table_places, rsdp_bytes, CleanPartsAreLaid}
@@ -59,7 +59,7 @@ lengths_behind facs before (t ∷ ts) long readable =
 
 table_long : (m : Memory) (a : ℕ) (header whole : List ℕ) → IsTable m a header whole → 36 ≤ length whole
 table_long m a header whole table =
-    let count = length-table m a header whole table in
+    let count = length_frame table in
     let least = table.least in
     omega (arith, count, least)
 

@@ -2,7 +2,7 @@
 use Rattle.std.proofs.Common.{append_assoc, ◌∙◌, ◌≡◌, ℕ, ◌+◌, ◌^◌, ◌<◌, List, [], ◌∷◌, ◌++◌, length, take, drop, sum, true, refl, arith}
 use Rattle.acpi_base.specs.Number.{field, byte_sum, number_bytes}
 use Rattle.acpi_base.specs.Signature.{has_signature, rsdp_signature}
-use Rattle.acpi_base.specs.Rsdp.{revision_of, rsdp_length}
+use Rattle.acpi_base.specs.Rsdp.{revision_of}
 use Rattle.acpi_base.proofs.Layouts.RoundTrip.{number_there}
 use Rattle.acpi_write.specs.Encoded.{checksum_of}
 use Rattle.acpi_write.specs.Rebuilt.{rsdp_head, rsdp_tail, rsdp_bytes}
@@ -14,7 +14,7 @@ pub record IsWrittenRsdp (oemid : List ℕ) (xsdt : ℕ) (whole : List ℕ) : Ty
   pub signed : has_signature (take 20 whole) rsdp_signature ≡ true
   pub head_sum : byte_sum (take 20 whole) ≡ 0
   pub revision : revision_of (take 20 whole) ≡ 2
-  pub size : rsdp_length whole ≡ 36
+  pub size : field whole 20 4 ≡ 36
   pub zero_sum : byte_sum whole ≡ 0
   pub oemid_is : take 6 (drop 9 (take 20 whole)) ≡ oemid
   pub rsdt_is : field whole 16 4 ≡ 0

@@ -212,7 +212,7 @@ impl LineBuffer {
     }
 
     /// Reads the last line, since the text ends, and lays out the image. The line is passed, and none was kept.
-    pub fn finish_at(self, last: &[u8]) -> Result<Image, TextFault>
+    pub fn finish_with(self, last: &[u8]) -> Result<Image, TextFault>
         requires { IsLineBuffer self }
         ensures ok { IfOk result (λ image. (r : Reading)
             × (on_ok (judged self.parser) (λ r. read_line r last.now 0) ≡ Ok r) × (r.image ≡ image)) }

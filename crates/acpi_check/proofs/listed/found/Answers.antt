@@ -23,7 +23,7 @@ returns-in_ok-first-in-Madt c =
     settled c.requires c.in-Madt.is kind.Madt c.first.ensures c.in_ok-first-in-Madt.was
     (λ whole. IsSoundMadt c.args.set.now.policy.now (madt_contents whole))
     (λ whole. MadtFault c.args.set.now.policy.now (madt_contents whole)) (λ all. all) (λ v. (λ h. h, λ h. h))
-    (λ v least. least) c.sound_madt.result c.sound_madt.ensures
+    (λ v least. least) c.sound_entries.result c.sound_entries.ensures
 
 pub madt-requires-clause-holds : goal.madt-requires-clause-holds
 madt-requires-clause-holds c = earlier c.requires c.in-Interrupts.is stage.Madt (omega arith)
@@ -66,7 +66,7 @@ pub returns-in_ok-first-in-Srat : goal.returns-in_ok-first-in-Srat
 returns-in_ok-first-in-Srat c =
     settled c.requires c.in-Srat.is kind.Srat c.first-in-Srat.ensures c.in_ok-first-in-Srat.was
     (λ whole. IsSoundSrat (srat_contents whole)) (λ whole. SratFault (srat_contents whole)) (λ all. all)
-    (λ v. (λ h. h, λ h. h)) (λ v least. least) c.sound_srat.result c.sound_srat.ensures
+    (λ v. (λ h. h, λ h. h)) (λ v least. least) c.sound_entries-in-Srat.result c.sound_entries-in-Srat.ensures
 
 pub srat-requires-clause-holds : goal.srat-requires-clause-holds
 srat-requires-clause-holds c = earlier c.requires c.in-Ranges.is stage.Srat (omega arith)
@@ -107,7 +107,7 @@ pub returns-in_ok-first-in-Pptt : goal.returns-in_ok-first-in-Pptt
 returns-in_ok-first-in-Pptt c =
     settled c.requires c.in-Pptt.is kind.Pptt c.first-in-Pptt.ensures c.in_ok-first-in-Pptt.was
     (λ whole. IsCutPptt (pptt_contents whole)) (λ whole. PpttFault (pptt_contents whole)) (λ all. all)
-    (λ v. (λ h. h, λ h. h)) (λ v least. least) c.sound_pptt.result c.sound_pptt.ensures
+    (λ v. (λ h. h, λ h. h)) (λ v least. least) c.sound_entries-in-Pptt.result c.sound_entries-in-Pptt.ensures
 
 pub returns-in_err-pptt-in-References : goal.returns-in_err-pptt-in-References
 returns-in_err-pptt-in-References c =

@@ -1,83 +1,257 @@
-use Rattle.std.proofs.Common.{inl, inr}
+use Rattle.std.proofs.Common.{ap, rules, Ok}
+use Rattle.std.specs.Prelude.{⊤}
+use Rattle.acpi_base.specs.Contents.{HasPptt}
+use Rattle.acpi_base.specs.Lint.FadtAdvice.{IsFadtOfRevision, IsFacsDiffers, IsDsdtDiffers, IsBlockDiffers, IsSciNowhere}
+use Rattle.acpi_base.specs.Lint.MadtAdvice.{io_apic_id, nonzero_io_apic_address, gicd, IsIoApicAtZero, IsNmiNowhere, IsNoProcessor, IsMadtUnread}
+use Rattle.acpi_base.specs.Lint.PpttAdvice.{IsSameLeaf, IsCacheShape, IsSameCacheId, IsNoLeaf, IsLeafNowhere}
+use Rattle.acpi_base.specs.Lint.Processors.{uid_on, apic_id_on}
+use Rattle.acpi_base.specs.Lint.Sets.{OfFadt, OfMadt, OfSrat}
+use Rattle.acpi_base.specs.Lint.SratAdvice.{IsTwoUidDomains, IsAffinityNowhere, IsNoDomain, IsSratUnread}
+use Rattle.acpi_base.specs.Listed.{slit_signature, HasListed}
+use Rattle.acpi_base.specs.Madt.{madt_contents}
+use Rattle.acpi_base.specs.Pptt.{pptt_contents}
+use Rattle.acpi_base.specs.Slit.{slit_contents}
+use Rattle.acpi_base.specs.Srat.{srat_contents}
+use Rattle.acpi_base.specs.declared.table_kind.TableKind.TheVariants as kind
+use Rattle.acpi_read.specs.Madts.{madt_value}
+use Rattle.acpi_read.specs.Pptts.{pptt_value}
+use Rattle.acpi_read.specs.Srats.{srat_value}
+use Rattle.acpi_lint.specs.SlitPlaces.{IsSizedDiffers}
+use Rattle.acpi_lint.proofs.OfTables.{listed_lifts, fadt_lifts, madt_lifts, srat_lifts, pptt_lifts, of_one, of_two, own_madt, own_srat, own_pptt, repeated_madt}
 use Rattle.acpi_lint.proofs.advice.first_place.Goals as goal
 
+-- ---- slots
+
 pub returns-in-ListedTwice : goal.returns-in-ListedTwice
-returns-in-ListedTwice c =
-    rw c.in-ListedTwice.is (c.listed_twice.ensures c.args.image.now c.args.policy.now.rsdp c.requires)
+returns-in-ListedTwice c = rw c.in-ListedTwice.is (c.listed_twice.ensures c.args.image.now c.args.policy.now.rsdp
+    c.requires)
 
 pub returns-in-SecondTable : goal.returns-in-SecondTable
-returns-in-SecondTable c =
-    rw c.in-SecondTable.is (c.second_table.ensures c.args.image.now c.args.policy.now.rsdp c.requires)
+returns-in-SecondTable c = rw c.in-SecondTable.is (c.second_table.ensures c.args.image.now c.args.policy.now.rsdp
+    c.requires)
 
 pub returns-in-ListedApart : goal.returns-in-ListedApart
-returns-in-ListedApart c =
-    rw c.in-ListedApart.is (c.listed_apart.ensures c.args.image.now c.args.policy.now.rsdp c.requires)
+returns-in-ListedApart c = rw c.in-ListedApart.is (c.listed_apart.ensures c.args.image.now c.args.policy.now.rsdp
+    c.requires)
 
-pub returns-in-SciNowhere : goal.returns-in-SciNowhere
-returns-in-SciNowhere c = rw c.in-SciNowhere.is (c.of_sci.ensures c.args.image.now c.requires)
-
-pub returns-in-DomainPastSlit : goal.returns-in-DomainPastSlit
-returns-in-DomainPastSlit c =
-    rw c.in-DomainPastSlit.is (c.of_localities.ensures c.args.image.now c.args.policy.now c.requires)
-
-pub returns-in-SlitDiffers : goal.returns-in-SlitDiffers
-returns-in-SlitDiffers c =
-    rw c.in-SlitDiffers.is (c.of_distances.ensures c.args.image.now c.args.policy.now c.requires)
+-- ---- fields
 
 pub returns-in-FadtOfRevision : goal.returns-in-FadtOfRevision
 returns-in-FadtOfRevision c =
-    let found = c.of_fadt.ensures c.args.image.now c.args.policy.now c.requires in
-    elim c.in-FadtOfRevision.is [
-      | inl is ↦ rw is (rw is at found)
-      | inr (inl is) ↦ rw is (rw is at found)
-      | inr (inr (inl is)) ↦ rw is (rw is at found)
-      | inr (inr (inr is)) ↦ rw is (rw is at found)
-    ]
+    let m = c.args.image.now in
+    let q = c.args.policy.now in
+    rw c.in-FadtOfRevision.is
+    (of_one (OfFadt m q) (λ whole. whole) IsFadtOfRevision {X = ⊤} (Ok c.and_then.result) c.fadt-fadt.result
+    (fadt_lifts m q c.fadt-fadt.result c.requires c.fadt-fadt.ensures)
+    c.and_then.ensures (λ none. ap Ok none) (λ whole found. search rules))
+
+pub returns-in-FacsDiffers : goal.returns-in-FacsDiffers
+returns-in-FacsDiffers c =
+    let m = c.args.image.now in
+    let q = c.args.policy.now in
+    rw c.in-FacsDiffers.is
+    (of_one (OfFadt m q) (λ whole. whole) IsFacsDiffers {X = ⊤} (Ok c.and_then-in-FacsDiffers.result)
+    c.fadt-fadt.result (fadt_lifts m q c.fadt-fadt.result c.requires c.fadt-fadt.ensures)
+    c.and_then-in-FacsDiffers.ensures (λ none. ap Ok none) (λ whole found. search rules))
+
+pub returns-in-DsdtDiffers : goal.returns-in-DsdtDiffers
+returns-in-DsdtDiffers c =
+    let m = c.args.image.now in
+    let q = c.args.policy.now in
+    rw c.in-DsdtDiffers.is
+    (of_one (OfFadt m q) (λ whole. whole) IsDsdtDiffers {X = ⊤} (Ok c.and_then-in-DsdtDiffers.result)
+    c.fadt-fadt.result (fadt_lifts m q c.fadt-fadt.result c.requires c.fadt-fadt.ensures)
+    c.and_then-in-DsdtDiffers.ensures (λ none. ap Ok none) (λ whole found. search rules))
+
+pub returns-in-BlockDiffers : goal.returns-in-BlockDiffers
+returns-in-BlockDiffers c =
+    let m = c.args.image.now in
+    let q = c.args.policy.now in
+    rw c.in-BlockDiffers.is
+    (of_one (OfFadt m q) (λ whole. whole) IsBlockDiffers {X = ⊤} (Ok c.and_then-in-BlockDiffers.result)
+    c.fadt-fadt.result (fadt_lifts m q c.fadt-fadt.result c.requires c.fadt-fadt.ensures)
+    c.and_then-in-BlockDiffers.ensures (λ none. ap Ok none) (λ whole found. search rules))
+
+pub returns-in-SlitDiffers : goal.returns-in-SlitDiffers
+returns-in-SlitDiffers c =
+    let m = c.args.image.now in
+    let q = c.args.policy.now in
+    rw c.in-SlitDiffers.is
+    (of_one (HasListed m q.rsdp slit_signature) (λ whole. whole) (λ whole. IsSizedDiffers (slit_contents whole)) {X = ⊤}
+    (Ok c.and_then-in-SlitDiffers.result) c.table.result
+    (rw c.table.ensures (listed_lifts m q.rsdp slit_signature c.args.tables.now.slit (c.requires.listed kind.Slit)))
+    c.and_then-in-SlitDiffers.ensures (λ none. ap Ok none) (λ whole found. search rules))
+
+-- ---- entries by themselves
+
+pub returns-in-IoApicAtZero : goal.returns-in-IoApicAtZero
+returns-in-IoApicAtZero c =
+    rw c.in-IoApicAtZero.is
+    (own_madt c.args.image.now c.args.policy.now madt_value IsIoApicAtZero c.own.result _
+    c.madt_entries-in_madt.result c.requires c.madt_entries-in_madt.ensures c.own.ensures
+    (λ at picked answers. search rules))
+
+pub returns-in-MadtUnread : goal.returns-in-MadtUnread
+returns-in-MadtUnread c =
+    rw c.in-MadtUnread.is
+    (own_madt c.args.image.now c.args.policy.now madt_value IsMadtUnread c.own-in-MadtUnread.result _
+    c.madt_entries-in_madt.result c.requires c.madt_entries-in_madt.ensures c.own-in-MadtUnread.ensures
+    (λ at picked answers. search rules))
+
+pub returns-in-SratUnread : goal.returns-in-SratUnread
+returns-in-SratUnread c =
+    rw c.in-SratUnread.is
+    (own_srat c.args.image.now c.args.policy.now srat_value IsSratUnread c.own-in-SratUnread.result _
+    c.srat_entries.result c.requires c.srat_entries.ensures c.own-in-SratUnread.ensures
+    (λ at picked answers. search rules))
+
+pub returns-in-DomainPastSlit : goal.returns-in-DomainPastSlit
+returns-in-DomainPastSlit c = rw c.in-DomainPastSlit.is (c.past_slit.ensures c.args.image.now c.args.policy.now
+    c.requires)
+
+pub returns-in-CacheShape : goal.returns-in-CacheShape
+returns-in-CacheShape c =
+    rw c.in-CacheShape.is
+    (own_pptt c.args.image.now c.args.policy.now pptt_value IsCacheShape c.own-in-CacheShape.result _
+    c.pptt_entries.result c.requires c.pptt_entries.ensures c.own-in-CacheShape.ensures
+    (λ at picked answers. search rules))
+
+-- ---- numbers that repeat
 
 pub returns-in-SameUid : goal.returns-in-SameUid
 returns-in-SameUid c =
-    let found = c.of_madt.ensures c.args.image.now c.args.policy.now c.requires in
-    elim c.in-SameUid.is [
-      | inl is ↦ rw is (rw is at found)
-      | inr (inl is) ↦ rw is (rw is at found)
-      | inr (inr (inl is)) ↦ rw is (rw is at found)
-      | inr (inr (inr (inl is))) ↦ rw is (rw is at found)
-      | inr (inr (inr (inr (inl is)))) ↦ rw is (rw is at found)
-      | inr (inr (inr (inr (inr (inl is))))) ↦ rw is (rw is at found)
-      | inr (inr (inr (inr (inr (inr (inl is)))))) ↦ rw is (rw is at found)
-      | inr (inr (inr (inr (inr (inr (inr (inl is))))))) ↦ rw is (rw is at found)
-      | inr (inr (inr (inr (inr (inr (inr (inr is))))))) ↦ rw is (rw is at found)
-    ]
+    rw c.in-SameUid.is
+    (repeated_madt c.args.image.now c.args.policy.now madt_value uid_on c.repeated.result _
+    c.madt_entries-in_madt.result c.requires c.madt_entries-in_madt.ensures c.repeated.ensures
+    (λ at picked answers. search rules))
+
+pub returns-in-SameApicId : goal.returns-in-SameApicId
+returns-in-SameApicId c =
+    rw c.in-SameApicId.is
+    (repeated_madt c.args.image.now c.args.policy.now madt_value apic_id_on c.repeated-in-SameApicId.result _
+    c.madt_entries-in_madt.result c.requires c.madt_entries-in_madt.ensures c.repeated-in-SameApicId.ensures
+    (λ at picked answers. search rules))
+
+pub returns-in-SameIoApicId : goal.returns-in-SameIoApicId
+returns-in-SameIoApicId c =
+    rw c.in-SameIoApicId.is
+    (repeated_madt c.args.image.now c.args.policy.now madt_value io_apic_id c.repeated-in-SameIoApicId.result _
+    c.madt_entries-in_madt.result c.requires c.madt_entries-in_madt.ensures c.repeated-in-SameIoApicId.ensures
+    (λ at picked answers. search rules))
+
+pub returns-in-SameIoApicAddress : goal.returns-in-SameIoApicAddress
+returns-in-SameIoApicAddress c =
+    rw c.in-SameIoApicAddress.is
+    (repeated_madt c.args.image.now c.args.policy.now madt_value nonzero_io_apic_address
+    c.repeated-in-SameIoApicAddress.result _ c.madt_entries-in_madt.result c.requires c.madt_entries-in_madt.ensures
+    c.repeated-in-SameIoApicAddress.ensures (λ at picked answers. search rules))
+
+pub returns-in-SecondGicd : goal.returns-in-SecondGicd
+returns-in-SecondGicd c =
+    rw c.in-SecondGicd.is
+    (repeated_madt c.args.image.now c.args.policy.now madt_value gicd c.repeated-in-SecondGicd.result _
+    c.madt_entries-in_madt.result c.requires c.madt_entries-in_madt.ensures c.repeated-in-SecondGicd.ensures
+    (λ at picked answers. search rules))
 
 pub returns-in-TwoUidDomains : goal.returns-in-TwoUidDomains
 returns-in-TwoUidDomains c =
-    let found = c.of_srat.ensures c.args.image.now c.args.policy.now c.requires in
-    elim c.in-TwoUidDomains.is [
-      | inl is ↦ rw is (rw is at found)
-      | inr is ↦ rw is (rw is at found)
-    ]
-
-pub returns-in-AffinityNowhere : goal.returns-in-AffinityNowhere
-returns-in-AffinityNowhere c =
-    let found = c.of_domains.ensures c.args.image.now c.args.policy.now c.requires in
-    elim c.in-AffinityNowhere.is [
-      | inl is ↦ rw is (rw is at found)
-      | inr is ↦ rw is (rw is at found)
-    ]
+    let m = c.args.image.now in
+    let q = c.args.policy.now in
+    rw c.in-TwoUidDomains.is
+    (of_one (OfSrat m q) srat_contents IsTwoUidDomains c.map_or.result c.srat-srat.result (srat_lifts m q
+    c.srat-srat.result c.requires c.srat-srat.ensures)
+    c.map_or.ensures (λ none. none) (λ whole found. search rules))
 
 pub returns-in-SameLeaf : goal.returns-in-SameLeaf
 returns-in-SameLeaf c =
-    let found = c.of_pptt.ensures c.args.image.now c.args.policy.now c.requires in
-    elim c.in-SameLeaf.is [
-      | inl is ↦ rw is (rw is at found)
-      | inr (inl is) ↦ rw is (rw is at found)
-      | inr (inr is) ↦ rw is (rw is at found)
-    ]
+    let m = c.args.image.now in
+    let q = c.args.policy.now in
+    rw c.in-SameLeaf.is
+    (of_one (HasPptt m q) pptt_contents IsSameLeaf c.map_or-in-SameLeaf.result c.pptt-pptt.result (pptt_lifts m q
+    c.pptt-pptt.result c.requires c.pptt-pptt.ensures)
+    c.map_or-in-SameLeaf.ensures (λ none. none) (λ whole found. search rules))
+
+pub returns-in-SameCacheId : goal.returns-in-SameCacheId
+returns-in-SameCacheId c =
+    let m = c.args.image.now in
+    let q = c.args.policy.now in
+    rw c.in-SameCacheId.is
+    (of_one (HasPptt m q) pptt_contents IsSameCacheId c.map_or-in-SameCacheId.result c.pptt-pptt.result (pptt_lifts m q
+    c.pptt-pptt.result c.requires c.pptt-pptt.ensures)
+    c.map_or-in-SameCacheId.ensures (λ none. none) (λ whole found. search rules))
+
+-- ---- numbers that are looked up, and what is not there
+
+pub returns-in-SciNowhere : goal.returns-in-SciNowhere
+returns-in-SciNowhere c =
+    let m = c.args.image.now in
+    let q = c.args.policy.now in
+    rw c.in-SciNowhere.is
+    (of_two (OfFadt m q) (λ whole. whole) (OfMadt m q) madt_contents (IsSciNowhere q) {X = ⊤} _ (Ok
+    c.and_then-in-SciNowhere.result) c.fadt-fadt.result c.madt-madt.result
+    (fadt_lifts m q c.fadt-fadt.result c.requires c.fadt-fadt.ensures)
+    (madt_lifts m q c.madt-madt.result c.requires c.madt-madt.ensures)
+    (rw c.zip.ensures at c.and_then-in-SciNowhere.ensures) (λ none. ap Ok none) (λ one two found. search rules))
+
+pub returns-in-NoProcessor : goal.returns-in-NoProcessor
+returns-in-NoProcessor c =
+    let m = c.args.image.now in
+    let q = c.args.policy.now in
+    rw c.in-NoProcessor.is
+    (of_one (OfMadt m q) madt_contents IsNoProcessor {X = ⊤} (Ok c.and_then-in-NoProcessor.result) c.madt-madt.result
+    (madt_lifts m q c.madt-madt.result c.requires c.madt-madt.ensures)
+    c.and_then-in-NoProcessor.ensures (λ none. ap Ok none) (λ whole found. search rules))
+
+pub returns-in-NmiNowhere : goal.returns-in-NmiNowhere
+returns-in-NmiNowhere c =
+    let m = c.args.image.now in
+    let q = c.args.policy.now in
+    rw c.in-NmiNowhere.is
+    (of_one (OfMadt m q) madt_contents IsNmiNowhere c.map_or-in-NmiNowhere.result c.madt-madt.result (madt_lifts m q
+    c.madt-madt.result c.requires c.madt-madt.ensures)
+    c.map_or-in-NmiNowhere.ensures (λ none. none) (λ whole found. search rules))
+
+pub returns-in-AffinityNowhere : goal.returns-in-AffinityNowhere
+returns-in-AffinityNowhere c =
+    let m = c.args.image.now in
+    let q = c.args.policy.now in
+    rw c.in-AffinityNowhere.is
+    (of_two (OfMadt m q) madt_contents (OfSrat m q) srat_contents IsAffinityNowhere _
+    c.map_or-in-AffinityNowhere.result c.madt-madt.result c.srat-srat.result
+    (madt_lifts m q c.madt-madt.result c.requires c.madt-madt.ensures)
+    (srat_lifts m q c.srat-srat.result c.requires c.srat-srat.ensures)
+    (rw c.zip-in-AffinityNowhere.ensures at c.map_or-in-AffinityNowhere.ensures) (λ none. none) (λ one two found.
+    search rules))
+
+pub returns-in-NoDomain : goal.returns-in-NoDomain
+returns-in-NoDomain c =
+    let m = c.args.image.now in
+    let q = c.args.policy.now in
+    rw c.in-NoDomain.is
+    (of_two (OfMadt m q) madt_contents (OfSrat m q) srat_contents IsNoDomain _ c.map_or-in-NoDomain.result
+    c.madt-madt.result c.srat-srat.result
+    (madt_lifts m q c.madt-madt.result c.requires c.madt-madt.ensures)
+    (srat_lifts m q c.srat-srat.result c.requires c.srat-srat.ensures)
+    (rw c.zip-in-NoDomain.ensures at c.map_or-in-NoDomain.ensures) (λ none. none) (λ one two found. search rules))
 
 pub returns-in-NoLeaf : goal.returns-in-NoLeaf
 returns-in-NoLeaf c =
-    let found = c.of_leaves.ensures c.args.image.now c.args.policy.now c.requires in
-    elim c.in-NoLeaf.is [
-      | inl is ↦ rw is (rw is at found)
-      | inr is ↦ rw is (rw is at found)
-    ]
+    let m = c.args.image.now in
+    let q = c.args.policy.now in
+    rw c.in-NoLeaf.is
+    (of_two (OfMadt m q) madt_contents (HasPptt m q) pptt_contents IsNoLeaf _ c.map_or-in-NoLeaf.result
+    c.madt-madt.result c.pptt-pptt.result
+    (madt_lifts m q c.madt-madt.result c.requires c.madt-madt.ensures)
+    (pptt_lifts m q c.pptt-pptt.result c.requires c.pptt-pptt.ensures)
+    (rw c.zip-in-NoLeaf.ensures at c.map_or-in-NoLeaf.ensures) (λ none. none) (λ one two found. search rules))
+
+pub returns-in-LeafNowhere : goal.returns-in-LeafNowhere
+returns-in-LeafNowhere c =
+    let m = c.args.image.now in
+    let q = c.args.policy.now in
+    rw c.in-LeafNowhere.is
+    (of_two (OfMadt m q) madt_contents (HasPptt m q) pptt_contents IsLeafNowhere _ c.map_or-in-LeafNowhere.result
+    c.madt-madt.result c.pptt-pptt.result
+    (madt_lifts m q c.madt-madt.result c.requires c.madt-madt.ensures)
+    (pptt_lifts m q c.pptt-pptt.result c.requires c.pptt-pptt.ensures)
+    (rw c.zip-in-LeafNowhere.ensures at c.map_or-in-LeafNowhere.ensures) (λ none. none) (λ one two found. search rules))

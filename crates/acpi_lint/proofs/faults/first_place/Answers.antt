@@ -1,7 +1,15 @@
-use Rattle.std.proofs.Common.{◌≡◌, sym, ◌∙◌, arith}
+use Rattle.std.proofs.Common.{◌≡◌, Ok, ap, sym, ◌∙◌, rules, arith}
+use Rattle.std.specs.Prelude.{⊤}
 use Rattle.acpi_base.specs.Codes.{stage_of}
+use Rattle.acpi_base.specs.Contents.{HasPptt}
+use Rattle.acpi_base.specs.Listed.{slit_signature, HasListed}
+use Rattle.acpi_base.specs.Pptt.{pptt_contents, ReferenceFault, ParentFault, CacheFault}
+use Rattle.acpi_base.specs.Slit.{slit_contents, SlitFault}
+use Rattle.acpi_base.specs.declared.code.Code.TheVariants as code
 use Rattle.acpi_base.specs.declared.stage.Stage.TheVariants as stage
+use Rattle.acpi_base.specs.declared.table_kind.TableKind.TheVariants as kind
 use Rattle.acpi_lint.proofs.FirstOfCodes.{first_of_stage, first_of_result, gsi_clash_alone, override_clash_alone, overlap_alone, parent_cycle_alone, cache_cycle_alone, two_domains_alone, gsi_nowhere_alone, leaf_unknown_alone}
+use Rattle.acpi_lint.proofs.OfTables.{listed_lifts, pptt_lifts, of_one}
 use Rattle.acpi_lint.proofs.faults.first_place.Goals as goal
 
 pub returns-in-Rsdp : goal.returns-in-Rsdp
@@ -35,32 +43,42 @@ returns-in-Facs c =
 pub returns-in-Madt : goal.returns-in-Madt
 returns-in-Madt c =
     first_of_stage c.args.image.now c.args.policy.now stage.Madt c.args.code (sym c.stage.ensures ∙ c.in-Madt.is)
-    (λ e. omega (arith, e), λ e. omega (arith, e)) c.madt_fault.result
-    (c.madt_fault.ensures c.args.image.now c.requires)
+    (λ e. omega (arith, e), λ e. omega (arith, e)) c.listed_fault.result (c.listed_fault.ensures c.args.image.now
+    c.requires)
 
 pub returns-in-Srat : goal.returns-in-Srat
 returns-in-Srat c =
     first_of_stage c.args.image.now c.args.policy.now stage.Srat c.args.code (sym c.stage.ensures ∙ c.in-Srat.is)
-    (λ e. omega (arith, e), λ e. omega (arith, e)) c.srat_fault.result
-    (c.srat_fault.ensures c.args.image.now c.requires)
+    (λ e. omega (arith, e), λ e. omega (arith, e)) c.listed_fault-in-Srat.result (c.listed_fault-in-Srat.ensures
+    c.args.image.now c.requires)
 
 pub returns-in-Slit : goal.returns-in-Slit
 returns-in-Slit c =
-    first_of_stage c.args.image.now c.args.policy.now stage.Slit c.args.code (sym c.stage.ensures ∙ c.in-Slit.is)
-    (λ e. omega (arith, e), λ e. omega (arith, e)) c.slit_fault.result
-    (c.slit_fault.ensures c.args.image.now c.requires)
+    let m = c.args.image.now in
+    let q = c.args.policy.now in
+    first_of_stage m q stage.Slit c.args.code (sym c.stage.ensures ∙ c.in-Slit.is)
+    (λ e. omega (arith, e), λ e. omega (arith, e)) c.and_then.result
+    (of_one (HasListed m q.rsdp slit_signature) (λ whole. whole)
+    (λ whole. SlitFault (slit_contents whole) c.args.code) {X = ⊤} (Ok c.and_then.result) c.table-slit.result
+    (rw c.table-slit.ensures (listed_lifts m q.rsdp slit_signature c.args.tables.now.slit
+    (c.requires.listed kind.Slit)))
+    c.and_then.ensures (λ none. ap Ok none) (λ whole found. search rules))
 
 pub returns-in-Pptt : goal.returns-in-Pptt
 returns-in-Pptt c =
     first_of_stage c.args.image.now c.args.policy.now stage.Pptt c.args.code (sym c.stage.ensures ∙ c.in-Pptt.is)
-    (λ e. omega (arith, e), λ e. omega (arith, e)) c.pptt_fault.result
-    (c.pptt_fault.ensures c.args.image.now c.requires)
+    (λ e. omega (arith, e), λ e. omega (arith, e)) c.listed_fault-in-Pptt.result (c.listed_fault-in-Pptt.ensures
+    c.args.image.now c.requires)
 
 pub returns-in-References : goal.returns-in-References
 returns-in-References c =
-    first_of_result c.args.image.now c.args.policy.now stage.References c.args.code
-    (sym c.stage.ensures ∙ c.in-References.is) (λ e. omega (arith, e), λ e. omega (arith, e)) c.reference_fault.result
-    (c.reference_fault.ensures c.args.image.now c.requires)
+    let m = c.args.image.now in
+    let q = c.args.policy.now in
+    first_of_result m q stage.References c.args.code (sym c.stage.ensures ∙ c.in-References.is)
+    (λ e. omega (arith, e), λ e. omega (arith, e)) c.map_or.result
+    (of_one (HasPptt m q) pptt_contents (λ said. ReferenceFault said c.args.code) c.map_or.result c.pptt-pptt.result
+    (pptt_lifts m q c.pptt-pptt.result c.requires c.pptt-pptt.ensures) c.map_or.ensures (λ none. none)
+    (λ whole found. search rules))
 
 pub returns-in-Overrides : goal.returns-in-Overrides
 returns-in-Overrides c =
@@ -71,17 +89,29 @@ returns-in-Overrides c =
 
 pub returns-in-Parents : goal.returns-in-Parents
 returns-in-Parents c =
-    let code : stage_of c.args.code ≡ stage.Parents = sym c.stage.ensures ∙ c.in-Parents.is in
-    first_of_result c.args.image.now c.args.policy.now stage.Parents c.args.code code
-    (λ e. omega (arith, e), λ e. omega (arith, e)) c.parent_cycle.result
-    (rw (parent_cycle_alone c.args.code code) (c.parent_cycle.ensures c.args.image.now c.requires))
+    let m = c.args.image.now in
+    let q = c.args.policy.now in
+    let own : stage_of c.args.code ≡ stage.Parents = sym c.stage.ensures ∙ c.in-Parents.is in
+    first_of_result m q stage.Parents c.args.code own (λ e. omega (arith, e), λ e. omega (arith, e))
+    c.map_or-in-Parents.result
+    (rw (parent_cycle_alone c.args.code own)
+    (of_one (HasPptt m q) pptt_contents (λ said. ParentFault said code.ParentCycle) c.map_or-in-Parents.result
+    c.pptt-pptt.result
+    (pptt_lifts m q c.pptt-pptt.result c.requires c.pptt-pptt.ensures) c.map_or-in-Parents.ensures (λ none. none)
+    (λ whole found. search rules)))
 
 pub returns-in-Caches : goal.returns-in-Caches
 returns-in-Caches c =
-    let code : stage_of c.args.code ≡ stage.Caches = sym c.stage.ensures ∙ c.in-Caches.is in
-    first_of_result c.args.image.now c.args.policy.now stage.Caches c.args.code code
-    (λ e. omega (arith, e), λ e. omega (arith, e)) c.cache_cycle.result
-    (rw (cache_cycle_alone c.args.code code) (c.cache_cycle.ensures c.args.image.now c.requires))
+    let m = c.args.image.now in
+    let q = c.args.policy.now in
+    let own : stage_of c.args.code ≡ stage.Caches = sym c.stage.ensures ∙ c.in-Caches.is in
+    first_of_result m q stage.Caches c.args.code own (λ e. omega (arith, e), λ e. omega (arith, e))
+    c.map_or-in-Caches.result
+    (rw (cache_cycle_alone c.args.code own)
+    (of_one (HasPptt m q) pptt_contents (λ said. CacheFault said code.CacheCycle) c.map_or-in-Caches.result
+    c.pptt-pptt.result
+    (pptt_lifts m q c.pptt-pptt.result c.requires c.pptt-pptt.ensures) c.map_or-in-Caches.ensures (λ none. none)
+    (λ whole found. search rules)))
 
 pub returns-in-Domains : goal.returns-in-Domains
 returns-in-Domains c =

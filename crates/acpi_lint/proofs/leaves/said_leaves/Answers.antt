@@ -1,9 +1,15 @@
 use Rattle.std.proofs.Common.{rules}
+use Rattle.acpi_base.specs.Lint.Numbered.{NamesAt}
+use Rattle.acpi_base.specs.Pptt.{pptt_contents}
+use Rattle.acpi_read.specs.Pptts.{pptt_value}
+use Rattle.acpi_check.proofs.EntryPasses.Kept.{pptt_rising}
 use Rattle.acpi_lint.specs.Leaves.{said_leaf_id}
-use Rattle.acpi_lint.proofs.CollectedNumbers.{pptt_numbers}
+use Rattle.acpi_lint.proofs.CollectedNumbers.{as_named, gathered_numbers}
 use Rattle.acpi_lint.proofs.leaves.said_leaves.Goals as goal
 
 pub returns : goal.returns
 returns c =
-    pptt_numbers said_leaf_id c.args.pptt.now c.collected.result c.collected.ensures c.entries.ensures.entries
+    let entries = (pptt_contents c.args.pptt.now).entries in
+    gathered_numbers pptt_value (λ s. said_leaf_id s.entry) (NamesAt said_leaf_id entries) 36 c.collected.result
+    (pptt_rising c.args.pptt.now) (as_named said_leaf_id entries) c.collected.ensures c.entries.ensures.entries
     (λ at picked answers. search rules)

@@ -1,18 +1,30 @@
+use Rattle.std.proofs.Common.{◌≡◌, ℕ, rules}
 use Rattle.acpi_base.specs.Lint.Numbered.{IsNamed}
 use Rattle.acpi_base.specs.Lint.Processors.{uid_of, IsLeafAt}
-use Rattle.acpi_base.specs.Madt.{madt_contents}
-use Rattle.acpi_base.specs.Pptt.{pptt_contents}
+use Rattle.acpi_base.specs.Madt.{MadtContents, madt_contents}
+use Rattle.acpi_base.specs.Pptt.{PpttContents, pptt_contents}
+use Rattle.acpi_read.specs.Madts.{madt_value}
+use Rattle.acpi_lint.proofs.CollectedNumbers.{known_read}
 use Rattle.acpi_lint.proofs.LeastPlaces.{least_as}
-use Rattle.acpi_lint.proofs.UnknownOnes.{unknown_placed}
+use Rattle.acpi_lint.proofs.UnknownOnes.{unknown_placed, where_all_read}
 use Rattle.acpi_lint.proofs.nowhere.leaf_nowhere.Goals as goal
+
+-- the leaf's ID is no processor's UID
+abbrev IsUnknownLeaf : MadtContents → PpttContents → ℕ → ℕ → ℕ → Type 0
+IsUnknownLeaf madt pptt at other point =
+    IsLeafAt pptt at point × (¬ IsNamed uid_of madt.entries point) × (other ≡ 0)
 
 pub returns : goal.returns
 returns c =
-    let asked = c.are_processors_read.ensures.0 c.if-not-are_processors_read.false in
+    let madt = madt_contents c.args.madt.now in
+    let pptt = pptt_contents c.args.pptt.now in
     let some = c.has_gicc.ensures.0 c.if-not-has_gicc.false in
-    least_as c.first_unknown.result (λ at other point (stands, none, unused). (asked, some, stands, none, unused))
-    (λ at other point (_, _, stands, none, unused). (stands, none, unused))
-    (unknown_placed (IsNamed uid_of (madt_contents c.args.madt.now).entries)
-    (IsLeafAt (pptt_contents c.args.pptt.now)) c.in_ok-uids.uids.items c.in_ok-leaves.leaves.items
-    c.first_unknown.result c.in_ok-uids.ensures c.in_ok-leaves.ensures
-    (rw (c.deref.ensures.value, c.deref-2.ensures.value) at c.first_unknown.ensures))
+    least_as c.where_read.result (λ at other point (read, (stands, none, unused)). (read, some, stands, none, unused))
+    (λ at other point (read, _, stands, none, unused). (read, (stands, none, unused)))
+    (where_all_read madt (IsUnknownLeaf madt pptt) c.first_unknown.result c.where_read.result c.where_read.ensures
+    (unknown_placed (IsNamed uid_of madt.entries) (IsLeafAt pptt) c.in_ok-uids.uids.items c.in_ok-leaves.leaves.items
+    c.first_unknown.result
+    (known_read madt_value uid_of madt.entries c.in_ok-uids.uids.items
+    (rw c.entries.ensures.entries at c.in_ok-uids.ensures) (λ at number answers. search rules))
+    c.in_ok-leaves.ensures
+    (rw (c.deref.ensures.value, c.deref-2.ensures.value) at c.first_unknown.ensures)))

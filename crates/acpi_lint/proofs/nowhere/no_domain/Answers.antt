@@ -4,11 +4,13 @@ use Rattle.acpi_base.specs.Lint.Processors.{apic_id_on, gicc_uid_on, placed_apic
 use Rattle.acpi_base.specs.Madt.{madt_contents}
 use Rattle.acpi_base.specs.Srat.{srat_contents}
 use Rattle.acpi_read.specs.Madts.{madt_value}
+use Rattle.acpi_read.specs.Srats.{srat_value}
 use Rattle.acpi_check.proofs.EntryPasses.Kept.{madt_rising}
 use Rattle.acpi_lint.specs.UnknownNumbers.{IsUnplaced}
+use Rattle.acpi_lint.proofs.CollectedNumbers.{known_read}
 use Rattle.acpi_lint.proofs.FirstEntries.{least_of_entries}
 use Rattle.acpi_lint.proofs.LeastPlaces.{least_as}
-use Rattle.acpi_lint.proofs.UnknownOnes.{unknown_of_two}
+use Rattle.acpi_lint.proofs.UnknownOnes.{IsUnknownNamedOfTwo, unknown_of_two, where_all_read}
 use Rattle.acpi_lint.proofs.nowhere.no_domain.Goals as goal
 
 pub returns : goal.returns
@@ -17,14 +19,21 @@ returns c =
     let others = (srat_contents c.args.srat.now).entries in
     let ids = c.as_slice-ids.result.now in
     let uids = c.as_slice-uids.result.now in
-    let found = c.first_picked.result in
-    let asked = c.are_processors_read.ensures.0 c.if-not-are_processors_read.false in
+    let found = c.first_picked-place.result in
     let some = c.is_any_placed.ensures.0 c.if-not-is_any_placed.false in
-    least_as found (λ at other point (sides, unused). (asked, some, sides, unused))
-    (λ at other point (_, _, sides, unused). (sides, unused))
-    (unknown_of_two apic_id_on gicc_uid_on (IsNamed placed_apic_id others) (IsNamed placed_uid others) entries ids
-    uids found
-    (rw (← c.as_slice-ids.ensures.value) at c.in_ok-ids.ensures)
-    (rw (← c.as_slice-uids.ensures.value) at c.in_ok-uids.ensures)
-    (least_of_entries madt_value (IsUnplaced ids uids) 44 found c.first_picked.ensures c.entries.ensures.entries
-    (madt_rising c.args.madt.now) (λ at picked here answers. search rules)))
+    least_as c.where_read.result (λ at other point (read, (sides, unused)). (read, some, sides, unused))
+    (λ at other point (read, _, sides, unused). (read, (sides, unused)))
+    (where_all_read (madt_contents c.args.madt.now)
+    (IsUnknownNamedOfTwo apic_id_on (IsNamed placed_apic_id others) gicc_uid_on (IsNamed placed_uid others) entries)
+    found
+    c.where_read.result c.where_read.ensures
+    (unknown_of_two apic_id_on gicc_uid_on (IsNamed placed_apic_id others) (IsNamed placed_uid others) entries ids uids
+    found
+    (known_read srat_value placed_apic_id others ids
+    (rw (c.entries.ensures.entries, ← c.as_slice-ids.ensures.value) at c.in_ok-ids.ensures)
+    (λ at number answers. search rules))
+    (known_read srat_value placed_uid others uids
+    (rw (c.entries-2.ensures.entries, ← c.as_slice-uids.ensures.value) at c.in_ok-uids.ensures)
+    (λ at number answers. search rules))
+    (least_of_entries madt_value (IsUnplaced ids uids) 44 found c.first_picked-place.ensures c.entries-3.ensures.entries
+    (madt_rising c.args.madt.now) (λ at picked here answers. search rules))))

@@ -1,5 +1,14 @@
-use Rattle.std.proofs.Common.{true≢false, refl, sym, ◌∙◌, inr, arith}
+use Rattle.std.proofs.Common.{◌≡◌, ℕ, Some, true≢false, refl, sym, ◌∙◌, inr, arith}
+use Rattle.acpi_base.specs.Lint.Numbered.{IsNamed}
+use Rattle.acpi_base.specs.Lint.Processors.{uid_on}
+use Rattle.acpi_base.specs.Madt.{MadtContents, madt_contents}
+use Rattle.acpi_lint.proofs.LeastPlaces.{least_as}
+use Rattle.acpi_lint.proofs.UnknownOnes.{where_all_read}
 use Rattle.acpi_lint.proofs.nowhere.no_processor.Goals as goal
+
+-- no processor is on, which is found at the place 0
+abbrev IsNoneOn : MadtContents → ℕ → ℕ → ℕ → Type 0
+IsNoneOn c at other point = ((uid : ℕ) → ¬ IsNamed uid_on c.entries uid) × (at ≡ 0) × (other ≡ 0) × (point ≡ 0)
 
 pub returns-then-is_any_on : goal.returns-then-is_any_on
 returns-then-is_any_on c = λ at other point (read, none, place, unused).
@@ -7,14 +16,19 @@ returns-then-is_any_on c = λ at other point (read, none, place, unused).
 
 pub returns : goal.returns
 returns c =
-    rw c.at.ensures
+    let madt = madt_contents c.args.madt.now in
+    least_as c.where_read.result
+    (λ at other point (read, (none, place, first, second)). (read, none, place, (first, second)))
+    (λ at other point (read, none, place, (first, second)). (read, (none, place, first, second)))
+    (where_all_read madt (IsNoneOn madt) (Some c.at.result) c.where_read.result c.where_read.ensures
+    (rw c.at.ensures
     (record {
       here = (
-        c.are_processors_read.ensures.0 c.if-not-are_processors_read.false,
         λ uid named. true≢false (sym (c.is_any_on.ensures.1 (uid, named)) ∙ c.if-is_any_on.false),
         refl,
-        (refl, refl),
+        refl,
+        refl,
       );
-      least = λ at other point (read, none, place, (first, second)).
+      least = λ at other point (none, place, first, second).
           inr (sym place, inr (sym first, omega (arith, second)));
-    })
+    })))

@@ -12,7 +12,7 @@ pub returns : goal.returns
 returns c =
     let offsets = c.in_ok-offsets.offsets in
     let said = pptt_contents c.args.pptt.now in
-    let found : FindsLeast (IsFaultAt (NamesNoLink c.args.link offsets) said.entries) c.first_picked.result =
-    least_of_entries pptt_value (NamesNoLink c.args.link offsets) 36 c.first_picked.result c.first_picked.ensures
+    let found : FindsLeast (IsFaultAt (NamesNoLink c.args.chain offsets) said.entries) c.first_picked.result =
+    least_of_entries pptt_value (NamesNoLink c.args.chain offsets) 36 c.first_picked.result c.first_picked.ensures
     c.entries.ensures.entries (pptt_rising c.args.pptt.now) (λ at picked here answers. search rules) in
-    links_dangle c.args.link said offsets c.first_picked.result c.in_ok-offsets.ensures found
+    links_dangle c.args.chain said offsets c.first_picked.result c.in_ok-offsets.ensures found

@@ -17,8 +17,8 @@ pub returns : goal.returns
 returns c =
     let head = c.in-Node.head in
     let references = c.in-Node.references.now in
-    let (below, missing, before) = c.in_ok-number.ensures in
-    rw (c.from.ensures, c.from-2.ensures, c.u32_at.ensures)
+    let found = c.in_ok-number.ensures in
+    rw (c.from.ensures, c.from-2.ensures, found.1)
     (first_missing c.args.offsets.now references head.count c.in_ok-number.number
-    (entry_at_value pptt_value c.args.at.now) (node_value head references) (ap pptt_value c.in-Node.is) refl below
-    missing before)
+    (entry_at_value pptt_value c.args.at.now) (node_value head references) (ap pptt_value c.in-Node.is) refl found.0
+    (rw found.1 at found.2) found.3)

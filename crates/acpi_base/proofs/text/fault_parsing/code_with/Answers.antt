@@ -1,5 +1,6 @@
-use Rattle.std.proofs.Common.{inl, inr, refl, arith}
+use Rattle.std.proofs.Common.{suc, length, inl, inr, refl, arith}
 use Rattle.std.proofs.lemmas.Bool.{cases_lt}
+use Rattle.acpi_base.specs.Codes.{all_codes}
 use Rattle.acpi_base.proofs.Faults.Numbers.{code_below, code_from}
 use Rattle.acpi_base.proofs.Texts.FaultTexts.{none_up_to}
 use Rattle.acpi_base.proofs.text.fault_parsing.code_with.Goals as goal
@@ -19,7 +20,7 @@ loop-code-preserved c = (
 
 pub returns : goal.returns
 returns c = λ code head.
-    elim (cases_lt c.loop-code.number 60) [
+    elim (cases_lt c.loop-code.number (suc (length all_codes))) [
       | inl within ↦ absurd (let some = c.in_default.ensures.some.1 (c.loop-code.invariant.0, omega arith) in cc)
       | inr past ↦ (let below = code_below code in c.loop-code.invariant.1 code (omega arith) head)
     ]

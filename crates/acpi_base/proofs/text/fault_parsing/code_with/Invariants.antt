@@ -9,4 +9,4 @@ abbrev pub invariant-loop-code : goal.invariant-loop-code
 invariant-loop-code l = (1 ≤ l.number) × ((c : Code) → code_number c < l.number → ¬ IsHead l.stage l.name c)
 
 abbrev pub decreases-loop-code : goal.decreases-loop-code
-decreases-loop-code l = 60 - l.number
+decreases-loop-code l = 256 - l.number

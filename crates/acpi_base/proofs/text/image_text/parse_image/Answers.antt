@@ -12,10 +12,10 @@ pub returns-in-Ok-clause-ok : goal.returns-in-Ok-clause-ok
 returns-in-Ok-clause-ok c =
     let read = c.in-Ok.ensures.whole c.new-buffer.ensures.line in
     let same = whole_text _ _ c.args.text.now c.in-Ok.last.now c.new-buffer.ensures.parser read.0 read.1 in
-    IfOk-weaker c.finish_at.result _ _ (λ image is. (is.0, same ∙ is.1, is.2)) c.finish_at.ensures.ok
+    IfOk-weaker c.finish_with.result _ _ (λ image is. (is.0, same ∙ is.1, is.2)) c.finish_with.ensures.ok
 
 pub returns-in-Ok-clause-memory : goal.returns-in-Ok-clause-memory
 returns-in-Ok-clause-memory c =
     let read = c.in-Ok.ensures.whole c.new-buffer.ensures.line in
-    whole_memory _ _ c.args.text.now c.in-Ok.last.now c.finish_at.result c.new-buffer.ensures.parser read.0 read.1
-    c.finish_at.ensures.memory
+    whole_memory _ _ c.args.text.now c.in-Ok.last.now c.finish_with.result c.new-buffer.ensures.parser read.0 read.1
+    c.finish_with.ensures.memory

@@ -1,12 +1,6 @@
-use Rattle.std.proofs.Common.{ℕ, List, refl, inl, sym, subst, ◌∙◌}
-use Rattle.std.specs.Prelude.{Result}
-use Rattle.std.specs.FinMap.{empty}
+use Rattle.std.proofs.Common.{refl, inl, sym, subst, ◌∙◌}
 use Rattle.acpi_base.specs.declared.image.ImageFault.TheVariants as fault
-use Rattle.acpi_base.specs.Image.Adding.{IsLayoutRefusal}
-use Rattle.acpi_base.specs.Image.Draft.{all_added}
-use Rattle.acpi_base.specs.Image.Pieces.{runs_in}
 use Rattle.acpi_base.specs.Image.Segments.{AreSegmentsApart}
-use Rattle.acpi_base.specs.Memory.{Memory}
 use Rattle.acpi_base.proofs.Images.Adopted.{apart_joined}
 use Rattle.acpi_base.proofs.Images.FirstTwice.{told_on}
 use Rattle.acpi_base.proofs.image.draft.DraftImage.finish.Goals as goal

@@ -1,0 +1,276 @@
+-- From what is found in a table to what is found of the set that lists it.
+use Rattle.std.proofs.Common.{◌≡◌, ℕ, ◌≤◌, List, length, Option, Some, None, Result, Ok, Err, refl, ap, arith}
+use Rattle.std.specs.Prelude.{◌↔◌, IfOk, MatchOption, option_map}
+use Rattle.std.specs.Option.{option_zip}
+use Rattle.std.proofs.lemmas.Option.{same_Some}
+use denote.Ref.{Bor}
+use Rattle.acpi_base.specs.Contents.{HasPptt}
+use Rattle.acpi_base.specs.Entries.{PlacedEntry}
+use Rattle.acpi_base.specs.Lint.Numbered.{OnEntry, Repeats}
+use Rattle.acpi_base.specs.Lint.Sets.{OfFadt, OfMadt, OfSrat, OfSlit}
+use Rattle.acpi_base.specs.Listed.{fadt_signature, madt_signature, srat_signature, slit_signature, pptt_signature, HasListed}
+use Rattle.acpi_base.specs.Madt.{MadtEntry, madt_contents}
+use Rattle.acpi_base.specs.Memory.{Memory}
+use Rattle.acpi_base.specs.Policy.{PolicyValue}
+use Rattle.acpi_base.specs.Pptt.{PpttEntry, pptt_contents}
+use Rattle.acpi_base.specs.Lint.SratAdvice.{IsDomainPastSlit}
+use Rattle.acpi_base.specs.Slit.{SlitContents, slit_contents, HasSlitSize}
+use Rattle.acpi_base.specs.Srat.{SratEntry, srat_contents}
+use Rattle.acpi_base.specs.declared.table_kind.TableKind.TheVariants as kind
+use Rattle.acpi_base.proofs.Faults.ListedTables.{of_listed}
+use Rattle.acpi_read.specs.Slits.{HasRows}
+use Rattle.acpi_read.specs.TypedEntries.{entry_at_value}
+use Rattle.acpi_read.specs.declared.typed_entries.EntryAt.{EntryAt}
+use Rattle.acpi_check.specs.CollectedValues.{Picks}
+use Rattle.acpi_check.proofs.EntryPasses.Kept.{AreRising, madt_rising, srat_rising, pptt_rising}
+use Rattle.acpi_lint.specs.EntryNumbers.{FindsRepeated}
+use Rattle.acpi_lint.specs.FirstPicked.{PicksFirst, FindsOwn}
+use Rattle.acpi_lint.specs.Numbered.{at_place}
+use Rattle.acpi_lint.specs.Places.{FindsLeast}
+use Rattle.acpi_lint.specs.WholeTables.{IsFound, IsLong, AreEntries, AreWholeTables}
+use Rattle.acpi_lint.specs.declared.numbered.Numbered.{Numbered}
+use Rattle.acpi_lint.specs.declared.place.Place.{Place}
+use Rattle.acpi_lint.specs.declared.whole_tables.WholeTables.{WholeTables}
+use Rattle.acpi_lint.proofs.CollectedNumbers.{each_ok, repeated_read}
+use Rattle.acpi_lint.proofs.FirstEntries.{least_of_entries}
+use Rattle.acpi_lint.proofs.LeastPlaces.{least_as}
+
+-- ---- the tables of a set
+
+-- `Of P` says P of what the set's table says: that is what this view says, and without a view nothing is said
+abbrev pub Lifts : {C : Type 0} → ((C → Type 0) → Type 0) → (List ℕ → C) → Option (List ℕ) → Type 1
+Lifts {C} Of read None = (P : C → Type 0) → ¬ Of P
+Lifts {C} Of read (Some whole) = (P : C → Type 0) → Of P ↔ P (read whole)
+
+-- so it is of the first listed table
+pub listed_lifts : (m : Memory) (p : ℕ) (signature : List ℕ) (found : Option (List ℕ)) → IsFound m p signature found
+    → Lifts (HasListed m p signature) (λ whole. whole) found
+listed_lifts m p signature None looked = λ P (whole, listed, holds). looked whole listed
+listed_lifts m p signature (Some whole) looked = λ P. (
+  λ has. of_listed P looked has,
+  λ holds. (whole, looked, holds),
+)
+
+-- and of it where it is long enough
+long_lifts : (Of : (List ℕ → Type 0) → Type 0) (least : ℕ) (found view : Option (List ℕ)) → Lifts Of (λ whole. whole)
+    found
+    → IsLong least found view → Lifts (λ P. Of (λ whole. (least ≤ length whole) × P whole)) (λ whole. whole) view
+long_lifts Of least None None lifts long = λ P. lifts (λ whole. (least ≤ length whole) × P whole)
+long_lifts Of least None (Some whole) lifts (is, size) = cc
+long_lifts Of least (Some whole) None lifts long = λ P has.
+    let (size, _) = (lifts (λ whole. (least ≤ length whole) × P whole)).0 has in omega (arith, size, long whole refl)
+long_lifts Of least (Some other) (Some whole) lifts (is, size) = λ P.
+    let same : other ≡ whole = same_Some other whole is in
+    let both = rw same at (lifts (λ whole. (least ≤ length whole) × P whole)) in
+    (λ has. (both.0 has).1, λ holds. both.1 (size, holds))
+
+-- and of what its bytes say
+read_lifts : {C : Type 0} (Of : (List ℕ → Type 0) → Type 0) (read : List ℕ → C) (view : Option (List ℕ))
+    → Lifts Of (λ whole. whole) view → Lifts (λ P. Of (λ whole. P (read whole))) read view
+read_lifts Of read None lifts = λ P. lifts (λ whole. P (read whole))
+read_lifts Of read (Some whole) lifts = λ P. lifts (λ whole. P (read whole))
+
+pub fadt_lifts : (m : Memory) (q : PolicyValue) {tables : WholeTables} (view : Option (List ℕ))
+    → AreWholeTables m q.rsdp tables → IsLong 116 tables.fadt view → Lifts (OfFadt m q) (λ whole. whole) view
+fadt_lifts m q {tables = tables} view are long =
+    long_lifts (HasListed m q.rsdp fadt_signature) 116 tables.fadt view
+    (listed_lifts m q.rsdp fadt_signature tables.fadt (are.listed kind.Fadt)) long
+
+pub madt_lifts : (m : Memory) (q : PolicyValue) {tables : WholeTables} (view : Option (List ℕ))
+    → AreWholeTables m q.rsdp tables → IsLong 44 tables.madt view → Lifts (OfMadt m q) madt_contents view
+unfolding madt_contents
+madt_lifts m q {tables = tables} view are long =
+    read_lifts (λ P. HasListed m q.rsdp madt_signature (λ whole. (44 ≤ length whole) × P whole)) madt_contents view
+    (long_lifts (HasListed m q.rsdp madt_signature) 44 tables.madt view
+    (listed_lifts m q.rsdp madt_signature tables.madt (are.listed kind.Madt)) long)
+
+pub srat_lifts : (m : Memory) (q : PolicyValue) {tables : WholeTables} (view : Option (List ℕ))
+    → AreWholeTables m q.rsdp tables → IsLong 48 tables.srat view → Lifts (OfSrat m q) srat_contents view
+unfolding srat_contents
+srat_lifts m q {tables = tables} view are long =
+    read_lifts (λ P. HasListed m q.rsdp srat_signature (λ whole. (48 ≤ length whole) × P whole)) srat_contents view
+    (long_lifts (HasListed m q.rsdp srat_signature) 48 tables.srat view
+    (listed_lifts m q.rsdp srat_signature tables.srat (are.listed kind.Srat)) long)
+
+pub pptt_lifts : (m : Memory) (q : PolicyValue) {tables : WholeTables} (view : Option (List ℕ))
+    → AreWholeTables m q.rsdp tables → view ≡ tables.pptt → Lifts (HasPptt m q) pptt_contents view
+pptt_lifts m q {tables = tables} view are is =
+    read_lifts (HasListed m q.rsdp pptt_signature) pptt_contents view
+    (rw is (listed_lifts m q.rsdp pptt_signature tables.pptt (are.listed kind.Pptt)))
+
+-- ---- what is found in one table, and in two
+
+pub of_one : {C : Type 0} (Of : (C → Type 0) → Type 0) (read : List ℕ → C) (P : C → ℕ → ℕ → ℕ → Type 0) {X A : Type 0}
+    {B : List ℕ → Type 0} (r : Result (Option Place) X) (view : Option (List ℕ)) → Lifts Of read view
+    → MatchOption view A B → (A → r ≡ Ok None)
+    → ((whole : List ℕ) → B whole → IfOk r (FindsLeast (P (read whole))))
+    → IfOk r (FindsLeast (λ at other point. Of (λ c. P c at other point)))
+of_one Of read P r None lifts is none some = rw (none is) (λ at other point has. lifts (λ c. P c at other point) has)
+of_one Of read P r (Some whole) lifts is none some =
+    each_ok r (λ found least. least_as found (λ at other point holds. (lifts (λ c. P c at other point)).1 holds)
+    (λ at other point has. (lifts (λ c. P c at other point)).0 has) least)
+    (some whole is)
+
+pub of_two : {C D : Type 0} (Of : (C → Type 0) → Type 0) (read : List ℕ → C) (With : (D → Type 0) → Type 0)
+    (say : List ℕ → D) (P : C → D → ℕ → ℕ → ℕ → Type 0) {X A : Type 0} (B : List ℕ × List ℕ → Type 0)
+    (r : Result (Option Place) X) (first second : Option (List ℕ)) → Lifts Of read first → Lifts With say second
+    → MatchOption (option_zip first second) A B → (A → r ≡ Ok None)
+    → ((one two : List ℕ) → B (one, two) → IfOk r (FindsLeast (P (read one) (say two))))
+    → IfOk r (FindsLeast (λ at other point. Of (λ c. With (λ d. P c d at other point))))
+of_two Of read With say P B r None second lifts other is none some =
+    of_one Of read (λ c at other point. With (λ d. P c d at other point)) r None lifts is none (λ one none. none)
+of_two Of read With say P {A = A} B r (Some one) second lifts other is none some =
+    each_ok r (λ found least. least_as found (λ at o point holds. (lifts (λ c. With (λ d. P c d at o point))).1 holds)
+    (λ at o point has. (lifts (λ c. With (λ d. P c d at o point))).0 has) least)
+    (of_one With say (P (read one)) {B = λ two. B (one, two)} r second other (zipped second is) none (some one))
+  where
+    zipped : (second : Option (List ℕ)) → MatchOption (option_zip (Some one) second) A B
+        → MatchOption second A (λ two. B (one, two))
+    zipped None is = is
+    zipped (Some two) is = is
+
+-- ---- what is found of entries
+
+-- entries are those of the table that is viewed
+viewed : {T E : Type 0} (A : Type 0) (B : T → Type 0) (said : T → E) (read : List ℕ → E) (entries : Option T)
+    (view : Option (List ℕ)) → option_map said entries ≡ option_map read view → MatchOption entries A B
+    → MatchOption view A (λ whole. (e : T) × (said e ≡ read whole) × B e)
+viewed A B said read None None same is = is
+viewed A B said read None (Some whole) same is = cc
+viewed A B said read (Some e) None same is = cc
+viewed A B said read (Some e) (Some whole) same is = (e, same_Some (said e) (read whole) same, is)
+
+-- a rule on an entry by itself
+own_of : {C E Said T : Type 0} (Of : (C → Type 0) → Type 0) (read : List ℕ → C) (list : C → List (PlacedEntry Said))
+    (low : ℕ) → ((whole : List ℕ) → AreRising low (list (read whole))) → (value : E → Said)
+    {Answers : Bor (EntryAt E) → Option Place → Type 0} (Is : Said → ℕ → ℕ → Type 0) (found : Option Place)
+    (said : T → List (PlacedEntry Said)) (entries : Option T) (view : Option (List ℕ)) → Lifts Of read view
+    → option_map said entries ≡ option_map (λ whole. list (read whole)) view
+    → MatchOption entries (found ≡ None) (λ e. PicksFirst (Picks value Answers) (said e) found)
+    → ((at : Bor (EntryAt E)) (picked : Option Place) → Answers at picked
+    → FindsOwn (λ at. Is) (entry_at_value value at.now) picked)
+    → FindsLeast (λ at other point. Of (λ c. OnEntry Is (list c) at other point)) found
+own_of {Said = Said} Of read list low rises value {Answers = Answers} Is found said entries view lifts same is each =
+    of_one Of read (λ c at other point. OnEntry Is (list c) at other point) {X = Said} (Ok found) view lifts
+    (viewed (found ≡ None) (λ e. PicksFirst (Picks value Answers) (said e) found) said (λ whole. list (read whole))
+    entries
+    view same is)
+    (λ none. ap Ok none)
+    (λ whole (e, one, picks). least_of_entries value (λ at. Is) low found picks one (rises whole)
+    (λ at picked here answers. each at picked answers))
+
+pub own_madt : (m : Memory) (q : PolicyValue) {E T : Type 0} (value : E → MadtEntry)
+    {Answers : Bor (EntryAt E) → Option Place → Type 0} (Is : MadtEntry → ℕ → ℕ → Type 0) (found : Option Place)
+    (said : T → List (PlacedEntry MadtEntry)) (entries : Option T) {tables : WholeTables} → AreWholeTables m q.rsdp
+    tables
+    → AreEntries 44 (λ whole. (madt_contents whole).entries) tables.madt (option_map said entries)
+    → MatchOption entries (found ≡ None) (λ e. PicksFirst (Picks value Answers) (said e) found)
+    → ((at : Bor (EntryAt E)) (picked : Option Place) → Answers at picked
+    → FindsOwn (λ at. Is) (entry_at_value value at.now) picked)
+    → FindsLeast (λ at other point. OfMadt m q (λ madt. OnEntry Is madt.entries at other point)) found
+own_madt m q value Is found said entries are (view, long, same) is each =
+    own_of (OfMadt m q) madt_contents (λ c. c.entries) 44 madt_rising value Is found said entries view
+    (madt_lifts m q view are long) same is each
+
+pub own_srat : (m : Memory) (q : PolicyValue) {E T : Type 0} (value : E → SratEntry)
+    {Answers : Bor (EntryAt E) → Option Place → Type 0} (Is : SratEntry → ℕ → ℕ → Type 0) (found : Option Place)
+    (said : T → List (PlacedEntry SratEntry)) (entries : Option T) {tables : WholeTables} → AreWholeTables m q.rsdp
+    tables
+    → AreEntries 48 (λ whole. (srat_contents whole).entries) tables.srat (option_map said entries)
+    → MatchOption entries (found ≡ None) (λ e. PicksFirst (Picks value Answers) (said e) found)
+    → ((at : Bor (EntryAt E)) (picked : Option Place) → Answers at picked
+    → FindsOwn (λ at. Is) (entry_at_value value at.now) picked)
+    → FindsLeast (λ at other point. OfSrat m q (λ srat. OnEntry Is srat.entries at other point)) found
+own_srat m q value Is found said entries are (view, long, same) is each =
+    own_of (OfSrat m q) srat_contents (λ c. c.entries) 48 srat_rising value Is found said entries view
+    (srat_lifts m q view are long) same is each
+
+pub own_pptt : (m : Memory) (q : PolicyValue) {E T : Type 0} (value : E → PpttEntry)
+    {Answers : Bor (EntryAt E) → Option Place → Type 0} (Is : PpttEntry → ℕ → ℕ → Type 0) (found : Option Place)
+    (said : T → List (PlacedEntry PpttEntry)) (entries : Option T) {tables : WholeTables} → AreWholeTables m q.rsdp
+    tables
+    → option_map said entries ≡ option_map (λ whole. (pptt_contents whole).entries) tables.pptt
+    → MatchOption entries (found ≡ None) (λ e. PicksFirst (Picks value Answers) (said e) found)
+    → ((at : Bor (EntryAt E)) (picked : Option Place) → Answers at picked
+    → FindsOwn (λ at. Is) (entry_at_value value at.now) picked)
+    → FindsLeast (λ at other point. HasPptt m q (λ pptt. OnEntry Is pptt.entries at other point)) found
+own_pptt m q value Is found said entries {tables = tables} are same is each =
+    own_of (HasPptt m q) pptt_contents (λ c. c.entries) 36 pptt_rising value Is found said entries tables.pptt
+    (pptt_lifts m q tables.pptt are refl) same is each
+
+-- a number that repeats
+pub repeated_madt : (m : Memory) (q : PolicyValue) {E T X : Type 0} (value : E → MadtEntry)
+    {Answers : Bor (EntryAt E) → Option Numbered → Type 0} (read : MadtEntry → Option ℕ) (r : Result (Option Place) X)
+    (said : T → List (PlacedEntry MadtEntry)) (entries : Option T) {tables : WholeTables} → AreWholeTables m q.rsdp
+    tables
+    → AreEntries 44 (λ whole. (madt_contents whole).entries) tables.madt (option_map said entries)
+    → IfOk r (λ found. MatchOption entries (found ≡ None) (λ e. FindsRepeated (Picks value Answers) (said e) found))
+    → ((at : Bor (EntryAt E)) (picked : Option Numbered) → Answers at picked
+    → picked ≡ option_map (at_place at.now.offset) (read (value at.now.entry)))
+    → IfOk r (FindsLeast (λ at other point. OfMadt m q (λ madt. Repeats read madt.entries at other point)))
+repeated_madt m q value read (Err e) said entries are (view, long, same) is each = tt
+repeated_madt m q {X = X} value {Answers = Answers} read (Ok found) said entries are (view, long, same) is each =
+    of_one (OfMadt m q) madt_contents (λ c at other point. Repeats read c.entries at other point) {X = X} (Ok found)
+    view
+    (madt_lifts m q view are long)
+    (viewed (found ≡ None) (λ e. FindsRepeated (Picks value Answers) (said e) found) said (λ whole. (madt_contents
+    whole).entries)
+    entries view same is)
+    (λ none. ap Ok none)
+    (λ whole (e, one, repeats). repeated_read value read 44 _ found (madt_rising whole) (rw one at repeats) each)
+
+-- ---- the SRAT and the SLIT
+
+slit_found : (m : Memory) (q : PolicyValue) {tables : WholeTables} (view : Option (List ℕ))
+    → AreWholeTables m q.rsdp tables → view ≡ tables.slit
+    → Lifts (HasListed m q.rsdp slit_signature) (λ whole. whole) view
+slit_found m q {tables = tables} view are is =
+    rw is (listed_lifts m q.rsdp slit_signature tables.slit (are.listed kind.Slit))
+
+-- no SLIT of the set has its size
+pub no_slit : (m : Memory) (q : PolicyValue) {tables : WholeTables} (view : Option (List ℕ))
+    → AreWholeTables m q.rsdp tables → view ≡ tables.slit
+    → MatchOption view (Unit {0}) (λ slit. ¬ HasSlitSize (slit_contents slit)) → (P : SlitContents → Type 0)
+    → ¬ OfSlit m q P
+no_slit m q None are is not P (slit, listed, (size, has)) =
+    slit_found m q None are is (λ whole. Unit {0}) (slit, listed, tt)
+no_slit m q (Some whole) are is not P (slit, listed, (size, has)) =
+    not ((slit_found m q (Some whole) are is (λ other. HasSlitSize (slit_contents other))).0 (slit, listed, size))
+
+-- one that has its size is that of the set
+pub sized_slit : (m : Memory) (q : PolicyValue) {tables : WholeTables} (slit : List ℕ) (n : ℕ)
+    → AreWholeTables m q.rsdp tables → Some slit ≡ tables.slit → HasRows slit n
+    → Lifts (OfSlit m q) slit_contents (Some slit)
+unfolding slit_contents
+sized_slit m q slit n are is rows = λ P.
+    let both = slit_found m q (Some slit) are is (λ whole. HasSlitSize (slit_contents whole) × P (slit_contents whole))
+    in
+    (λ has. (both.0 has).1, λ holds. both.1 (rw rows.count rows.size, holds))
+
+-- so many localities are those of that SLIT
+pub past_localities : (m : Memory) (q : PolicyValue) (slit : List ℕ) (n : ℕ) (found : Option Place) → HasRows slit n
+    → Lifts (OfSlit m q) slit_contents (Some slit)
+    → FindsLeast (λ at other point. OfSrat m q (λ srat. OnEntry (IsDomainPastSlit n) srat.entries at other point)) found
+    → FindsLeast (λ at other point. OfSrat m q (λ srat.
+    OfSlit m q (λ s. OnEntry (IsDomainPastSlit s.count) srat.entries at other point))) found
+past_localities m q slit n found rows lifts least =
+    least_as found
+    (λ at other point (srat, listed, (size, past)). (
+      srat,
+      listed,
+      (
+        size,
+        (lifts (λ s. OnEntry (IsDomainPastSlit s.count) (srat_contents srat).entries at other point)).1 (rw rows.count
+            past),
+      ),
+    ))
+    (λ at other point (srat, listed, (size, has)). (
+      srat,
+      listed,
+      (
+        size,
+        rw rows.count at
+            ((lifts (λ s. OnEntry (IsDomainPastSlit s.count) (srat_contents srat).entries at other point)).0 has),
+      ),
+    ))
+    least

@@ -1,8 +1,0 @@
-use Rattle.std.proofs.Common.{ℕ, ◌*◌, ◌<◌}
-use Rattle.acpi_base.specs.Number.{field}
-use Rattle.acpi_check.specs.OffsetSets.{IsIn}
-use Rattle.acpi_lint.proofs.references.first_missing.Given as goal
-
--- the private resources so far are at these offsets
-abbrev pub invariant-loop-j : goal.invariant-loop-j
-invariant-loop-j l = (i : ℕ) → i < l.j → IsIn l.fn.offsets (field l.fn.references (4 * i) 4)

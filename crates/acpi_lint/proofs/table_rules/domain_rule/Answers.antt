@@ -1,7 +1,0 @@
-use Rattle.acpi_lint.proofs.table_rules.domain_rule.Goals as goal
-
-pub returns-in-AffinityNowhere : goal.returns-in-AffinityNowhere
-returns-in-AffinityNowhere c = rw c.in-AffinityNowhere.is c.affinity_nowhere.ensures
-
-pub returns-in-NoDomain : goal.returns-in-NoDomain
-returns-in-NoDomain c = rw c.in-NoDomain.is c.no_domain.ensures

@@ -1,0 +1,166 @@
+//! Rules on an entry by itself: what is looked for is in the entry, and nowhere else.
+
+ghost use Rattle.std.specs.Prelude.{◌≡◌, ◌<◌, ◌≤◌, ◌↔◌, ◌⊎◌, length, IsTrue, MatchOption, true};
+ghost use denote.Ref.{Bor};
+ghost use Rattle.acpi_base.specs.Entries.{entries_read_by};
+ghost use Rattle.acpi_base.specs.Lint.MadtAdvice as madt_advice;
+ghost use Rattle.acpi_base.specs.Lint.MadtAdvice.{IsIoApicAtZero, IsMadtUnread};
+ghost use Rattle.acpi_base.specs.Lint.PpttAdvice.{IsPowerOfTwo, HasOddShape, IsCacheShape};
+ghost use Rattle.acpi_base.specs.Lint.SratAdvice as srat_advice;
+ghost use Rattle.acpi_base.specs.Lint.SratAdvice.{IsDomainPastSlit, IsSratUnread};
+ghost use Rattle.acpi_base.specs.Number.{has_bit};
+ghost use Rattle.acpi_base.specs.Pptt.{Cache, CacheValue};
+ghost use Rattle.acpi_read.specs.Madts as madts;
+ghost use Rattle.acpi_read.specs.Madts.{madt_value};
+ghost use Rattle.acpi_read.specs.Pptts.{pptt_value};
+ghost use Rattle.acpi_read.specs.Srats as srats;
+ghost use Rattle.acpi_read.specs.Srats.{srat_value};
+ghost use Rattle.acpi_read.specs.TypedEntries.{entry_at_value};
+ghost use Rattle.acpi_check.specs.CollectedValues.{Picks};
+ghost use Rattle.acpi_lint.specs.FirstPicked.{PicksFirst, FindsOwn};
+
+use crate::passes::first_picked;
+use crate::place::Place;
+use crate::processors::{GICD, any_domain, io_apic_address, is_gicc};
+use acpi_read::{
+    EntryAt, GICC, GICC_AFFINITY, GICC_AFFINITY_LEN, MadtEntry, PpttEntry, SratEntry, TableEntry,
+    TypedEntries,
+};
+
+/// The place that a rule returns for the first entry for which it returns one. None if there is no table.
+pub fn own<'a, E: TableEntry<'a> + Copy, F: Fn(&EntryAt<E>) -> Option<Place>>(
+    entries: Option<TypedEntries<'a, E>>,
+    place: F,
+) -> Option<Place>
+    requires { (at : Bor (EntryAt E)) → E.IsRead at.now.entry → F.pre place at }
+    ensures { MatchOption entries.entry (result ≡ None)
+        (λ e. PicksFirst (Picks E.value (F.post place))
+        (entries_read_by E.said_by e.entries.entries) result) }
+{
+    first_picked(entries?, place)
+}
+
+// ---- the MADT
+
+/// The place of an I/O APIC whose address is 0.
+pub fn io_apic_at_zero(at: &EntryAt<MadtEntry<'_>>) -> Option<Place>
+    ensures { FindsOwn (λ at. IsIoApicAtZero) (entry_at_value madt_value at.now) result }
+{
+    let address = io_apic_address(&at.entry)?;
+    (address == 0).then_some(Place::at(at.offset))
+}
+
+/// Whether neither the stages nor these rules read an entry with these bytes. An entry of a type that the stages read
+/// that they do not read has another length than its type, which is a separate fault.
+fn is_madt_unread(bytes: &[u8]) -> bool
+    requires { 2 ≤ length bytes.now }
+    ensures { IsTrue result ↔ madt_advice.IsUnreadEntry bytes.now }
+{
+    match bytes[0] {
+        0..=5 | 9 | 10 | GICD => false,
+        GICC => !is_gicc(bytes),
+        _ => true,
+    }
+}
+
+/// The place of an entry of a MADT that neither the stages nor these rules read; `other` is its type.
+pub fn madt_unread(at: &EntryAt<MadtEntry<'_>>) -> Option<Place>
+    requires { madts.IsWholeEntry at.now.entry }
+    ensures { FindsOwn (λ at. IsMadtUnread) (entry_at_value madt_value at.now) result }
+{
+    match at.entry {
+        MadtEntry::Opaque(bytes) if is_madt_unread(bytes) => Some(Place {
+            at: at.offset,
+            other: u64::from(bytes[0]),
+            point: 0,
+        }),
+        _ => None,
+    }
+}
+
+// ---- the SRAT
+
+/// Whether neither the stages nor these rules read an entry with these bytes.
+fn is_srat_unread(bytes: &[u8]) -> bool
+    requires { 2 ≤ length bytes.now }
+    ensures { IsTrue result ↔ srat_advice.IsUnreadEntry bytes.now }
+{
+    match bytes[0] {
+        0..=2 => false,
+        GICC_AFFINITY => bytes.len() != GICC_AFFINITY_LEN,
+        _ => true,
+    }
+}
+
+/// The place of an entry of an SRAT that neither the stages nor these rules read; `other` is its type.
+pub fn srat_unread(at: &EntryAt<SratEntry<'_>>) -> Option<Place>
+    requires { srats.IsWholeEntry at.now.entry }
+    ensures { FindsOwn (λ at. IsSratUnread) (entry_at_value srat_value at.now) result }
+{
+    match at.entry {
+        SratEntry::Opaque(bytes) if is_srat_unread(bytes) => Some(Place {
+            at: at.offset,
+            other: u64::from(bytes[0]),
+            point: 0,
+        }),
+        _ => None,
+    }
+}
+
+/// The place of an entry whose domain, `point`, is not one of a SLIT's localities, of which there are `other`.
+pub fn domain_past_slit(localities: u64, at: &EntryAt<SratEntry<'_>>) -> Option<Place>
+    ensures { FindsOwn (λ at. IsDomainPastSlit localities) (entry_at_value srat_value at.now)
+        result }
+{
+    let domain = u64::from(any_domain(&at.entry)?);
+    (domain >= localities).then_some(Place {
+        at: at.offset,
+        other: localities,
+        point: domain,
+    })
+}
+
+// ---- the PPTT
+
+/// Whether a number is a power of two.
+fn is_power_of_two(number: u16) -> bool
+    ensures { IsTrue result ↔ IsPowerOfTwo number }
+{
+    number.is_power_of_two()
+}
+
+/// Whether a bit of flags is set.
+#[tactic(auto, unfolding(acpi_base::specs::Number::has_bit))]
+fn is_set(flags: u32, bit: u32) -> bool
+    requires { bit < 32 }
+    ensures { result ≡ has_bit flags bit }
+{
+    flags >> bit & 1 == 1
+}
+
+/// Whether a valid Number of Sets is 0, or a valid Line Size is not a power of two.
+fn is_odd_shape(flags: u32, sets: u32, line_size: u16) -> bool
+    ensures { IsTrue result ↔ (((has_bit flags 1 ≡ true) × (sets ≡ 0))
+        ⊎ ((has_bit flags 6 ≡ true) × ¬ IsPowerOfTwo line_size)) }
+{
+    is_set(flags, 1) && sets == 0 || is_set(flags, 6) && !is_power_of_two(line_size)
+}
+
+/// Whether an entry is a cache of such a shape.
+fn is_odd_cache(entry: &PpttEntry<'_>) -> bool
+    ensures { IsTrue result
+        ↔ ((v : CacheValue) × (pptt_value entry.now ≡ Cache v) × HasOddShape v) }
+{
+    match entry {
+        PpttEntry::Cache24(cache) => is_odd_shape(cache.flags, cache.sets, cache.line_size),
+        PpttEntry::Cache28(cache) => is_odd_shape(cache.flags, cache.sets, cache.line_size),
+        _ => false,
+    }
+}
+
+/// The place of a cache whose Number of Sets is valid and 0, or whose Line Size is valid and not a power of two.
+pub fn cache_shape(at: &EntryAt<PpttEntry<'_>>) -> Option<Place>
+    ensures { FindsOwn (λ at. IsCacheShape) (entry_at_value pptt_value at.now) result }
+{
+    is_odd_cache(&at.entry).then_some(Place::at(at.offset))
+}

@@ -1,0 +1,91 @@
+//! Numbers that occur twice although each should be unique, and processors that are put into two domains.
+
+ghost use Rattle.std.specs.Prelude.{◌≡◌, IfOk, MatchOption};
+ghost use denote.Ref.{Bor};
+ghost use Rattle.acpi_base.specs.Entries.{entries_read_by};
+ghost use Rattle.acpi_base.specs.Lint.PpttAdvice.{IsSameCacheId, IsSameLeaf};
+ghost use Rattle.acpi_base.specs.Lint.SratAdvice.{IsTwoUidDomains};
+ghost use Rattle.acpi_base.specs.Pptt.{pptt_contents};
+ghost use Rattle.acpi_base.specs.Srat.{srat_contents};
+ghost use Rattle.acpi_read.specs.Srats.{srat_value};
+ghost use Rattle.acpi_check.specs.CollectedValues.{Picks};
+ghost use Rattle.acpi_lint.specs.EntryNumbers.{domain_of_uid, FindsRepeated};
+ghost use Rattle.acpi_lint.specs.Places.{FindsLeast};
+
+use crate::leaves::{leaves_of, revision};
+use crate::numbered::{Numbered, Order, at_place, first_repeated, first_unlike};
+use crate::place::Place;
+use crate::processors::{cache_id, placed_uid, processor_domain};
+use acpi_check::collected;
+use acpi_read::{EntryAt, Pptt, Srat, SratEntry, TableEntry, TypedEntries};
+use std::alloc::{AllocError, Global};
+
+/// The first entry of a table whose number an earlier one has; `other` is the first that has it, and `point` the
+/// number. `pick` returns an entry's number at its place. None if there is no table. Allocates for each number.
+pub fn repeated<'a, E: TableEntry<'a> + Copy, F: Fn(&EntryAt<E>) -> Option<Numbered>>(
+    alloc: Global,
+    entries: Option<TypedEntries<'a, E>>,
+    pick: F,
+) -> Result<Option<Place>, AllocError>
+    requires { (at : Bor (EntryAt E)) → F.pre pick at }
+    ensures { IfOk result (λ found. MatchOption entries.entry (found ≡ None) (λ e.
+        FindsRepeated (Picks E.value (F.post pick)) (entries_read_by E.said_by e.entries.entries)
+        found)) }
+{
+    let Some(entries) = entries else {
+        return Ok(None);
+    };
+    let numbers = collected(alloc, entries, pick)?;
+    first_unlike(numbers, Order::Later)
+}
+
+// ---- the PPTT
+
+/// The lowest Revision of the PPTT that has Cache IDs.
+const HAS_CACHE_IDS: u8 = 3;
+
+/// The first cache that has the Cache ID of an earlier one, if the PPTT's Revision is 3 or later. Allocates for the
+/// Cache ID of each.
+pub fn same_cache_id(alloc: Global, pptt: &Pptt<'_>) -> Result<Option<Place>, AllocError>
+    ensures { IfOk result (FindsLeast (IsSameCacheId (pptt_contents pptt.now))) }
+{
+    if revision(pptt) < HAS_CACHE_IDS {
+        return Ok(None);
+    }
+    repeated(alloc, Some(pptt.entries()), |at| {
+        at_place(at.offset, cache_id(&at.entry))
+    })
+}
+
+/// The first leaf that has the ACPI processor ID of an earlier one. Allocates for each leaf, and below Revision 2 for
+/// each node.
+pub fn same_leaf(alloc: Global, pptt: &Pptt<'_>) -> Result<Option<Place>, AllocError>
+    ensures { IfOk result (FindsLeast (IsSameLeaf (pptt_contents pptt.now))) }
+{
+    let leaves = leaves_of(alloc, pptt)?;
+    first_repeated(leaves)
+}
+
+// ---- the SRAT
+
+/// The domain into which an enabled GICC affinity puts the processor with its UID.
+fn domain_of_uid(at: &EntryAt<SratEntry<'_>>) -> Option<Numbered>
+    ensures { result ≡ domain_of_uid at.now.offset (srat_value at.now.entry) }
+{
+    let uid = placed_uid(&at.entry)?;
+    let domain = processor_domain(&at.entry)?;
+    Some(Numbered {
+        number: u64::from(uid),
+        at: at.offset,
+        value: u64::from(domain),
+    })
+}
+
+/// The first GICC affinity with a UID that a later one puts into another domain; `other` is the first such one, and
+/// `point` the UID. Allocates for each enabled GICC affinity.
+pub fn two_uid_domains(alloc: Global, srat: &Srat<'_>) -> Result<Option<Place>, AllocError>
+    ensures { IfOk result (FindsLeast (IsTwoUidDomains (srat_contents srat.now))) }
+{
+    let domains = collected(alloc, srat.entries(), |at| domain_of_uid(at))?;
+    first_unlike(domains, Order::First)
+}
