@@ -1,6 +1,6 @@
 //! Stage 18: the IDs of the PPTT's leaves among the UIDs of the MADT's processors.
 
-ghost use Rattle.std.specs.Prelude.{◌≡◌, ◌<◌, ⊤, AllPairs, Contains, MatchBool, MatchOption, None};
+ghost use Rattle.std.specs.Prelude.{◌≡◌, ◌≤◌, ◌<◌, ⊤, length, AllPairs, Contains, MatchBool, MatchOption, None};
 ghost use Rattle.acpi_base.specs.Across.{AreLeavesKnown, LeafFault};
 ghost use Rattle.acpi_base.specs.Madt.{madt_contents, IsWhollyTyped};
 ghost use Rattle.acpi_base.specs.Pptt.{pptt_contents};
@@ -32,7 +32,8 @@ fn is_typed(entry: &MadtEntry<'_>) -> bool
 
 /// Whether each entry of a MADT, which its entries fill, is of such a type, so that all its processors are known.
 fn is_wholly_typed(madt: &Madt<'_>) -> bool
-    requires { (madt_contents madt.now).cut ≡ None }
+    requires long { 44 ≤ length madt.now }
+    requires filled { (madt_contents madt.now).cut ≡ None }
     ensures { MatchBool result (IsWhollyTyped (madt_contents madt.now))
         (¬ IsWhollyTyped (madt_contents madt.now)) }
 {
@@ -99,7 +100,7 @@ const HAS_LEAVES: u8 = 2;
 /// Whether the ID of each leaf of a PPTT is the UID of a processor of a MADT, enabled or not (ACPI 6.5, 5.2.30.1;
 /// 5.2.12.2 and 5.2.12.12), or the PPTT's Revision is below 2, or the MADT has an entry of a type that is not read
 /// here. A leaf is a node whose flags say that it is one and that its ID is valid. The PPTT may have any entries. The
-/// MADT must be filled by its entries, that is, `Entries::cut` returns none: bytes left after them may describe
+/// MADT must have at least 44 bytes and be filled by its entries, that is, `Entries::cut` returns none: bytes left after them may describe
 /// further processors.
 ///
 /// Refuses with `Fault` and the code `LeafUnknown`: `at` is the offset, in bytes from the PPTT's start, of the first
@@ -108,7 +109,8 @@ const HAS_LEAVES: u8 = 2;
 /// Refuses with `OutOfMemory`. What exempts tables is tested first, in this order, and allocates nothing. After that
 /// it allocates for the UID of each processor; these are sorted, and each leaf's ID is looked up among them.
 pub fn known_leaves(alloc: Global, madt: &Madt<'_>, pptt: &Pptt<'_>) -> Result<(), Refusal>
-    requires { (madt_contents madt.now).cut ≡ None }
+    requires long { 44 ≤ length madt.now }
+    requires filled { (madt_contents madt.now).cut ≡ None }
     ensures { FindsFirst Stage.Leaves
         (AreLeavesKnown (madt_contents madt.now) (pptt_contents pptt.now))
         (LeafFault (madt_contents madt.now) (pptt_contents pptt.now)) result }

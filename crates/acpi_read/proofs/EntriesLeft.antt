@@ -1,10 +1,13 @@
 -- The entries that are left in a table behind its first one.
-use Rattle.std.proofs.Common.{◌≡◌, ℕ, ◌≤◌, List, length, drop, Option, Some, None, refl, sym, arith, length-drop}
+use Rattle.std.proofs.Common.{◌≡◌, ◌∙◌, ℕ, ◌≤◌, List, [], length, drop, min, Option, Some, None, inl, inr, refl, sym, arith, length-drop}
+use Rattle.std.proofs.Math.Nat.{min-eq_left, min-eq_right}
+use Rattle.std.proofs.lemmas.Bool.{cases_lt}
+use Rattle.std.proofs.lemmas.List.{drop_all}
 use Rattle.std.proofs.lemmas.Bool.Decides.{nat_tests}
 use denote.Ref.{Bor}
 use Rattle.std.specs.Option.{option_map, MatchOption}
 use Rattle.acpi_base.proofs.EntrySteps as step
-use Rattle.acpi_base.specs.Entries.{first_entry, cut_of}
+use Rattle.acpi_base.specs.Entries.{first_entry, entries_of, cut_of}
 use Rattle.acpi_read.specs.Entries.{IsLast, IsNext}
 
 -- what is left where no entry stands, and where one does
@@ -33,3 +36,18 @@ pub last_or_next : (offset : ℕ) (whole : List ℕ) (found : Option (Bor (List 
     → MatchOption found (IsLast offset whole) (λ entry. IsNext offset whole entry.now)
 last_or_next offset whole None within is = is_last offset whole (sym is)
 last_or_next offset whole (Some e) within is = is_next offset whole e.now within (sym is)
+
+-- past the end of a table no entry stands
+none_past : (offset : ℕ) (whole : List ℕ) → length whole ≤ offset → entries_of offset whole ≡ []
+unfolding first_entry
+none_past offset whole past = (step.is_end offset whole (rw (drop_all offset whole past) refl)).none
+
+-- so a table that ends before its first entry's place has none from its end on either
+pub entries_within : (first : ℕ) (whole : List ℕ) → entries_of (min first (length whole)) whole ≡ entries_of first whole
+entries_within first whole =
+    elim (cases_lt (length whole) first) [
+      | inl less ↦
+          rw (min-eq_right {n = length whole} {m = first} (omega (arith, less)))
+          (none_past (length whole) whole (omega arith) ∙ sym (none_past first whole (omega (arith, less))))
+      | inr fits ↦ rw (min-eq_left fits) refl
+    ]

@@ -129,7 +129,8 @@ fn is_past_end(policy: &Policy, io_apic: &IoApic) -> bool
 }
 
 impl<'a> TableEntry<'a> for MadtEntry<'a> {
-    ghost use Rattle.std.specs.Prelude.{◌≡◌};
+    ghost use Rattle.std.specs.Prelude.{◌≡◌, ℕ, List};
+    ghost use Rattle.acpi_base.specs.Entries.{entries_of, entries_read_by};
     ghost use Rattle.acpi_base.specs.Madt as said;
     ghost use Rattle.acpi_base.specs.Madt.{madt_entry, madt_contents, IsAddressOverride, IsSoundMadt, MadtEntryFault, MadtFault};
     ghost use Rattle.acpi_base.specs.declared.stage.Stage.{Stage};
@@ -145,6 +146,8 @@ impl<'a> TableEntry<'a> for MadtEntry<'a> {
     ghost IsRead = { IsWholeEntry };
 
     ghost first = { 44 };
+
+    ghost contents = { λ whole. (madt_contents whole).entries };
 
     ghost codes = { madt_codes };
 
@@ -163,6 +166,16 @@ impl<'a> TableEntry<'a> for MadtEntry<'a> {
     #[inline(always)]
     fn of(bytes: &'a [u8]) -> MadtEntry<'a> {
         MadtEntry::read(bytes).unwrap_or(MadtEntry::Opaque(bytes))
+    }
+
+    #[tactic(auto, unfolding(acpi_base::specs::Madt::madt_contents))]
+    #[inline(always)]
+    fn first() -> usize
+        ensures value { result ≡ 44 }
+        ensures contents { (whole : List ℕ)
+            → (madt_contents whole).entries ≡ entries_read_by madt_entry (entries_of 44 whole) }
+    {
+        Entries::MADT_START
     }
 
     fn codes() -> EntryCodes

@@ -65,7 +65,8 @@ impl<'a> PpttEntry<'a> {
 }
 
 impl<'a> TableEntry<'a> for PpttEntry<'a> {
-    ghost use Rattle.std.specs.Prelude.{◌≡◌};
+    ghost use Rattle.std.specs.Prelude.{◌≡◌, ℕ, List};
+    ghost use Rattle.acpi_base.specs.Entries.{entries_of, entries_read_by};
     ghost use Rattle.acpi_base.specs.Pptt as said;
     ghost use Rattle.acpi_base.specs.Pptt.{pptt_entry, pptt_contents, IsCutPptt, PpttFault};
     ghost use Rattle.acpi_base.specs.declared.stage.Stage.{Stage};
@@ -81,6 +82,8 @@ impl<'a> TableEntry<'a> for PpttEntry<'a> {
     ghost IsRead = { λ entry. HasReferences entry × IsWholeEntry entry };
 
     ghost first = { 36 };
+
+    ghost contents = { λ whole. (pptt_contents whole).entries };
 
     ghost codes = { pptt_codes };
 
@@ -99,6 +102,16 @@ impl<'a> TableEntry<'a> for PpttEntry<'a> {
     #[inline(always)]
     fn of(bytes: &'a [u8]) -> PpttEntry<'a> {
         PpttEntry::read(bytes).unwrap_or(PpttEntry::Opaque(bytes))
+    }
+
+    #[tactic(auto, unfolding(acpi_base::specs::Pptt::pptt_contents))]
+    #[inline(always)]
+    fn first() -> usize
+        ensures value { result ≡ 36 }
+        ensures contents { (whole : List ℕ)
+            → (pptt_contents whole).entries ≡ entries_read_by pptt_entry (entries_of 36 whole) }
+    {
+        Entries::PPTT_START
     }
 
     fn codes() -> EntryCodes

@@ -91,7 +91,8 @@ fn is_past_end(range: &MemoryRange) -> bool
 }
 
 impl<'a> TableEntry<'a> for SratEntry<'a> {
-    ghost use Rattle.std.specs.Prelude.{◌≡◌};
+    ghost use Rattle.std.specs.Prelude.{◌≡◌, ℕ, List};
+    ghost use Rattle.acpi_base.specs.Entries.{entries_of, entries_read_by};
     ghost use Rattle.acpi_base.specs.Srat as said;
     ghost use Rattle.acpi_base.specs.Srat.{srat_entry, srat_contents, IsSoundSrat, SratEntryFault, SratFault};
     ghost use Rattle.acpi_base.specs.declared.stage.Stage.{Stage};
@@ -107,6 +108,8 @@ impl<'a> TableEntry<'a> for SratEntry<'a> {
     ghost IsRead = { IsWholeEntry };
 
     ghost first = { 48 };
+
+    ghost contents = { λ whole. (srat_contents whole).entries };
 
     ghost codes = { srat_codes };
 
@@ -125,6 +128,16 @@ impl<'a> TableEntry<'a> for SratEntry<'a> {
     #[inline(always)]
     fn of(bytes: &'a [u8]) -> SratEntry<'a> {
         SratEntry::read(bytes).unwrap_or(SratEntry::Opaque(bytes))
+    }
+
+    #[tactic(auto, unfolding(acpi_base::specs::Srat::srat_contents))]
+    #[inline(always)]
+    fn first() -> usize
+        ensures value { result ≡ 48 }
+        ensures contents { (whole : List ℕ)
+            → (srat_contents whole).entries ≡ entries_read_by srat_entry (entries_of 48 whole) }
+    {
+        Entries::SRAT_START
     }
 
     fn codes() -> EntryCodes

@@ -3,7 +3,7 @@
 ghost use Rattle.std.specs.Prelude.{◌≡◌, ◌≤◌, ◌<◌, ◌↔◌, ℕ, List, length, IsTrue, IfOk, IfErr, MatchOption};
 ghost use Rattle.std.specs.Iterator.{item_count};
 ghost use Rattle.acpi_base.specs.Codes.{code_number};
-ghost use Rattle.acpi_base.specs.Entries.{IsEntry};
+ghost use Rattle.acpi_base.specs.Entries.{IsEntry, PlacedEntry, entries_of, entries_read_by};
 ghost use Rattle.acpi_base.specs.Policy.{PolicyValue};
 ghost use Rattle.acpi_base.specs.declared.code.Code.{Code};
 ghost use Rattle.acpi_base.specs.declared.stage.Stage.{Stage};
@@ -37,6 +37,9 @@ pub trait TableEntry<'a>: Sized {
     /// The offset of the first entry.
     ghost first: { ℕ };
 
+    /// The entries of a table with these bytes.
+    ghost contents: { List ℕ → List (PlacedEntry Said) };
+
     /// The codes of the table's faults that are not about an entry by itself.
     ghost codes: { EntryCodes };
 
@@ -64,6 +67,12 @@ pub trait TableEntry<'a>: Sized {
         requires { IsEntry bytes.now }
         ensures value { value result ≡ said_by bytes.now }
         ensures read { IsRead result };
+
+    /// The offset of the first entry.
+    fn first() -> usize
+        ensures value { result ≡ first }
+        ensures contents { (whole : List ℕ)
+            → contents whole ≡ entries_read_by said_by (entries_of first whole) };
 
     /// The codes of the table's faults that are not about an entry by itself.
     fn codes() -> EntryCodes

@@ -20,5 +20,5 @@ loop-at-preserved c =
     past (rw c.in-Some.ensures.steps.0 at c.loop-at.invariant) (sym c.is_typed.ensures ∙ c.if-not-is_typed.false)
 
 pub returns : goal.returns
-returns c = ends c.args.madt.now c.entries-entries.ensures.long c.requires
+returns c = ends c.args.madt.now c.requires.long c.requires.filled
     (rw c.in_default.ensures.steps.0 at c.loop-at.invariant)

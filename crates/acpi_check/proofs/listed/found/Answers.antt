@@ -25,9 +25,6 @@ returns-in_ok-first-in-Madt c =
     (λ whole. MadtFault c.args.set.now.policy.now (madt_contents whole)) (λ all. all) (λ v. (λ h. h, λ h. h))
     (λ v least. least) c.sound_entries.result c.sound_entries.ensures
 
-pub madt-requires-clause-holds : goal.madt-requires-clause-holds
-madt-requires-clause-holds c = earlier c.requires c.in-Interrupts.is stage.Madt (omega arith)
-
 pub returns-in_err-madt-in-Interrupts : goal.returns-in_err-madt-in-Interrupts
 returns-in_err-madt-in-Interrupts c =
     unlisted c.requires c.in-Interrupts.is kind.Madt c.madt.ensures c.in_err-madt-in-Interrupts.was
@@ -42,9 +39,6 @@ returns-in_ok-madt-in-Interrupts c =
     (rw c.in-Interrupts.is at c.requires.clean))
     (listed_of_first c.requires.tables.listed.tables kind.Madt c.madt.ensures c.in_ok-madt-in-Interrupts.was)
     c.apart_interrupts.result c.apart_interrupts.ensures)
-
-pub madt-requires-in-Overrides-clause-holds : goal.madt-requires-in-Overrides-clause-holds
-madt-requires-in-Overrides-clause-holds c = earlier c.requires c.in-Overrides.is stage.Madt (omega arith)
 
 pub returns-in_err-madt-in-Overrides : goal.returns-in_err-madt-in-Overrides
 returns-in_err-madt-in-Overrides c =
@@ -67,9 +61,6 @@ returns-in_ok-first-in-Srat c =
     settled c.requires c.in-Srat.is kind.Srat c.first-in-Srat.ensures c.in_ok-first-in-Srat.was
     (λ whole. IsSoundSrat (srat_contents whole)) (λ whole. SratFault (srat_contents whole)) (λ all. all)
     (λ v. (λ h. h, λ h. h)) (λ v least. least) c.sound_entries-in-Srat.result c.sound_entries-in-Srat.ensures
-
-pub srat-requires-clause-holds : goal.srat-requires-clause-holds
-srat-requires-clause-holds c = earlier c.requires c.in-Ranges.is stage.Srat (omega arith)
 
 pub returns-in_err-srat-in-Ranges : goal.returns-in_err-srat-in-Ranges
 returns-in_err-srat-in-Ranges c =
@@ -159,16 +150,10 @@ returns-in_ok-pptt-in-Caches c =
     (λ whole. DoCachesEnd (pptt_contents whole)) (λ whole. CacheFault (pptt_contents whole)) (λ all. all)
     (λ v. (λ h. h, λ h. h)) (λ v least. least) c.caches_end.result c.caches_end.ensures
 
-pub madt-requires-in-Domains-clause-holds : goal.madt-requires-in-Domains-clause-holds
-madt-requires-in-Domains-clause-holds c = earlier c.requires c.in-Domains.is stage.Madt (omega arith)
-
 pub returns-in_err-madt-in-Domains : goal.returns-in_err-madt-in-Domains
 returns-in_err-madt-in-Domains c =
     unlisted c.requires c.in-Domains.is kind.Madt c.madt-in-Domains.ensures c.in_err-madt-in-Domains.was
     c.from_residual-in_err-madt-in-Domains.ensures (of_none _)
-
-pub srat-requires-in-Domains-clause-holds : goal.srat-requires-in-Domains-clause-holds
-srat-requires-in-Domains-clause-holds c = earlier c.requires c.in-Domains.is stage.Srat (omega arith)
 
 pub returns-in_err-srat-in-Domains : goal.returns-in_err-srat-in-Domains
 returns-in_err-srat-in-Domains c =
@@ -188,9 +173,6 @@ returns-in_ok-srat-in-Domains c =
     c.in_ok-srat-in-Domains.was)
     c.one_domain.result (rw c.processors.ensures.value at c.one_domain.ensures))
 
-pub madt-requires-in-Served-clause-holds : goal.madt-requires-in-Served-clause-holds
-madt-requires-in-Served-clause-holds c = earlier c.requires c.in-Served.is stage.Madt (omega arith)
-
 pub returns-in_err-madt-in-Served : goal.returns-in_err-madt-in-Served
 returns-in_err-madt-in-Served c =
     unlisted c.requires c.in-Served.is kind.Madt c.madt-in-Served.ensures c.in_err-madt-in-Served.was
@@ -203,9 +185,6 @@ returns-in_ok-madt-in-Served c =
     (λ whole. ServedFault c.args.set.now.policy.now (madt_contents whole)) (λ all. all) (λ v. (λ h. h, λ h. h))
     (λ v least. least) c.named_served.result c.named_served.ensures
 
-pub madt-requires-in-Leaves-clause-holds : goal.madt-requires-in-Leaves-clause-holds
-madt-requires-in-Leaves-clause-holds c = earlier c.requires c.in-Leaves.is stage.Madt (omega arith)
-
 pub returns-in_err-madt-in-Leaves : goal.returns-in_err-madt-in-Leaves
 returns-in_err-madt-in-Leaves c =
     unlisted c.requires c.in-Leaves.is kind.Madt c.madt-in-Leaves.ensures c.in_err-madt-in-Leaves.was
@@ -216,8 +195,15 @@ returns-in_err-pptt-in-Leaves c =
     unlisted c.requires c.in-Leaves.is kind.Pptt c.pptt-in-Leaves.ensures c.in_err-pptt-in-Leaves.was
     c.from_residual-in_err-pptt-in-Leaves.ensures (λ none _ _. of_none _ none)
 
-pub known_leaves-requires : goal.known_leaves-requires
-known_leaves-requires c =
+pub known_leaves-requires-clause-long : goal.known_leaves-requires-clause-long
+unfolding madt_contents
+known_leaves-requires-clause-long c =
+    (earlier c.requires c.in-Leaves.is stage.Madt (omega arith) _
+    (listed_of_first c.requires.tables.listed.tables kind.Madt c.madt-in-Leaves.ensures
+    c.in_ok-madt-in-Leaves.was)).long
+
+pub known_leaves-requires-clause-filled : goal.known_leaves-requires-clause-filled
+known_leaves-requires-clause-filled c =
     (earlier c.requires c.in-Leaves.is stage.Madt (omega arith) _
     (listed_of_first c.requires.tables.listed.tables kind.Madt c.madt-in-Leaves.ensures
     c.in_ok-madt-in-Leaves.was)).filled
