@@ -14,7 +14,7 @@ use crate::refusal::{Refusal, refuse};
 use crate::search::binary_search;
 use acpi_base::{Code, Witness};
 use acpi_graph::{Stray, first_stray};
-use acpi_read::{Pptt, PpttEntry};
+use acpi_read::{PpttEntry, Table};
 use std::alloc::{AllocError, Global};
 
 /// The offset that an entry refers to, if the entry is a node of such chains. 0 is none.
@@ -31,12 +31,12 @@ pub fn named_offset(chain: Chain, entry: &PpttEntry<'_>) -> Option<u32>
 
 /// The nodes of a PPTT's chains.
 #[tactic(auto, using(crate::proofs::EntryPasses::Collecting::gathering))]
-fn nodes_of(alloc: Global, chain: Chain, pptt: &Pptt<'_>) -> Result<Nodes, AllocError>
+fn nodes_of(alloc: Global, chain: Chain, pptt: &Table<'_>) -> Result<Nodes, AllocError>
     ensures { IfOk result (AreNodesOf chain (pptt_contents pptt.now)) }
 {
     let mut offsets = Vec::new(alloc);
     let mut named = Vec::new(alloc);
-    for at in pptt.entries() {
+    for at in pptt.entries::<PpttEntry<'_>>() {
         if let Some(offset) = named_offset(chain, &at.entry) {
             offsets.push(at.offset)?;
             named.push(offset)?;
@@ -88,7 +88,7 @@ fn code_of(chain: Chain) -> Code
 pub fn first_cycle(
     alloc: Global,
     chain: Chain,
-    pptt: &Pptt<'_>,
+    pptt: &Table<'_>,
 ) -> Result<Option<Witness>, AllocError>
     ensures { IfOk result (FindsCycle chain (pptt_contents pptt.now)) }
 {
@@ -108,7 +108,7 @@ pub fn first_cycle(
 
 /// Whether the chain of Parents from every node of a PPTT ends. The first fault is at the offset of the first node
 /// whose chain does not. Allocates for each node.
-pub fn parents_end(alloc: Global, pptt: &Pptt<'_>) -> Result<(), Refusal>
+pub fn parents_end(alloc: Global, pptt: &Table<'_>) -> Result<(), Refusal>
     requires { AreReferencesSound (pptt_contents pptt.now) }
     ensures { FindsFirst Stage.Parents (DoParentsEnd (pptt_contents pptt.now))
         (ParentFault (pptt_contents pptt.now)) result }
@@ -118,7 +118,7 @@ pub fn parents_end(alloc: Global, pptt: &Pptt<'_>) -> Result<(), Refusal>
 
 /// Whether the chain of Next Levels from every cache of a PPTT ends. The first fault is at the offset of the first
 /// cache whose chain does not. Allocates for each cache.
-pub fn caches_end(alloc: Global, pptt: &Pptt<'_>) -> Result<(), Refusal>
+pub fn caches_end(alloc: Global, pptt: &Table<'_>) -> Result<(), Refusal>
     requires { AreReferencesSound (pptt_contents pptt.now) }
     ensures { FindsFirst Stage.Caches (DoCachesEnd (pptt_contents pptt.now))
         (CacheFault (pptt_contents pptt.now)) result }

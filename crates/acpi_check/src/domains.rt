@@ -15,7 +15,7 @@ use crate::processors::{Key, numbers_of};
 use crate::refusal::Refusal;
 use crate::search::binary_search;
 use acpi_base::{Code, Processors, Witness};
-use acpi_read::{Madt, Srat, SratEntry, is_enabled};
+use acpi_read::{SratEntry, Table, is_enabled};
 use std::alloc::{AllocError, Global};
 
 /// A processor in a proximity domain.
@@ -46,10 +46,10 @@ fn placement_of(entry: &SratEntry<'_>) -> Option<Placement>
 
 /// Whether each processor that an entry of an SRAT puts into a domain has a greater number than those before it, as in
 /// most machines. Then none is put into two.
-fn do_processors_rise(srat: &Srat<'_>) -> bool
+fn do_processors_rise(srat: &Table<'_>) -> bool
     ensures { IsTrue result → FindsOther PutsIn (srat_contents srat.now).entries None }
 {
-    let mut entries = srat.entries();
+    let mut entries = srat.entries::<SratEntry<'_>>();
     let mut least = 0;
     while let Some(at) = entries.next() {
         if let Some(put) = placement_of(&at.entry) {
@@ -82,14 +82,14 @@ fn domain_given(numbers: &[u64], entry: &SratEntry<'_>) -> Option<Given>
 fn first_other_domain(
     alloc: Global,
     numbers: &[u64],
-    srat: &Srat<'_>,
+    srat: &Table<'_>,
 ) -> Result<Option<OtherValue>, AllocError>
     requires { AllPairs (λ i j. i < j) numbers.now }
     ensures found { IfOk result
         (FindsOther (PutsPlaced numbers.now) (srat_contents srat.now).entries) }
     ensures inside { IfOk result (λ found. IfSome found (λ other. other.key < length numbers.now)) }
 {
-    let mut entries = srat.entries();
+    let mut entries = srat.entries::<SratEntry<'_>>();
     let mut firsts = vec![in alloc; None; numbers.len()]?;
     while let Some(at) = entries.next() {
         let given = domain_given(numbers, &at.entry);
@@ -113,8 +113,8 @@ fn first_other_domain(
 pub fn one_domain(
     alloc: Global,
     processors: Processors,
-    madt: &Madt<'_>,
-    srat: &Srat<'_>,
+    madt: &Table<'_>,
+    srat: &Table<'_>,
 ) -> Result<(), Refusal>
     ensures { FindsFirst Stage.Domains
         (HaveOneDomain processors (madt_contents madt.now) (srat_contents srat.now))

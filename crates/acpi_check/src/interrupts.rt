@@ -12,7 +12,7 @@ use crate::collecting::collected;
 use crate::refusal::Refusal;
 use acpi_base::{Code, Policy, Witness};
 use acpi_graph::{Clash, Span, first_clash};
-use acpi_read::{EntryAt, Madt, MadtEntry};
+use acpi_read::{EntryAt, MadtEntry, Table};
 use std::alloc::{AllocError, Global};
 
 /// The interrupt numbers that an I/O APIC serves, as a span with the entry's offset as its id. None for another entry.
@@ -34,18 +34,22 @@ fn served_span(policy: &Policy, at: &EntryAt<MadtEntry<'_>>) -> Option<Span>
 pub fn served_spans(
     alloc: Global,
     policy: &Policy,
-    madt: &Madt<'_>,
+    madt: &Table<'_>,
 ) -> Result<Vec<Span>, AllocError>
     ensures spans { IfOk result
         (λ spans. AreSpansOf (Serves policy.now (madt_contents madt.now)) spans.items) }
     ensures low { IfOk result (λ spans. BeginLow spans.items) }
 {
-    collected(alloc, madt.entries(), |at| served_span(policy, at))
+    collected(
+        alloc,
+        madt.entries::<MadtEntry<'_>>(),
+        |at| served_span(policy, at),
+    )
 }
 
 /// The lowest interrupt number that two I/O APICs of a MADT serve, and the first two that do.
 #[tactic(auto, using(crate::proofs::Spans::Clashes::is_found, crate::proofs::Spans::Clashes::low_point))]
-fn first_gsi_clash(alloc: Global, policy: &Policy, madt: &Madt<'_>) -> Result<Clash, AllocError>
+fn first_gsi_clash(alloc: Global, policy: &Policy, madt: &Table<'_>) -> Result<Clash, AllocError>
     ensures found { IfOk result (IsOverlapResult (Serves policy.now (madt_contents madt.now))) }
     ensures low { IfOk result HasLowPoint }
 {
@@ -61,7 +65,7 @@ fn first_gsi_clash(alloc: Global, policy: &Policy, madt: &Madt<'_>) -> Result<Cl
 /// Refuses with `Fault` and the code `GsiClash` if two serve one number: `point` is the lowest such number, which is
 /// below 2^32; `at` and `other` are the offsets, in bytes from the table's start, of the first two that serve it, by
 /// their first number and then by offset. Refuses with `OutOfMemory`: it allocates a span for each I/O APIC.
-pub fn apart_interrupts(alloc: Global, policy: &Policy, madt: &Madt<'_>) -> Result<(), Refusal>
+pub fn apart_interrupts(alloc: Global, policy: &Policy, madt: &Table<'_>) -> Result<(), Refusal>
     ensures { Finds Stage.Interrupts (AreInterruptsApart policy.now (madt_contents madt.now))
         (IsOverlap Code.GsiClash (IsFirstGsiClash policy.now (madt_contents madt.now))) result }
 {

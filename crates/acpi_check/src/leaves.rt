@@ -16,7 +16,7 @@ use crate::processors::{Key, numbers_of};
 use crate::refusal::{Refusal, refuse};
 use crate::search::has;
 use acpi_base::{Code, Witness};
-use acpi_read::{EntryAt, Madt, MadtEntry, Pptt, PpttEntry};
+use acpi_read::{EntryAt, MadtEntry, PpttEntry, Table};
 use std::alloc::Global;
 
 /// Whether an entry of a MADT is of one of the eight types that are read here: one of another type may describe a
@@ -31,13 +31,13 @@ fn is_typed(entry: &MadtEntry<'_>) -> bool
 }
 
 /// Whether each entry of a MADT, which its entries fill, is of such a type, so that all its processors are known.
-fn is_wholly_typed(madt: &Madt<'_>) -> bool
+fn is_wholly_typed(madt: &Table<'_>) -> bool
     requires long { 44 ≤ length madt.now }
     requires filled { (madt_contents madt.now).cut ≡ None }
     ensures { MatchBool result (IsWhollyTyped (madt_contents madt.now))
         (¬ IsWhollyTyped (madt_contents madt.now)) }
 {
-    let mut entries = madt.entries();
+    let mut entries = madt.entries::<MadtEntry<'_>>();
     while let Some(at) = entries.next() {
         if !is_typed(&at.entry) {
             return false;
@@ -80,12 +80,12 @@ fn own_fault(uids: &[u64], at: &EntryAt<PpttEntry<'_>>) -> Option<Witness>
 }
 
 /// The fault of the first leaf of a PPTT whose ID is not among the UIDs.
-fn first_unknown(uids: &[u64], pptt: &Pptt<'_>) -> Option<Witness>
+fn first_unknown(uids: &[u64], pptt: &Table<'_>) -> Option<Witness>
     requires { AllPairs (λ i j. i < j) uids.now }
     ensures { FindsUnknown (Contains uids.now) leaf_id Code.LeafUnknown
         (pptt_contents pptt.now).entries result }
 {
-    let mut entries = pptt.entries();
+    let mut entries = pptt.entries::<PpttEntry<'_>>();
     while let Some(at) = entries.next() {
         if let Some(fault) = own_fault(uids, &at) {
             return Some(fault);
@@ -108,7 +108,7 @@ const HAS_LEAVES: u8 = 2;
 ///
 /// Refuses with `OutOfMemory`. What exempts tables is tested first, in this order, and allocates nothing. After that
 /// it allocates for the UID of each processor; these are sorted, and each leaf's ID is looked up among them.
-pub fn known_leaves(alloc: Global, madt: &Madt<'_>, pptt: &Pptt<'_>) -> Result<(), Refusal>
+pub fn known_leaves(alloc: Global, madt: &Table<'_>, pptt: &Table<'_>) -> Result<(), Refusal>
     requires long { 44 ≤ length madt.now }
     requires filled { (madt_contents madt.now).cut ≡ None }
     ensures { FindsFirst Stage.Leaves

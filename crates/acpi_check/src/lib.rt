@@ -45,7 +45,6 @@ mod rsdp;
 mod search;
 mod served;
 mod set;
-mod set_views;
 mod slit;
 mod stages;
 mod tables;

@@ -38,18 +38,27 @@ fn found(alloc: Global, set: &Set<'_, '_>, stage: Stage) -> Option<Result<(), Re
     let policy = set.policy;
     Some(match stage {
         Stage::Madt => sound_entries::<MadtEntry<'_>>(policy, tables.first(TableKind::Madt)?),
-        Stage::Interrupts => apart_interrupts(alloc, policy, &set.madt()?),
-        Stage::Overrides => agreeing_overrides(&set.madt()?),
+        Stage::Interrupts => apart_interrupts(alloc, policy, &tables.first(TableKind::Madt)?),
+        Stage::Overrides => agreeing_overrides(&tables.first(TableKind::Madt)?),
         Stage::Srat => sound_entries::<SratEntry<'_>>(policy, tables.first(TableKind::Srat)?),
-        Stage::Ranges => apart_ranges(alloc, policy.hotplug(), &set.srat()?),
+        Stage::Ranges => apart_ranges(alloc, policy.hotplug(), &tables.first(TableKind::Srat)?),
         Stage::Slit => sound_slit(tables.first(TableKind::Slit)?),
         Stage::Pptt => sound_entries::<PpttEntry<'_>>(policy, tables.first(TableKind::Pptt)?),
-        Stage::References => sound_references(alloc, &set.pptt()?),
-        Stage::Parents => parents_end(alloc, &set.pptt()?),
-        Stage::Caches => caches_end(alloc, &set.pptt()?),
-        Stage::Domains => one_domain(alloc, policy.processors(), &set.madt()?, &set.srat()?),
-        Stage::Served => named_served(alloc, policy, &set.madt()?),
-        Stage::Leaves => known_leaves(alloc, &set.madt()?, &set.pptt()?),
+        Stage::References => sound_references(alloc, &tables.first(TableKind::Pptt)?),
+        Stage::Parents => parents_end(alloc, &tables.first(TableKind::Pptt)?),
+        Stage::Caches => caches_end(alloc, &tables.first(TableKind::Pptt)?),
+        Stage::Domains => one_domain(
+            alloc,
+            policy.processors(),
+            &tables.first(TableKind::Madt)?,
+            &tables.first(TableKind::Srat)?,
+        ),
+        Stage::Served => named_served(alloc, policy, &tables.first(TableKind::Madt)?),
+        Stage::Leaves => known_leaves(
+            alloc,
+            &tables.first(TableKind::Madt)?,
+            &tables.first(TableKind::Pptt)?,
+        ),
         // These hold for every set.
         Stage::Rsdp | Stage::Root | Stage::Tables | Stage::Fadt | Stage::Facs => Ok(()),
     })

@@ -11,7 +11,7 @@ ghost use Rattle.acpi_check.specs.declared.refusal.Refusal.{Refusal};
 use crate::first_seen::{Given, pass_given};
 use crate::refusal::Refusal;
 use acpi_base::{Code, Witness};
-use acpi_read::{Madt, MadtEntry};
+use acpi_read::{MadtEntry, Table};
 
 /// How many Sources there are: a Source is one byte.
 const SOURCES: usize = 256;
@@ -32,10 +32,10 @@ fn number_given(entry: &MadtEntry<'_>) -> Option<Given>
 
 /// Whether each override of a MADT is of a greater Source than those before it, as in most machines. Then none is given
 /// two numbers.
-fn do_sources_rise(madt: &Madt<'_>) -> bool
+fn do_sources_rise(madt: &Table<'_>) -> bool
     ensures { IsTrue result → DoOverridesAgree (madt_contents madt.now) }
 {
-    let mut entries = madt.entries();
+    let mut entries = madt.entries::<MadtEntry<'_>>();
     let mut least = 0;
     while let Some(at) = entries.next() {
         if let Some(Given { key: source, .. }) = number_given(&at.entry) {
@@ -54,7 +54,7 @@ fn do_sources_rise(madt: &Madt<'_>) -> bool
 /// Refuses with `Fault` and the code `OverrideClash` if one gives its Source another number than an earlier one: `at`
 /// is the offset, in bytes from the table's start, of the first that gives its Source another number than the first
 /// override of this Source, whose offset is `other`; `point` is the Source, from 0 to 255.
-pub fn agreeing_overrides(madt: &Madt<'_>) -> Result<(), Refusal>
+pub fn agreeing_overrides(madt: &Table<'_>) -> Result<(), Refusal>
     ensures settled { FindsFirst Stage.Overrides (DoOverridesAgree (madt_contents madt.now))
         (OverrideFault (madt_contents madt.now)) result }
     ensures memory { IfErr result (λ refusal. refusal ≢ Refusal.OutOfMemory) }
@@ -63,7 +63,7 @@ pub fn agreeing_overrides(madt: &Madt<'_>) -> Result<(), Refusal>
     if do_sources_rise(madt) {
         return Ok(());
     }
-    let mut entries = madt.entries();
+    let mut entries = madt.entries::<MadtEntry<'_>>();
     let mut firsts = [None; SOURCES];
     while let Some(at) = entries.next() {
         if let Some(found) = pass_given(&mut firsts, at.offset, number_given(&at.entry)) {

@@ -9,7 +9,7 @@ ghost use Rattle.acpi_check.specs.Processors.{number_of, AreNumbers};
 use crate::collecting::collected;
 use crate::search::sorted_unique;
 use acpi_base::Processors;
-use acpi_read::{Madt, MadtEntry};
+use acpi_read::{MadtEntry, Table};
 use std::alloc::{AllocError, Global};
 
 /// By which number processors are looked up.
@@ -52,10 +52,10 @@ fn number_of(key: Key, entry: &MadtEntry<'_>) -> Option<u32>
 }
 
 /// The numbers of the processors of a MADT, in rising order and each once.
-pub fn numbers_of(alloc: Global, key: Key, madt: &Madt<'_>) -> Result<Vec<u64>, AllocError>
+pub fn numbers_of(alloc: Global, key: Key, madt: &Table<'_>) -> Result<Vec<u64>, AllocError>
     ensures { IfOk result (λ numbers. AreNumbers key (madt_contents madt.now) numbers.items) }
 {
-    let numbers = collected(alloc, madt.entries(), |at| {
+    let numbers = collected(alloc, madt.entries::<MadtEntry<'_>>(), |at| {
         number_of(key, &at.entry).map(u64::from)
     })?;
     sorted_unique(numbers)

@@ -15,7 +15,7 @@ use crate::range_kind::RangeKind;
 use crate::refusal::Refusal;
 use acpi_base::{Code, HotPlug, Witness};
 use acpi_graph::{Clash, Span, first_clash};
-use acpi_read::{EntryAt, Srat, SratEntry, is_enabled};
+use acpi_read::{EntryAt, SratEntry, Table, is_enabled};
 use std::alloc::{AllocError, Global};
 
 /// Whether a range with these flags is hot-pluggable.
@@ -51,17 +51,21 @@ fn covered_span(kind: RangeKind, at: &EntryAt<SratEntry<'_>>) -> Option<Span>
 }
 
 /// The addresses that each enabled range of the kind covers, in the entries' order.
-fn covered_spans(alloc: Global, kind: RangeKind, srat: &Srat<'_>) -> Result<Vec<Span>, AllocError>
+fn covered_spans(alloc: Global, kind: RangeKind, srat: &Table<'_>) -> Result<Vec<Span>, AllocError>
     ensures spans { IfOk result
         (λ spans. AreSpansOf (Covers (IsOfKind kind) (srat_contents srat.now)) spans.items) }
     ensures low { IfOk result (λ spans. BeginLow spans.items) }
 {
-    collected(alloc, srat.entries(), |at| covered_span(kind, at))
+    collected(
+        alloc,
+        srat.entries::<SratEntry<'_>>(),
+        |at| covered_span(kind, at),
+    )
 }
 
 /// The lowest address that two enabled ranges of the kind cover, and the first two that do.
 #[tactic(auto, using(crate::proofs::Spans::Clashes::is_found, crate::proofs::Spans::Clashes::low_point))]
-fn first_of_kind(alloc: Global, kind: RangeKind, srat: &Srat<'_>) -> Result<Clash, AllocError>
+fn first_of_kind(alloc: Global, kind: RangeKind, srat: &Table<'_>) -> Result<Clash, AllocError>
     ensures found { IfOk result
         (IsOverlapResult (Covers (IsOfKind kind) (srat_contents srat.now))) }
     ensures low { IfOk result HasLowPoint }
@@ -91,7 +95,7 @@ fn earlier(other: Clash, hot: Clash) -> Clash
 /// The overlap of an SRAT's enabled ranges that is reported, if there is one. Either any two are compared, or only
 /// two that are both hot-pluggable or both not.
 #[tactic(auto, using(crate::proofs::Spans::CoveredSpans::counted, crate::proofs::Spans::CoveredSpans::apart))]
-fn first_overlap(alloc: Global, hotplug: HotPlug, srat: &Srat<'_>) -> Result<Clash, AllocError>
+fn first_overlap(alloc: Global, hotplug: HotPlug, srat: &Table<'_>) -> Result<Clash, AllocError>
     ensures found { IfOk result (IsRangesResult hotplug (srat_contents srat.now)) }
     ensures low { IfOk result HasLowPoint }
 {
@@ -114,7 +118,7 @@ fn first_overlap(alloc: Global, hotplug: HotPlug, srat: &Srat<'_>) -> Result<Cla
 /// and then by offset. If they are compared by kind, both are of one kind; if both kinds have the same lowest
 /// address, those that are not hot-pluggable are named. Refuses with `OutOfMemory`: it allocates a span for each
 /// range that is compared.
-pub fn apart_ranges(alloc: Global, hotplug: HotPlug, srat: &Srat<'_>) -> Result<(), Refusal>
+pub fn apart_ranges(alloc: Global, hotplug: HotPlug, srat: &Table<'_>) -> Result<(), Refusal>
     ensures { Finds Stage.Ranges (AreRangesApart hotplug (srat_contents srat.now))
         (IsOverlap Code.Overlap (IsFirstOverlap hotplug (srat_contents srat.now))) result }
 {

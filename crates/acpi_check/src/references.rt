@@ -14,7 +14,7 @@ use crate::places::{Kind, Places};
 use crate::refusal::Refusal;
 use acpi_base::field::u32_at;
 use acpi_base::{Code, Witness};
-use acpi_read::{EntryAt, Pptt, PpttEntry};
+use acpi_read::{EntryAt, PpttEntry, Table};
 use std::alloc::{AllocError, Global};
 
 /// What an entry is.
@@ -47,7 +47,7 @@ fn add_place(places: &mut Places, kind: Kind, offset: u64) -> Result<(), AllocEr
 }
 
 /// The offsets of the entries of a PPTT, by what they are.
-fn places_of(alloc: Global, pptt: &Pptt<'_>) -> Result<Places, AllocError>
+fn places_of(alloc: Global, pptt: &Table<'_>) -> Result<Places, AllocError>
     requires { IsCutPptt (pptt_contents pptt.now) }
     ensures { IfOk result (ArePlaces (pptt_contents pptt.now)) }
 {
@@ -56,7 +56,7 @@ fn places_of(alloc: Global, pptt: &Pptt<'_>) -> Result<Places, AllocError>
         caches: OffsetSet::new(alloc),
         resources: OffsetSet::new(alloc),
     };
-    for at in pptt.entries() {
+    for at in pptt.entries::<PpttEntry<'_>>() {
         add_place(&mut places, kind_of(&at.entry), at.offset)?;
     }
     Ok(places)
@@ -131,12 +131,12 @@ fn own_fault(places: &Places, at: &EntryAt<PpttEntry<'_>>) -> Option<Witness>
 }
 
 /// The first fault of the entries' references, in the entries' order.
-fn first_fault(places: &Places, pptt: &Pptt<'_>) -> Result<(), Refusal>
+fn first_fault(places: &Places, pptt: &Table<'_>) -> Result<(), Refusal>
     requires { ArePlaces (pptt_contents pptt.now) places.now }
     ensures { FindsFirst Stage.References (AreReferencesSound (pptt_contents pptt.now))
         (ReferenceFault (pptt_contents pptt.now)) result }
 {
-    let mut entries = pptt.entries();
+    let mut entries = pptt.entries::<PpttEntry<'_>>();
     while let Some(at) = entries.next() {
         if let Some(fault) = own_fault(places, &at) {
             return Err(Refusal::Fault(fault));
@@ -147,7 +147,7 @@ fn first_fault(places: &Places, pptt: &Pptt<'_>) -> Result<(), Refusal>
 
 /// Whether there is an entry at each offset that a PPTT's entries refer to, of the required kind. The first fault is
 /// at the offset of the entry with the reference. Allocates a bit for each byte of the table, three times.
-pub fn sound_references(alloc: Global, pptt: &Pptt<'_>) -> Result<(), Refusal>
+pub fn sound_references(alloc: Global, pptt: &Table<'_>) -> Result<(), Refusal>
     requires { IsCutPptt (pptt_contents pptt.now) }
     ensures { FindsFirst Stage.References (AreReferencesSound (pptt_contents pptt.now))
         (ReferenceFault (pptt_contents pptt.now)) result }

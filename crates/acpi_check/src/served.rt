@@ -14,7 +14,7 @@ use crate::interrupts::served_spans;
 use crate::refusal::{Refusal, refuse};
 use acpi_base::{Code, Policy, Witness};
 use acpi_graph::{Span, sort_unless_sorted};
-use acpi_read::{EntryAt, Madt, MadtEntry};
+use acpi_read::{EntryAt, MadtEntry, Table};
 use std::alloc::{AllocError, Global};
 
 /// The interrupt number that an override or an NMI source names. None for another entry.
@@ -86,12 +86,12 @@ fn own_fault(spans: &[Span], at: &EntryAt<MadtEntry<'_>>) -> Option<Witness>
 }
 
 /// The fault of the first entry of a MADT that names a number which is in none of the spans.
-fn first_unserved(spans: &[Span], madt: &Madt<'_>) -> Option<Witness>
+fn first_unserved(spans: &[Span], madt: &Table<'_>) -> Option<Witness>
     requires { DoRise spans.now }
     ensures { FindsUnknown (IsInSpans spans.now) named_gsi Code.GsiNowhere
         (madt_contents madt.now).entries result }
 {
-    let mut entries = madt.entries();
+    let mut entries = madt.entries::<MadtEntry<'_>>();
     while let Some(at) = entries.next() {
         if let Some(fault) = own_fault(spans, &at) {
             return Some(fault);
@@ -109,7 +109,7 @@ fn first_unserved(spans: &[Span], madt: &Madt<'_>) -> Option<Witness>
 ///
 /// Refuses with `OutOfMemory`: it allocates two spans for each I/O APIC. These are sorted, and each number is looked
 /// up among them.
-pub fn named_served(alloc: Global, policy: &Policy, madt: &Madt<'_>) -> Result<(), Refusal>
+pub fn named_served(alloc: Global, policy: &Policy, madt: &Table<'_>) -> Result<(), Refusal>
     ensures { FindsFirst Stage.Served (AreNamedServed policy.now (madt_contents madt.now))
         (ServedFault policy.now (madt_contents madt.now)) result }
 {

@@ -19,7 +19,7 @@ use crate::numbered::Numbered;
 use crate::passes::first_picked;
 use crate::processors::{is_gicc, processor_domain, uid_on};
 use acpi_check::{collected, sorted_unique};
-use acpi_read::{EntryAt, GICC, Madt, MadtEntry, Pptt, Srat, TableEntry, TypedEntries};
+use acpi_read::{EntryAt, GICC, MadtEntry, SratEntry, Table, TableEntry, TypedEntries};
 use std::alloc::{AllocError, Global};
 
 // ---- numbers
@@ -50,7 +50,7 @@ fn without_places(alloc: Global, given: &[Numbered]) -> Result<Vec<u64>, AllocEr
 }
 
 /// The ACPI processor IDs of a PPTT's leaves. Allocates for each leaf, and below Revision 2 also for each node.
-pub fn leaf_ids(alloc: Global, pptt: &Pptt<'_>) -> Result<Vec<u64>, AllocError>
+pub fn leaf_ids(alloc: Global, pptt: &Table<'_>) -> Result<Vec<u64>, AllocError>
     ensures { IfOk result (λ ids. AreKnown (IsLeafId (pptt_contents pptt.now)) ids.items) }
 {
     let leaves = leaves_of(alloc, pptt)?;
@@ -85,20 +85,20 @@ fn is_other_processor(entry: &MadtEntry<'_>) -> bool
 }
 
 /// Whether the rules read all processors of a MADT.
-pub fn are_processors_read(madt: &Madt<'_>) -> bool
+pub fn are_processors_read(madt: &Table<'_>) -> bool
     ensures { IsTrue result ↔ AreProcessorsRead (madt_contents madt.now) }
 {
-    let other = first_picked(madt.entries(), |at| {
+    let other = first_picked(madt.entries::<MadtEntry<'_>>(), |at| {
         is_other_processor(&at.entry).then_some(())
     });
     other.is_none()
 }
 
 /// Whether a MADT has a processor that is on.
-pub fn is_any_on(madt: &Madt<'_>) -> bool
+pub fn is_any_on(madt: &Table<'_>) -> bool
     ensures { IsTrue result ↔ IsAnyNamed uid_on (madt_contents madt.now).entries }
 {
-    let uid = first_picked(madt.entries(), |at| uid_on(&at.entry));
+    let uid = first_picked(madt.entries::<MadtEntry<'_>>(), |at| uid_on(&at.entry));
     uid.is_some()
 }
 
@@ -113,20 +113,23 @@ fn is_gicc_entry(entry: &MadtEntry<'_>) -> bool
 }
 
 /// Whether a MADT has one.
-pub fn has_gicc(madt: &Madt<'_>) -> bool
+pub fn has_gicc(madt: &Table<'_>) -> bool
     ensures { IsTrue result
         ↔ ((o : ℕ) × StandsWith (madt_contents madt.now).entries o IsGicc) }
 {
-    let gicc = first_picked(madt.entries(), |at| {
+    let gicc = first_picked(madt.entries::<MadtEntry<'_>>(), |at| {
         is_gicc_entry(&at.entry).then_some(())
     });
     gicc.is_some()
 }
 
 /// Whether an SRAT has an enabled affinity for a processor.
-pub fn is_any_placed(srat: &Srat<'_>) -> bool
+pub fn is_any_placed(srat: &Table<'_>) -> bool
     ensures { IsTrue result ↔ IsAnyNamed processor_domain (srat_contents srat.now).entries }
 {
-    let domain = first_picked(srat.entries(), |at| processor_domain(&at.entry));
+    let domain = first_picked(
+        srat.entries::<SratEntry<'_>>(),
+        |at| processor_domain(&at.entry),
+    );
     domain.is_some()
 }

@@ -10,12 +10,12 @@ ghost use Rattle.acpi_lint.specs.Numbered.{AreNumbersAt};
 
 use crate::numbered::{Numbered, at_place};
 use acpi_check::{binary_search, collected, sorted_unique};
-use acpi_read::{EntryAt, Pptt, PpttEntry};
+use acpi_read::{EntryAt, PpttEntry, Table};
 use std::alloc::{AllocError, Global};
 
 /// A PPTT's Revision.
 #[tactic(auto, unfolding(acpi_base::specs::Header::header_of, acpi_base::specs::Pptt::pptt_contents))]
-pub fn revision(pptt: &Pptt<'_>) -> u8
+pub fn revision(pptt: &Table<'_>) -> u8
     ensures { result ≡ (pptt_contents pptt.now).revision }
 {
     pptt.header().revision
@@ -44,11 +44,11 @@ fn said_leaf_id(entry: &PpttEntry<'_>) -> Option<u32>
 }
 
 /// The nodes that are marked as leaves.
-fn said_leaves(alloc: Global, pptt: &Pptt<'_>) -> Result<Vec<Numbered>, AllocError>
+fn said_leaves(alloc: Global, pptt: &Table<'_>) -> Result<Vec<Numbered>, AllocError>
     ensures { IfOk result (λ leaves. AreNumbersAt
         (NamesAt said_leaf_id (pptt_contents pptt.now).entries) leaves.items) }
 {
-    collected(alloc, pptt.entries(), |at| {
+    collected(alloc, pptt.entries::<PpttEntry<'_>>(), |at| {
         at_place(at.offset, said_leaf_id(&at.entry))
     })
 }
@@ -64,12 +64,12 @@ fn parent_of(entry: &PpttEntry<'_>) -> Option<u32>
 }
 
 /// The offsets of the nodes' Parents, in rising order.
-fn parents_of(alloc: Global, pptt: &Pptt<'_>) -> Result<Vec<u64>, AllocError>
+fn parents_of(alloc: Global, pptt: &Table<'_>) -> Result<Vec<u64>, AllocError>
     ensures rise { IfOk result (λ parents. AllPairs (λ o p. o < p) parents.items) }
     ensures all { IfOk result (λ parents. (o : ℕ) →
         Contains parents.items o ↔ IsParent (pptt_contents pptt.now) o) }
 {
-    let parents = collected(alloc, pptt.entries(), |at| {
+    let parents = collected(alloc, pptt.entries::<PpttEntry<'_>>(), |at| {
         parent_of(&at.entry).map(u64::from)
     })?;
     sorted_unique(parents)
@@ -87,12 +87,12 @@ fn unnamed_id(parents: &[u64], at: &EntryAt<PpttEntry<'_>>) -> Option<u32>
 }
 
 /// The nodes that are not the Parent of any node.
-fn unnamed_leaves(alloc: Global, pptt: &Pptt<'_>) -> Result<Vec<Numbered>, AllocError>
+fn unnamed_leaves(alloc: Global, pptt: &Table<'_>) -> Result<Vec<Numbered>, AllocError>
     ensures { IfOk result (λ leaves. AreNumbersAt (IsUnnamedAt (pptt_contents pptt.now))
         leaves.items) }
 {
     let parents = parents_of(alloc, pptt)?;
-    collected(alloc, pptt.entries(), |at| {
+    collected(alloc, pptt.entries::<PpttEntry<'_>>(), |at| {
         at_place(at.offset, unnamed_id(&parents, at))
     })
 }
@@ -102,7 +102,7 @@ const HAS_LEAVES: u8 = 2;
 
 /// The ACPI processor IDs of a PPTT's leaves, each with its leaf's offset; the offsets rise. Allocates for each leaf,
 /// and below Revision 2 also for each node.
-pub fn leaves_of(alloc: Global, pptt: &Pptt<'_>) -> Result<Vec<Numbered>, AllocError>
+pub fn leaves_of(alloc: Global, pptt: &Table<'_>) -> Result<Vec<Numbered>, AllocError>
     ensures { IfOk result (λ leaves. AreNumbersAt (IsLeafAt (pptt_contents pptt.now))
         leaves.items) }
 {

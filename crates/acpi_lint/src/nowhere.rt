@@ -28,7 +28,7 @@ use crate::processors::{
     apic_id_of, apic_id_on, gicc_uid_on, nmi_uid, placed_apic_id, placed_uid, uid_of, uid_on,
 };
 use acpi_check::{binary_search, has};
-use acpi_read::{EntryAt, Madt, MadtEntry, Pptt, Srat, SratEntry};
+use acpi_read::{EntryAt, MadtEntry, SratEntry, Table};
 use std::alloc::{AllocError, Global};
 
 /// The place of a number, if there is one, that is not among these, which rise.
@@ -48,7 +48,7 @@ fn unknown_place(known: &[u64], at: u64, number: Option<u32>) -> Option<Place>
 }
 
 /// A place that counts only if the rules read all processors of a MADT.
-fn where_read(madt: &Madt<'_>, place: Option<Place>) -> Option<Place>
+fn where_read(madt: &Table<'_>, place: Option<Place>) -> Option<Place>
     ensures { IsWhereRead (madt_contents madt.now) place result }
 {
     let place = place?;
@@ -58,7 +58,7 @@ fn where_read(madt: &Madt<'_>, place: Option<Place>) -> Option<Place>
 // ---- the MADT alone
 
 /// The place of a MADT that has no processor that is on, if the rules read all of them.
-pub fn no_processor(madt: &Madt<'_>) -> Option<Place>
+pub fn no_processor(madt: &Table<'_>) -> Option<Place>
     ensures { FindsLeast (IsNoProcessor (madt_contents madt.now)) result }
 {
     if is_any_on(madt) {
@@ -77,12 +77,16 @@ fn unknown_nmi(uids: &[u64], at: &EntryAt<MadtEntry<'_>>) -> Option<Place>
 
 /// The first local NMI for a UID that no processor has, if the rules read all of them; `point` is the UID. Allocates
 /// for the UID of each processor.
-pub fn nmi_nowhere(alloc: Global, madt: &Madt<'_>) -> Result<Option<Place>, AllocError>
+pub fn nmi_nowhere(alloc: Global, madt: &Table<'_>) -> Result<Option<Place>, AllocError>
     ensures { IfOk result (FindsLeast (IsNmiNowhere (madt_contents madt.now))) }
 {
-    let uids = known(alloc, madt.entries(), |at| uid_of(&at.entry).map(u64::from))?;
+    let uids = known(
+        alloc,
+        madt.entries::<MadtEntry<'_>>(),
+        |at| uid_of(&at.entry).map(u64::from),
+    )?;
     let uids = uids.as_slice();
-    let place = first_picked(madt.entries(), |at| unknown_nmi(uids, at));
+    let place = first_picked(madt.entries::<MadtEntry<'_>>(), |at| unknown_nmi(uids, at));
     Ok(where_read(madt, place))
 }
 
@@ -105,21 +109,28 @@ fn unknown_affinity(ids: &[u64], uids: &[u64], at: &EntryAt<SratEntry<'_>>) -> O
 /// number that none has. Allocates for the numbers of each processor.
 pub fn affinity_nowhere(
     alloc: Global,
-    madt: &Madt<'_>,
-    srat: &Srat<'_>,
+    madt: &Table<'_>,
+    srat: &Table<'_>,
 ) -> Result<Option<Place>, AllocError>
     ensures { IfOk result (FindsLeast
         (IsAffinityNowhere (madt_contents madt.now) (srat_contents srat.now))) }
 {
     let ids = known(
         alloc,
-        madt.entries(),
+        madt.entries::<MadtEntry<'_>>(),
         |at| apic_id_of(&at.entry).map(u64::from),
     )?;
-    let uids = known(alloc, madt.entries(), |at| uid_of(&at.entry).map(u64::from))?;
+    let uids = known(
+        alloc,
+        madt.entries::<MadtEntry<'_>>(),
+        |at| uid_of(&at.entry).map(u64::from),
+    )?;
     let ids = ids.as_slice();
     let uids = uids.as_slice();
-    let place = first_picked(srat.entries(), |at| unknown_affinity(ids, uids, at));
+    let place = first_picked(
+        srat.entries::<SratEntry<'_>>(),
+        |at| unknown_affinity(ids, uids, at),
+    );
     Ok(where_read(madt, place))
 }
 
@@ -140,8 +151,8 @@ fn unplaced(ids: &[u64], uids: &[u64], at: &EntryAt<MadtEntry<'_>>) -> Option<Pl
 /// rules read all processors; `point` is its number. Allocates for each affinity.
 pub fn no_domain(
     alloc: Global,
-    madt: &Madt<'_>,
-    srat: &Srat<'_>,
+    madt: &Table<'_>,
+    srat: &Table<'_>,
 ) -> Result<Option<Place>, AllocError>
     ensures { IfOk result (FindsLeast
         (IsNoDomain (madt_contents madt.now) (srat_contents srat.now))) }
@@ -151,17 +162,20 @@ pub fn no_domain(
     }
     let ids = known(
         alloc,
-        srat.entries(),
+        srat.entries::<SratEntry<'_>>(),
         |at| placed_apic_id(&at.entry).map(u64::from),
     )?;
     let uids = known(
         alloc,
-        srat.entries(),
+        srat.entries::<SratEntry<'_>>(),
         |at| placed_uid(&at.entry).map(u64::from),
     )?;
     let ids = ids.as_slice();
     let uids = uids.as_slice();
-    let place = first_picked(madt.entries(), |at| unplaced(ids, uids, at));
+    let place = first_picked(
+        madt.entries::<MadtEntry<'_>>(),
+        |at| unplaced(ids, uids, at),
+    );
     Ok(where_read(madt, place))
 }
 
@@ -177,7 +191,11 @@ fn leafless(ids: &[u64], at: &EntryAt<MadtEntry<'_>>) -> Option<Place>
 
 /// The first processor of a MADT that is on and for which a PPTT has no leaf, if the PPTT has some, and the rules
 /// read all processors; `point` is its UID. Allocates for each leaf, and below Revision 2 for each node.
-pub fn no_leaf(alloc: Global, madt: &Madt<'_>, pptt: &Pptt<'_>) -> Result<Option<Place>, AllocError>
+pub fn no_leaf(
+    alloc: Global,
+    madt: &Table<'_>,
+    pptt: &Table<'_>,
+) -> Result<Option<Place>, AllocError>
     ensures { IfOk result (FindsLeast
         (IsNoLeaf (madt_contents madt.now) (pptt_contents pptt.now))) }
 {
@@ -186,7 +204,7 @@ pub fn no_leaf(alloc: Global, madt: &Madt<'_>, pptt: &Pptt<'_>) -> Result<Option
         return Ok(None);
     }
     let ids = ids.as_slice();
-    let place = first_picked(madt.entries(), |at| leafless(ids, at));
+    let place = first_picked(madt.entries::<MadtEntry<'_>>(), |at| leafless(ids, at));
     Ok(where_read(madt, place))
 }
 
@@ -213,8 +231,8 @@ fn first_unknown(known: &[u64], given: &[Numbered]) -> Option<Place>
 /// each node.
 pub fn leaf_nowhere(
     alloc: Global,
-    madt: &Madt<'_>,
-    pptt: &Pptt<'_>,
+    madt: &Table<'_>,
+    pptt: &Table<'_>,
 ) -> Result<Option<Place>, AllocError>
     ensures { IfOk result (FindsLeast
         (IsLeafNowhere (madt_contents madt.now) (pptt_contents pptt.now))) }
@@ -222,7 +240,11 @@ pub fn leaf_nowhere(
     if !has_gicc(madt) {
         return Ok(None);
     }
-    let uids = known(alloc, madt.entries(), |at| uid_of(&at.entry).map(u64::from))?;
+    let uids = known(
+        alloc,
+        madt.entries::<MadtEntry<'_>>(),
+        |at| uid_of(&at.entry).map(u64::from),
+    )?;
     let leaves = leaves_of(alloc, pptt)?;
     Ok(where_read(madt, first_unknown(&uids, &leaves)))
 }

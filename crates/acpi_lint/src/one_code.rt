@@ -13,16 +13,15 @@ ghost use Rattle.acpi_lint.specs.Places.{FindsLeast};
 ghost use Rattle.acpi_lint.specs.StageFaults.{IsFaultOfStage, FindsFirstAt};
 ghost use Rattle.acpi_lint.specs.WholeTables.{AreWholeTables};
 
-use crate::passes::cut;
 use crate::place::Place;
 use crate::verdicts::place_of;
 use crate::whole_tables::WholeTables;
-use acpi_base::{Policy, TableKind};
+use acpi_base::Policy;
 use acpi_check::{
     Chain, agreeing_overrides, apart_interrupts, apart_ranges, first_cycle, known_leaves,
     named_served, one_domain,
 };
-use acpi_read::{Madt, MadtEntry, Pptt, Table};
+use acpi_read::{MadtEntry, Table};
 use std::alloc::{AllocError, Global};
 
 /// The place of the first override of a set's MADT that gives its Source another interrupt number than an earlier one.
@@ -91,7 +90,7 @@ pub fn overlap(
 pub fn cycle_place(
     alloc: Global,
     chain: Chain,
-    pptt: &Pptt<'_>,
+    pptt: &Table<'_>,
 ) -> Result<Option<Place>, AllocError>
     ensures { IfOk result (FindsLeast
         (IsCycle (Names chain (pptt_contents pptt.now)) (most_of chain (pptt_contents pptt.now)))) }
@@ -127,10 +126,10 @@ pub fn two_domains(
 
 /// The cut of a MADT: the offset of the bytes after its entries, if there are any.
 #[tactic(auto, unfolding(acpi_base::specs::Madt::madt_contents))]
-fn madt_cut(table: &Table<'_>) -> Option<u64>
-    ensures { result ≡ (madt_contents table.now).cut }
+fn madt_cut(madt: &Table<'_>) -> Option<u64>
+    ensures { result ≡ (madt_contents madt.now).cut }
 {
-    cut::<MadtEntry<'_>>(table)
+    madt.cut::<MadtEntry<'_>>()
 }
 
 /// The place of the first leaf of a set's PPTT whose ID is the UID of no processor of its MADT, if the MADT's entries
@@ -143,17 +142,14 @@ pub fn leaf_unknown(
     ensures { (m : Memory) → AreWholeTables m policy.now.rsdp tables.now
         → IfOk result (FindsLeast (IsFaultOfStage Stage.Leaves Code.LeafUnknown m policy.now)) }
 {
-    let Some(table) = tables.table(TableKind::Madt) else {
+    let Some(madt) = tables.madt() else {
         return Ok(None);
     };
     let Some(pptt) = tables.pptt() else {
         return Ok(None);
     };
-    if let Some(_) = madt_cut(&table) {
+    if let Some(_) = madt_cut(&madt) {
         return Ok(None);
     }
-    let Some(madt) = Madt::new(table) else {
-        return Ok(None);
-    };
     place_of(known_leaves(alloc, &madt, &pptt))
 }

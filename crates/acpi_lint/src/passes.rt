@@ -3,7 +3,7 @@
 
 ghost use Rattle.std.specs.Prelude.{◌≡◌, Contains, length};
 ghost use denote.Ref.{Bor};
-ghost use Rattle.acpi_base.specs.Entries.{cut_of, entries_of, entries_read_by};
+ghost use Rattle.acpi_base.specs.Entries.{entries_of, entries_read_by};
 ghost use Rattle.acpi_base.specs.Listed.{HasListed};
 ghost use Rattle.acpi_base.specs.Memory.{Memory};
 ghost use Rattle.acpi_base.specs.TableKinds.{signature_of};
@@ -48,18 +48,6 @@ pub fn short_place(table: &Table<'_>, first: usize) -> Option<Place>
         return Some(Place::at(0));
     }
     None
-}
-
-/// The cut of a table: the offset of the bytes after its entries, if there are any.
-pub fn cut<'a, E: TableEntry<'a>>(table: &Table<'a>) -> Option<u64>
-    ensures { result ≡ cut_of E.first table.now }
-{
-    let mut entries = match E::entries(table.copied()) {
-        Ok(entries) => entries,
-        Err(_) => return None,
-    };
-    while entries.next().is_some() {}
-    entries.cut()
 }
 
 /// What is looked for among the entries of a table.
@@ -148,7 +136,7 @@ fn table_fault<'a, E: TableEntry<'a> + Copy>(
     let entries = E::entries(table.copied());
     match E::codes().subject(code) {
         Subject::Short => entries.is_err().then_some(Place::at(0)),
-        Subject::Cut => Some(Place::at(cut::<E>(table)?)),
+        Subject::Cut => Some(Place::at(table.cut::<E>()?)),
         Subject::Second => second_single::<E>(policy, code, table),
         Subject::Own => first_sought::<E>(policy, Sought::Own(code), table),
     }

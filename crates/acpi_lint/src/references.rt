@@ -20,7 +20,7 @@ use crate::place::Place;
 use crate::whole_tables::WholeTables;
 use acpi_base::{Code, Policy};
 use acpi_check::{Chain, OffsetSet, collected, first_dangling, named_offset};
-use acpi_read::{EntryAt, Pptt, PpttEntry};
+use acpi_read::{EntryAt, PpttEntry, Table};
 use std::alloc::{AllocError, Global};
 
 /// The offset of an entry that is a node of such chains, so that another entry may refer to it.
@@ -33,10 +33,14 @@ fn linked_offset(chain: Chain, at: &EntryAt<PpttEntry<'_>>) -> Option<u64>
 }
 
 /// The offsets of a PPTT's entries that are nodes of such chains.
-fn linked_offsets(alloc: Global, chain: Chain, pptt: &Pptt<'_>) -> Result<OffsetSet, AllocError>
+fn linked_offsets(alloc: Global, chain: Chain, pptt: &Table<'_>) -> Result<OffsetSet, AllocError>
     ensures { IfOk result (AreOffsets (IsAt (Says (named_offset chain) (pptt_contents pptt.now)))) }
 {
-    let offsets = collected(alloc, pptt.entries(), |at| linked_offset(chain, at))?;
+    let offsets = collected(
+        alloc,
+        pptt.entries::<PpttEntry<'_>>(),
+        |at| linked_offset(chain, at),
+    )?;
     OffsetSet::of(alloc, &offsets)
 }
 
@@ -56,11 +60,14 @@ fn unlinked_place(chain: Chain, offsets: &OffsetSet, at: &EntryAt<PpttEntry<'_>>
 }
 
 /// The place of the first entry of a PPTT that refers to an offset at which there is no entry of its kind.
-fn dangling_link(alloc: Global, chain: Chain, pptt: &Pptt<'_>) -> Result<Option<Place>, AllocError>
+fn dangling_link(alloc: Global, chain: Chain, pptt: &Table<'_>) -> Result<Option<Place>, AllocError>
     ensures { IfOk result (FindsLeast (IsDanglingLink chain (pptt_contents pptt.now))) }
 {
     let offsets = linked_offsets(alloc, chain, pptt)?;
-    Ok(first_picked(pptt.entries(), |at| unlinked_place(chain, &offsets, at)))
+    Ok(first_picked(
+        pptt.entries::<PpttEntry<'_>>(),
+        |at| unlinked_place(chain, &offsets, at),
+    ))
 }
 
 /// Whether an entry may be a private resource: it has another type than a node, even one that is not read.
@@ -82,10 +89,10 @@ fn resource_offset(at: &EntryAt<PpttEntry<'_>>) -> Option<u64>
 }
 
 /// The offsets of such entries of a PPTT.
-fn resource_offsets(alloc: Global, pptt: &Pptt<'_>) -> Result<OffsetSet, AllocError>
+fn resource_offsets(alloc: Global, pptt: &Table<'_>) -> Result<OffsetSet, AllocError>
     ensures { IfOk result (AreOffsets (IsResourceAt (pptt_contents pptt.now))) }
 {
-    let offsets = collected(alloc, pptt.entries(), resource_offset)?;
+    let offsets = collected(alloc, pptt.entries::<PpttEntry<'_>>(), resource_offset)?;
     OffsetSet::of(alloc, &offsets)
 }
 
@@ -106,12 +113,15 @@ fn missing_place(offsets: &OffsetSet, at: &EntryAt<PpttEntry<'_>>) -> Option<Pla
 }
 
 /// The place of the first private resource of a PPTT's nodes that is at none of its entries of another type.
-fn dangling_resource(alloc: Global, pptt: &Pptt<'_>) -> Result<Option<Place>, AllocError>
+fn dangling_resource(alloc: Global, pptt: &Table<'_>) -> Result<Option<Place>, AllocError>
     ensures { IfOk result (FindsLeast
         (ReferenceFault (pptt_contents pptt.now) Code.DanglingResource)) }
 {
     let offsets = resource_offsets(alloc, pptt)?;
-    Ok(first_picked(pptt.entries(), |at| missing_place(&offsets, at)))
+    Ok(first_picked(
+        pptt.entries::<PpttEntry<'_>>(),
+        |at| missing_place(&offsets, at),
+    ))
 }
 
 /// The place of the first fault with this code in the references of a PPTT's entries. None for a code of another
@@ -119,7 +129,7 @@ fn dangling_resource(alloc: Global, pptt: &Pptt<'_>) -> Result<Option<Place>, Al
 pub fn reference_fault(
     alloc: Global,
     code: Code,
-    pptt: &Pptt<'_>,
+    pptt: &Table<'_>,
 ) -> Result<Option<Place>, AllocError>
     ensures { IfOk result (FindsLeast (ReferenceFault (pptt_contents pptt.now) code)) }
 {

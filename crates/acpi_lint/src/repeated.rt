@@ -17,7 +17,7 @@ use crate::numbered::{Numbered, Order, at_place, first_repeated, first_unlike};
 use crate::place::Place;
 use crate::processors::{cache_id, placed_uid, processor_domain};
 use acpi_check::collected;
-use acpi_read::{EntryAt, Pptt, Srat, SratEntry, TableEntry, TypedEntries};
+use acpi_read::{EntryAt, PpttEntry, SratEntry, Table, TableEntry, TypedEntries};
 use std::alloc::{AllocError, Global};
 
 /// The first entry of a table whose number an earlier one has; `other` is the first that has it, and `point` the
@@ -46,20 +46,20 @@ const HAS_CACHE_IDS: u8 = 3;
 
 /// The first cache that has the Cache ID of an earlier one, if the PPTT's Revision is 3 or later. Allocates for the
 /// Cache ID of each.
-pub fn same_cache_id(alloc: Global, pptt: &Pptt<'_>) -> Result<Option<Place>, AllocError>
+pub fn same_cache_id(alloc: Global, pptt: &Table<'_>) -> Result<Option<Place>, AllocError>
     ensures { IfOk result (FindsLeast (IsSameCacheId (pptt_contents pptt.now))) }
 {
     if revision(pptt) < HAS_CACHE_IDS {
         return Ok(None);
     }
-    repeated(alloc, Some(pptt.entries()), |at| {
+    repeated(alloc, Some(pptt.entries::<PpttEntry<'_>>()), |at| {
         at_place(at.offset, cache_id(&at.entry))
     })
 }
 
 /// The first leaf that has the ACPI processor ID of an earlier one. Allocates for each leaf, and below Revision 2 for
 /// each node.
-pub fn same_leaf(alloc: Global, pptt: &Pptt<'_>) -> Result<Option<Place>, AllocError>
+pub fn same_leaf(alloc: Global, pptt: &Table<'_>) -> Result<Option<Place>, AllocError>
     ensures { IfOk result (FindsLeast (IsSameLeaf (pptt_contents pptt.now))) }
 {
     let leaves = leaves_of(alloc, pptt)?;
@@ -83,9 +83,13 @@ fn domain_of_uid(at: &EntryAt<SratEntry<'_>>) -> Option<Numbered>
 
 /// The first GICC affinity with a UID that a later one puts into another domain; `other` is the first such one, and
 /// `point` the UID. Allocates for each enabled GICC affinity.
-pub fn two_uid_domains(alloc: Global, srat: &Srat<'_>) -> Result<Option<Place>, AllocError>
+pub fn two_uid_domains(alloc: Global, srat: &Table<'_>) -> Result<Option<Place>, AllocError>
     ensures { IfOk result (FindsLeast (IsTwoUidDomains (srat_contents srat.now))) }
 {
-    let domains = collected(alloc, srat.entries(), |at| domain_of_uid(at))?;
+    let domains = collected(
+        alloc,
+        srat.entries::<SratEntry<'_>>(),
+        |at| domain_of_uid(at),
+    )?;
     first_unlike(domains, Order::First)
 }

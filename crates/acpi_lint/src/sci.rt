@@ -14,7 +14,7 @@ use crate::passes::first_picked;
 use crate::place::Place;
 use acpi_base::Policy;
 use acpi_base::field::u16_at;
-use acpi_read::{EntryAt, Fadt, Madt, MadtEntry};
+use acpi_read::{EntryAt, Fadt, MadtEntry, Table};
 
 /// The place of an override of an ISA interrupt, and the interrupt number that it gives.
 fn own_override(source: u16, at: &EntryAt<MadtEntry<'_>>) -> Option<Place>
@@ -33,14 +33,17 @@ fn own_override(source: u16, at: &EntryAt<MadtEntry<'_>>) -> Option<Place>
 }
 
 /// The place of the first override of an ISA interrupt, and the interrupt number that it gives.
-fn first_override(madt: &Madt<'_>, source: u16) -> Option<Place>
+fn first_override(madt: &Table<'_>, source: u16) -> Option<Place>
     ensures { FindsLeast (IsOverrideAt source (madt_contents madt.now)) result }
 {
-    first_picked(madt.entries(), |at| own_override(source, at))
+    first_picked(
+        madt.entries::<MadtEntry<'_>>(),
+        |at| own_override(source, at),
+    )
 }
 
 /// The interrupt number of an ISA interrupt: that of its first override, or else its own.
-fn gsi_of(madt: &Madt<'_>, source: u16) -> u64
+fn gsi_of(madt: &Table<'_>, source: u16) -> u64
     ensures is { IsGsiOf (madt_contents madt.now) source result }
     ensures one { (g : ℕ) → IsGsiOf (madt_contents madt.now) source g → g ≡ result }
 {
@@ -51,10 +54,10 @@ fn gsi_of(madt: &Madt<'_>, source: u16) -> u64
 }
 
 /// Whether a MADT has an I/O APIC.
-fn has_io_apic(madt: &Madt<'_>) -> bool
+fn has_io_apic(madt: &Table<'_>) -> bool
     ensures { IsTrue result ↔ HasIoApic (madt_contents madt.now) }
 {
-    first_picked(madt.entries(), |at| {
+    first_picked(madt.entries::<MadtEntry<'_>>(), |at| {
         matches!(at.entry, MadtEntry::IoApic(_)).then_some(at.offset)
     })
     .is_some()
@@ -74,10 +77,10 @@ fn serves(policy: &Policy, entry: &MadtEntry<'_>, gsi: u64) -> bool
 }
 
 /// Whether an I/O APIC of a MADT serves an interrupt number.
-fn is_served(policy: &Policy, madt: &Madt<'_>, gsi: u64) -> bool
+fn is_served(policy: &Policy, madt: &Table<'_>, gsi: u64) -> bool
     ensures { IsTrue result ↔ IsServed policy.now (madt_contents madt.now) gsi }
 {
-    first_picked(madt.entries(), |at| {
+    first_picked(madt.entries::<MadtEntry<'_>>(), |at| {
         serves(policy, &at.entry, gsi).then_some(at.offset)
     })
     .is_some()
@@ -85,7 +88,7 @@ fn is_served(policy: &Policy, madt: &Madt<'_>, gsi: u64) -> bool
 
 /// Whether none of the I/O APICs of a MADT serves an interrupt number, although there are some, and the hardware is
 /// not reduced.
-fn is_nowhere(policy: &Policy, fadt: &Fadt<'_>, madt: &Madt<'_>, gsi: u64) -> bool
+fn is_nowhere(policy: &Policy, fadt: &Fadt<'_>, madt: &Table<'_>, gsi: u64) -> bool
     ensures { IsTrue result ↔ IsNowhere policy.now fadt.now (madt_contents madt.now) gsi }
 {
     !fadt.reduced() && has_io_apic(madt) && !is_served(policy, madt, gsi)
@@ -93,7 +96,7 @@ fn is_nowhere(policy: &Policy, fadt: &Fadt<'_>, madt: &Madt<'_>, gsi: u64) -> bo
 
 /// SCI_INT, at 46, if the hardware is not reduced, and none of the I/O APICs serves its interrupt number although
 /// there are some.
-pub fn sci_nowhere(policy: &Policy, fadt: &Fadt<'_>, madt: &Madt<'_>) -> Option<Place>
+pub fn sci_nowhere(policy: &Policy, fadt: &Fadt<'_>, madt: &Table<'_>) -> Option<Place>
     ensures { FindsLeast (IsSciNowhere policy.now fadt.now (madt_contents madt.now)) result }
 {
     let gsi = gsi_of(madt, u16_at(fadt.bytes(), 46));

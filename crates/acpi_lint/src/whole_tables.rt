@@ -12,9 +12,7 @@ ghost use Rattle.acpi_lint.specs.WholeTables.{IsFound, IsLong, AreEntries, table
 use crate::first_slots::FirstSlots;
 use crate::listed::{Slot, listed_slots};
 use acpi_base::{Image, TableKind};
-use acpi_read::{
-    Fadt, Madt, MadtEntry, Pptt, PpttEntry, Root, Srat, SratEntry, Table, TypedEntries,
-};
+use acpi_read::{Fadt, MadtEntry, PpttEntry, Root, SratEntry, Table, TableEntry, TypedEntries};
 use std::alloc::{AllocError, Global};
 
 /// The root table of a set and the first listed table of each kind, if they are complete, whatever their checksums.
@@ -89,25 +87,36 @@ impl<'a> WholeTables<'a> {
         Fadt::new(self.table(TableKind::Fadt)?).ok()
     }
 
+    /// The table of a kind, if it does not end before its first entry's place.
+    fn long<E: TableEntry<'a>>(&self, kind: TableKind) -> Option<Table<'a>>
+        ensures { IsLong E.first (table_of self.now kind) result }
+    {
+        let table = self.table(kind)?;
+        if table.bytes().len() < E::first() {
+            return None;
+        }
+        Some(table)
+    }
+
     /// The MADT, if it has the 44 bytes of its fields.
-    pub fn madt(&self) -> Option<Madt<'a>>
+    pub fn madt(&self) -> Option<Table<'a>>
         ensures { IsLong 44 self.now.madt result }
     {
-        Madt::new(self.table(TableKind::Madt)?)
+        self.long::<MadtEntry<'a>>(TableKind::Madt)
     }
 
     /// The SRAT, if it has the 48 bytes of its fields.
-    pub fn srat(&self) -> Option<Srat<'a>>
+    pub fn srat(&self) -> Option<Table<'a>>
         ensures { IsLong 48 self.now.srat result }
     {
-        Srat::new(self.table(TableKind::Srat)?)
+        self.long::<SratEntry<'a>>(TableKind::Srat)
     }
 
     /// The PPTT.
-    pub fn pptt(&self) -> Option<Pptt<'a>>
+    pub fn pptt(&self) -> Option<Table<'a>>
         ensures { result ≡ self.now.pptt }
     {
-        Some(Pptt::of(self.table(TableKind::Pptt)?))
+        self.table(TableKind::Pptt)
     }
 
     /// The entries of the MADT, if it has the 44 bytes of its fields.
@@ -115,7 +124,7 @@ impl<'a> WholeTables<'a> {
         ensures { AreEntries 44 (λ whole. (madt_contents whole).entries) self.now.madt
             (option_map (λ e. entries_read_by madt_entry e.entries.entries) result) }
     {
-        Some(self.madt()?.entries())
+        Some(self.madt()?.entries::<MadtEntry<'_>>())
     }
 
     /// The entries of the SRAT, if it has the 48 bytes of its fields.
@@ -123,7 +132,7 @@ impl<'a> WholeTables<'a> {
         ensures { AreEntries 48 (λ whole. (srat_contents whole).entries) self.now.srat
             (option_map (λ e. entries_read_by srat_entry e.entries.entries) result) }
     {
-        Some(self.srat()?.entries())
+        Some(self.srat()?.entries::<SratEntry<'_>>())
     }
 
     /// The entries of the PPTT.
@@ -131,6 +140,6 @@ impl<'a> WholeTables<'a> {
         ensures { option_map (λ e. entries_read_by pptt_entry e.entries.entries) result
             ≡ option_map (λ whole. (pptt_contents whole).entries) self.now.pptt }
     {
-        Some(self.pptt()?.entries())
+        Some(self.pptt()?.entries::<PpttEntry<'_>>())
     }
 }

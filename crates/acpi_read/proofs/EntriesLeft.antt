@@ -37,17 +37,27 @@ pub last_or_next : (offset : ℕ) (whole : List ℕ) (found : Option (Bor (List 
 last_or_next offset whole None within is = is_last offset whole (sym is)
 last_or_next offset whole (Some e) within is = is_next offset whole e.now within (sym is)
 
--- past the end of a table no entry stands
-none_past : (offset : ℕ) (whole : List ℕ) → length whole ≤ offset → entries_of offset whole ≡ []
+-- from its end on, and past it, a table has no entries and no cut
+past_end : (offset : ℕ) (whole : List ℕ) → length whole ≤ offset → IsLast offset whole
 unfolding first_entry
-none_past offset whole past = (step.is_end offset whole (rw (drop_all offset whole past) refl)).none
+past_end offset whole past = is_last offset whole (rw (drop_all offset whole past) refl)
 
--- so a table that ends before its first entry's place has none from its end on either
+-- so one that ends before its first entry's place may be read from its end on
 pub entries_within : (first : ℕ) (whole : List ℕ) → entries_of (min first (length whole)) whole ≡ entries_of first whole
 entries_within first whole =
     elim (cases_lt (length whole) first) [
       | inl less ↦
           rw (min-eq_right {n = length whole} {m = first} (omega (arith, less)))
-          (none_past (length whole) whole (omega arith) ∙ sym (none_past first whole (omega (arith, less))))
+          ((past_end (length whole) whole (omega arith)).none ∙ sym (past_end first whole (omega (arith, less))).none)
+      | inr fits ↦ rw (min-eq_left fits) refl
+    ]
+
+pub cut_within : (first : ℕ) (whole : List ℕ) → cut_of (min first (length whole)) whole ≡ cut_of first whole
+cut_within first whole =
+    elim (cases_lt (length whole) first) [
+      | inl less ↦
+          rw (min-eq_right {n = length whole} {m = first} (omega (arith, less)))
+          ((past_end (length whole) whole (omega arith)).end (omega arith)
+          ∙ sym ((past_end first whole (omega (arith, less))).end (omega (arith, less))))
       | inr fits ↦ rw (min-eq_left fits) refl
     ]

@@ -71,7 +71,6 @@ mod typed_entries;
 pub use entries::Entries;
 pub use entry::Entry;
 pub use entry_codes::{EntryCodes, Subject};
-pub use entry_tables::{EntryTable, Madt, Pptt, Srat};
 pub use facs::Facs;
 pub use fadt::{Block, Fadt, has_flag};
 pub use first_tables::{FirstTables, Listed};

@@ -18,11 +18,9 @@ ghost use Rattle.acpi_write.specs.Views.{head_value, table_value, IsShaped, IsSh
 use crate::fadt_body::with_facs;
 use crate::table_value::{Head, TableValue};
 use acpi_base::TableKind;
-use acpi_base::field::u64_at;
+use acpi_base::field::{u32_at, u64_at};
 use acpi_check::ListedSet;
-use acpi_read::{
-    FirstTables, Header, Layout, Listed, Madt, Pptt, Slit, Srat, Table, TableEntry, TypedEntries,
-};
+use acpi_read::{FirstTables, Header, Layout, Listed, MadtEntry, PpttEntry, Slit, SratEntry, Table, TableEntry, TypedEntries};
 use std::alloc::{AllocError, Global};
 
 /// The contents of a header, except its signature, its length and its checksum.
@@ -91,16 +89,16 @@ fn read_fadt<'a>(alloc: Global, table: &Table<'a>) -> Result<TableValue<'a>, All
 }
 
 /// The contents of a MADT that entries fill, each of a length of its type.
-fn read_madt<'a>(alloc: Global, madt: &Madt<'a>) -> Result<TableValue<'a>, AllocError>
+fn read_madt<'a>(alloc: Global, madt: &Table<'a>) -> Result<TableValue<'a>, AllocError>
     requires { IsFilledMadt madt.now }
     ensures value { IfOk result
         (λ value. table_value value ≡ table_value_as (Some TableKind.Madt) madt.now) }
     ensures shaped { IfOk result IsShaped }
 {
     let head = head_in(madt.header());
-    let address = madt.local_apic_address();
-    let flags = madt.flags();
-    let entries = entry_list(alloc, madt.entries())?;
+    let address = u32_at(madt.bytes(), MADT_LOCAL_APIC_ADDRESS);
+    let flags = u32_at(madt.bytes(), MADT_FLAGS);
+    let entries = entry_list(alloc, madt.entries::<MadtEntry<'_>>())?;
     Ok(TableValue::Madt {
         head,
         address,
@@ -110,26 +108,26 @@ fn read_madt<'a>(alloc: Global, madt: &Madt<'a>) -> Result<TableValue<'a>, Alloc
 }
 
 /// The contents of an SRAT that entries fill, each of a length of its type.
-fn read_srat<'a>(alloc: Global, srat: &Srat<'a>) -> Result<TableValue<'a>, AllocError>
+fn read_srat<'a>(alloc: Global, srat: &Table<'a>) -> Result<TableValue<'a>, AllocError>
     requires { IsFilledSrat srat.now }
     ensures value { IfOk result
         (λ value. table_value value ≡ table_value_as (Some TableKind.Srat) srat.now) }
     ensures shaped { IfOk result IsShaped }
 {
     let head = head_in(srat.header());
-    let entries = entry_list(alloc, srat.entries())?;
+    let entries = entry_list(alloc, srat.entries::<SratEntry<'_>>())?;
     Ok(TableValue::Srat { head, entries })
 }
 
 /// The contents of a PPTT that entries fill, each of a length of its type.
-fn read_pptt<'a>(alloc: Global, pptt: &Pptt<'a>) -> Result<TableValue<'a>, AllocError>
+fn read_pptt<'a>(alloc: Global, pptt: &Table<'a>) -> Result<TableValue<'a>, AllocError>
     requires { IsFilledPptt pptt.now }
     ensures value { IfOk result
         (λ value. table_value value ≡ table_value_as (Some TableKind.Pptt) pptt.now) }
     ensures shaped { IfOk result IsShaped }
 {
     let head = head_in(pptt.header());
-    let entries = entry_list(alloc, pptt.entries())?;
+    let entries = entry_list(alloc, pptt.entries::<PpttEntry<'_>>())?;
     Ok(TableValue::Pptt { head, entries })
 }
 
@@ -146,8 +144,8 @@ fn known_value<'a>(
 {
     match kind {
         TableKind::Fadt => read_fadt(alloc, table),
-        TableKind::Madt => read_madt(alloc, &Madt::of(table.copied())),
-        TableKind::Srat => read_srat(alloc, &Srat::of(table.copied())),
+        TableKind::Madt => read_madt(alloc, table),
+        TableKind::Srat => read_srat(alloc, table),
         TableKind::Slit => {
             let head = head_in(table.header());
             let bytes = table.bytes();
@@ -155,7 +153,7 @@ fn known_value<'a>(
             let cells = &bytes[Slit::CELLS..];
             Ok(TableValue::Slit { head, count, cells })
         }
-        TableKind::Pptt => read_pptt(alloc, &Pptt::of(table.copied())),
+        TableKind::Pptt => read_pptt(alloc, table),
     }
 }
 

@@ -10,7 +10,7 @@ use Rattle.acpi_check.proofs.leaves.known_leaves.Goals.{then-header-lt-HAS_LEAVE
 pub returns-then-header-lt-HAS_LEAVES : goal.returns-then-header-lt-HAS_LEAVES
 returns-then-header-lt-HAS_LEAVES c =
     let is : c.header.result.revision ≡ (pptt_contents c.args.pptt.now).revision =
-    ap (λ (h : HeaderValue). h.revision) c.header.ensures ∙ revision c.args.pptt.now in
+    ap (λ (h : HeaderValue). h.revision) c.header.ensures.fields ∙ revision c.args.pptt.now in
     λ recent typed.
     elim c.then-header-lt-HAS_LEAVES.branch [
       | then-header-lt-HAS_LEAVES-via-then-header-lt-HAS_LEAVES w ↦
@@ -22,7 +22,7 @@ returns-then-header-lt-HAS_LEAVES c =
 pub returns : goal.returns
 returns c =
     let is : c.header.result.revision ≡ (pptt_contents c.args.pptt.now).revision =
-    ap (λ (h : HeaderValue). h.revision) c.header.ensures ∙ revision c.args.pptt.now in
+    ap (λ (h : HeaderValue). h.revision) c.header.ensures.fields ∙ revision c.args.pptt.now in
     refused _ _ _ c.first_unknown.result c.refuse.result c.refuse.ensures
     (leaves_found (madt_contents c.args.madt.now) (pptt_contents c.args.pptt.now) c.in_ok-uids.uids.items
     c.in_ok-uids.ensures (omega (arith, c.if-header-lt-HAS_LEAVES.false)) c.if-not-is_wholly_typed.ensures

@@ -25,29 +25,29 @@ returns-in_ok-first-in-Madt c =
     (λ whole. MadtFault c.args.set.now.policy.now (madt_contents whole)) (λ all. all) (λ v. (λ h. h, λ h. h))
     (λ v least. least) c.sound_entries.result c.sound_entries.ensures
 
-pub returns-in_err-madt-in-Interrupts : goal.returns-in_err-madt-in-Interrupts
-returns-in_err-madt-in-Interrupts c =
-    unlisted c.requires c.in-Interrupts.is kind.Madt c.madt.ensures c.in_err-madt-in-Interrupts.was
-    c.from_residual-in_err-madt-in-Interrupts.ensures (of_none _)
+pub returns-in_err-first-in-Interrupts : goal.returns-in_err-first-in-Interrupts
+returns-in_err-first-in-Interrupts c =
+    unlisted c.requires c.in-Interrupts.is kind.Madt c.first-in-Interrupts.ensures c.in_err-first-in-Interrupts.was
+    c.from_residual-in_err-first-in-Interrupts.ensures (of_none _)
 
-pub returns-in_ok-madt-in-Interrupts : goal.returns-in_ok-madt-in-Interrupts
-returns-in_ok-madt-in-Interrupts c =
+pub returns-in_ok-first-in-Interrupts : goal.returns-in_ok-first-in-Interrupts
+returns-in_ok-first-in-Interrupts c =
     rw c.in-Interrupts.is
     (of_one stage.Interrupts (λ whole. AreInterruptsApart c.args.set.now.policy.now (madt_contents whole))
     (λ whole. IsOverlap code.GsiClash (IsFirstGsiClash c.args.set.now.policy.now (madt_contents whole))) (λ all. all)
     (gsi_clash_first c.args.set.now.listed.image.now c.args.set.now.policy.now
     (rw c.in-Interrupts.is at c.requires.clean))
-    (listed_of_first c.requires.tables.listed.tables kind.Madt c.madt.ensures c.in_ok-madt-in-Interrupts.was)
+    (listed_of_first c.requires.tables.listed.tables kind.Madt c.first-in-Interrupts.ensures c.in_ok-first-in-Interrupts.was)
     c.apart_interrupts.result c.apart_interrupts.ensures)
 
-pub returns-in_err-madt-in-Overrides : goal.returns-in_err-madt-in-Overrides
-returns-in_err-madt-in-Overrides c =
-    unlisted c.requires c.in-Overrides.is kind.Madt c.madt-in-Overrides.ensures c.in_err-madt-in-Overrides.was
-    c.from_residual-in_err-madt-in-Overrides.ensures (of_none _)
+pub returns-in_err-first-in-Overrides : goal.returns-in_err-first-in-Overrides
+returns-in_err-first-in-Overrides c =
+    unlisted c.requires c.in-Overrides.is kind.Madt c.first-in-Overrides.ensures c.in_err-first-in-Overrides.was
+    c.from_residual-in_err-first-in-Overrides.ensures (of_none _)
 
-pub returns-in_ok-madt-in-Overrides : goal.returns-in_ok-madt-in-Overrides
-returns-in_ok-madt-in-Overrides c =
-    settled c.requires c.in-Overrides.is kind.Madt c.madt-in-Overrides.ensures c.in_ok-madt-in-Overrides.was
+pub returns-in_ok-first-in-Overrides : goal.returns-in_ok-first-in-Overrides
+returns-in_ok-first-in-Overrides c =
+    settled c.requires c.in-Overrides.is kind.Madt c.first-in-Overrides.ensures c.in_ok-first-in-Overrides.was
     (λ whole. DoOverridesAgree (madt_contents whole)) (λ whole. OverrideFault (madt_contents whole)) (λ all. all)
     (λ v. (λ h. h, λ h. h)) (λ v least. least) c.agreeing_overrides.result c.agreeing_overrides.ensures.settled
 
@@ -62,20 +62,20 @@ returns-in_ok-first-in-Srat c =
     (λ whole. IsSoundSrat (srat_contents whole)) (λ whole. SratFault (srat_contents whole)) (λ all. all)
     (λ v. (λ h. h, λ h. h)) (λ v least. least) c.sound_entries-in-Srat.result c.sound_entries-in-Srat.ensures
 
-pub returns-in_err-srat-in-Ranges : goal.returns-in_err-srat-in-Ranges
-returns-in_err-srat-in-Ranges c =
-    unlisted c.requires c.in-Ranges.is kind.Srat c.srat.ensures c.in_err-srat-in-Ranges.was
-    c.from_residual-in_err-srat-in-Ranges.ensures (of_none _)
+pub returns-in_err-first-in-Ranges : goal.returns-in_err-first-in-Ranges
+returns-in_err-first-in-Ranges c =
+    unlisted c.requires c.in-Ranges.is kind.Srat c.first-in-Ranges.ensures c.in_err-first-in-Ranges.was
+    c.from_residual-in_err-first-in-Ranges.ensures (of_none _)
 
-pub returns-in_ok-srat-in-Ranges : goal.returns-in_ok-srat-in-Ranges
-returns-in_ok-srat-in-Ranges c =
+pub returns-in_ok-first-in-Ranges : goal.returns-in_ok-first-in-Ranges
+returns-in_ok-first-in-Ranges c =
     rw c.in-Ranges.is
     (of_one stage.Ranges (λ whole. AreRangesApart c.args.set.now.policy.now.hotplug (srat_contents whole))
     (λ whole. IsOverlap code.Overlap (IsFirstOverlap c.args.set.now.policy.now.hotplug (srat_contents whole)))
     (λ all. all)
     (overlap_first c.args.set.now.listed.image.now c.args.set.now.policy.now
     (rw c.in-Ranges.is at c.requires.clean))
-    (listed_of_first c.requires.tables.listed.tables kind.Srat c.srat.ensures c.in_ok-srat-in-Ranges.was)
+    (listed_of_first c.requires.tables.listed.tables kind.Srat c.first-in-Ranges.ensures c.in_ok-first-in-Ranges.was)
     c.apart_ranges.result (rw c.hotplug.ensures.value at c.apart_ranges.ensures))
 
 pub returns-in_err-first-in-Slit : goal.returns-in_err-first-in-Slit
@@ -100,122 +100,122 @@ returns-in_ok-first-in-Pptt c =
     (λ whole. IsCutPptt (pptt_contents whole)) (λ whole. PpttFault (pptt_contents whole)) (λ all. all)
     (λ v. (λ h. h, λ h. h)) (λ v least. least) c.sound_entries-in-Pptt.result c.sound_entries-in-Pptt.ensures
 
-pub returns-in_err-pptt-in-References : goal.returns-in_err-pptt-in-References
-returns-in_err-pptt-in-References c =
-    unlisted c.requires c.in-References.is kind.Pptt c.pptt.ensures c.in_err-pptt-in-References.was
-    c.from_residual-in_err-pptt-in-References.ensures (of_none _)
+pub returns-in_err-first-in-References : goal.returns-in_err-first-in-References
+returns-in_err-first-in-References c =
+    unlisted c.requires c.in-References.is kind.Pptt c.first-in-References.ensures c.in_err-first-in-References.was
+    c.from_residual-in_err-first-in-References.ensures (of_none _)
 
 pub sound_references-requires : goal.sound_references-requires
 sound_references-requires c =
     earlier c.requires c.in-References.is stage.Pptt (omega arith) _
-    (listed_of_first c.requires.tables.listed.tables kind.Pptt c.pptt.ensures c.in_ok-pptt-in-References.was)
+    (listed_of_first c.requires.tables.listed.tables kind.Pptt c.first-in-References.ensures c.in_ok-first-in-References.was)
 
-pub returns-in_ok-pptt-in-References : goal.returns-in_ok-pptt-in-References
-returns-in_ok-pptt-in-References c =
-    settled c.requires c.in-References.is kind.Pptt c.pptt.ensures c.in_ok-pptt-in-References.was
+pub returns-in_ok-first-in-References : goal.returns-in_ok-first-in-References
+returns-in_ok-first-in-References c =
+    settled c.requires c.in-References.is kind.Pptt c.first-in-References.ensures c.in_ok-first-in-References.was
     (λ whole. AreReferencesSound (pptt_contents whole)) (λ whole. ReferenceFault (pptt_contents whole)) (λ all. all)
     (λ v. (λ h. h, λ h. h)) (λ v least. least) c.sound_references.result c.sound_references.ensures
 
-pub returns-in_err-pptt-in-Parents : goal.returns-in_err-pptt-in-Parents
-returns-in_err-pptt-in-Parents c =
-    unlisted c.requires c.in-Parents.is kind.Pptt c.pptt-in-Parents.ensures c.in_err-pptt-in-Parents.was
-    c.from_residual-in_err-pptt-in-Parents.ensures (of_none _)
+pub returns-in_err-first-in-Parents : goal.returns-in_err-first-in-Parents
+returns-in_err-first-in-Parents c =
+    unlisted c.requires c.in-Parents.is kind.Pptt c.first-in-Parents.ensures c.in_err-first-in-Parents.was
+    c.from_residual-in_err-first-in-Parents.ensures (of_none _)
 
 pub parents_end-requires : goal.parents_end-requires
 parents_end-requires c =
     earlier c.requires c.in-Parents.is stage.References (omega arith) _
-    (listed_of_first c.requires.tables.listed.tables kind.Pptt c.pptt-in-Parents.ensures
-    c.in_ok-pptt-in-Parents.was)
+    (listed_of_first c.requires.tables.listed.tables kind.Pptt c.first-in-Parents.ensures
+    c.in_ok-first-in-Parents.was)
 
-pub returns-in_ok-pptt-in-Parents : goal.returns-in_ok-pptt-in-Parents
-returns-in_ok-pptt-in-Parents c =
-    settled c.requires c.in-Parents.is kind.Pptt c.pptt-in-Parents.ensures c.in_ok-pptt-in-Parents.was
+pub returns-in_ok-first-in-Parents : goal.returns-in_ok-first-in-Parents
+returns-in_ok-first-in-Parents c =
+    settled c.requires c.in-Parents.is kind.Pptt c.first-in-Parents.ensures c.in_ok-first-in-Parents.was
     (λ whole. DoParentsEnd (pptt_contents whole)) (λ whole. ParentFault (pptt_contents whole)) (λ all. all)
     (λ v. (λ h. h, λ h. h)) (λ v least. least) c.parents_end.result c.parents_end.ensures
 
-pub returns-in_err-pptt-in-Caches : goal.returns-in_err-pptt-in-Caches
-returns-in_err-pptt-in-Caches c =
-    unlisted c.requires c.in-Caches.is kind.Pptt c.pptt-in-Caches.ensures c.in_err-pptt-in-Caches.was
-    c.from_residual-in_err-pptt-in-Caches.ensures (of_none _)
+pub returns-in_err-first-in-Caches : goal.returns-in_err-first-in-Caches
+returns-in_err-first-in-Caches c =
+    unlisted c.requires c.in-Caches.is kind.Pptt c.first-in-Caches.ensures c.in_err-first-in-Caches.was
+    c.from_residual-in_err-first-in-Caches.ensures (of_none _)
 
 pub caches_end-requires : goal.caches_end-requires
 caches_end-requires c =
     earlier c.requires c.in-Caches.is stage.References (omega arith) _
-    (listed_of_first c.requires.tables.listed.tables kind.Pptt c.pptt-in-Caches.ensures
-    c.in_ok-pptt-in-Caches.was)
+    (listed_of_first c.requires.tables.listed.tables kind.Pptt c.first-in-Caches.ensures
+    c.in_ok-first-in-Caches.was)
 
-pub returns-in_ok-pptt-in-Caches : goal.returns-in_ok-pptt-in-Caches
-returns-in_ok-pptt-in-Caches c =
-    settled c.requires c.in-Caches.is kind.Pptt c.pptt-in-Caches.ensures c.in_ok-pptt-in-Caches.was
+pub returns-in_ok-first-in-Caches : goal.returns-in_ok-first-in-Caches
+returns-in_ok-first-in-Caches c =
+    settled c.requires c.in-Caches.is kind.Pptt c.first-in-Caches.ensures c.in_ok-first-in-Caches.was
     (λ whole. DoCachesEnd (pptt_contents whole)) (λ whole. CacheFault (pptt_contents whole)) (λ all. all)
     (λ v. (λ h. h, λ h. h)) (λ v least. least) c.caches_end.result c.caches_end.ensures
 
-pub returns-in_err-madt-in-Domains : goal.returns-in_err-madt-in-Domains
-returns-in_err-madt-in-Domains c =
-    unlisted c.requires c.in-Domains.is kind.Madt c.madt-in-Domains.ensures c.in_err-madt-in-Domains.was
-    c.from_residual-in_err-madt-in-Domains.ensures (of_none _)
+pub returns-in_err-first-in-Domains : goal.returns-in_err-first-in-Domains
+returns-in_err-first-in-Domains c =
+    unlisted c.requires c.in-Domains.is kind.Madt c.first-in-Domains.ensures c.in_err-first-in-Domains.was
+    c.from_residual-in_err-first-in-Domains.ensures (of_none _)
 
-pub returns-in_err-srat-in-Domains : goal.returns-in_err-srat-in-Domains
-returns-in_err-srat-in-Domains c =
-    unlisted c.requires c.in-Domains.is kind.Srat c.srat-in-Domains.ensures c.in_err-srat-in-Domains.was
-    c.from_residual-in_err-srat-in-Domains.ensures (λ none _ _. of_none _ none)
+pub returns-in_err-first-in-Domains-2 : goal.returns-in_err-first-in-Domains-2
+returns-in_err-first-in-Domains-2 c =
+    unlisted c.requires c.in-Domains.is kind.Srat c.first-in-Domains-2.ensures c.in_err-first-in-Domains-2.was
+    c.from_residual-in_err-first-in-Domains-2.ensures (λ none _ _. of_none _ none)
 
-pub returns-in_ok-srat-in-Domains : goal.returns-in_ok-srat-in-Domains
-returns-in_ok-srat-in-Domains c =
+pub returns-in_ok-first-in-Domains-2 : goal.returns-in_ok-first-in-Domains-2
+returns-in_ok-first-in-Domains-2 c =
     rw c.in-Domains.is
     (of_two stage.Domains (λ x y. HaveOneDomain c.args.set.now.policy.now.processors (madt_contents x)
     (srat_contents y))
     (λ x y. DomainFault c.args.set.now.policy.now.processors (madt_contents x) (srat_contents y))
     (λ all. all) (λ v. (λ h. h, λ h. h)) (λ v least. least) (rw c.in-Domains.is at c.requires.clean)
-    (listed_of_first c.requires.tables.listed.tables kind.Madt c.madt-in-Domains.ensures
-    c.in_ok-madt-in-Domains.was)
-    (listed_of_first c.requires.tables.listed.tables kind.Srat c.srat-in-Domains.ensures
-    c.in_ok-srat-in-Domains.was)
+    (listed_of_first c.requires.tables.listed.tables kind.Madt c.first-in-Domains.ensures
+    c.in_ok-first-in-Domains.was)
+    (listed_of_first c.requires.tables.listed.tables kind.Srat c.first-in-Domains-2.ensures
+    c.in_ok-first-in-Domains-2.was)
     c.one_domain.result (rw c.processors.ensures.value at c.one_domain.ensures))
 
-pub returns-in_err-madt-in-Served : goal.returns-in_err-madt-in-Served
-returns-in_err-madt-in-Served c =
-    unlisted c.requires c.in-Served.is kind.Madt c.madt-in-Served.ensures c.in_err-madt-in-Served.was
-    c.from_residual-in_err-madt-in-Served.ensures (of_none _)
+pub returns-in_err-first-in-Served : goal.returns-in_err-first-in-Served
+returns-in_err-first-in-Served c =
+    unlisted c.requires c.in-Served.is kind.Madt c.first-in-Served.ensures c.in_err-first-in-Served.was
+    c.from_residual-in_err-first-in-Served.ensures (of_none _)
 
-pub returns-in_ok-madt-in-Served : goal.returns-in_ok-madt-in-Served
-returns-in_ok-madt-in-Served c =
-    settled c.requires c.in-Served.is kind.Madt c.madt-in-Served.ensures c.in_ok-madt-in-Served.was
+pub returns-in_ok-first-in-Served : goal.returns-in_ok-first-in-Served
+returns-in_ok-first-in-Served c =
+    settled c.requires c.in-Served.is kind.Madt c.first-in-Served.ensures c.in_ok-first-in-Served.was
     (λ whole. AreNamedServed c.args.set.now.policy.now (madt_contents whole))
     (λ whole. ServedFault c.args.set.now.policy.now (madt_contents whole)) (λ all. all) (λ v. (λ h. h, λ h. h))
     (λ v least. least) c.named_served.result c.named_served.ensures
 
-pub returns-in_err-madt-in-Leaves : goal.returns-in_err-madt-in-Leaves
-returns-in_err-madt-in-Leaves c =
-    unlisted c.requires c.in-Leaves.is kind.Madt c.madt-in-Leaves.ensures c.in_err-madt-in-Leaves.was
-    c.from_residual-in_err-madt-in-Leaves.ensures (of_none _)
+pub returns-in_err-first-in-Leaves : goal.returns-in_err-first-in-Leaves
+returns-in_err-first-in-Leaves c =
+    unlisted c.requires c.in-Leaves.is kind.Madt c.first-in-Leaves.ensures c.in_err-first-in-Leaves.was
+    c.from_residual-in_err-first-in-Leaves.ensures (of_none _)
 
-pub returns-in_err-pptt-in-Leaves : goal.returns-in_err-pptt-in-Leaves
-returns-in_err-pptt-in-Leaves c =
-    unlisted c.requires c.in-Leaves.is kind.Pptt c.pptt-in-Leaves.ensures c.in_err-pptt-in-Leaves.was
-    c.from_residual-in_err-pptt-in-Leaves.ensures (λ none _ _. of_none _ none)
+pub returns-in_err-first-in-Leaves-2 : goal.returns-in_err-first-in-Leaves-2
+returns-in_err-first-in-Leaves-2 c =
+    unlisted c.requires c.in-Leaves.is kind.Pptt c.first-in-Leaves-2.ensures c.in_err-first-in-Leaves-2.was
+    c.from_residual-in_err-first-in-Leaves-2.ensures (λ none _ _. of_none _ none)
 
 pub known_leaves-requires-clause-long : goal.known_leaves-requires-clause-long
 unfolding madt_contents
 known_leaves-requires-clause-long c =
     (earlier c.requires c.in-Leaves.is stage.Madt (omega arith) _
-    (listed_of_first c.requires.tables.listed.tables kind.Madt c.madt-in-Leaves.ensures
-    c.in_ok-madt-in-Leaves.was)).long
+    (listed_of_first c.requires.tables.listed.tables kind.Madt c.first-in-Leaves.ensures
+    c.in_ok-first-in-Leaves.was)).long
 
 pub known_leaves-requires-clause-filled : goal.known_leaves-requires-clause-filled
 known_leaves-requires-clause-filled c =
     (earlier c.requires c.in-Leaves.is stage.Madt (omega arith) _
-    (listed_of_first c.requires.tables.listed.tables kind.Madt c.madt-in-Leaves.ensures
-    c.in_ok-madt-in-Leaves.was)).filled
+    (listed_of_first c.requires.tables.listed.tables kind.Madt c.first-in-Leaves.ensures
+    c.in_ok-first-in-Leaves.was)).filled
 
-pub returns-in_ok-pptt-in-Leaves : goal.returns-in_ok-pptt-in-Leaves
-returns-in_ok-pptt-in-Leaves c =
+pub returns-in_ok-first-in-Leaves-2 : goal.returns-in_ok-first-in-Leaves-2
+returns-in_ok-first-in-Leaves-2 c =
     rw c.in-Leaves.is
     (of_two stage.Leaves (λ x y. AreLeavesKnown (madt_contents x) (pptt_contents y))
     (λ x y. LeafFault (madt_contents x) (pptt_contents y))
     (λ all. all) (λ v. (λ h. h, λ h. h)) (λ v least. least) (rw c.in-Leaves.is at c.requires.clean)
-    (listed_of_first c.requires.tables.listed.tables kind.Madt c.madt-in-Leaves.ensures
-    c.in_ok-madt-in-Leaves.was)
-    (listed_of_first c.requires.tables.listed.tables kind.Pptt c.pptt-in-Leaves.ensures
-    c.in_ok-pptt-in-Leaves.was)
+    (listed_of_first c.requires.tables.listed.tables kind.Madt c.first-in-Leaves.ensures
+    c.in_ok-first-in-Leaves.was)
+    (listed_of_first c.requires.tables.listed.tables kind.Pptt c.first-in-Leaves-2.ensures
+    c.in_ok-first-in-Leaves-2.was)
     c.known_leaves.result c.known_leaves.ensures)

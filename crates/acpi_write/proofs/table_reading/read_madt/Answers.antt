@@ -8,7 +8,7 @@ use Rattle.acpi_write.proofs.table_reading.read_madt.Goals as goal
 
 pub returns-clause-value : goal.returns-clause-value
 returns-clause-value c =
-    let head = c.head_in-head.ensures c.args.madt.now c.header.ensures in
+    let head = c.head_in-head.ensures c.args.madt.now c.header.ensures.fields in
     let entries = c.in_ok-entries.ensures.entries ∙ ap entries_in c.entries.ensures.entries in
     λ i. Known (head i) (Madt (c.local_apic_address-address.ensures i) (c.flags-flags.ensures i) (entries i))
 

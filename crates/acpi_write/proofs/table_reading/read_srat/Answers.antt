@@ -8,7 +8,7 @@ use Rattle.acpi_write.proofs.table_reading.read_srat.Goals as goal
 
 pub returns-clause-value : goal.returns-clause-value
 returns-clause-value c =
-    let head = c.head_in-head.ensures c.args.srat.now c.header.ensures in
+    let head = c.head_in-head.ensures c.args.srat.now c.header.ensures.fields in
     let entries = c.in_ok-entries.ensures.entries ∙ ap entries_in c.entries.ensures.entries in
     λ i. Known (head i) (Srat (entries i))
 
