@@ -20,7 +20,10 @@ use crate::table_value::{Head, TableValue};
 use acpi_base::TableKind;
 use acpi_base::field::{u32_at, u64_at};
 use acpi_check::ListedSet;
-use acpi_read::{FirstTables, Header, Layout, Listed, MadtEntry, PpttEntry, Slit, SratEntry, Table, TableEntry, TypedEntries};
+use acpi_read::{
+    FirstTables, Header, Layout, Listed, MADT_FLAGS, MADT_LOCAL_APIC_ADDRESS, MadtEntry, PpttEntry,
+    Slit, SratEntry, Table, TableEntry, TypedEntries,
+};
 use std::alloc::{AllocError, Global};
 
 /// The contents of a header, except its signature, its length and its checksum.
@@ -96,8 +99,9 @@ fn read_madt<'a>(alloc: Global, madt: &Table<'a>) -> Result<TableValue<'a>, Allo
     ensures shaped { IfOk result IsShaped }
 {
     let head = head_in(madt.header());
-    let address = u32_at(madt.bytes(), MADT_LOCAL_APIC_ADDRESS);
-    let flags = u32_at(madt.bytes(), MADT_FLAGS);
+    let bytes = madt.bytes();
+    let address = u32_at(bytes, MADT_LOCAL_APIC_ADDRESS);
+    let flags = u32_at(bytes, MADT_FLAGS);
     let entries = entry_list(alloc, madt.entries::<MadtEntry<'_>>())?;
     Ok(TableValue::Madt {
         head,

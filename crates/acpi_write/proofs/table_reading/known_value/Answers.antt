@@ -9,11 +9,10 @@ pub returns-in-Fadt-clause-value : goal.returns-in-Fadt-clause-value
 returns-in-Fadt-clause-value c = rw c.in-Fadt.is c.read_fadt.ensures.value
 
 pub returns-in-Madt-clause-value : goal.returns-in-Madt-clause-value
-returns-in-Madt-clause-value c = rw c.in-Madt.is (rw (c.of.ensures, c.copied.ensures) at c.read_madt.ensures.value)
+returns-in-Madt-clause-value c = rw c.in-Madt.is c.read_madt.ensures.value
 
 pub returns-in-Srat-clause-value : goal.returns-in-Srat-clause-value
-returns-in-Srat-clause-value c =
-    rw c.in-Srat.is (rw (c.of-in-Srat.ensures, c.copied-in-Srat.ensures) at c.read_srat.ensures.value)
+returns-in-Srat-clause-value c = rw c.in-Srat.is c.read_srat.ensures.value
 
 pub returns-in-Slit-clause-value : goal.returns-in-Slit-clause-value
 unfolding slit_contents
@@ -36,5 +35,4 @@ returns-in-Slit-clause-shaped c =
     cells ∙ behind ∙ sym (λ i. count i * count i)
 
 pub returns-in-Pptt-clause-value : goal.returns-in-Pptt-clause-value
-returns-in-Pptt-clause-value c =
-    rw c.in-Pptt.is (rw (c.of-in-Pptt.ensures, c.copied-in-Pptt.ensures) at c.read_pptt.ensures.value)
+returns-in-Pptt-clause-value c = rw c.in-Pptt.is c.read_pptt.ensures.value
