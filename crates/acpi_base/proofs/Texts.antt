@@ -8,7 +8,7 @@ pub mod GoodTexts
 pub mod HexTexts
 pub mod Judging
 pub mod LineBuffers
-pub mod LineFeeds
+pub mod ByteSearch
 pub mod LineParsing
 pub mod LineSplitting
 pub mod OwnFaults

@@ -1,5 +1,6 @@
 //! Images read from image text: lines of hex digits that say which bytes are at which addresses.
 
+mod byte_search;
 mod digit;
 pub(crate) mod line;
 mod line_buffer;
@@ -28,7 +29,7 @@ use std::marker::Model;
 const MAX_TEXT: usize = 67_108_864;
 
 /// How many bytes one read asks for.
-const PIECE: usize = 65_536;
+const PIECE: usize = 32_768;
 
 /// An image text that comes in pieces, which may end anywhere. Of the text only the incomplete last line is kept.
 ///

@@ -5,6 +5,7 @@ ghost use Rattle.std.specs.List.{list_all};
 ghost use Rattle.acpi_base.specs.Text.ImageText.{Bad, digit_of, is_blank, is_hex_digit, without_cr, without_comment, skip_blanks, hex_number, address_line_of, data_from, line_of};
 ghost use Rattle.acpi_base.specs.Text.Lines.{IsData, data_line, line_with};
 
+use super::byte_search::first_index;
 use super::digit::digit_value;
 
 /// What a line says.
@@ -49,12 +50,7 @@ fn cut_cr(line: &[u8]) -> &[u8]
 fn cut_comment(line: &[u8]) -> &[u8]
     ensures { result.now ≡ without_comment line.now }
 {
-    for i in 0..line.len() {
-        if line[i] == b'#' {
-            return &line[..i];
-        }
-    }
-    line
+    &line[..first_index(line, b'#')]
 }
 
 /// The line from its first byte on that is not blank.

@@ -1,8 +1,6 @@
 //! Reading a text that comes in pieces. Of the text only the incomplete last line is kept.
 
 ghost use Rattle.std.specs.Prelude.{◌≡◌, ◌+◌, ◌≤◌, ◌<◌, ◌≢◌, ◌⊎◌, ◌++◌, ◌==◌, ℕ, [], true, length, not, slice_index, Ok, OnOk, IfOk, IfErr};
-ghost use Rattle.std.specs.List.{prefix_len};
-ghost use Rattle.std.specs.Simd.Lanes.{chunk};
 ghost use Rattle.acpi_base.specs.Memory.{IsImage};
 ghost use Rattle.acpi_base.specs.Text.ImageText.{Reading, on_ok, start, read_line, read_lines, ended_lines, last_line};
 ghost use Rattle.acpi_base.specs.Text.TextMachine.{run, EndsAs, IsGoing, Stopped, initial_state, text_result};
@@ -11,57 +9,11 @@ ghost use Rattle.acpi_base.specs.Text.TextMemory.{IsPlacedData, HasPlacedData};
 ghost use Rattle.acpi_base.specs.Text.LineBuffers.{IsLineBuffer, buffer_state, byte_count};
 
 use super::MAX_TEXT;
+use super::byte_search::first_index;
 use super::line_parser::{LineParser, MAX_LINE};
 use crate::image::Image;
 use crate::text::TextFault;
 use std::alloc::Global;
-use std::simd::prelude::*;
-
-/// How many bytes the block of 64 from `at` on has before its first LF; 64 if it has none.
-#[inline(always)]
-fn before_line_feed(text: &[u8], at: usize) -> usize
-    requires { at + 64 ≤ length text.now }
-    ensures { result ≡ prefix_len (λ x. not (x == 10)) (chunk at 64 text.now) }
-{
-    let line_feeds = u8x64::from_slice(&text[at..])
-        .simd_eq(u8x64::splat(b'\n'))
-        .to_bitmask();
-    if line_feeds == 0 {
-        64
-    } else {
-        line_feeds.trailing_zeros() as usize
-    }
-}
-
-/// The same as `line_end`, byte by byte.
-fn line_end_of_short(text: &[u8]) -> usize
-    ensures within { result ≤ length text.now }
-    ensures before { (k : ℕ) → k < result → slice_index text.now k ≢ 10 }
-    ensures found { result < length text.now → slice_index text.now result ≡ 10 }
-{
-    for (i, byte) in text.iter().enumerate() {
-        if *byte == b'\n' {
-            return i;
-        }
-    }
-    text.len()
-}
-
-/// The index of the first LF; the length if there is none.
-fn line_end(text: &[u8]) -> usize
-    ensures within { result ≤ length text.now }
-    ensures before { (k : ℕ) → k < result → slice_index text.now k ≢ 10 }
-    ensures found { result < length text.now → slice_index text.now result ≡ 10 }
-{
-    let blocks = text.len() / 64;
-    for block in 0..blocks {
-        let before = before_line_feed(text, 64 * block);
-        if before < 64 {
-            return 64 * block + before;
-        }
-    }
-    64 * blocks + line_end_of_short(&text[64 * blocks..])
-}
 
 /// What has been read, and the incomplete last line. Reading goes on after a line that gives an address twice:
 /// `take_and_judge` and `first_fault` tell that.
@@ -162,7 +114,7 @@ impl LineBuffer {
     {
         let mut rest = piece;
         'lines: loop {
-            let (line, after) = rest.split_at(line_end(rest));
+            let (line, after) = rest.split_at(first_index(rest, b'\n'));
             if after.is_empty() {
                 return Ok(rest);
             }

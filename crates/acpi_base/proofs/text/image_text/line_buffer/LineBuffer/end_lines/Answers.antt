@@ -15,7 +15,7 @@ pub returns-in-Err-clause-err : goal.returns-in-Err-clause-err
 returns-in-Err-clause-err c =
     let f = c.lines.self in
     let text = c.lines.rest.now in
-    let n = c.line_end.result in
+    let n = c.first_index.result in
     let stop = told c.end_line.new.self.parser.image c.in-Err.fault in
     let left = c.split_at.ensures.back_len in
     let some : 0 < length c.split_at.result.1.now = grind (arith, nat_tests, c.is_empty.ensures, c.if-is_empty.false) in
@@ -23,7 +23,7 @@ returns-in-Err-clause-err c =
     let refused = subst (λ part. Refuses (on_ok (judged f.parser) (λ r. read_line r (f.line.items ++ part) 1)) stop)
     c.split_at.ensures.front c.in-Err.ensures.err in
     elim (line_refused f.parser f.parser.image f.line.items text n stop c.lines.invariant.sound.short low
-    c.line_end.ensures.before (c.line_end.ensures.found low) refused) [
+    c.first_index.ensures.before (c.first_index.ensures.found low) refused) [
       | inl memory ↦ inl memory
       | inr stopped ↦ inr (sym c.lines.invariant.run ∙ stopped)
     ]
@@ -32,14 +32,14 @@ pub returns-in-Err-clause-memory : goal.returns-in-Err-clause-memory
 returns-in-Err-clause-memory c empty memory =
     let f = c.lines.self in
     let text = c.lines.rest.now in
-    let n = c.line_end.result in
+    let n = c.first_index.result in
     let left = c.split_at.ensures.back_len in
     let some : 0 < length c.split_at.result.1.now = grind (arith, nat_tests, c.is_empty.ensures, c.if-is_empty.false) in
     let low : n < length text = omega arith in
     let placed = subst (λ line. IsPlacedData (judged f.parser) line 1) c.split_at.ensures.front
     (c.in-Err.ensures.memory (c.lines.invariant.whole empty) memory) in
-    (c.lines.invariant.on empty).found (found_here (judged f.parser) text n low c.line_end.ensures.before
-    (c.line_end.ensures.found low) placed)
+    (c.lines.invariant.on empty).found (found_here (judged f.parser) text n low c.first_index.ensures.before
+    (c.first_index.ensures.found low) placed)
 
 pub returns-then-is_empty-clause-whole : goal.returns-then-is_empty-clause-whole
 returns-then-is_empty-clause-whole c empty =
@@ -47,14 +47,14 @@ returns-then-is_empty-clause-whole c empty =
     let left = c.split_at.ensures.back_len in
     let none : length c.split_at.result.1.now ≡ 0 = grind (arith, nat_tests, c.is_empty.ensures, c.if-is_empty.true) in
     goes_on_last (judged c.args.self.now.parser) (judged c.lines.self.parser) c.args.piece.now text
-    (c.lines.invariant.on empty) (λ k l. c.line_end.ensures.before k (omega arith))
+    (c.lines.invariant.on empty) (λ k l. c.first_index.ensures.before k (omega arith))
 
 pub lines-preserved : goal.lines-preserved
 lines-preserved c =
     let f = c.lines.self in
     let next = c.end_line.new.self in
     let text = c.lines.rest.now in
-    let n = c.line_end.result in
+    let n = c.first_index.result in
     let after = c.split_at.result.1.now in
     let left = c.split_at.ensures.back_len in
     let some : 0 < length after = grind (arith, nat_tests, c.is_empty.ensures, c.if-is_empty.false) in
@@ -76,14 +76,14 @@ lines-preserved c =
       sound = sound;
       run = ap (λ line. run (state_with (judged next.parser) line) rest) c.in_default.ensures.line
           ∙ sym (line_passed f.parser next.parser f.parser.image next.parser.image
-          f.line.items text n rest c.lines.invariant.sound.short low c.line_end.ensures.before
-          (c.line_end.ensures.found low) read (omega arith) behind)
+          f.line.items text n rest c.lines.invariant.sound.short low c.first_index.ensures.before
+          (c.first_index.ensures.found low) read (omega arith) behind)
           ∙ c.lines.invariant.run;
       count = omega arith;
       whole = λ empty. c.in_default.ensures.line;
       on = λ empty. goes_on_behind (judged c.args.self.now.parser) (judged f.parser) (judged next.parser)
-          c.args.piece.now text n rest (c.lines.invariant.on empty) low c.line_end.ensures.before
-          (c.line_end.ensures.found low)
+          c.args.piece.now text n rest (c.lines.invariant.on empty) low c.first_index.ensures.before
+          (c.first_index.ensures.found low)
           (ap (λ line. on_ok (judged f.parser) (λ r. read_line r (line ++ take n text) 1))
           (sym (c.lines.invariant.whole empty)) ∙ read) behind;
     }
