@@ -24,7 +24,7 @@ pub fn named_offset(chain: Chain, entry: &PpttEntry<'_>) -> Option<u32>
     match (chain, entry) {
         (Chain::Parents, PpttEntry::Node(head, _)) => Some(head.parent),
         (Chain::NextLevels, PpttEntry::Cache24(cache)) => Some(cache.next_level),
-        (Chain::NextLevels, PpttEntry::Cache28(cache)) => Some(cache.next_level),
+        (Chain::NextLevels, PpttEntry::Cache28(cache)) => Some(cache.fields.next_level),
         _ => None,
     }
 }

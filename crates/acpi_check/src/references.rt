@@ -124,7 +124,12 @@ fn own_fault(places: &Places, at: &EntryAt<PpttEntry<'_>>) -> Option<Witness>
             link_fault(Code::DanglingCache, at, &places.caches, cache.next_level)
         }
         PpttEntry::Cache28(cache) => {
-            link_fault(Code::DanglingCache, at, &places.caches, cache.next_level)
+            link_fault(
+                Code::DanglingCache,
+                at,
+                &places.caches,
+                cache.fields.next_level,
+            )
         }
         PpttEntry::Opaque(_) => None,
     }

@@ -1,6 +1,6 @@
 //! Rules on an entry by itself: what is looked for is in the entry, and nowhere else.
 
-ghost use Rattle.std.specs.Prelude.{◌≡◌, ◌<◌, ◌≤◌, ◌↔◌, ◌⊎◌, length, IsTrue, MatchOption, true};
+ghost use Rattle.std.specs.Prelude.{◌≡◌, ◌<◌, ◌≤◌, ◌↔◌, ◌⊎◌, length, ℕ, Option, IsTrue, MatchOption, true};
 ghost use denote.Ref.{Bor};
 ghost use Rattle.acpi_base.specs.Entries.{entries_read_by};
 ghost use Rattle.acpi_base.specs.Lint.MadtAdvice as madt_advice;
@@ -12,7 +12,7 @@ ghost use Rattle.acpi_base.specs.Number.{has_bit};
 ghost use Rattle.acpi_base.specs.Pptt.{Cache, CacheValue};
 ghost use Rattle.acpi_read.specs.Madts as madts;
 ghost use Rattle.acpi_read.specs.Madts.{madt_value};
-ghost use Rattle.acpi_read.specs.Pptts.{pptt_value};
+ghost use Rattle.acpi_read.specs.Pptts.{pptt_value, cache_value};
 ghost use Rattle.acpi_read.specs.Srats as srats;
 ghost use Rattle.acpi_read.specs.Srats.{srat_value};
 ghost use Rattle.acpi_read.specs.TypedEntries.{entry_at_value};
@@ -23,8 +23,8 @@ use crate::passes::first_picked;
 use crate::place::Place;
 use crate::processors::{GICD, any_domain, io_apic_address, is_gicc};
 use acpi_read::{
-    EntryAt, GICC, GICC_AFFINITY, GICC_AFFINITY_LEN, MadtEntry, PpttEntry, SratEntry, TableEntry,
-    TypedEntries,
+    Cache24, EntryAt, GICC, GICC_AFFINITY, GICC_AFFINITY_LEN, MadtEntry, PpttEntry, SratEntry,
+    TableEntry, TypedEntries,
 };
 
 /// The place that a rule returns for the first entry for which it returns one. None if there is no table.
@@ -139,11 +139,11 @@ fn is_set(flags: u32, bit: u32) -> bool
 }
 
 /// Whether a valid Number of Sets is 0, or a valid Line Size is not a power of two.
-fn is_odd_shape(flags: u32, sets: u32, line_size: u16) -> bool
-    ensures { IsTrue result ↔ (((has_bit flags 1 ≡ true) × (sets ≡ 0))
-        ⊎ ((has_bit flags 6 ≡ true) × ¬ IsPowerOfTwo line_size)) }
+fn is_odd_shape(cache: &Cache24) -> bool
+    ensures { (id : Option ℕ) → IsTrue result ↔ HasOddShape (cache_value cache.now id) }
 {
-    is_set(flags, 1) && sets == 0 || is_set(flags, 6) && !is_power_of_two(line_size)
+    is_set(cache.flags, 1) && cache.sets == 0
+        || is_set(cache.flags, 6) && !is_power_of_two(cache.line_size)
 }
 
 /// Whether an entry is a cache of such a shape.
@@ -152,8 +152,8 @@ fn is_odd_cache(entry: &PpttEntry<'_>) -> bool
         ↔ ((v : CacheValue) × (pptt_value entry.now ≡ Cache v) × HasOddShape v) }
 {
     match entry {
-        PpttEntry::Cache24(cache) => is_odd_shape(cache.flags, cache.sets, cache.line_size),
-        PpttEntry::Cache28(cache) => is_odd_shape(cache.flags, cache.sets, cache.line_size),
+        PpttEntry::Cache24(cache) => is_odd_shape(cache),
+        PpttEntry::Cache28(cache) => is_odd_shape(&cache.fields),
         _ => false,
     }
 }

@@ -228,7 +228,7 @@ pub fn cache_id(entry: &PpttEntry<'_>) -> Option<u32>
     ensures { result ≡ cache_id (pptt_value entry.now) }
 {
     match entry {
-        PpttEntry::Cache28(cache) => (cache.flags >> 7 & 1 == 1).then_some(cache.id),
+        PpttEntry::Cache28(cache) => (cache.fields.flags >> 7 & 1 == 1).then_some(cache.id),
         _ => None,
     }
 }

@@ -59,6 +59,27 @@ cache_values v =
     ∷ Number v.line_size
     ∷ id_values v.id
 
+-- the values in a cache's bytes, with this for its ID
+abbrev pub values_in : List ℕ → Option ℕ → List PartValue
+values_in e id =
+    Number (field e 4 4) ∷ Number (field e 8 4) ∷ Number (field e 12 4) ∷ Number (field e 16 4) ∷ Number (field e 20 1)
+    ∷ Number (field e 21 1) ∷ Number (field e 22 2)
+    ∷ id_values id
+
+-- what a cache with these fields and this ID says
+abbrev pub cache_value : Cache24 → Option ℕ → CacheValue
+cache_value e id =
+    record {
+      flags = e.flags;
+      next_level = e.next_level;
+      size = e.size;
+      sets = e.sets;
+      associativity = e.associativity;
+      attributes = e.attributes;
+      line_size = e.line_size;
+      id = id;
+    }
+
 -- ---- one of 24 bytes
 
 abbrev pub cache24_layout : KindLayout CacheValue
@@ -72,17 +93,7 @@ pub cache24_laid : IsLaidOut cache24_layout
 cache24_laid = record { counted = refl; numbers = refl; typed = omega arith; sized = omega arith; shaped = λ e count. rw count tt; reads = cache24_reads; agrees = λ e count low. rw count refl }
 
 abbrev pub cache24_value : Cache24 → CacheValue
-cache24_value e =
-    record {
-      flags = e.flags;
-      next_level = e.next_level;
-      size = e.size;
-      sets = e.sets;
-      associativity = e.associativity;
-      attributes = e.attributes;
-      line_size = e.line_size;
-      id = None;
-    }
+cache24_value e = cache_value e None
 
 -- ---- one of 28 bytes
 
@@ -97,17 +108,7 @@ pub cache28_laid : IsLaidOut cache28_layout
 cache28_laid = record { counted = refl; numbers = refl; typed = omega arith; sized = omega arith; shaped = λ e count. rw count tt; reads = cache28_reads; agrees = λ e count low. rw count refl }
 
 abbrev pub cache28_value : Cache28 → CacheValue
-cache28_value e =
-    record {
-      flags = e.flags;
-      next_level = e.next_level;
-      size = e.size;
-      sets = e.sets;
-      associativity = e.associativity;
-      attributes = e.attributes;
-      line_size = e.line_size;
-      id = Some e.id;
-    }
+cache28_value e = cache_value e.fields (Some e.id)
 
 -- ---- entries
 

@@ -1,7 +1,6 @@
 //! What a fault is about, of a table that consists of entries.
 
-ghost use Rattle.std.specs.Prelude.{◌≡◌, ◌==◌};
-ghost use Rattle.acpi_base.specs.Codes.{code_number};
+ghost use Rattle.std.specs.Prelude.{◌≡◌};
 ghost use Rattle.acpi_read.specs.EntryTables.{is_code, subject_of};
 
 use acpi_base::Code;

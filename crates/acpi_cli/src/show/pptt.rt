@@ -54,15 +54,6 @@ fn add_cache24(text: &mut String, cache: Cache24) -> Result<(), AllocError> {
 
 /// Adds the same and `id N`: one of 28 bytes.
 fn add_cache28(text: &mut String, cache: Cache28) -> Result<(), AllocError> {
-    let fields = Cache24 {
-        flags: cache.flags,
-        next_level: cache.next_level,
-        size: cache.size,
-        sets: cache.sets,
-        associativity: cache.associativity,
-        attributes: cache.attributes,
-        line_size: cache.line_size,
-    };
-    add_cache24(text, fields)?;
+    add_cache24(text, cache.fields)?;
     add_decimal(text, " id ", cache.id)
 }

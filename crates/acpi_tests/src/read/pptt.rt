@@ -74,7 +74,7 @@ fn cache24_is_read_and_written(rt: HostRuntime) {
 
 #[test]
 fn cache28_is_read_and_written(rt: HostRuntime) {
-    let value = Cache28 {
+    let fields = Cache24 {
         flags: 0xa4a3_a2a1,
         next_level: 0xb4b3_b2b1,
         size: 0xc4c3_c2c1,
@@ -82,6 +82,9 @@ fn cache28_is_read_and_written(rt: HostRuntime) {
         associativity: 0xe1,
         attributes: 0xe2,
         line_size: 0xf2f1,
+    };
+    let value = Cache28 {
+        fields,
         id: 0x9493_9291,
     };
     let bytes = [

@@ -1,4 +1,4 @@
-use Rattle.std.proofs.Common.{◌≡◌, Bool, IsTrue, refl, ap, sym, subst}
+use Rattle.std.proofs.Common.{◌≡◌, Bool, Some, None, IsTrue, refl, ap, sym, subst}
 use Rattle.std.specs.Prelude.{◌↔◌}
 use Rattle.acpi_base.specs.Lint.PpttAdvice.{HasOddShape}
 use Rattle.acpi_base.specs.Pptt.{PpttEntry, Cache, CacheValue}
@@ -20,8 +20,9 @@ of_cache v is shape = rw is (
 
 pub returns-in-Cache24 : goal.returns-in-Cache24
 returns-in-Cache24 c =
-    of_cache (cache24_value c.in-Cache24.cache) (ap pptt_value c.in-Cache24.is) c.is_odd_shape.ensures
+    of_cache (cache24_value c.in-Cache24.cache) (ap pptt_value c.in-Cache24.is) (c.is_odd_shape.ensures None)
 
 pub returns-in-Cache28 : goal.returns-in-Cache28
 returns-in-Cache28 c =
-    of_cache (cache28_value c.in-Cache28.cache) (ap pptt_value c.in-Cache28.is) c.is_odd_shape-in-Cache28.ensures
+    of_cache (cache28_value c.in-Cache28.cache) (ap pptt_value c.in-Cache28.is)
+    (c.is_odd_shape-in-Cache28.ensures (Some c.in-Cache28.cache.id))
