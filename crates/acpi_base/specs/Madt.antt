@@ -1,6 +1,6 @@
 -- The MADT (ACPI 6.5, 5.2.12): what its entries and the table say, and when it is sound. Offsets of fields are from the
 -- start of the table or of the entry.
-use Rattle.std.specs.Prelude.{◌≡◌, ◌≢◌, ℕ, ◌+◌, ◌/◌, ◌%◌, ◌^◌, ◌<◌, ◌≤◌, ◌⊎◌, List, [], ◌∷◌, length, slice_index, Option, Some, None, true}
+use Rattle.std.specs.Prelude.{◌≡◌, ◌≢◌, ℕ, ◌+◌, ◌/◌, ◌%◌, ◌^◌, ◌<◌, ◌≤◌, ◌⊎◌, List, [], ◌∷◌, length, slice_index, Option, Some, None, true, MatchOption}
 use Rattle.acpi_base.specs.Number.{field}
 use Rattle.acpi_base.specs.Policy.{PolicyValue, inputs_of, counts_as_enabled}
 use Rattle.acpi_base.specs.Entries.{PlacedEntry, Stands, StandsWith, entries_of, cut_of, entries_read_by, Kind, kind, kind_as, value_of_kind, IsTypeOf, AreUnused}
@@ -141,16 +141,25 @@ madt_contents whole =
 abbrev pub IsReservedInti : ℕ → Type 0
 IsReservedInti flags = (flags % 4 ≡ 2) ⊎ (flags / 4 % 4 ≡ 2)
 
+-- the MPS INTI Flags of an entry that has them
+abbrev pub inti_flags : MadtEntry → Option ℕ
+inti_flags (Override v) = Some v.flags
+inti_flags (NmiSource v) = Some v.flags
+inti_flags (LocalNmi v) = Some v.flags
+inti_flags (X2apicNmi v) = Some v.flags
+inti_flags _ = None
+
+-- an entry has a reserved polarity or trigger mode
+abbrev pub HasReservedInti : MadtEntry → Type 0
+HasReservedInti e = MatchOption (inti_flags e) ⊥ IsReservedInti
+
 -- an entry is sound: it has its type's length, or a type that none of the kinds has; an override is of the ISA bus; its
 -- polarity and trigger mode are not reserved; and the interrupt numbers of an I/O APIC end at 2^32 or before
 abbrev pub IsSoundMadtEntry : PolicyValue → MadtEntry → Type 0
 IsSoundMadtEntry q (IoApic v) = v.gsi_base + inputs_of q v.address ≤ 2 ^ 32
 IsSoundMadtEntry q (Override v) = (v.bus ≡ 0) × (¬ IsReservedInti v.flags)
-IsSoundMadtEntry q (NmiSource v) = ¬ IsReservedInti v.flags
-IsSoundMadtEntry q (LocalNmi v) = ¬ IsReservedInti v.flags
-IsSoundMadtEntry q (X2apicNmi v) = ¬ IsReservedInti v.flags
 IsSoundMadtEntry q (Opaque e) = ¬ IsTypeOf madt_kinds (slice_index e 0)
-IsSoundMadtEntry q _ = Unit {0}
+IsSoundMadtEntry q e = ¬ HasReservedInti e
 
 -- the entry is an address override
 abbrev pub IsAddressOverride : MadtEntry → Type 0
@@ -163,14 +172,6 @@ pub record IsSoundMadt (q : PolicyValue) (c : MadtContents) : Type 0 where
   pub filled : c.cut ≡ None
   pub entries : (o : ℕ) (e : MadtEntry) → Stands c.entries o e → IsSoundMadtEntry q e
   pub one_address : (o p : ℕ) → StandsWith c.entries o IsAddressOverride → StandsWith c.entries p IsAddressOverride → o ≡ p
-
--- an entry has a reserved polarity or trigger mode
-abbrev pub HasReservedInti : MadtEntry → Type 0
-HasReservedInti (Override v) = IsReservedInti v.flags
-HasReservedInti (NmiSource v) = IsReservedInti v.flags
-HasReservedInti (LocalNmi v) = IsReservedInti v.flags
-HasReservedInti (X2apicNmi v) = IsReservedInti v.flags
-HasReservedInti _ = ⊥
 
 -- The faults that an entry has by itself, by their code.
 abbrev pub MadtEntryFault : PolicyValue → Code → MadtEntry → Type 0

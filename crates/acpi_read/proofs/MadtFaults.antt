@@ -2,7 +2,7 @@
 use Rattle.std.proofs.Common.{◌≡◌, ◌≤◌, ℕ, List, refl, inl, inr, arith}
 use Rattle.std.proofs.lemmas.Bool.Decides.{eqb_tells}
 use Rattle.acpi_base.specs.Codes.{code_number, stage_of}
-use Rattle.acpi_base.specs.Madt.{MadtEntry, IoApic, Override, NmiSource, LocalNmi, X2apicNmi, AddressOverride, Opaque, madt_contents, IsAddressOverride, IsSoundMadt, MadtEntryFault, MadtFault}
+use Rattle.acpi_base.specs.Madt.{MadtEntry, IoApic, Override, AddressOverride, Opaque, madt_contents, IsAddressOverride, IsSoundMadt, MadtEntryFault, MadtFault}
 use Rattle.acpi_base.specs.Policy.{PolicyValue}
 use Rattle.acpi_base.specs.declared.code.Code.{Code}
 use Rattle.acpi_base.specs.declared.code.Code.TheVariants as code
@@ -20,9 +20,9 @@ madt_lowest q code.OverrideBus (Override v) wrong =
     elim (eqb_tells v.bus 0) [ inl (_, zero) ↦ absurd (wrong zero) | inr (is, _) ↦ rw is (wrong, omega arith) ]
 madt_lowest q code.ReservedInti (Override v) wrong =
     elim (eqb_tells v.bus 0) [ inl (is, _) ↦ rw is (wrong, omega arith) | inr (is, some) ↦ rw is (some, omega arith) ]
-madt_lowest q code.ReservedInti (NmiSource v) wrong = (wrong, omega arith)
-madt_lowest q code.ReservedInti (LocalNmi v) wrong = (wrong, omega arith)
-madt_lowest q code.ReservedInti (X2apicNmi v) wrong = (wrong, omega arith)
+madt_lowest q code.ReservedInti (IoApic v) wrong = absurd wrong
+madt_lowest q code.ReservedInti (Opaque e) wrong = absurd wrong
+madt_lowest q code.ReservedInti _ wrong = (wrong, omega arith)
 madt_lowest q code.GsiPastEnd (IoApic v) wrong = (wrong, omega arith)
 madt_lowest q _ _ wrong = absurd wrong
 

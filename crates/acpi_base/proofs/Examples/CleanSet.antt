@@ -189,7 +189,7 @@ sound_madt = record {
   long = omega arith;
   filled = refl;
   entries = each_entry madt.entries (λ o e. IsSoundMadtEntry example_policy e)
-      (tt, (omega (arith, inputs), ((refl, λ is. omega arith), tt)));
+      (never, (omega (arith, inputs), ((refl, λ is. omega arith), tt)));
   one_address = λ o p one two.
       absurd (none_stands madt.entries o (λ o e. IsAddressOverride e) (never, (never, (never, tt))) one);
 }

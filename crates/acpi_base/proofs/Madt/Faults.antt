@@ -1,12 +1,12 @@
 -- The faults of a MADT's entries by themselves: each can be decided, excludes that it is sound, and where there is none
 -- it is sound.
 use Rattle.std.proofs.Common.{◌≡◌, ℕ, ◌+◌, ◌^◌, ◌<◌, ◌≤◌, List, length, refl, inl, inr, arith}
-use Rattle.std.specs.Prelude.{slice_index}
+use Rattle.std.specs.Prelude.{Option, Some, None, slice_index, MatchOption}
 use Rattle.std.proofs.lemmas.Bool.{cases_order}
 use Rattle.acpi_base.specs.Policy.{PolicyValue, inputs_of}
 use Rattle.acpi_base.specs.Codes.{stage_of}
 use Rattle.acpi_base.specs.Entries.{Stands, StandsWith}
-use Rattle.acpi_base.specs.Madt.{MadtEntry, IoApic, Override, NmiSource, LocalNmi, AddressOverride, X2apicNmi, Opaque, madt_kinds, MadtContents, madt_entry, madt_contents, IsReservedInti, HasReservedInti, IsSoundMadtEntry, IsAddressOverride, IsSoundMadt, MadtEntryFault, MadtFault}
+use Rattle.acpi_base.specs.Madt.{MadtEntry, IoApic, Override, AddressOverride, Opaque, madt_kinds, MadtContents, madt_entry, madt_contents, inti_flags, IsReservedInti, HasReservedInti, IsSoundMadtEntry, IsAddressOverride, IsSoundMadt, MadtEntryFault, MadtFault}
 use Rattle.acpi_base.specs.declared.code.Code.{Code}
 use Rattle.acpi_base.specs.declared.code.Code.TheVariants as code
 use Rattle.acpi_base.specs.declared.stage.Stage.TheVariants as stage
@@ -31,12 +31,9 @@ inside whole = said_inside madt_entry 44 whole
 inti_decided : (flags : ℕ) → Decided (IsReservedInti flags)
 inti_decided flags = either (same _ 2) (same _ 2)
 
-reserved_decided : (e : MadtEntry) → Decided (HasReservedInti e)
-reserved_decided (Override v) = inti_decided v.flags
-reserved_decided (NmiSource v) = inti_decided v.flags
-reserved_decided (LocalNmi v) = inti_decided v.flags
-reserved_decided (X2apicNmi v) = inti_decided v.flags
-reserved_decided _ = inr (λ h. h)
+flags_decided : (flags : Option ℕ) → Decided (MatchOption flags ⊥ IsReservedInti)
+flags_decided None = inr (λ h. h)
+flags_decided (Some flags) = inti_decided flags
 
 address_decided : (e : MadtEntry) → Decided (IsAddressOverride e)
 address_decided (AddressOverride v) = inl tt
@@ -45,7 +42,7 @@ address_decided _ = inr (λ h. h)
 entry_fault_decided : (q : PolicyValue) (fault : Code) (e : MadtEntry) → Decided (MadtEntryFault q fault e)
 entry_fault_decided q code.MadtEntryLength (Opaque e) = type_decided madt_kinds (slice_index e 0)
 entry_fault_decided q code.OverrideBus (Override v) = differs v.bus 0
-entry_fault_decided q code.ReservedInti e = reserved_decided e
+entry_fault_decided q code.ReservedInti e = flags_decided (inti_flags e)
 entry_fault_decided q code.GsiPastEnd (IoApic v) = below (2 ^ 32) (v.gsi_base + inputs_of q v.address)
 entry_fault_decided q _ _ = inr (λ h. h)
 
@@ -55,18 +52,14 @@ sound_entry : (q : PolicyValue) (e : MadtEntry) → ¬ MadtEntryFault q code.Mad
     → ¬ MadtEntryFault q code.GsiPastEnd e → IsSoundMadtEntry q e
 sound_entry q (IoApic v) size bus inti past = not_below (2 ^ 32) (v.gsi_base + inputs_of q v.address) past
 sound_entry q (Override v) size bus inti past = (not_other v.bus 0 bus, inti)
-sound_entry q (NmiSource v) size bus inti past = inti
-sound_entry q (LocalNmi v) size bus inti past = inti
-sound_entry q (X2apicNmi v) size bus inti past = inti
 sound_entry q (Opaque e) size bus inti past = size
-sound_entry q _ size bus inti past = tt
+sound_entry q _ size bus inti past = inti
 
 inti_excludes : (q : PolicyValue) (e : MadtEntry) → HasReservedInti e → ¬ IsSoundMadtEntry q e
 inti_excludes q (Override v) wrong sound = sound.1 wrong
-inti_excludes q (NmiSource v) wrong sound = sound wrong
-inti_excludes q (LocalNmi v) wrong sound = sound wrong
-inti_excludes q (X2apicNmi v) wrong sound = sound wrong
-inti_excludes q _ wrong sound = wrong
+inti_excludes q (IoApic v) wrong sound = wrong
+inti_excludes q (Opaque e) wrong sound = wrong
+inti_excludes q _ wrong sound = sound wrong
 
 -- a fault excludes that an entry is sound
 pub entry_excludes : (q : PolicyValue) (fault : Code) (e : MadtEntry) → MadtEntryFault q fault e
