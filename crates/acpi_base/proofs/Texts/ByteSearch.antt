@@ -28,14 +28,15 @@ found_in_block byte text at before room e l =
     eqb-true (get_or text (at + before) 0) byte (run_in_chunk_stops (λ x. eqb x byte) text at 64 before 0 room e l)
 
 -- a block with none
-pub none_in_whole_block : (byte : ℕ) (text : List ℕ) (at before : ℕ) → HasNoneBefore byte text at → at + 64 ≤ length text
-    → before ≡ prefix_len (λ x. not (eqb x byte)) (chunk at 64 text) → 64 ≤ before → HasNoneBefore byte text (at + 64)
+pub none_in_whole_block : (byte : ℕ) (text : List ℕ) (at before : ℕ) → HasNoneBefore byte text at
+    → at + 64 ≤ length text → before ≡ prefix_len (λ x. not (eqb x byte)) (chunk at 64 text) → 64 ≤ before
+    → HasNoneBefore byte text (at + 64)
 none_in_whole_block byte text at before none room e whole k l =
     none_in_block byte text at before none room e k (omega arith)
 
 -- the bytes behind the blocks
-pub none_behind : (byte : ℕ) (text : List ℕ) (at before : ℕ) → HasNoneBefore byte text at → HasNoneBefore byte (drop at text) before
-    → HasNoneBefore byte text (at + before)
+pub none_behind : (byte : ℕ) (text : List ℕ) (at before : ℕ) → HasNoneBefore byte text at
+    → HasNoneBefore byte (drop at text) before → HasNoneBefore byte text (at + before)
 none_behind byte text at before none behind k l =
     elim (cases_lt k at) [
       | inl below ↦ none k below

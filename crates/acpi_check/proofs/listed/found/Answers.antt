@@ -37,7 +37,8 @@ returns-in_ok-first-in-Interrupts c =
     (λ whole. IsOverlap code.GsiClash (IsFirstGsiClash c.args.set.now.policy.now (madt_contents whole))) (λ all. all)
     (gsi_clash_first c.args.set.now.listed.image.now c.args.set.now.policy.now
     (rw c.in-Interrupts.is at c.requires.clean))
-    (listed_of_first c.requires.tables.listed.tables kind.Madt c.first-in-Interrupts.ensures c.in_ok-first-in-Interrupts.was)
+    (listed_of_first c.requires.tables.listed.tables kind.Madt c.first-in-Interrupts.ensures
+    c.in_ok-first-in-Interrupts.was)
     c.apart_interrupts.result c.apart_interrupts.ensures)
 
 pub returns-in_err-first-in-Overrides : goal.returns-in_err-first-in-Overrides
@@ -108,7 +109,8 @@ returns-in_err-first-in-References c =
 pub sound_references-requires : goal.sound_references-requires
 sound_references-requires c =
     earlier c.requires c.in-References.is stage.Pptt (omega arith) _
-    (listed_of_first c.requires.tables.listed.tables kind.Pptt c.first-in-References.ensures c.in_ok-first-in-References.was)
+    (listed_of_first c.requires.tables.listed.tables kind.Pptt c.first-in-References.ensures
+    c.in_ok-first-in-References.was)
 
 pub returns-in_ok-first-in-References : goal.returns-in_ok-first-in-References
 returns-in_ok-first-in-References c =

@@ -14,8 +14,8 @@ returns-clause-before c =
 
 pub returns-then-before-lt64-clause-before : goal.returns-then-before-lt64-clause-before
 returns-then-before-lt64-clause-before c =
-    none_in_block c.args.byte c.args.text.now (64 * c.loop-block.block) c.index_in_block-before.result c.loop-block.invariant
-    (omega arith) c.index_in_block-before.ensures
+    none_in_block c.args.byte c.args.text.now (64 * c.loop-block.block) c.index_in_block-before.result
+    c.loop-block.invariant (omega arith) c.index_in_block-before.ensures
 
 pub returns-then-before-lt64-clause-found : goal.returns-then-before-lt64-clause-found
 returns-then-before-lt64-clause-found c within =
