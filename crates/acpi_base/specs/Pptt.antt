@@ -3,7 +3,7 @@
 use Rattle.std.specs.Prelude.{◌≡◌, ◌≢◌, ℕ, ◌+◌, ◌*◌, ◌/◌, ◌≤◌, Bool, List, length, map, slice_get, slice_index, Option, Some, None, ◌||◌, ◌==◌, if◌then◌else◌}
 use Rattle.std.specs.List.{range_with_len}
 use Rattle.acpi_base.specs.Number.{field}
-use Rattle.acpi_base.specs.Entries.{PlacedEntry, Stands, entries_of, cut_of, entries_read_by, has_form, Kind, kind}
+use Rattle.acpi_base.specs.Entries.{PlacedEntry, Stands, entries_of, cut_of, entries_read_by, has_form, Kind, kind, StandsWith}
 use Rattle.acpi_base.specs.Chains.{IsAt, Dangles, NoneDangles, AllEnd, IsCycle, EndOrGoRound}
 use Rattle.acpi_base.specs.declared.code.Code.{Code}
 use Rattle.acpi_base.specs.declared.code.Code.TheVariants as code
@@ -175,10 +175,15 @@ DoCachesEnd c = AllEnd (NamesNextLevel c)
 
 -- ---- faults, by their code and their three numbers
 
+-- the fault of stage 12 that an entry has by itself, by its code
+abbrev pub PpttEntryFault : Code → PpttEntry → Type 0
+PpttEntryFault code.PpttEntryLength e = HasOtherPpttLength e
+PpttEntryFault _ e = ⊥
+
 -- those of stage 12, and the offset that each is reported at
 abbrev pub PpttFaultAt : PpttContents → Code → ℕ → Type 0
 PpttFaultAt c code.PpttEntryCut at = c.cut ≡ Some at
-PpttFaultAt c code.PpttEntryLength at = (e : PpttEntry) × Stands c.entries at e × HasOtherPpttLength e
+PpttFaultAt c code.PpttEntryLength at = StandsWith c.entries at (PpttEntryFault code.PpttEntryLength)
 PpttFaultAt c _ at = ⊥
 
 -- The faults of stage 12. They use one number.

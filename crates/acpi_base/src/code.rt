@@ -129,7 +129,8 @@ pub enum Code {
     LeafUnknown,
 }
 
-/// Each code with its stage and its name, in the order of their numbers.
+/// Each code with its stage and its name, in the order of their numbers. It is read through a slice: `ROWS[index]` copies
+/// all rows at each call, which took 3 % of `lint` on firmware.
 const ROWS: [(Code, Stage, &str); Code::COUNT] = [
     (Code::RsdpOut, Stage::Rsdp, "RsdpOut"),
     (Code::RsdpSignature, Stage::Rsdp, "RsdpSignature"),
@@ -226,7 +227,6 @@ impl Code {
     pub fn stage(self) -> Stage
         ensures { result ≡ stage_of self }
     {
-        // A slice of them: `ROWS[..]` copies all rows at each call, which took 3 % of `lint` on firmware.
         let rows = ROWS.as_slice();
         rows[self as usize].1
     }

@@ -1,11 +1,11 @@
 //! Answers as numbers.
 
-ghost use Rattle.std.specs.Prelude.{◌≡◌, IfOk, Ok, ◌++◌, map, OnOk};
-ghost use Rattle.acpi_c.specs.Answers.{advice_finding, all_findings, check_answer, confirm_answer, fault_finding, find_answer, plain_answer, refusal_answer};
+ghost use Rattle.std.specs.Prelude.{◌≡◌, Ok};
+ghost use Rattle.acpi_c.specs.Answers.{check_answer, confirm_answer, find_answer, plain_answer, refusal_answer};
 
 use crate::kind::Kind;
 use crate::refusal::Refusal;
-use acpi_base::{Advice, Verdict, Witness};
+use acpi_base::Verdict;
 
 /// A fault, or a finding of advice, as numbers.
 #[repr(C)]

@@ -7,7 +7,6 @@ ghost use Rattle.acpi_c.specs.Answers.{advice_finding, all_findings, fault_findi
 ghost use Rattle.acpi_c.specs.Results.{Lints, Reports, IsRefusal};
 ghost use Rattle.acpi_c.specs.Settings.{policy_refusal};
 ghost use Rattle.acpi_c.specs.Sources.{pieces_source};
-ghost use Rattle.acpi_c.specs.declared.answer.Finding.{Finding};
 ghost use Rattle.acpi_c.specs.declared.refusal.Refusal.{Refusal};
 
 use crate::answer::{Answer, Finding};

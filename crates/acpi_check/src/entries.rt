@@ -58,7 +58,7 @@ pub fn sound_entries<'a, E: TableEntry<'a> + Copy>(
     ensures { FindsFirst E.stage (E.IsSound policy.now table.entry)
         (E.IsFault policy.now table.entry) result }
 {
-    let mut entries = match E::entries(table) {
+    let mut entries = match E::raw_entries(table) {
         Ok(entries) => entries,
         Err(code) => return Err(Refusal::Fault(Witness::at(code, 0))),
     };

@@ -1,6 +1,6 @@
 //! Stage 18: the IDs of the PPTT's leaves among the UIDs of the MADT's processors.
 
-ghost use Rattle.std.specs.Prelude.{◌≡◌, ◌≤◌, ◌<◌, ⊤, length, AllPairs, Contains, MatchBool, MatchOption, None};
+ghost use Rattle.std.specs.Prelude.{◌≡◌, ◌≤◌, ◌<◌, length, AllPairs, Contains, MatchBool, MatchOption, None};
 ghost use Rattle.acpi_base.specs.Across.{AreLeavesKnown, LeafFault};
 ghost use Rattle.acpi_base.specs.Madt.{madt_contents, IsWhollyTyped};
 ghost use Rattle.acpi_base.specs.Pptt.{pptt_contents};

@@ -1,6 +1,6 @@
 //! Codes 1 to 7: the RSDP (ACPI 6.5, 5.2.5.3).
 
-ghost use Rattle.std.specs.Prelude.{◌≡◌, ◌≤◌, ◌↔◌, List, ℕ, IsTrue, IfSome, Some, length};
+ghost use Rattle.std.specs.Prelude.{◌≡◌, ◌↔◌, List, ℕ, IsTrue, IfSome, Some, length};
 ghost use Rattle.acpi_base.specs.Faults.{FaultCondition};
 ghost use Rattle.acpi_base.specs.Frames.{frame_length};
 ghost use Rattle.acpi_base.specs.Memory.{bytes_at};

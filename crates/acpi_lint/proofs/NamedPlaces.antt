@@ -135,10 +135,3 @@ first_missing offsets references count j s v node are below missing before = (
           | inr (inl less) ↦ absurd (not (rw number (before other less)))
           | inr (inr more) ↦ inl more
         ]
-
--- ---- results
-
--- what holds of one value of a result holds of another where it does
-pub of_ok : {X Y : Type 0} {P Q : X → Type 0} (r : Result X Y) → ((x : X) → P x → Q x) → IfOk r P → IfOk r Q
-of_ok (Ok x) there holds = there x holds
-of_ok (Err y) there holds = tt

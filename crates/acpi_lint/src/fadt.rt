@@ -1,6 +1,6 @@
 //! Codes 19 to 25: the FADT (ACPI 6.5, 5.2.9).
 
-ghost use Rattle.std.specs.Prelude.{◌≡◌, ◌≤◌, ◌↔◌, ℕ, IsTrue, length};
+ghost use Rattle.std.specs.Prelude.{◌≤◌, ◌↔◌, ℕ, IsTrue, length};
 ghost use Rattle.acpi_base.specs.Fadt.{gas_at, HasNoFadt, IsNoResetRegister};
 ghost use Rattle.acpi_base.specs.Memory.{Memory};
 ghost use Rattle.acpi_base.specs.Policy.{PolicyValue};
@@ -14,10 +14,7 @@ use crate::place::Place;
 use crate::whole_tables::WholeTables;
 use acpi_base::field::u8_at;
 use acpi_base::{Code, TableKind};
-use acpi_read::{Fadt, Table, has_flag};
-
-/// RESET_REG_SUP, a bit of Flags: the reset register may be used.
-const RESET_REG_SUP: u32 = 10;
+use acpi_read::{Fadt, RESET_REG_SUP, Table, has_flag};
 
 /// Whether RESET_REG, at 116, has a space above 2, a width other than 8 bits or a bit offset other than 0.
 fn is_no_reset_register(bytes: &[u8]) -> bool

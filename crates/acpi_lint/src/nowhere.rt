@@ -2,7 +2,7 @@
 //! MADT's processors, of the SRAT's affinities or of the PPTT's leaves. A rule that asks whether the rules read all
 //! processors of the MADT looks at that last: mostly there is nothing to report.
 
-ghost use Rattle.std.specs.Prelude.{◌≡◌, ◌<◌, AllPairs, IfOk};
+ghost use Rattle.std.specs.Prelude.{◌<◌, AllPairs, IfOk};
 ghost use Rattle.acpi_base.specs.Lint.MadtAdvice.{nmi_uid, IsNmiNowhere, IsNoProcessor};
 ghost use Rattle.acpi_base.specs.Lint.PpttAdvice.{IsNoLeaf, IsLeafNowhere};
 ghost use Rattle.acpi_base.specs.Lint.Processors.{uid_on};

@@ -1,6 +1,6 @@
 //! Rules on an entry by itself: what is looked for is in the entry, and nowhere else.
 
-ghost use Rattle.std.specs.Prelude.{◌≡◌, ◌<◌, ◌≤◌, ◌↔◌, ◌⊎◌, length, ℕ, Option, IsTrue, MatchOption, true};
+ghost use Rattle.std.specs.Prelude.{◌≡◌, ◌<◌, ◌≤◌, ◌↔◌, length, ℕ, Option, IsTrue, MatchOption};
 ghost use denote.Ref.{Bor};
 ghost use Rattle.acpi_base.specs.Entries.{entries_read_by};
 ghost use Rattle.acpi_base.specs.Lint.MadtAdvice as madt_advice;
@@ -50,8 +50,8 @@ pub fn io_apic_at_zero(at: &EntryAt<MadtEntry<'_>>) -> Option<Place>
     (address == 0).then_some(Place::at(at.offset))
 }
 
-/// Whether neither the stages nor these rules read an entry with these bytes. An entry of a type that the stages read
-/// that they do not read has another length than its type, which is a separate fault.
+/// Whether neither the stages nor these rules read an entry with these bytes. An opaque entry of a type
+/// that the stages read has another length than its type, which is a separate fault.
 fn is_madt_unread(bytes: &[u8]) -> bool
     requires { 2 ≤ length bytes.now }
     ensures { IsTrue result ↔ madt_advice.IsUnreadEntry bytes.now }

@@ -1,7 +1,7 @@
 //! Passes over the entries of a table, and the faults of a table of entries: codes 32 to 38 (the MADT, ACPI 6.5,
 //! 5.2.12), 41 to 44 (the SRAT, 5.2.16), and 50 and 51 (the PPTT, 5.2.30).
 
-ghost use Rattle.std.specs.Prelude.{◌≡◌, Contains, length};
+ghost use Rattle.std.specs.Prelude.{Contains, length};
 ghost use denote.Ref.{Bor};
 ghost use Rattle.acpi_base.specs.Entries.{entries_of, entries_read_by};
 ghost use Rattle.acpi_base.specs.Listed.{HasListed};
@@ -99,7 +99,7 @@ fn first_sought<'a, E: TableEntry<'a> + Copy>(
         (FindsOwn (IsSought (entry_table E.first E.said_by (E.IsOwn policy.now) E.IsSingle) sought))
         (entries_read_by E.said_by (entries_of E.first table.now)) result }
 {
-    let entries = match E::entries(table.copied()) {
+    let entries = match E::raw_entries(table.copied()) {
         Ok(entries) => TypedEntries::<E>::from(entries),
         Err(_) => return None,
     };
@@ -133,7 +133,7 @@ fn table_fault<'a, E: TableEntry<'a> + Copy>(
 ) -> Option<Place>
     ensures { FindsLeast (E.IsFault policy.now table.now code) result }
 {
-    let entries = E::entries(table.copied());
+    let entries = E::raw_entries(table.copied());
     match E::codes().subject(code) {
         Subject::Short => entries.is_err().then_some(Place::at(0)),
         Subject::Cut => Some(Place::at(table.cut::<E>()?)),

@@ -2,23 +2,18 @@
 
 ghost use Rattle.std.specs.Prelude.{◌≡◌, IfOk};
 ghost use Rattle.acpi_base.specs.Chains.{IsAt};
-ghost use Rattle.acpi_base.specs.Memory.{Memory};
 ghost use Rattle.acpi_base.specs.Pptt.{pptt_contents, Says, IsResourceAt, ReferenceFault};
 ghost use Rattle.acpi_base.specs.declared.code.Code.{Code};
-ghost use Rattle.acpi_base.specs.declared.stage.Stage.{Stage};
 ghost use Rattle.acpi_check.specs.ChainCycles.{named_offset};
 ghost use Rattle.acpi_read.specs.Pptts.{pptt_value, HasReferences};
 ghost use Rattle.acpi_read.specs.TypedEntries.{entry_at_value};
 ghost use Rattle.acpi_lint.specs.FirstPicked.{FindsOwn};
 ghost use Rattle.acpi_lint.specs.Places.{FindsLeast};
 ghost use Rattle.acpi_lint.specs.References.{is_linked, is_resource, offset_where, AreOffsets, IsDanglingLink, NamesNoLink, NamesNoResource};
-ghost use Rattle.acpi_lint.specs.StageFaults.{IsFaultOfStage};
-ghost use Rattle.acpi_lint.specs.WholeTables.{AreWholeTables};
 
 use crate::passes::first_picked;
 use crate::place::Place;
-use crate::whole_tables::WholeTables;
-use acpi_base::{Code, Policy};
+use acpi_base::Code;
 use acpi_check::{Chain, OffsetSet, collected, first_dangling, named_offset};
 use acpi_read::{EntryAt, PpttEntry, Table};
 use std::alloc::{AllocError, Global};

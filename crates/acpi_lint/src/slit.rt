@@ -1,22 +1,17 @@
 //! Codes 46 to 49, and advice on the SLIT (ACPI 6.5, 5.2.17). Its cells are read only if it has the right size.
 
 ghost use Rattle.std.specs.Prelude.{◌<◌, MatchOption};
-ghost use Rattle.acpi_base.specs.Memory.{Memory};
 ghost use Rattle.acpi_base.specs.Slit.{slit_contents, HasSlitSize, SlitFault};
 ghost use Rattle.acpi_base.specs.Lint.SlitAdvice.{IsSlitDiffers};
 ghost use Rattle.acpi_base.specs.declared.code.Code.{Code};
-ghost use Rattle.acpi_base.specs.declared.stage.Stage.{Stage};
 ghost use Rattle.acpi_read.specs.Slits.{HasRows};
 ghost use Rattle.acpi_lint.specs.Places.{FindsLeast};
 ghost use Rattle.acpi_lint.specs.SlitPlaces.{IsRowDiffers, IsSizedDiffers};
-ghost use Rattle.acpi_lint.specs.StageFaults.{IsFaultOfStage};
-ghost use Rattle.acpi_lint.specs.WholeTables.{AreWholeTables};
 
 use crate::passes::short_place;
 use crate::place::Place;
-use crate::whole_tables::WholeTables;
 use acpi_base::field::u64_at;
-use acpi_base::{Code, Policy, TableKind};
+use acpi_base::Code;
 use acpi_read::{Slit, Table};
 
 /// How many rows of as many cells a table has, if it has these after its first 44 bytes, and nothing else.

@@ -1,5 +1,5 @@
 -- The entries that are left in a table behind its first one.
-use Rattle.std.proofs.Common.{◌≡◌, ◌∙◌, ℕ, ◌≤◌, List, [], length, drop, min, Option, Some, None, inl, inr, refl, sym, arith, length-drop}
+use Rattle.std.proofs.Common.{◌≡◌, ◌∙◌, ℕ, ◌≤◌, List, length, drop, min, Option, Some, None, inl, inr, refl, sym, arith, length-drop}
 use Rattle.std.proofs.Math.Nat.{min-eq_left, min-eq_right}
 use Rattle.std.proofs.lemmas.Bool.{cases_lt}
 use Rattle.std.proofs.lemmas.List.{drop_all}

@@ -11,14 +11,6 @@ use Rattle.acpi_base.specs.Listed.{IsFirstListed, IsListedTable}
 use Rattle.acpi_base.proofs.Tables.Listed.{one_first_listed, listed_of_root, listed_in_root}
 use Rattle.acpi_read.specs.Roots.{RootValue, IsWholeRoot}
 
--- the RSDP names one root
-pub one_place : {m : Memory} {p r d : ℕ} {place : Root}
-    → Some (Some place) ≡ option_map chosen_root (addresses_at m p) → IsRoot m p r d → r ≡ place.address
-one_place {m} {p} {r} {d} {place} is root =
-    let root_at : Root = record { address = r; width = d } in
-    let both : Some (Some place) ≡ Some (Some root_at) = rw (root.read, root.chosen) at is in
-    sym (ap (λ (x : Root). x.address) (same_Some place root_at (same_Some (Some place) (Some root_at) both)))
-
 pub listed_of_set : {m : Memory} {p a : ℕ} {root : RootValue} {signature header whole : List ℕ} → IsWholeRoot m p root
     → IsFirstListed m root.bytes root.width signature a → IsTable m a header whole → IsListedTable m p signature whole
 listed_of_set root first table = listed_in_root root.named root.table first table

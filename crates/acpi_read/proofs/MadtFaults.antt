@@ -2,15 +2,19 @@
 use Rattle.std.proofs.Common.{◌≡◌, ◌≤◌, ℕ, List, refl, inl, inr, arith}
 use Rattle.std.proofs.lemmas.Bool.Decides.{eqb_tells}
 use Rattle.acpi_base.specs.Codes.{code_number, stage_of}
-use Rattle.acpi_base.specs.Madt.{MadtEntry, IoApic, Override, AddressOverride, Opaque, madt_contents, IsAddressOverride, IsSoundMadt, MadtEntryFault, MadtFault}
+use Rattle.acpi_base.specs.Madt.{MadtEntry, IoApic, Override, AddressOverride, Opaque, madt_entry, madt_contents, IsAddressOverride, IsSoundMadt, MadtEntryFault, MadtFault}
 use Rattle.acpi_base.specs.Policy.{PolicyValue}
 use Rattle.acpi_base.specs.declared.code.Code.{Code}
 use Rattle.acpi_base.specs.declared.code.Code.TheVariants as code
 use Rattle.acpi_base.specs.declared.stage.Stage.TheVariants as stage
 use Rattle.acpi_base.proofs.Madt.Faults.{sound_without_fault}
-use Rattle.acpi_read.specs.EntryTables.{subject_of, IsAbout, AreFaults}
-use Rattle.acpi_read.specs.EntryFaults.{madt_codes, madt_table, madt_own_code}
+use Rattle.acpi_read.specs.EntryTables.{EntryTable, entry_table, subject_of, IsAbout, AreFaults}
+use Rattle.acpi_read.specs.EntryFaults.{madt_codes, madt_own_code}
 use Rattle.acpi_read.specs.declared.entry_codes.Subject.TheVariants as subject
+
+-- as a table of entries
+abbrev madt_table : PolicyValue → EntryTable MadtEntry
+madt_table q = entry_table 44 madt_entry (MadtEntryFault q) IsAddressOverride
 
 -- the lowest fault that an entry can have is one, if it has any
 pub madt_lowest : (q : PolicyValue) (c : Code) (e : MadtEntry) → MadtEntryFault q c e

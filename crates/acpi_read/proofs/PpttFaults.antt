@@ -1,14 +1,18 @@
 -- The faults of a PPTT are those of a table of entries.
 use Rattle.std.proofs.Common.{◌≡◌, ◌≤◌, ℕ, List, refl, arith}
 use Rattle.acpi_base.specs.Codes.{code_number, stage_of}
-use Rattle.acpi_base.specs.Pptt.{PpttEntry, pptt_contents, IsCutPptt, PpttFault}
+use Rattle.acpi_base.specs.Pptt.{PpttEntry, pptt_entry, pptt_contents, IsCutPptt, PpttEntryFault, PpttFault}
 use Rattle.acpi_base.specs.declared.code.Code.{Code}
 use Rattle.acpi_base.specs.declared.code.Code.TheVariants as code
 use Rattle.acpi_base.specs.declared.stage.Stage.TheVariants as stage
 use Rattle.acpi_base.proofs.Pptt.Faults.{cut_without_fault}
-use Rattle.acpi_read.specs.EntryTables.{subject_of, IsAbout, AreFaults}
-use Rattle.acpi_read.specs.EntryFaults.{pptt_codes, pptt_table, pptt_own_code, PpttEntryFault}
+use Rattle.acpi_read.specs.EntryTables.{EntryTable, entry_table, subject_of, IsAbout, AreFaults}
+use Rattle.acpi_read.specs.EntryFaults.{pptt_codes, pptt_own_code}
 use Rattle.acpi_read.specs.declared.entry_codes.Subject.TheVariants as subject
+
+-- as a table of entries
+abbrev pptt_table : EntryTable PpttEntry
+pptt_table = entry_table 36 pptt_entry PpttEntryFault (λ e. ⊥)
 
 -- the lowest fault that an entry can have is one, if it has any
 pub pptt_lowest : (c : Code) (e : PpttEntry) → PpttEntryFault c e

@@ -1,14 +1,18 @@
 -- The faults of an SRAT are those of a table of entries.
 use Rattle.std.proofs.Common.{◌≡◌, ◌≤◌, ℕ, List, refl, arith}
 use Rattle.acpi_base.specs.Codes.{code_number, stage_of}
-use Rattle.acpi_base.specs.Srat.{SratEntry, MemoryRange, Opaque, srat_contents, IsSoundSrat, SratEntryFault, SratFault}
+use Rattle.acpi_base.specs.Srat.{SratEntry, MemoryRange, Opaque, srat_entry, srat_contents, IsSoundSrat, SratEntryFault, SratFault}
 use Rattle.acpi_base.specs.declared.code.Code.{Code}
 use Rattle.acpi_base.specs.declared.code.Code.TheVariants as code
 use Rattle.acpi_base.specs.declared.stage.Stage.TheVariants as stage
 use Rattle.acpi_base.proofs.Srat.Faults.{sound_without_fault}
-use Rattle.acpi_read.specs.EntryTables.{subject_of, IsAbout, AreFaults}
-use Rattle.acpi_read.specs.EntryFaults.{srat_codes, srat_table, srat_own_code}
+use Rattle.acpi_read.specs.EntryTables.{EntryTable, entry_table, subject_of, IsAbout, AreFaults}
+use Rattle.acpi_read.specs.EntryFaults.{srat_codes, srat_own_code}
 use Rattle.acpi_read.specs.declared.entry_codes.Subject.TheVariants as subject
+
+-- as a table of entries
+abbrev srat_table : EntryTable SratEntry
+srat_table = entry_table 48 srat_entry SratEntryFault (λ e. ⊥)
 
 -- the lowest fault that an entry can have is one, if it has any
 pub srat_lowest : (c : Code) (e : SratEntry) → SratEntryFault c e

@@ -11,7 +11,7 @@ use crate::typed_entries::{TableEntry, TypedEntries};
 impl<'a> Table<'a> {
     /// The entries from the place on where those of a kind of table begin: none if the table ends before it.
     #[tactic(auto, using(crate::proofs::EntriesLeft::entries_within, crate::proofs::EntriesLeft::cut_within))]
-    fn raw_entries<E: TableEntry<'a>>(&self) -> Entries<'a>
+    fn entries_within<E: TableEntry<'a>>(&self) -> Entries<'a>
         ensures entries { result.entries ≡ entries_of E.first self.now }
         ensures contents { entries_read_by E.said_by result.entries ≡ E.contents self.now }
         ensures cut { result.cut ≡ cut_of E.first self.now }
@@ -26,14 +26,14 @@ impl<'a> Table<'a> {
         ensures entries { entries_read_by E.said_by result.entries.entries ≡ E.contents self.now }
         ensures size { length self.now < 2 ^ 32 }
     {
-        self.raw_entries::<E>().into()
+        self.entries_within::<E>().into()
     }
 
     /// The cut: the offset of the bytes after these entries, if there are any. No entry can begin there.
     pub fn cut<E: TableEntry<'a>>(&self) -> Option<u64>
         ensures { result ≡ cut_of E.first self.now }
     {
-        let mut entries = self.raw_entries::<E>();
+        let mut entries = self.entries_within::<E>();
         while entries.next().is_some() {}
         entries.cut()
     }

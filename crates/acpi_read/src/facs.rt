@@ -1,6 +1,6 @@
 //! The firmware ACPI control structure.
 
-ghost use Rattle.std.specs.Prelude.{◌≡◌, ◌≢◌, ◌≤◌, ◌<◌, ◌^◌, ◌%◌, ◌↔◌, ℕ, length, Some, None, IsOk, IfOk, IfErr, IfSome, true};
+ghost use Rattle.std.specs.Prelude.{◌≡◌, ◌≢◌, ◌≤◌, ◌<◌, ◌^◌, ◌%◌, ◌↔◌, ℕ, length, None, IsOk, IfOk, IfErr, IfSome, true};
 ghost use Rattle.acpi_base.specs.Codes.{code_number, stage_of};
 ghost use Rattle.acpi_base.specs.declared.stage.Stage.{Stage};
 ghost use Rattle.acpi_base.specs.Fadt.{facs_address, is_reduced};

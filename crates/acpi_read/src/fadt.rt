@@ -6,8 +6,7 @@ ghost use Rattle.std.specs.Prelude.{◌≡◌, ◌≤◌, ◌<◌, ◌+◌, ◌^
 ghost use Rattle.acpi_base.specs.Codes.{code_number, stage_of};
 ghost use Rattle.acpi_base.specs.declared.stage.Stage.{Stage};
 ghost use Rattle.acpi_base.specs.Header.{header_of};
-ghost use Rattle.acpi_base.specs.Fadt.{fadt_places, field_number, has_flag, is_reduced, has_reset, wide_address, address_of, facs_address, dsdt_address, gas_at, block_value, HasBlockLengths, IsResetRegister, IsSoundFadtTable, FadtTableFault};
-ghost use Rattle.acpi_base.specs.Number.{field};
+ghost use Rattle.acpi_base.specs.Fadt.{fadt_places, field_number, has_flag, is_reduced, wide_address, address_of, facs_address, dsdt_address, block_value, HasBlockLengths, IsResetRegister, IsSoundFadtTable, FadtTableFault};
 ghost use Rattle.acpi_base.specs.Tables.{length_of};
 ghost use Rattle.acpi_base.specs.declared.code.Code.{Code};
 ghost use Rattle.acpi_read.specs.Fadts.{block_view_value};
@@ -74,7 +73,7 @@ const PLACES: [Place; 41] = [
 ];
 
 /// RESET_REG_SUP, a bit of Flags: the reset register may be used.
-const RESET_REG_SUP: u32 = 10;
+pub const RESET_REG_SUP: u32 = 10;
 
 /// HW_REDUCED_ACPI, a bit of Flags: the ACPI registers are not implemented.
 const HW_REDUCED_ACPI: u32 = 20;

@@ -121,7 +121,7 @@ fn has_reserved_inti(entry: &MadtEntry<'_>) -> bool
 
 /// Whether the interrupt numbers of an I/O APIC end past 2^32.
 #[inline(always)]
-fn is_past_end(policy: &Policy, io_apic: &IoApic) -> bool
+fn has_gsi_past_end(policy: &Policy, io_apic: &IoApic) -> bool
     ensures { IsTrue result
         ↔ (2 ^ 32 < io_apic.now.gsi_base + inputs_of policy.now io_apic.now.address) }
 {
@@ -189,7 +189,7 @@ impl<'a> TableEntry<'a> for MadtEntry<'a> {
     }
 
     #[tactic(auto, using(crate::proofs::MadtFaults::madt_faults))]
-    fn entries(table: Table<'a>) -> Result<Entries<'a>, Code> {
+    fn raw_entries(table: Table<'a>) -> Result<Entries<'a>, Code> {
         Entries::madt(table)
     }
 
@@ -199,7 +199,7 @@ impl<'a> TableEntry<'a> for MadtEntry<'a> {
             (Code::MadtEntryLength, MadtEntry::Opaque(bytes)) => is_typed(bytes[0]),
             (Code::OverrideBus, MadtEntry::Override(source)) => source.bus != 0,
             (Code::ReservedInti, entry) => has_reserved_inti(entry),
-            (Code::GsiPastEnd, MadtEntry::IoApic(io_apic)) => is_past_end(policy, io_apic),
+            (Code::GsiPastEnd, MadtEntry::IoApic(io_apic)) => has_gsi_past_end(policy, io_apic),
             _ => false,
         }
     }

@@ -68,9 +68,9 @@ impl<'a> TableEntry<'a> for PpttEntry<'a> {
     ghost use Rattle.std.specs.Prelude.{◌≡◌, ℕ, List};
     ghost use Rattle.acpi_base.specs.Entries.{entries_of, entries_read_by};
     ghost use Rattle.acpi_base.specs.Pptt as said;
-    ghost use Rattle.acpi_base.specs.Pptt.{pptt_entry, pptt_contents, IsCutPptt, PpttFault};
+    ghost use Rattle.acpi_base.specs.Pptt.{pptt_entry, pptt_contents, IsCutPptt, PpttEntryFault, PpttFault};
     ghost use Rattle.acpi_base.specs.declared.stage.Stage.{Stage};
-    ghost use Rattle.acpi_read.specs.EntryFaults.{pptt_codes, pptt_own_code, PpttEntryFault};
+    ghost use Rattle.acpi_read.specs.EntryFaults.{pptt_codes, pptt_own_code};
     ghost use Rattle.acpi_read.specs.Pptts.{pptt_value, HasReferences, IsWholeEntry};
 
     ghost Said = { said.PpttEntry };
@@ -125,7 +125,7 @@ impl<'a> TableEntry<'a> for PpttEntry<'a> {
     }
 
     #[tactic(auto, using(crate::proofs::PpttFaults::pptt_faults))]
-    fn entries(table: Table<'a>) -> Result<Entries<'a>, Code> {
+    fn raw_entries(table: Table<'a>) -> Result<Entries<'a>, Code> {
         // Makes the invariant of `Table` available to the proof, and does nothing at run time: a table has at least
         // 36 bytes.
         let _ = table.bytes();

@@ -73,7 +73,7 @@ fn is_typed(number: u8) -> bool
     number <= 2
 }
 
-/// Whether an entry of an SRAT with these flags is enabled.
+/// Whether flags have bit 0, which is Enabled in the flags of each entry for which this is used.
 #[tactic(auto, unfolding(acpi_base::specs::Number::has_bit))]
 pub fn is_enabled(flags: u32) -> bool
     ensures { result ≡ said.is_enabled flags }
@@ -83,7 +83,7 @@ pub fn is_enabled(flags: u32) -> bool
 
 /// Whether a range is enabled and ends past 2^64.
 #[inline(always)]
-fn is_past_end(range: &MemoryRange) -> bool
+fn is_range_past_end(range: &MemoryRange) -> bool
     ensures { IsTrue result ↔ ((said.is_enabled range.now.flags ≡ true)
         × (2 ^ 64 < range.now.base + range.now.size)) }
 {
@@ -151,7 +151,7 @@ impl<'a> TableEntry<'a> for SratEntry<'a> {
     }
 
     #[tactic(auto, using(crate::proofs::SratFaults::srat_faults))]
-    fn entries(table: Table<'a>) -> Result<Entries<'a>, Code> {
+    fn raw_entries(table: Table<'a>) -> Result<Entries<'a>, Code> {
         Entries::srat(table)
     }
 
@@ -159,7 +159,7 @@ impl<'a> TableEntry<'a> for SratEntry<'a> {
     fn has_fault(&self, _: &Policy, code: Code) -> bool {
         match (code, self) {
             (Code::SratEntryLength, SratEntry::Opaque(bytes)) => is_typed(bytes[0]),
-            (Code::RangePastEnd, SratEntry::MemoryRange(range)) => is_past_end(range),
+            (Code::RangePastEnd, SratEntry::MemoryRange(range)) => is_range_past_end(range),
             _ => false,
         }
     }

@@ -78,8 +78,9 @@ pub trait TableEntry<'a>: Sized {
     fn codes() -> EntryCodes
         ensures { result ≡ codes };
 
-    /// The entries of a table. Refuses one that ends before the first entry's place, with the code of that.
-    fn entries(table: Table<'a>) -> Result<Entries<'a>, Code>
+    /// The entries of a table by their bytes. Refuses one that ends before the first entry's place, with the code of that.
+    /// Also states that the faults of the stage are those of such a table (`AreFaults`).
+    fn raw_entries(table: Table<'a>) -> Result<Entries<'a>, Code>
         ensures ok { IfOk result
             (λ entries. (first ≤ length table.entry) × (entries ≡ entries_from_place first table.entry)) }
         ensures err { IfErr result

@@ -14,8 +14,6 @@ ghost use Rattle.acpi_base.specs.Text.ImageText.{IsRefused, IsText, max_text};
 ghost use Rattle.acpi_base.specs.Text.TextMachine.{ReaderState, Stopped, EndsAs, IsGoing, initial_state, text_result, run};
 ghost use Rattle.acpi_base.specs.Text.TextMemory.{MayRunOut};
 ghost use Rattle.acpi_base.specs.Text.TextReading.{IsRefusal, CountsRead};
-ghost use Rattle.acpi_base.specs.Text.Lines.{told};
-ghost use Rattle.acpi_base.specs.Text.LineBuffers.{IsLineBuffer};
 
 use crate::image::Image;
 use crate::tally::Tally;
@@ -45,7 +43,7 @@ const PIECE: usize = 32_768;
 /// `Memory`: out of memory for the line or the image. Until the text is refused, it can be returned instead of any other
 /// result. A refused text stays refused with the same fault.
 ///
-/// Each `feed` goes over the list of the pieces so far, to see whether an address came twice, and copies and sorts it
+/// Each `feed` goes over the list of the image's pieces so far, to see whether an address came twice, and copies and sorts it
 /// if they did not come in the order of their addresses. If there are many of them, `parse_image` and `read_image`, which
 /// look only once, take less time.
 #[derive(Drop)]

@@ -1,8 +1,8 @@
 //! What one line of image text says.
 
-ghost use Rattle.std.specs.Prelude.{◌≡◌, ◌≤◌, ◌<◌, ℕ, List, [], length, IfOk, IfErr, IfSome, MatchOption, take_while};
+ghost use Rattle.std.specs.Prelude.{◌≡◌, ◌≤◌, ℕ, List, [], length, IfOk, IfErr, MatchOption, take_while};
 ghost use Rattle.std.specs.List.{list_all};
-ghost use Rattle.acpi_base.specs.Text.ImageText.{Bad, digit_of, is_blank, is_hex_digit, without_cr, without_comment, skip_blanks, hex_number, address_line_of, data_from, line_of};
+ghost use Rattle.acpi_base.specs.Text.ImageText.{Bad, is_blank, is_hex_digit, without_cr, without_comment, skip_blanks, hex_number, address_line_of, data_from, line_of};
 ghost use Rattle.acpi_base.specs.Text.Lines.{IsData, data_line, line_with};
 
 use super::byte_search::first_index;

@@ -1,6 +1,6 @@
 //! Reading a text that comes in pieces. Of the text only the incomplete last line is kept.
 
-ghost use Rattle.std.specs.Prelude.{◌≡◌, ◌+◌, ◌≤◌, ◌<◌, ◌≢◌, ◌⊎◌, ◌++◌, ◌==◌, ℕ, [], true, length, not, slice_index, Ok, OnOk, IfOk, IfErr};
+ghost use Rattle.std.specs.Prelude.{◌≡◌, ◌+◌, ◌<◌, ◌≢◌, ◌⊎◌, ◌++◌, ℕ, [], length, slice_index, Ok, OnOk, IfOk, IfErr};
 ghost use Rattle.acpi_base.specs.Memory.{IsImage};
 ghost use Rattle.acpi_base.specs.Text.ImageText.{Reading, on_ok, start, read_line, read_lines, ended_lines, last_line};
 ghost use Rattle.acpi_base.specs.Text.TextMachine.{run, EndsAs, IsGoing, Stopped, initial_state, text_result};
