@@ -1,6 +1,6 @@
 //! Stage 18: the IDs of the PPTT's leaves among the UIDs of the MADT's processors.
 
-ghost use Rattle.std.specs.Prelude.{◌≡◌, ◌≤◌, ◌<◌, length, AllPairs, Contains, MatchBool, MatchOption, None};
+ghost use Rattle.std.specs.Prelude.{◌≡◌, ◌<◌, AllPairs, Contains, MatchBool, MatchOption};
 ghost use Rattle.acpi_base.specs.Across.{AreLeavesKnown, LeafFault};
 ghost use Rattle.acpi_base.specs.Madt.{madt_contents, IsWhollyTyped};
 ghost use Rattle.acpi_base.specs.Pptt.{pptt_contents};
@@ -16,7 +16,7 @@ use crate::processors::{Key, numbers_of};
 use crate::refusal::{Refusal, refuse};
 use crate::search::has;
 use acpi_base::{Code, Witness};
-use acpi_read::{EntryAt, MadtEntry, PpttEntry, Table};
+use acpi_read::{Entries, EntryAt, MadtEntry, PpttEntry, Table, TableEntry};
 use std::alloc::Global;
 
 /// Whether an entry of a MADT is of one of the eight types that are read here: one of another type may describe a
@@ -30,20 +30,20 @@ fn is_typed(entry: &MadtEntry<'_>) -> bool
     }
 }
 
-/// Whether each entry of a MADT, which its entries fill, is of such a type, so that all its processors are known.
+/// Whether a MADT has its 44 bytes, entries fill it, and each is of such a type, so that all its processors are known.
 fn is_wholly_typed(madt: &Table<'_>) -> bool
-    requires long { 44 ≤ length madt.now }
-    requires filled { (madt_contents madt.now).cut ≡ None }
     ensures { MatchBool result (IsWhollyTyped (madt_contents madt.now))
         (¬ IsWhollyTyped (madt_contents madt.now)) }
 {
-    let mut entries = madt.entries::<MadtEntry<'_>>();
-    while let Some(at) = entries.next() {
-        if !is_typed(&at.entry) {
+    let Ok(mut entries) = Entries::madt(madt.copied()) else {
+        return false;
+    };
+    while let Some(entry) = entries.next() {
+        if !is_typed(&MadtEntry::of(entry.bytes)) {
             return false;
         }
     }
-    true
+    entries.cut().is_none()
 }
 
 /// The ID of a leaf, which is a node whose flags say that its ID is valid, in bit 1, and that it is a leaf, in bit 3.
@@ -98,10 +98,9 @@ fn first_unknown(uids: &[u64], pptt: &Table<'_>) -> Option<Witness>
 const HAS_LEAVES: u8 = 2;
 
 /// Whether the ID of each leaf of a PPTT is the UID of a processor of a MADT, enabled or not (ACPI 6.5, 5.2.30.1;
-/// 5.2.12.2 and 5.2.12.12), or the PPTT's Revision is below 2, or the MADT has an entry of a type that is not read
-/// here. A leaf is a node whose flags say that it is one and that its ID is valid. The PPTT may have any entries. The
-/// MADT must have at least 44 bytes and be filled by its entries, that is, `Entries::cut` returns none: bytes left after them may describe
-/// further processors.
+/// 5.2.12.2 and 5.2.12.12), or the PPTT's Revision is below 2, or the MADT may have further processors: it ends
+/// before its first entry's place, or has bytes at which no entry can begin, or an entry of a type that is not read here.
+/// A leaf is a node whose flags say that it is one and that its ID is valid. Both tables may have any entries.
 ///
 /// Refuses with `Fault` and the code `LeafUnknown`: `at` is the offset, in bytes from the PPTT's start, of the first
 /// leaf whose ID is no UID; `other` is 0, and `point` is the ID, of 32 bits.
@@ -109,8 +108,6 @@ const HAS_LEAVES: u8 = 2;
 /// Refuses with `OutOfMemory`. What exempts tables is tested first, in this order, and allocates nothing. After that
 /// it allocates for the UID of each processor; these are sorted, and each leaf's ID is looked up among them.
 pub fn known_leaves(alloc: Global, madt: &Table<'_>, pptt: &Table<'_>) -> Result<(), Refusal>
-    requires long { 44 ≤ length madt.now }
-    requires filled { (madt_contents madt.now).cut ≡ None }
     ensures { FindsFirst Stage.Leaves
         (AreLeavesKnown (madt_contents madt.now) (pptt_contents pptt.now))
         (LeafFault (madt_contents madt.now) (pptt_contents pptt.now)) result }

@@ -1,5 +1,8 @@
 -- A pass over the entries of a MADT to see whether all are typed.
-use Rattle.std.proofs.Common.{◌≡◌, ◌≤◌, true, false, true≢false, List, [], ◌∷◌, length, None, refl, sym, subst, ℕ}
+use Rattle.std.proofs.Common.{◌≡◌, ◌≤◌, true, false, true≢false, List, [], ◌∷◌, length, Option, Some, None, Bool, refl, sym, ◌∙◌, subst, ℕ}
+use Rattle.std.specs.Prelude.{MatchBool, not}
+use Rattle.std.specs.Option.{is_some}
+use Rattle.std.proofs.lemmas.Option.{none-some}
 use Rattle.acpi_base.specs.Entries.{PlacedEntry, Stands}
 use Rattle.acpi_base.specs.Madt.{MadtEntry, MadtContents, Opaque, madt_contents, IsWhollyTyped}
 use Rattle.acpi_check.specs.Leaves.{is_typed}
@@ -32,3 +35,12 @@ ends whole long filled here =
       typed =
           λ o e stands. true≢false (sym (all_passed here o (Opaque e) stands));
     }
+
+-- and where bytes are left behind them, not all are known
+pub filled_or_not : (whole : List ℕ) (cut : Option ℕ) (b : Bool) → 44 ≤ length whole → IsAt (madt_contents whole) []
+    → cut ≡ (madt_contents whole).cut → is_some cut ≡ not b
+    → MatchBool b (IsWhollyTyped (madt_contents whole)) (¬ IsWhollyTyped (madt_contents whole))
+filled_or_not whole None true long here is none = ends whole long (sym is) here
+filled_or_not whole (Some at) false long here is some = λ typed. none-some at (sym typed.filled ∙ sym is)
+filled_or_not whole None false long here is none = absurd cc
+filled_or_not whole (Some at) true long here is some = absurd cc

@@ -10,7 +10,7 @@ returns-in-Err g c =
     let q = c.args.policy.now in
     let whole = c.args.table in
     rw c.at.ensures
-    (first_of_stage q whole _ c.entries.ensures.faults
+    (first_of_stage q whole _ c.raw_entries.ensures.faults
     (short_first (entry_table E.first E.said_by (E.IsOwn q) E.IsSingle) E.codes whole c.in-Err.code
     c.in-Err.ensures.err.0 c.in-Err.ensures.err.1))
 
@@ -35,7 +35,7 @@ returns-in_err-earlier g c =
     let E = g.E.TableEntry in
     let q = c.args.policy.now in
     let whole = c.args.table in
-    let are = c.entries.ensures.faults in
+    let are = c.raw_entries.ensures.faults in
     let w = c.in_err-earlier.field-0.0 in
     let first = stops (entry_table E.first E.said_by (E.IsOwn q) E.IsSingle) E.codes (are.single q)
     (are.own q) whole _ c.next.new.self.entries c.loop-entry.earlier w
@@ -48,7 +48,7 @@ returns-in-Some-cut g c =
     let E = g.E.TableEntry in
     let q = c.args.policy.now in
     let whole = c.args.table in
-    let are = c.entries.ensures.faults in
+    let are = c.raw_entries.ensures.faults in
     let steps = c.in_default.ensures.steps in
     let cut = rw steps.0.1 at c.in-Some-cut.ensures in
     rw (c.at-in-Some-cut.ensures, c.codes.ensures)
@@ -62,7 +62,7 @@ returns-in-None g c =
     let E = g.E.TableEntry in
     let q = c.args.policy.now in
     let whole = c.args.table in
-    let are = c.entries.ensures.faults in
+    let are = c.raw_entries.ensures.faults in
     let steps = c.in_default.ensures.steps in
     let cut = rw steps.0.1 at c.in-None.ensures in
     are.sound q whole (λ code at other point wrong.

@@ -197,19 +197,6 @@ returns-in_err-first-in-Leaves-2 c =
     unlisted c.requires c.in-Leaves.is kind.Pptt c.first-in-Leaves-2.ensures c.in_err-first-in-Leaves-2.was
     c.from_residual-in_err-first-in-Leaves-2.ensures (λ none _ _. of_none _ none)
 
-pub known_leaves-requires-clause-long : goal.known_leaves-requires-clause-long
-unfolding madt_contents
-known_leaves-requires-clause-long c =
-    (earlier c.requires c.in-Leaves.is stage.Madt (omega arith) _
-    (listed_of_first c.requires.tables.listed.tables kind.Madt c.first-in-Leaves.ensures
-    c.in_ok-first-in-Leaves.was)).long
-
-pub known_leaves-requires-clause-filled : goal.known_leaves-requires-clause-filled
-known_leaves-requires-clause-filled c =
-    (earlier c.requires c.in-Leaves.is stage.Madt (omega arith) _
-    (listed_of_first c.requires.tables.listed.tables kind.Madt c.first-in-Leaves.ensures
-    c.in_ok-first-in-Leaves.was)).filled
-
 pub returns-in_ok-first-in-Leaves-2 : goal.returns-in_ok-first-in-Leaves-2
 returns-in_ok-first-in-Leaves-2 c =
     rw c.in-Leaves.is
