@@ -12,11 +12,11 @@ use Rattle.acpi_read.specs.declared.entry_codes.Subject.{Subject}
 use Rattle.acpi_read.specs.declared.entry_codes.Subject.TheVariants.{Second, Own}
 use Rattle.acpi_check.proofs.EntryPasses.Kept.{rising}
 use Rattle.acpi_check.proofs.EntryPasses.Passes.{none_said}
-use Rattle.acpi_lint.specs.EntryPlaces.{IsSought}
+use Rattle.acpi_lint.specs.EntryPlaces.{IsSoughtEntry}
 use Rattle.acpi_lint.specs.FirstPicked.{PicksFirst, FindsOwn}
 use Rattle.acpi_lint.specs.Places.{FindsLeast}
-use Rattle.acpi_lint.specs.declared.passes.Sought.{Sought}
-use Rattle.acpi_lint.specs.declared.passes.Sought.TheVariants as sought
+use Rattle.acpi_lint.specs.declared.passes.SoughtEntry.{SoughtEntry}
+use Rattle.acpi_lint.specs.declared.passes.SoughtEntry.TheVariants as sought
 use Rattle.acpi_lint.specs.declared.place.Place.{Place}
 use Rattle.acpi_lint.proofs.FirstEntries.{IsFaultAt, least_picked}
 use Rattle.acpi_lint.proofs.LeastPlaces.{least_as, least_outside, no_two, first_two}
@@ -24,12 +24,12 @@ use Rattle.acpi_lint.proofs.LeastPlaces.{least_as, least_outside, no_two, first_
 -- ---- what is looked for
 
 -- the first entry that is looked for is at the least place
-least_sought : {E : Type 0} (t : EntryTable E) (whole : List ℕ) (what : Sought) (found : Option Place)
-    → PicksFirst (FindsOwn (IsSought t what)) (entries_in t whole) found
-    → FindsLeast (IsFaultAt (IsSought t what) (entries_in t whole)) found
+least_sought : {E : Type 0} (t : EntryTable E) (whole : List ℕ) (what : SoughtEntry) (found : Option Place)
+    → PicksFirst (FindsOwn (IsSoughtEntry t what)) (entries_in t whole) found
+    → FindsLeast (IsFaultAt (IsSoughtEntry t what) (entries_in t whole)) found
 least_sought t whole what found picks =
-    least_picked (IsSought t what) t.first (entries_in t whole) (rising t.read t.first whole)
-    (FindsOwn (IsSought t what)) (λ s p here gives. gives) found picks
+    least_picked (IsSoughtEntry t what) t.first (entries_in t whole) (rising t.read t.first whole)
+    (FindsOwn (IsSoughtEntry t what)) (λ s p here gives. gives) found picks
 
 -- in a table that ends before its first entry's place there is none
 nothing_picked : {S T : Type 0} (Gives : S → Option T → Type 0) (entries : List S) → ((s : S) → ¬ Contains entries s)
@@ -38,37 +38,37 @@ unfolding PicksFirst
 nothing_picked Gives [] none = refl
 nothing_picked Gives (s ∷ left) none = absurd (none s (first_element s left))
 
-pub none_sought : {E : Type 0} (t : EntryTable E) (whole : List ℕ) (what : Sought) → length whole < t.first
-    → PicksFirst (FindsOwn (IsSought t what)) (entries_in t whole) None
+pub none_sought : {E : Type 0} (t : EntryTable E) (whole : List ℕ) (what : SoughtEntry) → length whole < t.first
+    → PicksFirst (FindsOwn (IsSoughtEntry t what)) (entries_in t whole) None
 none_sought t whole what short =
-    nothing_picked (FindsOwn (IsSought t what)) (entries_in t whole)
+    nothing_picked (FindsOwn (IsSoughtEntry t what)) (entries_in t whole)
     (λ s here. none_said t.read t.first whole short s.offset s.entry here)
 
 -- ---- by what a fault is about
 
 pub own_found : {E : Type 0} (t : EntryTable E) (whole : List ℕ) (c : Code) (found : Option Place)
-    → PicksFirst (FindsOwn (IsSought t (sought.Own c))) (entries_in t whole) found
+    → PicksFirst (FindsOwn (IsSoughtEntry t (sought.Own c))) (entries_in t whole) found
     → FindsLeast (IsAbout t whole Own c) found
 own_found t whole c found picks =
     least_outside (entries_in t whole) (t.IsOwn c) (λ at other point. AreUnused other point) found
     (least_sought t whole (sought.Own c) found picks)
 
 first_single : {E : Type 0} (t : EntryTable E) (whole : List ℕ) (found : Option Place)
-    → PicksFirst (FindsOwn (IsSought t sought.Single)) (entries_in t whole) found
+    → PicksFirst (FindsOwn (IsSoughtEntry t sought.Single)) (entries_in t whole) found
     → FindsLeast (λ at other point. StandsWith (entries_in t whole) at t.IsSingle × AreUnused other point) found
 first_single t whole found picks =
     least_outside (entries_in t whole) t.IsSingle (λ at other point. AreUnused other point) found
     (least_sought t whole sought.Single found picks)
 
 pub no_second : {E : Type 0} (t : EntryTable E) (whole : List ℕ) (c : Code)
-    → PicksFirst (FindsOwn (IsSought t sought.Single)) (entries_in t whole) None
+    → PicksFirst (FindsOwn (IsSoughtEntry t sought.Single)) (entries_in t whole) None
     → FindsLeast (IsAbout t whole Second c) None
 no_second t whole c none =
     no_two {IsAt = λ at. StandsWith (entries_in t whole) at t.IsSingle} (first_single t whole None none)
 
 pub second_found : {E : Type 0} (t : EntryTable E) (whole : List ℕ) (c : Code) (first : Place) (found : Option Place)
-    → PicksFirst (FindsOwn (IsSought t sought.Single)) (entries_in t whole) (Some first)
-    → PicksFirst (FindsOwn (IsSought t (sought.SingleAfter first.at))) (entries_in t whole) found
+    → PicksFirst (FindsOwn (IsSoughtEntry t sought.Single)) (entries_in t whole) (Some first)
+    → PicksFirst (FindsOwn (IsSoughtEntry t (sought.SingleAfter first.at))) (entries_in t whole) found
     → FindsLeast (IsAbout t whole Second c) found
 second_found t whole c first found one behind =
     first_two {IsAt = λ at. StandsWith (entries_in t whole) at t.IsSingle} first found

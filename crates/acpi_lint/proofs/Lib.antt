@@ -9,7 +9,6 @@ mod KnownOnes
 mod LeafNumbers
 mod LeastPlaces
 mod ListedSlots
-mod MadtFaults
 mod NamedPlaces
 mod OfSets
 mod OfTables
@@ -26,7 +25,7 @@ mod SecondTables
 mod SlitFaults
 mod SomeEntries
 mod SortedNumbers
-mod SratFaults
+mod ShortTables
 mod StageVerdicts
 mod TablesAt
 mod UidDomains

@@ -31,9 +31,8 @@ use Rattle.acpi_lint.specs.StageFaults.{FindsFirstAt}
 use Rattle.acpi_lint.specs.Verdicts.{IsPlaceOf}
 use Rattle.acpi_lint.specs.WholeTables.{IsFound, IsLong}
 use Rattle.acpi_lint.specs.declared.place.Place.{Place}
-use Rattle.acpi_lint.proofs.MadtFaults as madts
+use Rattle.acpi_lint.proofs.ShortTables.{no_madt_entry, no_srat_entry}
 use Rattle.acpi_lint.proofs.OfSets.{none_long}
-use Rattle.acpi_lint.proofs.SratFaults as srats
 use Rattle.acpi_lint.proofs.StageVerdicts.{place, place_not_after}
 
 -- ---- their codes
@@ -162,7 +161,7 @@ no_gsi m q found looked long = λ w own fault.
     held m q code.GsiClash w own fault in
     none_long m q.rsdp madt_signature 44 (λ bytes. InterruptFault q (madt_contents bytes) code.GsiClash) found looked
     long
-    (λ whole less at other point overlap. madts.none_stands whole less at overlap.one_holds.0 overlap.one_holds.1)
+    (λ whole less at other point overlap. no_madt_entry whole less at overlap.one_holds.0 overlap.one_holds.1)
     w.at w.other w.point holds
 
 pub no_overlap : (m : Memory) (q : PolicyValue) (found : Option (List ℕ)) → IsFound m q.rsdp srat_signature found
@@ -177,8 +176,8 @@ no_overlap m q found looked long = λ w own fault.
     none_covered : (h : HotPlug) (whole : List ℕ) → length whole < 48 → (at other point : ℕ)
         → ¬ IsOverlap h (srat_contents whole) at other point
     none_covered Counted whole less at other point overlap =
-        srats.none_stands whole less at overlap.one_holds.0 overlap.one_holds.1
+        no_srat_entry whole less at overlap.one_holds.0 overlap.one_holds.1
     none_covered Apart whole less at other point (inl overlap) =
-        srats.none_stands whole less at overlap.one_holds.0 overlap.one_holds.1
+        no_srat_entry whole less at overlap.one_holds.0 overlap.one_holds.1
     none_covered Apart whole less at other point (inr overlap) =
-        srats.none_stands whole less at overlap.one_holds.0 overlap.one_holds.1
+        no_srat_entry whole less at overlap.one_holds.0 overlap.one_holds.1

@@ -9,7 +9,7 @@ use Rattle.acpi_base.specs.Lint.SlitAdvice.{IsSlitDiffers}
 use Rattle.acpi_base.specs.declared.code.Code.TheVariants as code
 use Rattle.acpi_read.specs.Slits.{HasRows}
 use Rattle.acpi_read.proofs.SlitCells.{slit_size, slit_count, slit_distance}
-use Rattle.acpi_lint.specs.Places.{IsLeast, FindsLeast, IsShort}
+use Rattle.acpi_lint.specs.Places.{IsLeast, FindsLeast}
 use Rattle.acpi_lint.specs.SlitPlaces.{IsRowDiffers, IsSizedDiffers}
 use Rattle.acpi_lint.specs.declared.place.Place.{Place}
 use Rattle.acpi_lint.proofs.LeastPlaces.{least_as}
@@ -18,13 +18,6 @@ use Rattle.acpi_lint.proofs.LeastPlaces.{least_as}
 
 pub short_sizes : (whole : List ℕ) → length whole < 44 → ¬ HasSlitSize (slit_contents whole)
 short_sizes whole less is = omega (arith, less, slit_size whole, is)
-
-pub short : (whole : List ℕ) (found : Option Place) → FindsLeast (IsShort 44 (length whole)) found
-    → FindsLeast (SlitFault (slit_contents whole) code.SlitShort) found
-unfolding slit_contents
-short whole found least =
-    least_as found (λ at other point (less, first, (none, unused)). ((less, first), none, unused))
-    (λ at other point ((less, first), none, unused). (less, first, (none, unused))) least
 
 pub other_sizes : (whole : List ℕ) → 44 + field whole 36 8 * field whole 36 8 ≢ length whole
     → ¬ HasSlitSize (slit_contents whole)

@@ -1,6 +1,5 @@
 -- Places of findings, and the lowest of them.
 use Rattle.std.specs.Prelude.{◌≡◌, ℕ, ◌<◌, ◌≤◌, ◌⊎◌, Option, Some, None}
-use Rattle.acpi_base.specs.Entries.{AreUnused}
 use Rattle.acpi_lint.specs.declared.place.Place.{Place}
 
 -- the place comes before these numbers in the order by at, other and point, or is equal to them
@@ -17,7 +16,3 @@ pub record IsLeast (P : ℕ → ℕ → ℕ → Type 0) (p : Place) : Type 0 whe
 abbrev pub FindsLeast : (ℕ → ℕ → ℕ → Type 0) → Option Place → Type 0
 FindsLeast P None = (at other point : ℕ) → ¬ P at other point
 FindsLeast P (Some p) = IsLeast P p
-
--- a table of this size ends before its first entry's place
-abbrev pub IsShort : ℕ → ℕ → ℕ → ℕ → ℕ → Type 0
-IsShort first size at other point = (size < first) × (at ≡ 0) × AreUnused other point

@@ -15,7 +15,9 @@ use crate::nowhere::{
     affinity_nowhere, leaf_nowhere, nmi_nowhere, no_domain, no_leaf, no_processor,
 };
 use crate::numbered::at_place;
-use crate::own::{cache_shape, domain_past_slit, io_apic_at_zero, madt_unread, own, srat_unread};
+use crate::own::{
+    cache_shape, domain_past_slit, first_own_place, io_apic_at_zero, madt_unread, srat_unread,
+};
 use crate::place::Place;
 use crate::processors::{apic_id_on, gicd, io_apic_id, nonzero_io_apic_address, uid_on};
 use crate::repeated::{repeated, same_cache_id, same_leaf, two_uid_domains};
@@ -33,7 +35,7 @@ fn past_slit(tables: &WholeTables<'_>) -> Option<Place>
 {
     let slit = tables.table(TableKind::Slit)?;
     let localities = rows(slit.bytes())? as u64;
-    own(tables.srat_entries(), |at| domain_past_slit(localities, at))
+    first_own_place(tables.srat_entries(), |at| domain_past_slit(localities, at))
 }
 
 /// The place of the first finding of a rule: one line for each, in the order of what they look at. What is found in a
@@ -62,11 +64,11 @@ fn first_place(
         Rule::BlockDiffers => Ok(fadt.and_then(|fadt| block_differs(&fadt))),
         Rule::SlitDiffers => Ok(tables.table(TableKind::Slit).and_then(slit_differs)),
         // Entries by themselves.
-        Rule::IoApicAtZero => Ok(own(in_madt, io_apic_at_zero)),
-        Rule::MadtUnread => Ok(own(in_madt, madt_unread)),
-        Rule::SratUnread => Ok(own(tables.srat_entries(), srat_unread)),
+        Rule::IoApicAtZero => Ok(first_own_place(in_madt, io_apic_at_zero)),
+        Rule::MadtUnread => Ok(first_own_place(in_madt, madt_unread)),
+        Rule::SratUnread => Ok(first_own_place(tables.srat_entries(), srat_unread)),
         Rule::DomainPastSlit => Ok(past_slit(tables)),
-        Rule::CacheShape => Ok(own(tables.pptt_entries(), cache_shape)),
+        Rule::CacheShape => Ok(first_own_place(tables.pptt_entries(), cache_shape)),
         // Numbers that repeat.
         Rule::SameUid => repeated(alloc, in_madt, |at| at_place(at.offset, uid_on(&at.entry))),
         Rule::SameApicId => repeated(

@@ -18,7 +18,7 @@ ghost use Rattle.acpi_lint.specs.Places.{FindsLeast};
 ghost use Rattle.acpi_lint.specs.UnknownNumbers.{IsUnknown, IsUnknownOf, IsUnknownAffinity, IsUnplaced, IsUnknownAt, IsWhereRead};
 
 use crate::known_numbers::{
-    are_processors_read, has_gicc, is_any_on, is_any_placed, known, leaf_ids,
+    are_processors_read, has_gicc, is_any_on, is_any_placed, known_numbers, leaf_ids,
 };
 use crate::leaves::leaves_of;
 use crate::numbered::Numbered;
@@ -80,7 +80,7 @@ fn unknown_nmi(uids: &[u64], at: &EntryAt<MadtEntry<'_>>) -> Option<Place>
 pub fn nmi_nowhere(alloc: Global, madt: &Table<'_>) -> Result<Option<Place>, AllocError>
     ensures { IfOk result (FindsLeast (IsNmiNowhere (madt_contents madt.now))) }
 {
-    let uids = known(
+    let uids = known_numbers(
         alloc,
         madt.entries::<MadtEntry<'_>>(),
         |at| uid_of(&at.entry).map(u64::from),
@@ -115,12 +115,12 @@ pub fn affinity_nowhere(
     ensures { IfOk result (FindsLeast
         (IsAffinityNowhere (madt_contents madt.now) (srat_contents srat.now))) }
 {
-    let ids = known(
+    let ids = known_numbers(
         alloc,
         madt.entries::<MadtEntry<'_>>(),
         |at| apic_id_of(&at.entry).map(u64::from),
     )?;
-    let uids = known(
+    let uids = known_numbers(
         alloc,
         madt.entries::<MadtEntry<'_>>(),
         |at| uid_of(&at.entry).map(u64::from),
@@ -160,12 +160,12 @@ pub fn no_domain(
     if !is_any_placed(srat) {
         return Ok(None);
     }
-    let ids = known(
+    let ids = known_numbers(
         alloc,
         srat.entries::<SratEntry<'_>>(),
         |at| placed_apic_id(&at.entry).map(u64::from),
     )?;
-    let uids = known(
+    let uids = known_numbers(
         alloc,
         srat.entries::<SratEntry<'_>>(),
         |at| placed_uid(&at.entry).map(u64::from),
@@ -240,7 +240,7 @@ pub fn leaf_nowhere(
     if !has_gicc(madt) {
         return Ok(None);
     }
-    let uids = known(
+    let uids = known_numbers(
         alloc,
         madt.entries::<MadtEntry<'_>>(),
         |at| uid_of(&at.entry).map(u64::from),

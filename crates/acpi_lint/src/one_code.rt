@@ -3,7 +3,6 @@
 
 ghost use Rattle.std.specs.Prelude.{◌≡◌, IfOk};
 ghost use Rattle.acpi_base.specs.Chains.{IsCycle};
-ghost use Rattle.acpi_base.specs.Madt.{madt_contents};
 ghost use Rattle.acpi_base.specs.Memory.{Memory};
 ghost use Rattle.acpi_base.specs.Pptt.{pptt_contents};
 ghost use Rattle.acpi_base.specs.declared.code.Code.{Code};
@@ -16,12 +15,12 @@ ghost use Rattle.acpi_lint.specs.WholeTables.{AreWholeTables};
 use crate::place::Place;
 use crate::verdicts::place_of;
 use crate::whole_tables::WholeTables;
-use acpi_base::Policy;
+use acpi_base::{Policy, TableKind};
 use acpi_check::{
     Chain, agreeing_overrides, apart_interrupts, apart_ranges, first_cycle, known_leaves,
     named_served, one_domain,
 };
-use acpi_read::{MadtEntry, Table};
+use acpi_read::Table;
 use std::alloc::{AllocError, Global};
 
 /// The place of the first override of a set's MADT that gives its Source another interrupt number than an earlier one.
@@ -124,14 +123,6 @@ pub fn two_domains(
     place_of(one_domain(alloc, policy.processors(), &madt, &srat))
 }
 
-/// The cut of a MADT: the offset of the bytes after its entries, if there are any.
-#[tactic(auto, unfolding(acpi_base::specs::Madt::madt_contents))]
-fn madt_cut(madt: &Table<'_>) -> Option<u64>
-    ensures { result ≡ (madt_contents madt.now).cut }
-{
-    madt.cut::<MadtEntry<'_>>()
-}
-
 /// The place of the first leaf of a set's PPTT whose ID is the UID of no processor of its MADT, if the MADT's entries
 /// fill it and all have types that are read. Allocates as the stage does.
 pub fn leaf_unknown(
@@ -142,14 +133,11 @@ pub fn leaf_unknown(
     ensures { (m : Memory) → AreWholeTables m policy.now.rsdp tables.now
         → IfOk result (FindsLeast (IsFaultOfStage Stage.Leaves Code.LeafUnknown m policy.now)) }
 {
-    let Some(madt) = tables.madt() else {
+    let Some(madt) = tables.table(TableKind::Madt) else {
         return Ok(None);
     };
     let Some(pptt) = tables.pptt() else {
         return Ok(None);
     };
-    if let Some(_) = madt_cut(&madt) {
-        return Ok(None);
-    }
     place_of(known_leaves(alloc, &madt, &pptt))
 }

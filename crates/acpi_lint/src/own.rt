@@ -28,7 +28,7 @@ use acpi_read::{
 };
 
 /// The place that a rule returns for the first entry for which it returns one. None if there is no table.
-pub fn own<'a, E: TableEntry<'a> + Copy, F: Fn(&EntryAt<E>) -> Option<Place>>(
+pub fn first_own_place<'a, E: TableEntry<'a> + Copy, F: Fn(&EntryAt<E>) -> Option<Place>>(
     entries: Option<TypedEntries<'a, E>>,
     place: F,
 ) -> Option<Place>

@@ -1,16 +1,16 @@
 //! Passes over the entries of a table, and the faults of a table of entries: codes 32 to 38 (the MADT, ACPI 6.5,
 //! 5.2.12), 41 to 44 (the SRAT, 5.2.16), and 50 and 51 (the PPTT, 5.2.30).
 
-ghost use Rattle.std.specs.Prelude.{Contains, length};
+ghost use Rattle.std.specs.Prelude.{Contains};
 ghost use denote.Ref.{Bor};
 ghost use Rattle.acpi_base.specs.Entries.{entries_of, entries_read_by};
 ghost use Rattle.acpi_base.specs.Listed.{HasListed};
 ghost use Rattle.acpi_base.specs.Memory.{Memory};
 ghost use Rattle.acpi_base.specs.TableKinds.{signature_of};
 ghost use Rattle.acpi_check.specs.CollectedValues.{Picks};
-ghost use Rattle.acpi_lint.specs.EntryPlaces.{IsSought};
+ghost use Rattle.acpi_lint.specs.EntryPlaces.{IsSoughtEntry};
 ghost use Rattle.acpi_lint.specs.FirstPicked.{FindsOwn, PicksFirst};
-ghost use Rattle.acpi_lint.specs.Places.{IsShort, FindsLeast};
+ghost use Rattle.acpi_lint.specs.Places.{FindsLeast};
 ghost use Rattle.acpi_lint.specs.WholeTables.{AreWholeTables};
 ghost use Rattle.acpi_read.specs.EntryTables.{entry_table, IsAbout};
 ghost use Rattle.acpi_read.specs.TypedEntries.{entry_at_value};
@@ -40,19 +40,9 @@ pub fn first_picked<'a, E: TableEntry<'a> + Copy, T: Drop, F: Fn(&EntryAt<E>) ->
     None
 }
 
-/// The place of a table that ends before the place of its first entry.
-pub fn short_place(table: &Table<'_>, first: usize) -> Option<Place>
-    ensures { FindsLeast (IsShort first (length table.now)) result }
-{
-    if table.bytes().len() < first {
-        return Some(Place::at(0));
-    }
-    None
-}
-
 /// What is looked for among the entries of a table.
 #[derive(Clone, Copy, Debug, PartialEq, Eq)]
-pub enum Sought {
+pub enum SoughtEntry {
     /// One that has the fault with this code by itself.
     Own(Code),
     /// One of those of which a table has at most one.
@@ -65,18 +55,18 @@ pub enum Sought {
 #[inline(always)]
 fn sought_place<'a, E: TableEntry<'a>>(
     policy: &Policy,
-    sought: Sought,
+    sought: SoughtEntry,
     at: &EntryAt<E>,
 ) -> Option<Place>
     requires { E.IsRead at.now.entry }
     ensures { FindsOwn
-        (IsSought (entry_table E.first E.said_by (E.IsOwn policy.now) E.IsSingle) sought)
+        (IsSoughtEntry (entry_table E.first E.said_by (E.IsOwn policy.now) E.IsSingle) sought)
         (entry_at_value E.value at.now) result }
 {
     let (is_sought, other) = match sought {
-        Sought::Own(code) => (at.entry.has_fault(policy, code), 0),
-        Sought::Single => (at.entry.single_code().is_some(), 0),
-        Sought::SingleAfter(first) => (
+        SoughtEntry::Own(code) => (at.entry.has_fault(policy, code), 0),
+        SoughtEntry::Single => (at.entry.single_code().is_some(), 0),
+        SoughtEntry::SingleAfter(first) => (
             at.offset > first && at.entry.single_code().is_some(),
             first,
         ),
@@ -92,11 +82,11 @@ fn sought_place<'a, E: TableEntry<'a>>(
 #[inline(always)]
 fn first_sought<'a, E: TableEntry<'a> + Copy>(
     policy: &Policy,
-    sought: Sought,
+    sought: SoughtEntry,
     table: &Table<'a>,
 ) -> Option<Place>
     ensures { PicksFirst
-        (FindsOwn (IsSought (entry_table E.first E.said_by (E.IsOwn policy.now) E.IsSingle) sought))
+        (FindsOwn (IsSoughtEntry (entry_table E.first E.said_by (E.IsOwn policy.now) E.IsSingle) sought))
         (entries_read_by E.said_by (entries_of E.first table.now)) result }
 {
     let entries = match E::raw_entries(table.copied()) {
@@ -121,8 +111,8 @@ fn second_single<'a, E: TableEntry<'a> + Copy>(
         (IsAbout (entry_table E.first E.said_by (E.IsOwn policy.now) E.IsSingle) table.now
         Subject.Second code) result }
 {
-    let first = first_sought::<E>(policy, Sought::Single, table)?;
-    first_sought::<E>(policy, Sought::SingleAfter(first.at), table)
+    let first = first_sought::<E>(policy, SoughtEntry::Single, table)?;
+    first_sought::<E>(policy, SoughtEntry::SingleAfter(first.at), table)
 }
 
 /// The place of the first fault of a table with this code. None for a code of another stage.
@@ -138,7 +128,7 @@ fn table_fault<'a, E: TableEntry<'a> + Copy>(
         Subject::Short => entries.is_err().then_some(Place::at(0)),
         Subject::Cut => Some(Place::at(table.cut::<E>()?)),
         Subject::Second => second_single::<E>(policy, code, table),
-        Subject::Own => first_sought::<E>(policy, Sought::Own(code), table),
+        Subject::Own => first_sought::<E>(policy, SoughtEntry::Own(code), table),
     }
 }
 

@@ -8,10 +8,9 @@ ghost use Rattle.acpi_read.specs.Slits.{HasRows};
 ghost use Rattle.acpi_lint.specs.Places.{FindsLeast};
 ghost use Rattle.acpi_lint.specs.SlitPlaces.{IsRowDiffers, IsSizedDiffers};
 
-use crate::passes::short_place;
 use crate::place::Place;
-use acpi_base::field::u64_at;
 use acpi_base::Code;
+use acpi_base::field::u64_at;
 use acpi_read::{Slit, Table};
 
 /// How many rows of as many cells a table has, if it has these after its first 44 bytes, and nothing else.
@@ -26,6 +25,14 @@ pub fn rows(bytes: &[u8]) -> Option<usize>
         return None;
     }
     Some(count as usize)
+}
+
+/// The place of a table that ends before its first cell.
+#[tactic(auto, unfolding(acpi_base::specs::Slit::slit_contents))]
+fn short_place(bytes: &[u8]) -> Option<Place>
+    ensures { FindsLeast (SlitFault (slit_contents bytes.now) Code.SlitShort) result }
+{
+    (bytes.len() < Slit::CELLS).then_some(Place::at(0))
 }
 
 /// The place of the size, if it is not that of the rows.
@@ -74,7 +81,7 @@ pub fn slit_fault(code: Code, table: Table<'_>) -> Option<Place>
 {
     let bytes = table.bytes();
     match code {
-        Code::SlitShort => short_place(&table, Slit::CELLS),
+        Code::SlitShort => short_place(bytes),
         Code::SlitSize => size_place(bytes),
         Code::SlitDiagonal => diagonal_place(bytes, rows(bytes)?),
         Code::SlitLow => low_place(bytes, rows(bytes)?),

@@ -87,22 +87,22 @@ returns-in-SlitDiffers c =
 pub returns-in-IoApicAtZero : goal.returns-in-IoApicAtZero
 returns-in-IoApicAtZero c =
     rw c.in-IoApicAtZero.is
-    (own_madt c.args.image.now c.args.policy.now madt_value IsIoApicAtZero c.own.result _
-    c.madt_entries-in_madt.result c.requires c.madt_entries-in_madt.ensures c.own.ensures
+    (own_madt c.args.image.now c.args.policy.now madt_value IsIoApicAtZero c.first_own_place.result _
+    c.madt_entries-in_madt.result c.requires c.madt_entries-in_madt.ensures c.first_own_place.ensures
     (λ at picked answers. search rules))
 
 pub returns-in-MadtUnread : goal.returns-in-MadtUnread
 returns-in-MadtUnread c =
     rw c.in-MadtUnread.is
-    (own_madt c.args.image.now c.args.policy.now madt_value IsMadtUnread c.own-in-MadtUnread.result _
-    c.madt_entries-in_madt.result c.requires c.madt_entries-in_madt.ensures c.own-in-MadtUnread.ensures
+    (own_madt c.args.image.now c.args.policy.now madt_value IsMadtUnread c.first_own_place-in-MadtUnread.result _
+    c.madt_entries-in_madt.result c.requires c.madt_entries-in_madt.ensures c.first_own_place-in-MadtUnread.ensures
     (λ at picked answers. search rules))
 
 pub returns-in-SratUnread : goal.returns-in-SratUnread
 returns-in-SratUnread c =
     rw c.in-SratUnread.is
-    (own_srat c.args.image.now c.args.policy.now srat_value IsSratUnread c.own-in-SratUnread.result _
-    c.srat_entries.result c.requires c.srat_entries.ensures c.own-in-SratUnread.ensures
+    (own_srat c.args.image.now c.args.policy.now srat_value IsSratUnread c.first_own_place-in-SratUnread.result _
+    c.srat_entries.result c.requires c.srat_entries.ensures c.first_own_place-in-SratUnread.ensures
     (λ at picked answers. search rules))
 
 pub returns-in-DomainPastSlit : goal.returns-in-DomainPastSlit
@@ -112,8 +112,8 @@ returns-in-DomainPastSlit c = rw c.in-DomainPastSlit.is (c.past_slit.ensures c.a
 pub returns-in-CacheShape : goal.returns-in-CacheShape
 returns-in-CacheShape c =
     rw c.in-CacheShape.is
-    (own_pptt c.args.image.now c.args.policy.now pptt_value IsCacheShape c.own-in-CacheShape.result _
-    c.pptt_entries.result c.requires c.pptt_entries.ensures c.own-in-CacheShape.ensures
+    (own_pptt c.args.image.now c.args.policy.now pptt_value IsCacheShape c.first_own_place-in-CacheShape.result _
+    c.pptt_entries.result c.requires c.pptt_entries.ensures c.first_own_place-in-CacheShape.ensures
     (λ at picked answers. search rules))
 
 -- ---- numbers that repeat

@@ -5,7 +5,7 @@ use Rattle.acpi_base.specs.declared.code.Code.TheVariants as code
 use Rattle.acpi_base.specs.declared.stage.Stage.TheVariants as stage
 use Rattle.acpi_base.specs.declared.table_kind.TableKind.TheVariants as kind
 use Rattle.acpi_base.proofs.Across.Served.{excludes}
-use Rattle.acpi_lint.proofs.MadtFaults.{none_stands}
+use Rattle.acpi_lint.proofs.ShortTables.{no_madt_entry}
 use Rattle.acpi_lint.proofs.OfSets.{some_long, none_long}
 use Rattle.acpi_lint.proofs.OneCodes.{one_gsi_nowhere}
 use Rattle.acpi_lint.proofs.StageVerdicts.{verdict_found}
@@ -28,4 +28,4 @@ returns-in-None c = λ m are.
     none_long m c.args.policy.now.rsdp madt_signature 44
     (λ bytes. ServedFault c.args.policy.now (madt_contents bytes) code.GsiNowhere) c.args.tables.now.madt
     (are.listed kind.Madt) c.in-None.ensures
-    (λ whole less at other point (some, (e, stands, names), _, _). none_stands whole less at e stands)
+    (λ whole less at other point (some, (e, stands, names), _, _). no_madt_entry whole less at e stands)

@@ -1,5 +1,4 @@
-use Rattle.std.proofs.Common.{ℕ, List, None, sym, ◌∙◌, arith}
-use Rattle.std.proofs.lemmas.Option.{none-some}
+use Rattle.std.proofs.Common.{ℕ, List, None, sym, ◌∙◌}
 use Rattle.acpi_base.specs.Across.{AreLeavesKnown, LeafFault}
 use Rattle.acpi_base.specs.Listed.{madt_signature, pptt_signature, HasListed}
 use Rattle.acpi_base.specs.Madt.{madt_contents}
@@ -10,7 +9,7 @@ use Rattle.acpi_base.specs.declared.code.Code.TheVariants as code
 use Rattle.acpi_base.specs.declared.stage.Stage.TheVariants as stage
 use Rattle.acpi_base.specs.declared.table_kind.TableKind.TheVariants as kind
 use Rattle.acpi_base.proofs.Across.Leaves.{excludes}
-use Rattle.acpi_lint.proofs.OfSets.{of_found, of_not_found, some_long, none_long}
+use Rattle.acpi_lint.proofs.OfSets.{of_found, of_not_found, some_long}
 use Rattle.acpi_lint.proofs.OneCodes.{one_leaf_unknown}
 use Rattle.acpi_lint.proofs.StageVerdicts.{verdict_found}
 use Rattle.acpi_lint.proofs.one_code.leaf_unknown.Goals as goal
@@ -24,26 +23,16 @@ abbrev OfMadt : Memory → PolicyValue → List ℕ → ℕ → ℕ → ℕ → 
 OfMadt m q madt at other point = HasListed m q.rsdp pptt_signature (λ pptt. OfTables madt pptt at other point)
 
 pub returns-in_default : goal.returns-in_default
-unfolding madt_contents
 returns-in_default c = λ m are.
     let q = c.args.policy.now in
-    none_long m q.rsdp madt_signature 44 (OfMadt m q) c.args.tables.now.madt (are.listed kind.Madt)
-    c.in_default.ensures
-    (λ whole less at other point (pptt, listed, fault). omega (arith, less, fault.1.long))
+    of_not_found m q.rsdp madt_signature (OfMadt m q) (are.listed kind.Madt) (sym c.table.ensures ∙ c.in_default.is)
 
 pub returns-in_default-pptt : goal.returns-in_default-pptt
 returns-in_default-pptt c = λ m are.
     let q = c.args.policy.now in
-    of_found m q.rsdp madt_signature (OfMadt m q) None (are.listed kind.Madt) c.in-Some.ensures.0
+    of_found m q.rsdp madt_signature (OfMadt m q) None (are.listed kind.Madt) (sym c.table.ensures ∙ c.in-Some.is)
     (of_not_found m q.rsdp pptt_signature (OfTables c.in-Some.madt) (are.listed kind.Pptt)
     (sym c.pptt.ensures ∙ c.in_default-pptt.is))
-
-pub returns-in-Some-madt_cut : goal.returns-in-Some-madt_cut
-returns-in-Some-madt_cut c = λ m are.
-    let q = c.args.policy.now in
-    of_found m q.rsdp madt_signature (OfMadt m q) None (are.listed kind.Madt) c.in-Some.ensures.0
-    (λ at other point (pptt, listed, fault).
-    none-some _ (sym fault.1.filled ∙ sym c.madt_cut.ensures ∙ c.in-Some-madt_cut.is))
 
 pub returns : goal.returns
 returns c = λ m are.
@@ -55,6 +44,7 @@ returns c = λ m are.
     (excludes (madt_contents madt) (pptt_contents pptt) code.LeafUnknown)
     (one_leaf_unknown (madt_contents madt) (pptt_contents pptt)) c.known_leaves.result c.place_of.result
     c.known_leaves.ensures c.place_of.ensures.place in
-    some_long m q.rsdp madt_signature (OfMadt m q) c.place_of.result (are.listed kind.Madt) c.in-Some.ensures.0
+    some_long m q.rsdp madt_signature (OfMadt m q) c.place_of.result (are.listed kind.Madt)
+    (sym c.table.ensures ∙ c.in-Some.is)
     (some_long m q.rsdp pptt_signature (OfTables madt) c.place_of.result (are.listed kind.Pptt)
     (sym c.pptt.ensures ∙ c.in-Some-pptt.is) found)

@@ -4,7 +4,7 @@ use Rattle.acpi_base.specs.declared.code.Code.TheVariants as code
 use Rattle.acpi_base.specs.declared.stage.Stage.TheVariants as stage
 use Rattle.acpi_base.specs.declared.table_kind.TableKind.TheVariants as kind
 use Rattle.acpi_base.proofs.Madt.Overrides.{excludes}
-use Rattle.acpi_lint.proofs.MadtFaults.{none_stands}
+use Rattle.acpi_lint.proofs.ShortTables.{no_madt_entry}
 use Rattle.acpi_lint.proofs.OfSets.{some_long, none_long}
 use Rattle.acpi_lint.proofs.OneCodes.{one_override_clash}
 use Rattle.acpi_lint.proofs.StageVerdicts.{verdict_found}
@@ -26,4 +26,4 @@ returns-in-None c = λ m are.
     none_long m c.args.policy.now.rsdp madt_signature 44
     (λ bytes. OverrideFault (madt_contents bytes) code.OverrideClash) c.args.tables.now.madt
     (are.listed kind.Madt) c.in-None.ensures
-    (λ whole less at other point (g, h, (e, stands, gives), _, _, _). none_stands whole less at e stands)
+    (λ whole less at other point (g, h, (e, stands, gives), _, _, _). no_madt_entry whole less at e stands)

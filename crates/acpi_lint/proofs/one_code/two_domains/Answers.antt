@@ -9,10 +9,9 @@ use Rattle.acpi_base.specs.declared.code.Code.TheVariants as code
 use Rattle.acpi_base.specs.declared.stage.Stage.TheVariants as stage
 use Rattle.acpi_base.specs.declared.table_kind.TableKind.TheVariants as kind
 use Rattle.acpi_base.proofs.Across.Domains.{excludes}
-use Rattle.acpi_lint.proofs.MadtFaults as madts
+use Rattle.acpi_lint.proofs.ShortTables.{no_madt_entry, no_srat_entry}
 use Rattle.acpi_lint.proofs.OfSets.{of_found, some_long, none_long}
 use Rattle.acpi_lint.proofs.OneCodes.{one_two_domains}
-use Rattle.acpi_lint.proofs.SratFaults as srats
 use Rattle.acpi_lint.proofs.StageVerdicts.{verdict_found}
 use Rattle.acpi_lint.proofs.one_code.two_domains.Goals as goal
 
@@ -30,7 +29,7 @@ returns-in_default c = λ m are.
     none_long m q.rsdp madt_signature 44 (OfMadt m q) c.args.tables.now.madt (are.listed kind.Madt)
     c.in_default.ensures
     (λ whole less at other point (srat, listed, fault).
-    (let (o, (e, stands, enabled)) = fault.0 in madts.none_stands whole less o e stands))
+    (let (o, (e, stands, enabled)) = fault.0 in no_madt_entry whole less o e stands))
 
 pub returns-in_default-srat : goal.returns-in_default-srat
 returns-in_default-srat c = λ m are.
@@ -39,7 +38,7 @@ returns-in_default-srat c = λ m are.
     of_found m q.rsdp madt_signature (OfMadt m q) None (are.listed kind.Madt) c.in-Some.ensures.0
     (none_long m q.rsdp srat_signature 48 (OfTables q madt) c.args.tables.now.srat (are.listed kind.Srat)
     c.in_default-srat.ensures
-    (λ whole less at other point (enabled, d, f, (e, stands, puts), _, _, _). srats.none_stands whole less at e stands))
+    (λ whole less at other point (enabled, d, f, (e, stands, puts), _, _, _). no_srat_entry whole less at e stands))
 
 pub returns : goal.returns
 returns c = λ m are.

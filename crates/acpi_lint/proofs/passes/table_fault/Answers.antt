@@ -8,7 +8,7 @@ pub returns-in-Second : goal.returns-in-Second
 returns-in-Second g c =
     let is : Second ≡ subject_of g.E.TableEntry.codes c.args.code = cc in
     of_stage c.args.policy.now c.args.table.now c.args.code Second c.second_single.result
-    c.entries-entries.ensures.faults is c.second_single.ensures
+    c.raw_entries-entries.ensures.faults is c.second_single.ensures
 
 pub returns-in-Own : goal.returns-in-Own
 returns-in-Own g c =
@@ -16,5 +16,5 @@ returns-in-Own g c =
     let t = entry_table E.first E.said_by (E.IsOwn c.args.policy.now) E.IsSingle in
     let is : Own ≡ subject_of E.codes c.args.code = cc in
     of_stage c.args.policy.now c.args.table.now c.args.code Own c.first_sought.result
-    c.entries-entries.ensures.faults is
+    c.raw_entries-entries.ensures.faults is
     (own_found t c.args.table.now c.args.code c.first_sought.result c.first_sought.ensures)
