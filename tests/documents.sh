@@ -76,6 +76,7 @@ functions() {
     /^impl/ {
       sub(/^impl(<[^>]*>)? /, "")
       trait = / for / ? $1 : ""
+      sub(/<.*/, "", trait)
       sub(/.* for /, "")
       sub(/[^A-Za-z0-9].*/, "")
       type = $0

@@ -8,8 +8,8 @@
 //!
 //! The finders of stages that have one code are public: `apart_interrupts`, `agreeing_overrides`, `apart_ranges`,
 //! `first_cycle`, `one_domain`, `named_served` and `known_leaves` require nothing of earlier stages, and may be
-//! called on any table. So are `collected`, with which they gather values, and the searches with which they look them
-//! up.
+//! called on any table. So are what they read of an entry of a PPTT (`named_offset`, `first_dangling`), `collected`, with
+//! which they gather values, and the searches with which they look them up.
 //!
 //! An example, from `crates/acpi_cli/src/check.rt`, where the set at an address is checked under a policy up to a
 //! stage:

@@ -15,6 +15,7 @@
 //! Entries::madt(table)           MadtShort                      its entries, from offset 44 on
 //! Entries::srat(table)           SratShort                      its entries, from offset 48 on
 //! Entries::pptt(table)                                          its entries, from offset 36 on
+//! table.entries::<MadtEntry<'_>>()                              the same by contents, of any table; also `cut`
 //! MadtEntry::read(bytes)         MadtEntryLength                one of eight kinds, or any other type
 //! SratEntry::read(bytes)         SratEntryLength                one of three kinds, or any other type
 //! PpttEntry::read(bytes)         PpttEntryLength                a node, a cache, or any other type

@@ -26,5 +26,6 @@ returns c = λ m q are.
     let rows = rw c.bytes.ensures.bytes at c.in_ok-localities.ensures in
     past_localities m q c.in_ok-slit.slit _ c.first_own_place.result rows
     (sized_slit m q c.in_ok-slit.slit _ are (sym c.in_ok-slit.was ∙ c.table.ensures) rows)
-    (own_srat m q srat_value (IsDomainPastSlit _) c.first_own_place.result _ c.srat_entries.result are c.srat_entries.ensures
+    (own_srat m q srat_value (IsDomainPastSlit _) c.first_own_place.result _ c.srat_entries.result are
+    c.srat_entries.ensures
     c.first_own_place.ensures (λ at picked answers. search rules))
