@@ -3,16 +3,16 @@ use Rattle.std.proofs.Common.{◌≡◌, ℕ, List, [], Option, Some, None, Err,
 use Rattle.std.specs.Prelude.{IsSome, Result}
 use Rattle.std.specs.Io.KnownBytes.{Consumes, Keeps}
 use Rattle.acpi_base.specs.Memory.{Memory}
-use Rattle.acpi_cli.specs.CommandLine.{Asked, Does, DoesAsked, check, confirm, find, lint, rebuild, show}
+use Rattle.acpi_arguments.specs.CommandLine.{Asked, Does, DoesAsked, check, confirm, find, lint, rebuild, show}
 use Rattle.acpi_cli.specs.Engine.{Device, Reads, ReportsJob, Runs}
 use Rattle.acpi_cli.specs.Outcome.{exit_status}
 use Rattle.acpi_cli.specs.Program.{IsUntouched, Obeys, ReportsAsked}
 use Rattle.acpi_cli.specs.declared.outcome.Outcome.{Outcome}
 use Rattle.acpi_cli.specs.declared.outcome.RunFault.{RunFault}
 use Rattle.acpi_cli.specs.declared.outcome.RunFault.TheVariants as run
-use Rattle.acpi_cli.specs.declared.words.Job.{Job}
-use Rattle.acpi_cli.specs.declared.words.Job.TheVariants.{Check, Confirm, Find, Lint, Rebuild, Show}
-use Rattle.acpi_cli.specs.declared.words.WordFault.TheVariants as fault
+use Rattle.acpi_arguments.specs.declared.words.Job.{Job}
+use Rattle.acpi_arguments.specs.declared.words.Job.TheVariants.{Check, Confirm, Find, Lint, Rebuild, Show}
+use Rattle.acpi_arguments.specs.declared.words.WordFault.TheVariants as fault
 
 -- a job that does what is asked reports it
 reports_asked : (what : Asked) (job : Job) → Does what job → (m : Memory) (bytes : List ℕ) (returned : Outcome)

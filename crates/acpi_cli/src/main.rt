@@ -3,36 +3,25 @@
 #![tactic(auto)]
 
 mod check;
-mod command_line;
-mod complaint;
 mod confirm;
 mod devices;
 mod find;
 mod laws;
 mod lint;
-mod number_words;
 mod outcome;
-mod policy_words;
-mod printable;
 mod program;
 mod rebuild;
-mod reply;
 mod show;
 #[cfg(test)]
 mod tests;
-mod tips;
 mod uninterrupted;
-mod usage;
-mod witness_fault;
-mod words;
 
+use acpi_arguments::{Reply, WordFault};
 use acpi_base::Tally;
 use program::{obey, refuse, refuse_memory};
-use reply::Reply;
 use std::io::ErrorKind;
 use std::process::ExitCode;
 use uninterrupted::Uninterrupted;
-use words::WordFault;
 
 /// The arguments of the command line, starting with the program's own name. Returns `Words` if one is not UTF-8.
 fn arguments(rt: &HostRuntime) -> Result<Vec<String>, WordFault> {

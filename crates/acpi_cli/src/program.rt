@@ -2,7 +2,7 @@
 
 ghost use Rattle.std.specs.Prelude.{◌≡◌, map};
 ghost use Rattle.std.specs.String.{string_bytes};
-ghost use Rattle.acpi_cli.specs.CommandLine.{asked_job};
+ghost use Rattle.acpi_arguments.specs.CommandLine.{asked_job};
 ghost use Rattle.acpi_cli.specs.Engine.{device, Runs, ReportsJob};
 ghost use Rattle.acpi_cli.specs.Program.{Obeys};
 
@@ -12,9 +12,8 @@ use crate::find::run_find;
 use crate::lint::run_lint;
 use crate::outcome::{Outcome, RunFault, status_of};
 use crate::rebuild::run_rebuild;
-use crate::reply::Reply;
 use crate::show::run_show;
-use crate::words::{Job, WordFault, read_words};
+use acpi_arguments::{Job, Reply, WordFault, read_words};
 use acpi_base::Tally;
 use std::alloc::Global;
 use std::io::{Read, Write};

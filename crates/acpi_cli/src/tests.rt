@@ -1,6 +1,6 @@
 use crate::outcome::{Outcome, RunFault};
 use crate::program::do_job;
-use crate::words::Job;
+use acpi_arguments::Job;
 use acpi_base::{Code, Policy, PolicyFault, Stage, Tally, TextFault, Witness};
 use std::alloc::{AllocError, Global};
 use std::io;

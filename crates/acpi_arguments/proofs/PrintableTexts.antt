@@ -1,0 +1,199 @@
+-- Printed characters, and texts of them.
+use Rattle.std.proofs.Common.{◌≡◌, ℕ, ◌+◌, ◌-◌, ◌*◌, ◌/◌, ◌%◌, ◌<◌, ◌≤◌, Bool, true, false, List, [], ◌∷◌, ◌++◌, length, get_or, inl, inr, refl, sym, ap, ◌∙◌, arith, append-nil, append_assoc, codes, length-append, lit<, encode_utf8, IsUtf8, IsAscii}
+use Rattle.std.proofs.lemmas.Bool.{and_parts, cases_order, not-true}
+use Rattle.std.proofs.lemmas.Bool.Decides.{nat_tests}
+use Rattle.std.proofs.lemmas.List.Folds.{list_all-append}
+use Rattle.std.proofs.lemmas.Str.Ascii.{IsAscii-cons, IsAscii-nil}
+use Rattle.std.proofs.Math.Seq.{get_or-append_seam}
+use Rattle.std.proofs.lemmas.List.{get_or_append_left, nil_from_length}
+use Rattle.std.proofs.lemmas.Str.{IsUtf8-nil, IsUtf8-append, IsUtf8-encode, IsUtf8-from_ascii, IsUtf8-past_char, chars-IsAscii, chars-append, chars-nil, chars_past_char, length-encode, len_utf8_bounds, scalars-chars}
+use Rattle.std.specs.Char.{IsScalar, digit_char, is_control, len_utf8}
+use Rattle.std.specs.Global.{Global}
+use Rattle.std.specs.Prelude.{String}
+use Rattle.std.specs.Str.{chars}
+use Rattle.std.specs.String.{string_bytes}
+use Rattle.acpi_arguments.specs.Printable.{IsPrinted, is_printable, visible}
+
+-- ---- characters
+
+-- printable ASCII
+plain_code : (c : ℕ) → 32 ≤ c → c < 127 → is_control c ≡ false
+plain_code c low high = grind (arith, nat_tests)
+
+digit_from : (d : ℕ) → d < 16 → 48 ≤ digit_char d
+digit_from d small = grind (arith, nat_tests)
+
+pub digit_below : (d : ℕ) → d < 16 → digit_char d < 127
+digit_below d small = grind (arith, nat_tests)
+
+plain_digit : (d : ℕ) → d < 16 → is_control (digit_char d) ≡ false
+plain_digit d small = plain_code (digit_char d) (omega (arith, digit_from d small)) (digit_below d small)
+
+pub control_below : (c : ℕ) → is_control c ≡ true → c < 160
+control_below c is = grind (arith, nat_tests)
+
+-- ---- printed characters
+
+escape_ascii : (c : ℕ) → is_control c ≡ true → IsAscii (92 ∷ 120 ∷ digit_char (c / 16) ∷ digit_char (c % 16) ∷ [])
+escape_ascii c is =
+    let low : c < 160 = control_below c is in
+    let first : digit_char (c / 16) < 127 = digit_below (c / 16) (omega arith) in
+    let second : digit_char (c % 16) < 127 = digit_below (c % 16) (omega arith) in
+    let third : digit_char (c / 16) < 128 = omega arith in
+    let last : digit_char (c % 16) < 128 = omega arith in
+    IsAscii-cons 92 (120 ∷ digit_char (c / 16) ∷ digit_char (c % 16) ∷ []) (lit< tt)
+    (IsAscii-cons 120 (digit_char (c / 16) ∷ digit_char (c % 16) ∷ []) (lit< tt)
+    (IsAscii-cons (digit_char (c / 16)) (digit_char (c % 16) ∷ []) third
+    (IsAscii-cons (digit_char (c % 16)) [] last IsAscii-nil)))
+
+escape_printable : (c : ℕ) → is_control c ≡ true
+    → is_printable (92 ∷ 120 ∷ digit_char (c / 16) ∷ digit_char (c % 16) ∷ []) ≡ true
+escape_printable c is =
+    let low : c < 160 = control_below c is in
+    let first : is_control (digit_char (c / 16)) ≡ false = plain_digit (c / 16) (omega arith) in
+    let second : is_control (digit_char (c % 16)) ≡ false = plain_digit (c % 16) (omega arith) in
+    rw (chars-IsAscii _ (escape_ascii c is), first, second) refl
+
+chars_of_one : (c : ℕ) → IsScalar c → chars (encode_utf8 c) ≡ c ∷ []
+chars_of_one c is =
+    let alone = sym (append-nil (encode_utf8 c)) in
+    chars_past_char (encode_utf8 c) [] c (IsUtf8-encode c is) alone ∙ ap (λ cs. c ∷ cs) chars-nil
+
+visible_utf8 : (c : ℕ) → IsScalar c → IsUtf8 (visible c)
+visible_utf8 c is = by_case (is_control c) refl where
+  by_case : (b : Bool) → is_control c ≡ b → IsUtf8 (visible c)
+  by_case true e = rw e (IsUtf8-from_ascii _ (escape_ascii c e))
+  by_case false e = rw e (IsUtf8-encode c is)
+
+visible_printable : (c : ℕ) → IsScalar c → is_printable (visible c) ≡ true
+visible_printable c is = by_case (is_control c) refl where
+  by_case : (b : Bool) → is_control c ≡ b → is_printable (visible c) ≡ true
+  by_case true e = rw e (escape_printable c e)
+  by_case false e = rw (e, chars_of_one c is, e) refl
+
+-- at most four bytes for each byte of the character
+visible_short : (c : ℕ) → length (visible c) ≤ 4 * len_utf8 c
+visible_short c = by_case (is_control c) refl where
+  by_case : (b : Bool) → is_control c ≡ b → length (visible c) ≤ 4 * len_utf8 c
+  by_case true e = rw e (omega (arith, (len_utf8_bounds c).0))
+  by_case false e = rw (e, length-encode c) (omega arith)
+
+-- ---- texts
+
+printable_append : (front back : List ℕ) → IsUtf8 front → is_printable front ≡ true → is_printable back ≡ true
+    → is_printable (front ++ back) ≡ true
+printable_append front back utf8 first second = rw (chars-append front back utf8, list_all-append, first, second) refl
+
+-- the first character of a text is one
+first_is_scalar : (text rest : List ℕ) (c : ℕ) → IsUtf8 text → text ≡ encode_utf8 c ++ rest → IsScalar c
+first_is_scalar text rest c utf8 parts =
+    (and_parts _ _ (rw (chars_past_char text rest c utf8 parts) at (scalars-chars text utf8))).0
+
+printable_first : (text rest : List ℕ) (c : ℕ) → IsUtf8 text → text ≡ encode_utf8 c ++ rest → is_printable text ≡ true
+    → (is_control c ≡ false) × (is_printable rest ≡ true)
+printable_first text rest c utf8 parts printable =
+    let both = and_parts _ _ (rw (chars_past_char text rest c utf8 parts) at printable) in
+    (not-true _ both.0, both.1)
+
+-- of a text without control characters: what is printed so far and the rest are the text, and there is room for so many
+-- bytes more
+pub record IsBeginning (text printed rest : List ℕ) (room : ℕ) : Type 0 where
+  pub whole : printed ++ rest ≡ text
+  pub size : length printed + room ≡ 200
+  pub printable : is_printable rest ≡ true
+
+-- so much of a text is printed
+pub record IsBegun (text printed rest : List ℕ) (room : ℕ) : Type 0 where
+  pub utf8 : IsUtf8 printed
+  pub rest_utf8 : IsUtf8 rest
+  pub printable : is_printable printed ≡ true
+  pub short : length printed + 4 * room ≤ 800
+  pub same : is_printable text ≡ true → IsBeginning text printed rest room
+
+pub nothing_begun : (text : List ℕ) → IsUtf8 text → IsBegun text [] text 200
+nothing_begun text utf8 = record {
+  utf8 = IsUtf8-nil;
+  rest_utf8 = utf8;
+  printable = rw chars-nil refl;
+  short = omega arith;
+  same = λ printable. record { whole = refl; size = refl; printable = printable };
+}
+
+pub one_more : (text printed rest tail : List ℕ) (room c size : ℕ) → IsBegun text printed rest room
+    → rest ≡ encode_utf8 c ++ tail → size ≡ len_utf8 c → size ≤ room
+    → IsBegun text (printed ++ visible c) tail (room - size)
+one_more text printed rest tail room c size begun parts is fits = record {
+  utf8 = IsUtf8-append printed (visible c) begun.utf8 (visible_utf8 c scalar);
+  rest_utf8 = IsUtf8-past_char rest tail c begun.rest_utf8 parts;
+  printable = printable_append printed (visible c) begun.utf8 begun.printable (visible_printable c scalar);
+  short = rw (length-append printed (visible c)) (omega (arith, begun.short, visible_short c));
+  same = λ printable. beginning (begun.same printable);
+} where
+  scalar : IsScalar c
+  scalar = first_is_scalar rest tail c begun.rest_utf8 parts
+
+  beginning : IsBeginning text printed rest room → IsBeginning text (printed ++ visible c) tail (room - size)
+  beginning so =
+      let next = printable_first rest tail c begun.rest_utf8 parts so.printable in
+      record {
+        whole = rw next.0 (append_assoc printed (encode_utf8 c) tail ∙ rw (← parts) so.whole);
+        size = rw (next.0, length-append printed (encode_utf8 c), length-encode c) (omega (arith, so.size));
+        printable = next.1;
+      }
+
+dots_printable : is_printable (codes "...") ≡ true
+unfolding chars
+dots_printable = refl
+
+pub cut_is_printed : (text printed rest : List ℕ) (room : ℕ) → IsBegun text printed rest room
+    → (is_printable text ≡ true → length text ≤ 200 → ⊥) → IsPrinted text (printed ++ codes "...")
+cut_is_printed text printed rest room begun long = record {
+  printable = printable_append printed (codes "...") begun.utf8 begun.printable dots_printable;
+  short = rw (length-append printed (codes "...")) (omega (arith, begun.short));
+  same = λ printable short. absurd (long printable short);
+}
+
+pub long_is_cut : (text printed rest tail : List ℕ) (room c size : ℕ) → IsBegun text printed rest room
+    → rest ≡ encode_utf8 c ++ tail → size ≡ len_utf8 c → room < size → is_printable text ≡ true → length text ≤ 200 → ⊥
+long_is_cut text printed rest tail room c size begun parts is over printable short =
+    let so = begun.same printable in
+    let all : length printed + length rest ≡ length text = sym (length-append printed rest) ∙ ap length so.whole in
+    let more : length rest ≡ len_utf8 c + length tail =
+    ap length parts ∙ length-append (encode_utf8 c) tail ∙ ap (λ n. n + length tail) (length-encode c) in
+    omega (arith, so.size)
+
+whole_is_same : (text printed rest : List ℕ) (room : ℕ) → IsBegun text printed rest room → length rest ≡ 0
+    → is_printable text ≡ true → printed ≡ text
+whole_is_same text printed rest room begun none printable =
+    let so = begun.same printable in
+    sym (append-nil printed) ∙ rw (nil_from_length rest none) at so.whole
+
+pub whole_is_printed : (text printed rest : List ℕ) (room : ℕ) → IsBegun text printed rest room → length rest ≡ 0
+    → IsPrinted text printed
+whole_is_printed text printed rest room begun none = record {
+  printable = begun.printable;
+  short = omega (arith, begun.short);
+  same = λ printable short. whole_is_same text printed rest room begun none printable;
+}
+
+-- the first n arguments are printed
+abbrev pub ArePrintedTo : List (String Global) → List (String Global) → ℕ → Type 0
+ArePrintedTo arguments printed n = (length printed ≡ n)
+    × ((i : ℕ) (d : String Global) → i < n
+    → IsPrinted (string_bytes (get_or arguments i d)) (string_bytes (get_or printed i d)))
+
+pub none_printed : (arguments : List (String Global)) → ArePrintedTo arguments [] 0
+none_printed arguments = (refl, λ i d below. absurd (omega arith))
+
+pub one_printed : (arguments printed : List (String Global)) (text : String Global) (n : ℕ)
+    → ArePrintedTo arguments printed n
+    → ((d : String Global) → IsPrinted (string_bytes (get_or arguments n d)) (string_bytes text))
+    → ArePrintedTo arguments (printed ++ text ∷ []) (n + 1)
+one_printed arguments printed text n so is = (
+  length-append printed (text ∷ []) ∙ ap (λ k. k + 1) so.0,
+  λ i d below. elim (cases_order i n) [
+    | inl same ↦ rw (same, ← so.0, get_or-append_seam printed text [] d) (rw so.0 (is d))
+    | inr (inl less) ↦ rw (get_or_append_left printed (text ∷ []) d i (omega (arith, so.0))) (so.1 i d less)
+    | inr (inr more) ↦ absurd (omega arith)
+  ],
+)

@@ -1,5 +1,0 @@
-use Rattle.acpi_cli.proofs.FirstCounts.{inputs_stand, only_counts}
-use Rattle.acpi_cli.proofs.policy_words.first_counts_stand.Goals as goal
-
-pub returns : goal.returns
-returns c = record { inputs = inputs_stand; others = only_counts }
