@@ -50,7 +50,7 @@ ran() {
 }
 
 scripts=(refusals.py rows/many_slots.py recipes.sh fuzz/run.py show/run.py lint/run.py rows/texts.py program.sh valgrind.sh explain.sh tools/run.py install.sh refused_calls.py rebuild/run.py rows/confirm.py documents.sh rows/run.py rows/words.py rows/examples.py scripts.sh)
-timed=(explain/times.py limits.py)
+timed=(times.py limits.py)
 # The library is tested if `make library` has left it.
 [ ! -e library/libacpiset.a ] || scripts=(library/run.py library/rust.sh "${scripts[@]}")
 [ -z "${TESTS_ONLY-}" ] || { read -ra scripts <<<"$TESTS_ONLY" && timed=(); }

@@ -4,17 +4,15 @@ import os
 import random
 import shutil
 import subprocess
-import sys
 
 from files import FADT, HPET, MADT, dump_of, image_of_files
-from judge import TOP, module_of, seconds_of
+from judge import TOP, module_of
 from tables import *
 
 TABLES = [(0x7FE2000, FADT), (0x7FE3001, MADT), (0x7FE4000, HPET)]
 ROOT = (0x7FE1000, xsdt(*(at for at, _ in TABLES)))
 WHOLE = [(0xF59E0, extended_rsdp(0x7FE1000, 0)), ROOT, *TABLES, (FACS_AT, facs())]
 WHOLE_IMAGE = text_of(dict(WHOLE))
-TABLES_OF_MANY = 20_000
 
 
 def of_texts(judge):
@@ -118,23 +116,6 @@ def hostile(judge):
     judge.count("texts with changed bytes", "\n".join(wrong), not 50 < made < 250 and f"{made} of 300 images")
 
 
-def many_tables(judge):
-    """Many tables cost at most 20 times what the check of them costs, and the start of the tool."""
-    places = [(0x1000000 + 0x40 * place, table(b"SSDT", number(place, 4))) for place in range(TABLES_OF_MANY)]
-    root = xsdt(0x7FE0000, *(at for at, _ in places))
-    pieces = [(0xE0000, extended_rsdp(0x8000000, 0)), (0x8000000, root), (0x7FE0000, fadt()), *places]
-    for name, text in (("at their addresses", dump_of(pieces)), ("with addresses of 0", dump_of([(0, data) for _, data in pieces]))):
-        judge.write("many.txt", text)
-        start, _ = seconds_of([sys.executable, os.path.join(TOP, "tools", "acpidump2image"), "--help"])
-        cost, run = seconds_of([sys.executable, os.path.join(TOP, "tools", "acpidump2image"), judge.path("many.txt")])
-        check, answer = seconds_of([judge.program, "check"], input=run.stdout)
-        judge.count(
-            f"{TABLES_OF_MANY} tables {name}",
-            answer.stdout != b"yes\n" and f"{answer.stdout}",
-            cost - start > 20 * check + 1 and f"{cost:.2f} s, and the check {check:.3f} s",
-        )
-
-
 def cases(judge):
-    for part in (of_texts, without_addresses, refused, hostile, many_tables):
+    for part in (of_texts, without_addresses, refused, hostile):
         part(judge)

@@ -4,7 +4,7 @@ import os
 import re
 import struct
 
-from judge import TOP, module_of, seconds_of
+from judge import TOP, module_of
 from many import MANY
 from rows import ROWS
 from tables import *
@@ -264,17 +264,8 @@ def parts_of_none():
     return bytes(core) + bytes(56 * 1_000_001)
 
 
-def of_size(judge):
-    """A large dump, whose RSDP lies at its end, is read in some seconds."""
-    _, whole = small_set()
-    pieces = {at: data for at, data in whole.items() if at != 0xF0010}
-    name = raw_dump(judge, "large.bin", {**pieces, (256 << 20) - 36: whole[0xF0010]}, 256 << 20)
-    cost, run = seconds_of([os.path.join(TOP, "tools", "memory2image"), judge.path(name)])
-    judge.count("a dump of 256 MiB", b"RSDP at 0xfffffdc" not in run.stderr and run.stderr.decode(), cost > 20 and f"{cost:.1f} s")
-
-
 def cases(judge):
-    for part in (of_a_set, of_real_images, of_all_rows, of_the_search, of_lengths, refused, of_size):
+    for part in (of_a_set, of_real_images, of_all_rows, of_the_search, of_lengths, refused):
         part(judge)
     for name in os.listdir(judge.folder):
         if os.path.isfile(judge.path(name)) and os.path.getsize(judge.path(name)) > 1 << 24:
