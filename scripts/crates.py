@@ -29,7 +29,8 @@ MINUTES = {
     "acpi_write": 6,
     "acpi_lint": 19,
     "acpi_c": 6,
-    "acpi_cli": 22,
+    "acpi_arguments": 10,
+    "acpi_cli": 12,
 }
 MINUTES_OF_TESTS = {"acpi_c": 3, "acpi_cli": 6, "acpi_tests": 20}
 

@@ -285,17 +285,17 @@ wide() { LC_ALL=C.UTF-8 grep -E "^[^:]*:[0-9]+:.{$(($1 + 1)),}$"; }
 count 'lines of proofs with more than 120 columns that are no imports' "$(grep -rn '' crates/*/proofs --include='*.antt' | wide 120 | grep -vE '^[^:]*:[0-9]+:(pub )?use ')"
 count 'clauses with more than 100 columns' "$(grep -rnE '^ *(requires|ensures) ' crates/*/src --include='*.rt' | wide 100)"
 
-version=$(sed -n 's/^const VERSION: &str = "\(.*\)";$/\1/p' crates/acpi_cli/src/reply.rt)
+version=$(sed -n 's/^const VERSION: &str = "\(.*\)";$/\1/p' crates/acpi_arguments/src/reply.rt)
 same 'the version of the program (<) and the last one in CHANGELOG.md (>)' "$version" "$(sed -n 's/^## \([0-9.]*\).*/\1/p' CHANGELOG.md | head -n 1)"
 # page SECTION: the lines of a section of the manual page, with plain hyphens.
 page() { sed -n "/^\.SH $1\$/,/^\.SH /p" man/acpiset.1 | sed 's/\\-/-/g'; }
 # terms SECTION: the terms that a section of the manual page explains, which are the lines after a `.TP`.
 terms() { page "$1" | sed -n '/^\.TP$/{n;p;}'; }
-options=$(sed -n 's/.*option(alloc, "\([a-z-]*\)".*/--\1/p' crates/acpi_cli/src/command_line.rt)
+options=$(sed -n 's/.*option(alloc, "\([a-z-]*\)".*/--\1/p' crates/acpi_arguments/src/command_line.rt)
 option_names() { grep -o -- '--[a-z-]*[a-z]'; }
 within 'options that the synopsis of man/acpiset.1 does not name' "$options" "$(page SYNOPSIS | option_names)"
 within 'options that man/acpiset.1 does not explain' "$options" "$(terms OPTIONS | option_names)"
-commands=$(sed -n 's/.*Command::new(alloc, "\([a-z]*\)").*/\1/p' crates/acpi_cli/src/command_line.rt | grep -vx acpiset)
+commands=$(sed -n 's/.*Command::new(alloc, "\([a-z]*\)").*/\1/p' crates/acpi_arguments/src/command_line.rt | grep -vx acpiset)
 same 'commands (<) and those in the synopsis of man/acpiset.1 (>)' "$commands" "$(page SYNOPSIS | sed -n 's/^\.B acpiset //p')"
 same 'commands (<) and those that man/acpiset.1 explains (>)' "$commands" "$(terms DESCRIPTION | sed -n 's/^\.B //p')"
 

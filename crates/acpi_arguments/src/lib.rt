@@ -2,6 +2,20 @@
 //!
 //! `read_words` returns the job that the arguments ask for, as `clap` parses them. If they ask for none, `Reply` is what is
 //! printed: the help, the version, or what is wrong with them, with a tip.
+//!
+//! An example, from `crates/acpi_cli/src/program.rt`:
+//!
+//! ```rust
+//! match read_words(alloc, words) {
+//!     Ok(job) => {
+//!         let result = do_job(alloc, reader, writer, job);
+//!         report(errors, &result);
+//!         status_of(&result)
+//!     }
+//!     Err(WordFault::Words) => refuse(errors, &Reply::new(alloc, words)),
+//!     Err(WordFault::Memory) => refuse_memory(errors),
+//! }
+//! ```
 #![tactic(auto)]
 
 mod command_line;
@@ -15,5 +29,6 @@ mod usage;
 mod witness_fault;
 mod words;
 
+pub use policy_words::Inputs;
 pub use reply::Reply;
 pub use words::{Job, WordFault, read_words};
