@@ -1,9 +1,9 @@
-# Prints each public function of a library, a method as Type::method, a tab, and the names of its contract's clauses,
-# each followed by a blank; a clause without a name is `its one`. `names` are the names that the library exports.
+# Prints each public function of a library whose contract has an `ensures`, a method as Type::method. `names` are the names that the
+# library exports.
 BEGIN {
   split(names, list)
   for (i in list) is_exported[list[i]] = 1
-  type = head = is_trait = yields = ""
+  type = head = is_trait = yields = asks = ""
 }
 FNR == 1 { type = "" }
 /^pub trait / { type = $3; sub(/[^A-Za-z0-9].*/, "", type); is_own = is_trait = 1 }
@@ -15,7 +15,7 @@ FNR == 1 { type = "" }
   sub(/.* for /, "", type)
   sub(/[^A-Za-z0-9].*/, "", type)
 }
-/^ *ghost next_gives = / { yields = "next_gives " }
+/^ *ghost next_gives = / { yields = 1 }
 /^}/ { type = yields = "" }
 /^ *(pub )?(extern "C" )?fn / {
   is_public = $1 == "pub" || is_trait
@@ -23,7 +23,7 @@ FNR == 1 { type = "" }
   sub(/[^a-z0-9_].*/, "")
   name = type == "" ? $0 : type "::" $0
   head = is_public && (type == "" || is_own) && (type == "" ? $0 : type) in is_exported
-  clauses = name ~ /::next$/ ? yields : ""
+  asks = yields && name ~ /::next$/
 }
-head && NF && $1 ~ /^ensures/ { clauses = clauses ($2 == "{" ? "its one" : $2) " " }
-head && /^ *[{]}?$|;$/ { print name "\t" clauses; head = 0 }
+head && /^ *ensures/ { asks = 1 }
+head && /^ *[{]}?$|;$/ { if (asks) print name; head = 0 }

@@ -131,9 +131,9 @@ done
 told=$(sed -n '/^\*\*Wrong bodies are refused\.\*\*/,/^$/p' docs/PROOF.md | tr '\n' ' ' | grep -o '[0-9]* of `[a-z_]*`' | sed 's/ of `\(.*\)`/ \1/')
 same 'wrong bodies (<) and those of PROOF.md (>)' "${refused%$'\n'}" "$told"
 
-# ---- public calls
+# ---- public calls and laws: a table of PROMISES.md names each
 
-# calls CRATE: its public functions except laws, each with its clauses; of a program those in `program`.
+# calls CRATE: its public functions whose contract has an `ensures`, and its laws; of a program those in `program`, and its laws.
 calls() {
   local names
   if [ -e "crates/$1/src/lib.rt" ]; then
@@ -142,20 +142,45 @@ calls() {
     names=$(cat "crates/$1"/src/*.rt | sed -n 's/^pub fn \([a-z0-9_]*\).*/\1/p' | grep -E "$program" | tr '\n' ' ')
   fi
   awk -v names="$names" -f tests/calls.awk $(find "crates/$1/src" -name '*.rt' ! -name laws.rt ! -path '*/tests*')
+  find "crates/$1/src" -name laws.rt -exec sed -n 's/^pub fn \([a-z0-9_]*\).*/\1/p' {} +
 }
 
-# calls_told CRATE: those in the table of PROMISES.md, in the same form.
-calls_told() {
-  sed -n '/^## Every public call$/,/^## Wrong/p' docs/PROMISES.md | sed -n "/^#### $1\$/,/^##/p" |
-    sed -n 's/^| `\([^`]*\)` | .* | \(.*\) |$/\1\t\2/p' | sed 's/one without a name/its one/; s/[`,]//g; s/$/ /'
+# promised CRATE: the functions that the first columns of its tables in PROMISES.md name; a name after `Type::name` is of the same type.
+promised() {
+  awk -v crate="$1" '
+    BEGIN { is_own = 0 }
+    /^## / { is_own = $2 == crate || crate == "acpi_c" && /^## The library$/ }
+    is_own && /^[|] `/ {
+      sub(/ [|] .*/, "")
+      count = split($0, part, "`")
+      type = ""
+      for (i = 2; i <= count; i += 2) {
+        if (part[i] ~ /\//) continue
+        name = part[i] ~ /::/ ? part[i] : type part[i]
+        type = name
+        sub(/[^:]*$/, "", type)
+        print name
+      }
+    }
+  ' docs/PROMISES.md
 }
 
 for crate in $crates; do
-  same "$crate: public calls and their clauses (<) and those of PROMISES.md (>)" "$(calls "$crate")" "$(calls_told "$crate")"
+  promised=$(promised "$crate")
+  within "$crate: public calls and laws that no table of PROMISES.md names" "$(calls "$crate")" "$promised"
+  within "$crate: functions that a table of PROMISES.md names, and that are not there" "$(sed 's/::/_/' <<<"$promised")" "$(functions "$crate" && calls "$crate" | sed 's/::/_/')"
 done
-refusals=$(sed -n '/^## Every public call$/,/^## Wrong/p' docs/PROMISES.md | sed -n 's/^| `[^`]*` | \(.*\) | .* |$/\1/p' | grep -o '`[A-Za-z]*`' | tr -d '`')
-known=$(cat $(find crates/*/src -name '*.rt' ! -path '*tests*') | sed -n 's/^    \([A-Z][A-Za-z0-9]*\)\([ ({].*\)\{0,1\},\{0,1\}$/\1/p; s/^pub struct \([A-Za-z]*\).*/\1/p'; echo AllocError)
-within 'refusals that the code does not have' "$refusals" "$known"
+
+# Refusals, types and definitions that doc comments and PROMISES.md name.
+mapfile -t sources < <(find crates/*/src -name '*.rt' ! -path '*tests*')
+mapfile -t specs < <(find crates/*/specs -name '*.antt')
+named=$(cat docs/PROMISES.md <(sed -n 's/^ *\/\/[/!] //p' "${sources[@]}") | grep -o '`[A-Z][A-Za-z0-9]*[a-z][A-Za-z0-9]*`' | tr -d '`')
+known=$(
+  cat "${sources[@]}" | sed -n 's/^    \([A-Z][A-Za-z0-9]*\)\([ ({].*\)\{0,1\},\{0,1\}$/\1/p; s/^pub \(struct\|enum\|trait\) \([A-Za-z]*\).*/\2/p'
+  cat "${specs[@]}" | sed -n 's/^\([a-z]* \)\{0,1\}pub \([a-z]* \)\{0,1\}\([A-Z][A-Za-z0-9]*\).*/\3/p'
+  printf '%s\n' "${specs[@]##*/}" AllocError Vec | sed 's/\.antt$//'
+)
+within 'refusals, types and definitions that doc comments or PROMISES.md name, and that the code does not have' "$named" "$known"
 
 samples=$(sed -n '/^SAMPLED = {$/,/^}$/s/^    "\(.*\)",$/\1/p' tests/refusals.py tests/refused_calls.py)
 named=$(sed -n '/^## By test alone$/,/^## /p' docs/PROMISES.md | grep -o '`[^`]*`' | tr -d '`')
