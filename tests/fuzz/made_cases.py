@@ -4,11 +4,11 @@ import random
 from dataclasses import dataclass, field
 
 from edges import EDGES, change_at_edge
+from faults import STAGE_OF, Fault
 from image_text import TOP
 from layout import laid_out
 from made_sets import MadeSet, made_settings
 from made_texts import damaged, lines_of_every_form, longest_text, rendered
-from verdicts import STAGE_OF, Fault, number
 
 # One of this many cases is about the form of texts, and the others are about sets. One of this many about texts has the maximum size.
 TEXT_EVERY, LONGEST_EVERY = 5, 40
@@ -72,7 +72,7 @@ def change_bytes(dice, memory):
 def fix_checksum(memory, start):
     """Makes the bytes of a table sum to 0."""
     header = memory.held(start, 36)
-    table = memory.held(start, number(header, 4, 4)) if header else None
+    table = memory.held(start, int.from_bytes(header[4:8], "little")) if header else None
     if table:
         memory.bytes[start + 9] = (memory.bytes[start + 9] - sum(table)) % 256
 

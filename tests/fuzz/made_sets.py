@@ -1,7 +1,7 @@
 """Makes sets of tables at random. Nearly all of them are clean; edges.py then changes them. Sections are those of ACPI 6.5. Numbers
 are little-endian."""
 
-from verdicts import Settings
+from image import Policy
 
 RSDP_SIZE, LONG_RSDP_SIZE, HEADER_SIZE, FACS_SIZE = 20, 36, 36, 64
 FADT_SIZE = 320
@@ -351,7 +351,7 @@ def made_settings(dice):
     for _ in range(dice.choice((0, 0, 1, 2, 3))):
         inputs[dice.choice((0, 0xFEC00000, 0xFEC10000, 0xFFFFFFFF))] = dice.choice((1, 16, 23, 24, 25, 120, 256))
     hotplug, processors = dice.choice(("counted", "apart")), dice.choice(("enabled", "usable"))
-    return Settings(dice.choice((24, 24, 24, 1, 16, 23, 25, 255, 256)), inputs, hotplug, processors)
+    return Policy(dice.choice((24, 24, 24, 1, 16, 23, 25, 255, 256)), inputs, hotplug, processors)
 
 
 def made_processors(dice):

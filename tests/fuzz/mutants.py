@@ -1,7 +1,8 @@
 #!/usr/bin/env python3
-"""Shows what the cases of the fuzzer are able to see: plants one mistake at a time in the second judge (verdicts.py and
-image_text.py), such as another number, `<` for `<=`, or `and` for `or`, and judges the same cases with it. A mistake at which no
-answer differs is printed: it changes no answer at all, or the cases have a hole. It needs no program, and some minutes.
+"""Shows what the cases of the fuzzer are able to see: plants one mistake at a time in the second judge (image_text.py, verdicts.py,
+and image.py and faults.py of tests/lint), such as another number, `<` for `<=`, or `and` for `or`, and judges the same cases with it.
+A mistake at which no answer differs is printed: it changes no answer at all, or the cases have a hole. It needs no program, and some
+minutes.
 
 usage: mutants.py [--seed N] [--cases N]; the last line is 'mutants: N seen, M not seen'."""
 
@@ -11,15 +12,18 @@ import copy
 import signal
 import sys
 import types
+from importlib import import_module
 from pathlib import Path
 
-import image_text
-import verdicts
-from made_cases import asked, case_of
+sys.path.append(str(Path(__file__).parent.parent / "lint"))
 
-HERE = Path(__file__).parent
+import image_text
+from image import Image, find_rsdp
+from made_cases import asked, case_of
+from verdicts import Judgement
+
 SEED, CASES = 1, 800
-SECONDS = 120
+SECONDS = 60
 OTHER_COMPARISON = {
     ast.Lt: ast.LtE, ast.LtE: ast.Lt, ast.Gt: ast.GtE, ast.GtE: ast.Gt, ast.Eq: ast.NotEq, ast.NotEq: ast.Eq, ast.In: ast.NotIn,
     ast.NotIn: ast.In, ast.Is: ast.IsNot, ast.IsNot: ast.Is,
@@ -89,10 +93,16 @@ def mutants(path):
             yield where, lines.get(id(node)), compile(replaced(tree, place, copy.deepcopy(wrong)), path.name, "exec")
 
 
-def module_of(name, code):
-    module = types.ModuleType(name)
-    exec(code, module.__dict__)
-    return module
+def made_anew(names, wrong_name=None, wrong_code=None):
+    """Modules by their names, of which each imports only earlier ones; one of them has another code."""
+    path, made = list(sys.path), {}
+    for name in names:
+        file = import_module(name).__file__
+        made[name] = sys.modules[name] = types.ModuleType(name)
+        made[name].__file__ = file
+        exec(wrong_code if name == wrong_name else compile(Path(file).read_text(), file, "exec"), made[name].__dict__)
+    sys.path[:] = path
+    return made
 
 
 # ---- the cases, and what a judge says of them
@@ -101,16 +111,18 @@ def module_of(name, code):
 class Texts:
     """Image texts, judged by image_text.py."""
 
-    name = "image_text"
+    modules = planted = ("image_text",)
 
     def __init__(self, cases):
         self.texts = [case.text for case, _ in cases]
-        self.told = [self.judged(image_text, text) for text in self.texts]
+        modules = made_anew(self.modules)
+        self.told = [self.judged(modules, text) for text in self.texts]
 
-    def in_which_runs(self, _):
+    def in_which_runs(self, *_):
         return zip(self.texts, self.told)
 
-    def judged(self, module, text):
+    def judged(self, modules, text):
+        module = modules["image_text"]
         try:
             memory = module.memory_of(text)
         except module.Refused as refusal:
@@ -119,9 +131,10 @@ class Texts:
 
 
 class Sets:
-    """Sets of tables, judged by verdicts.py."""
+    """Sets of tables, judged by verdicts.py and by the modules of tests/lint. Advice is compared as far as it depends on these."""
 
-    name = "verdicts"
+    modules = ("image", "faults", "advice", "judge", "verdicts")
+    planted = ("image", "faults", "verdicts")
 
     def __init__(self, cases):
         self.sets = []
@@ -130,46 +143,47 @@ class Sets:
                 memory = image_text.memory_of(case.text)
             except image_text.Refused:
                 continue
-            found = verdicts.found_rsdp(memory)
-            rsdp = found if case.rsdp is None else case.rsdp
-            faults = [] if rsdp is None else asked(dice, verdicts.Judgement(memory, rsdp, case.settings))
-            self.sets.append((memory, rsdp, case, faults))
-        self.told, self.ran = [], []
+            image = Image(image_text.plain_text(memory))
+            rsdp = find_rsdp(image) if case.rsdp is None else case.rsdp
+            faults = [] if rsdp is None else asked(dice, Judgement(image, rsdp, case.settings))
+            self.sets.append((image, rsdp, case, faults))
+        modules, self.told, self.ran = made_anew(self.modules), [], []
         for it in self.sets:
             self.ran.append(set())
             sys.setprofile(self.note)
-            self.told.append(self.judged(verdicts, it))
+            self.told.append(self.judged(modules, it))
             sys.setprofile(None)
 
     def note(self, frame, *_):
-        """Notes which functions of the judge run for a set: a mistake in any other one cannot be seen with it."""
-        if frame.f_code.co_filename == verdicts.__file__:
-            self.ran[-1].add(frame.f_code.co_firstlineno)
+        """Notes which functions run for a set: a mistake in any other one cannot be seen with it."""
+        self.ran[-1].add((frame.f_code.co_filename, frame.f_code.co_firstlineno))
 
-    def in_which_runs(self, line):
+    def in_which_runs(self, file, line):
         """The sets for which the function with this first line runs, and what is said of each."""
-        return ((it, told) for it, told, ran in zip(self.sets, self.told, self.ran) if line is None or line in ran)
+        return ((it, told) for it, told, ran in zip(self.sets, self.told, self.ran) if line is None or (file, line) in ran)
 
-    def judged(self, module, it):
-        memory, rsdp, case, faults = it
-        found = module.found_rsdp(memory)
+    def judged(self, modules, it):
+        image, rsdp, case, faults = it
+        found = modules["image"].find_rsdp(image)
         if rsdp is None:
             return found
-        judgement = module.Judgement(memory, rsdp, case.settings)
-        stands = [judgement.stands(fault) for fault in faults]
-        return found, str(judgement.verdict(case.last)), [str(fault) for fault in judgement.firsts()], stands
+        settings = modules["image"].Policy(**vars(case.settings))
+        judgement = modules["verdicts"].Judgement(image, rsdp, settings)
+        stands = [(str(fault), judgement.stands(fault)) for fault in (*judgement.faults, *faults)]
+        return found, str(judgement.verdict(case.last)), modules["judge"].judged(image, rsdp, settings), stands
 
 
 def too_long(*_):
     raise TimeoutError
 
 
-def is_seen(judged, line, code):
+def is_seen(judged, name, line, code):
     """Whether an answer differs. A mistake at which the judge stops, or does not end, is seen too."""
+    file = sys.modules[name].__file__
     signal.alarm(SECONDS)
     try:
-        module = module_of(judged.name, code)
-        return any(judged.judged(module, it) != told for it, told in judged.in_which_runs(line))
+        modules = made_anew(judged.modules, name, code)
+        return any(judged.judged(modules, it) != told for it, told in judged.in_which_runs(file, line))
     except Exception:
         return True
     finally:
@@ -184,9 +198,9 @@ def main():
     signal.signal(signal.SIGALRM, too_long)
     cases = [case_of(said.seed, place) for place in range(said.cases)]
     seen = unseen = 0
-    for judged in (Texts(cases), Sets(cases)):
-        for where, line, code in mutants(HERE / f"{judged.name}.py"):
-            if is_seen(judged, line, code):
+    for judged, name in [(judged, name) for judged in (Texts(cases), Sets(cases)) for name in judged.planted]:
+        for where, line, code in mutants(Path(sys.modules[name].__file__)):
+            if is_seen(judged, name, line, code):
                 seen += 1
             else:
                 unseen += 1

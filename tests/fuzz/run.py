@@ -1,7 +1,7 @@
 #!/usr/bin/env python3
 """Generates sets of tables and image texts, and compares every answer of the built program with that of a second program in Python:
-verdicts, faults and refusals with verdicts.py and image_text.py, which are written from docs/TABLES.md and docs/FAULTS.md alone,
-and all other lines with those of tests/lint, tests/show and tests/rebuild.
+refusals with image_text.py, written from docs/TABLES.md alone; verdicts, faults and advice with the judge of tests/lint, written from
+docs/TABLES.md and docs/FAULTS.md alone; and all other lines with tests/show and tests/rebuild.
 
 usage: run.py PROGRAM [--seed N] [--cases N] [--first N] [--keep FOLDER] [--coverage]
 A case depends on the seed and on its number alone; --first is the first number. Without options the cases are the same each time.
@@ -21,13 +21,14 @@ sys.path += [str(HERE.parent / place) for place in ("rows", "show", "rebuild", "
 
 import judge as lint_judge
 from advice import RULES
-from image import Policy
-from made_cases import asked, case_of
+from faults import STAGE_OF
+from image import find_rsdp
 from image_text import Refused, memory_of, plain_text
+from made_cases import asked, case_of
 from reader import Image, shown
 from rebuilder import Refused as NotRebuilt
 from rebuilder import rebuilt
-from verdicts import STAGE_OF, Judgement, found_rsdp
+from verdicts import Judgement
 
 SEED, CASES = 1, 800
 SECONDS = 60
@@ -36,7 +37,7 @@ LONG_TEXT, RUNS_OF_LONG_TEXT = 1 << 20, 2
 
 
 class Disagree(Exception):
-    """Two of the second programs differ."""
+    """A text and the memory that it was written from differ."""
 
 
 class Program:
@@ -101,12 +102,13 @@ class Judged:
             return self.refusals((3, "", f"acpiset: {refusal}\n"))
         if case.memory and memory.bytes != case.memory.bytes:
             raise Disagree("the text says something else than the memory that it was written from")
-        found = found_rsdp(memory)
+        plain = plain_text(memory)
+        found = find_rsdp(Image(plain))
         rsdp = found if case.rsdp is None else case.rsdp
         find = (["find"], answer(1, "rsdp none") if found is None else answer(0, f"rsdp {found:#x}"))
         if rsdp is None:
             return [find, *self.refusals(answer(1, "no rsdp"))[1:]]
-        return [find, *self.judged(memory, rsdp)]
+        return [find, *self.judged(plain, rsdp)]
 
     def refusals(self, told):
         """All commands, with one answer."""
@@ -115,14 +117,13 @@ class Judged:
         commands = (*commands, ["confirm", *witness, *self.words], ["rebuild", *self.base, *self.words])
         return [(words, told) for words in commands]
 
-    def judged(self, memory, rsdp):
-        case = self.case
-        judgement = Judgement(memory, rsdp, case.settings)
+    def judged(self, plain, rsdp):
+        case, image = self.case, Image(plain)
+        judgement = Judgement(image, rsdp, case.settings)
         self.fault = judgement.verdict()
-        plain = plain_text(memory)
         through = ["--through", str(case.last)] if case.last != 18 else []
         yield ["check", *self.words, *through], line_of(judgement.verdict(case.last))
-        yield ["lint", *self.words, *["--strict"] * case.is_strict], self.linted(judgement, plain, rsdp)
+        yield ["lint", *self.words, *["--strict"] * case.is_strict], self.linted(image, rsdp)
         early = judgement.verdict(3)
         yield ["show", *case.rsdp_words], line_of(early) if early else (0, shown(plain, rsdp), "")
         yield ["rebuild", *self.base, *self.words], self.rebuilt(plain, rsdp)
@@ -131,18 +132,10 @@ class Judged:
             self.asked += [fault.name] if stands else []
             yield ["confirm", "--witness", str(fault), *self.words], answer(0, "true") if stands else answer(1, "false")
 
-    def linted(self, judgement, plain, rsdp):
-        """The faults by this judge, and the advice by that of tests/lint."""
-        settings = self.case.settings
-        policy = Policy(settings.default_inputs, settings.inputs, settings.hotplug, settings.processors)
-        lines = lint_judge.judged(Image(plain), rsdp, policy)
-        faults = [f"no {fault}" for fault in judgement.firsts()] or ["yes"]
-        advice = [line for line in lines if line.startswith("advice ")]
-        if lines != faults + advice:
-            raise Disagree(f"tests/lint/judge.py says {lines}, and verdicts.py {faults}")
-        self.advised = [line.split()[1] for line in advice]
-        is_good = faults == ["yes"] and not (advice and self.case.is_strict)
-        return answer(0 if is_good else 1, *faults, *advice)
+    def linted(self, image, rsdp):
+        lines = lint_judge.judged(image, rsdp, self.case.settings)
+        self.advised = [line.split()[1] for line in lines if line.startswith("advice ")]
+        return answer(lint_judge.status_of(lines, self.case.is_strict), *lines)
 
     def rebuilt(self, plain, rsdp):
         if self.case.base % 64 == 0 and self.fault:

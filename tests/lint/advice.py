@@ -177,7 +177,7 @@ def sci_advice(facts):
     overrides = facts.madt.typed(2) if facts.madt else []
     numbers = [entry.number(4, 4) for entry in overrides if entry.number(2, 1) == 0 and entry.number(3, 1) == sci]
     gsi = numbers[0] if numbers else sci
-    spans = served(facts.madt, facts.policy) if facts.madt else []
+    spans = served(facts.madt, facts.policy)
     if spans and gsi not in Numbers(spans):
         yield Finding("SciNowhere", 46, 0, gsi)
 

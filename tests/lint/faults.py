@@ -1,7 +1,8 @@
 """The faults of an image, by the rules of docs/TABLES.md and the sections of ACPI 6.5 that are named below: a second reading,
 which shares no code with the program. A fault stands whether or not others do.
 
-Each function gives findings; of those with one name the least by their numbers is the first."""
+Each function gives all faults of its kind, but of overlaps and cycles only the first one; of those with one name the least by their
+numbers is the first."""
 
 from bisect import bisect_right
 from itertools import chain
@@ -34,6 +35,20 @@ STAGES = {
     18: "LeafUnknown",
 }
 STAGE_OF = {name: stage for stage, names in STAGES.items() for name in names.split()}
+CODE_OF = {name: code for code, name in enumerate(STAGE_OF, 1)}
+
+
+class Fault(Finding):
+    """A fault, which is written as the program writes it after `no`."""
+
+    __slots__ = ()
+
+    def __str__(self):
+        return f"{STAGE_OF[self.name]} {super().__str__()}"
+
+    def order(self):
+        """Of two faults `check` reports the one whose order is less."""
+        return STAGE_OF[self.name], self.at, CODE_OF[self.name], self.other, self.point
 
 
 # ---- the RSDP (5.2.5.3) and the root (5.2.7, 5.2.8)
@@ -43,23 +58,23 @@ def rsdp_faults(tables):
     image, at = tables.image, tables.rsdp
     head = image.held(at, 20)
     if not head:
-        yield Finding("RsdpOut", at)
+        yield Fault("RsdpOut", at)
         return
     if head.data[:8] != b"RSD PTR ":
-        yield Finding("RsdpSignature", at)
+        yield Fault("RsdpSignature", at)
     if not head.sums_to_0():
-        yield Finding("RsdpSum", at)
+        yield Fault("RsdpSum", at)
     if head.number(15, 1) < 2:
         return
     long = image.held(at, 36)
     if not long:
-        yield Finding("RsdpTailOut", at)
+        yield Fault("RsdpTailOut", at)
     elif long.number(20, 4) < 36:
-        yield Finding("RsdpLength", at)
+        yield Fault("RsdpLength", at)
     elif not image.held(at, long.number(20, 4)):
-        yield Finding("RsdpLongOut", at)
+        yield Fault("RsdpLongOut", at)
     elif not image.held(at, long.number(20, 4)).sums_to_0():
-        yield Finding("RsdpExtendedSum", at)
+        yield Fault("RsdpExtendedSum", at)
 
 
 def root_faults(tables):
@@ -67,25 +82,25 @@ def root_faults(tables):
     if at is None:
         return
     if at == 0:
-        yield Finding("NoRoot", tables.rsdp)
+        yield Fault("NoRoot", tables.rsdp)
         return
     header = image.held(at, HEADER)
     if not header:
-        yield Finding("RootHeaderOut", at)
+        yield Fault("RootHeaderOut", at)
         return
     if header.data[:4] != tables.signature:
-        yield Finding("RootSignature", at)
+        yield Fault("RootSignature", at)
     length = header.number(4, 4)
     if length < HEADER:
-        yield Finding("RootLength", at)
+        yield Fault("RootLength", at)
         return
     if (length - HEADER) % tables.width:
-        yield Finding("RootRagged", at)
+        yield Fault("RootRagged", at)
     whole = image.held(at, length)
     if not whole:
-        yield Finding("RootOut", at)
+        yield Fault("RootOut", at)
     elif not whole.sums_to_0():
-        yield Finding("RootSum", at)
+        yield Fault("RootSum", at)
 
 
 def table_fault(image, address):
@@ -105,7 +120,7 @@ def table_faults(tables):
     wrong = {address: table_fault(tables.image, address) for address in set(tables.slots.values())}
     for slot, address in tables.slots.items():
         if wrong[address]:
-            yield Finding(wrong[address], slot, address)
+            yield Fault(wrong[address], slot, address)
 
 
 # ---- the FADT and the FACS (5.2.9, 5.2.10)
@@ -113,10 +128,10 @@ def table_faults(tables):
 
 def fadt_faults(tables):
     if tables.root and b"FACP" not in tables.first_slots:
-        yield Finding("NoFadt")
+        yield Fault("NoFadt")
     table = tables.table(b"FACP")
     if table and len(table) < Fadt.LEAST:
-        yield Finding("FadtShort")
+        yield Fault("FadtShort")
     fadt = fadt_of(tables)
     if not fadt:
         return
@@ -125,20 +140,20 @@ def fadt_faults(tables):
     if fadt.flags >> 10 & 1 and len(table) >= 129:
         space, width, offset = table.data[116:119]
         if space > 2 or width != 8 or offset != 0:
-            yield Finding("ResetRegister", 116)
+            yield Fault("ResetRegister", 116)
 
 
 def block_faults(fadt):
     """The lengths of register blocks, of full hardware."""
     if fadt.field(88, 1) < 4:
-        yield Finding("PmEventLength", 88)
+        yield Fault("PmEventLength", 88)
     if fadt.field(89, 1) < 2:
-        yield Finding("PmControlLength", 89)
+        yield Fault("PmControlLength", 89)
     if fadt.field(91, 1) not in (0, 4):
-        yield Finding("PmTimerLength", 91)
+        yield Fault("PmTimerLength", 91)
     for at in (92, 93):
         if fadt.field(at, 1) % 2:
-            yield Finding("GpeLength", at)
+            yield Fault("GpeLength", at)
 
 
 def facs_faults(tables):
@@ -148,30 +163,41 @@ def facs_faults(tables):
     at = fadt.facs
     if at == 0:
         if not fadt.reduced:
-            yield Finding("NoFacs")
+            yield Fault("NoFacs")
         return
     if at % 64:
-        yield Finding("FacsAlign", at)
+        yield Fault("FacsAlign", at)
     head = tables.image.held(at, 8)
     if not head:
-        yield Finding("FacsHeaderOut", at)
+        yield Fault("FacsHeaderOut", at)
         return
     if head.data[:4] != b"FACS":
-        yield Finding("FacsSignature", at)
+        yield Fault("FacsSignature", at)
     length = head.number(4, 4)
     if length < 64:
-        yield Finding("FacsLength", at)
+        yield Fault("FacsLength", at)
     elif not tables.image.held(at, length):
-        yield Finding("FacsOut", at)
+        yield Fault("FacsOut", at)
 
 
 # ---- entries, and spans of numbers
 
 
+def differing(name, entries):
+    """Of (offset, number, value): each entry after an earlier one that has the number and another value."""
+    earlier = {}
+    for offset, number, value in entries:
+        same = earlier.setdefault(number, [])
+        for its_offset, its_value in same:
+            if its_value != value:
+                yield Fault(name, offset, its_offset, number)
+        same.append((offset, value))
+
+
 def short_fault(tables, name, signature, least):
     table = tables.table(signature)
     if table and len(table) < least:
-        yield Finding(name)
+        yield Fault(name)
 
 
 def entry_faults(table, entries: Entries | None):
@@ -179,10 +205,10 @@ def entry_faults(table, entries: Entries | None):
     if not entries:
         return
     if entries.cut is not None:
-        yield Finding(f"{table}EntryCut", entries.cut)
+        yield Fault(f"{table}EntryCut", entries.cut)
     for entry in entries.entries:
         if entry.kind in entries.LENGTHS and not entries.is_typed(entry):
-            yield Finding(f"{table}EntryLength", entry.offset)
+            yield Fault(f"{table}EntryLength", entry.offset)
 
 
 def first_clash(spans):
@@ -196,6 +222,19 @@ def first_clash(spans):
             return holders[0], holders[1], start
         reached = max(reached, end)
     return None
+
+
+def span_groups(tables, policy):
+    """By the name of the fault of two spans that overlap: groups of spans, in none of which two may."""
+    return {"GsiClash": [served(tables.madt, policy)], "Overlap": range_groups(tables.srat, policy)}
+
+
+def overlap_faults(tables, policy):
+    for name, groups in span_groups(tables, policy).items():
+        clashes = [clash for clash in map(first_clash, groups) if clash]
+        if clashes:
+            # of two at one number that of the first group
+            yield Fault(name, *min(clashes, key=lambda clash: clash[2]))
 
 
 class Numbers:
@@ -229,50 +268,34 @@ def madt_faults(tables, policy):
     madt = tables.madt
     for entry in madt.typed(2):
         if entry.number(2, 1):
-            yield Finding("OverrideBus", entry.offset)
+            yield Fault("OverrideBus", entry.offset)
     for entry in madt.typed(2, 3, 4, 10):
         flags = entry.number({2: 8, 3: 2, 4: 3, 10: 2}[entry.kind], 2)
         if 0b10 in (flags & 3, flags >> 2 & 3):
-            yield Finding("ReservedInti", entry.offset)
+            yield Fault("ReservedInti", entry.offset)
     addresses = madt.typed(5)
     for entry in addresses[1:]:
-        yield Finding("SecondAddressOverride", entry.offset, addresses[0].offset)
-    spans = served(madt, policy)
-    for _, end, offset in spans:
+        yield Fault("SecondAddressOverride", entry.offset, addresses[0].offset)
+    for _, end, offset in served(madt, policy):
         if end > 1 << 32:
-            yield Finding("GsiPastEnd", offset)
-    clash = first_clash(spans)
-    if clash:
-        yield Finding("GsiClash", *clash)
-    yield from override_clashes(madt)
+            yield Fault("GsiPastEnd", offset)
+    # overrides that give a Source two numbers (5.2.12.5)
+    yield from differing("OverrideClash", ((it.offset, it.number(3, 1), it.number(4, 4)) for it in madt.typed(2)))
 
 
 def served(madt, policy):
     """The interrupt numbers of each I/O APIC (5.2.12.3)."""
-    for_each = ((entry.number(8, 4), policy.inputs_of(entry.number(4, 4)), entry.offset) for entry in madt.typed(1))
+    io_apics = madt.typed(1) if madt else []
+    for_each = ((entry.number(8, 4), policy.inputs_of(entry.number(4, 4)), entry.offset) for entry in io_apics)
     return [(base, base + inputs, offset) for base, inputs, offset in for_each]
-
-
-def override_clashes(madt):
-    """The first override that gives a Source another number than an earlier one (5.2.12.5)."""
-    seen = {}
-    for entry in madt.typed(2):
-        source = entry.number(3, 1)
-        gsi, earlier = seen.setdefault(source, (entry.number(4, 4), entry.offset))
-        if entry.number(4, 4) != gsi:
-            yield Finding("OverrideClash", entry.offset, earlier, source)
-            return
 
 
 def gsi_faults(tables, policy):
     """Interrupt numbers that are named and that no I/O APIC serves (5.2.12.5, 5.2.12.6)."""
-    numbers = Numbers(served(tables.madt, policy)) if tables.madt else None
-    if not numbers:
-        return
-    for entry in tables.madt.typed(2, 3):
+    numbers = Numbers(served(tables.madt, policy))
+    for entry in tables.madt.typed(2, 3) if numbers else []:
         if entry.number(4, 4) not in numbers:
-            yield Finding("GsiNowhere", entry.offset, 0, entry.number(4, 4))
-            return
+            yield Fault("GsiNowhere", entry.offset, 0, entry.number(4, 4))
 
 
 # ---- the SRAT (5.2.16)
@@ -281,20 +304,17 @@ def gsi_faults(tables, policy):
 def srat_faults(tables, policy):
     yield from short_fault(tables, "SratShort", b"SRAT", SratEntries.FIRST)
     yield from entry_faults("Srat", tables.srat)
-    ranges = [entry for entry in tables.srat.typed(1) if is_enabled(entry.number(28, 4))] if tables.srat else []
-    for entry in ranges:
-        if entry.number(8, 8) + entry.number(16, 8) > TOP:
-            yield Finding("RangePastEnd", entry.offset)
-    kinds = (0, 1) if policy.hotplug == "apart" else (None,)
-    clashes = []
-    for kind in kinds:
-        spans = [span_of(entry) for entry in ranges if kind is None or entry.number(28, 4) >> 1 & 1 == kind]
-        clash = first_clash(spans)
-        if clash:
-            clashes.append(clash)
-    if clashes:
-        # at a tie the first one, of memory that is not hot-pluggable
-        yield Finding("Overlap", *min(clashes, key=lambda clash: clash[2]))
+    for _, end, offset in chain.from_iterable(range_groups(tables.srat, policy)):
+        if end > TOP:
+            yield Fault("RangePastEnd", offset)
+
+
+def range_groups(srat, policy):
+    """The enabled ranges of memory, all together or those that are not hot-pluggable and those that are (5.2.16.2)."""
+    ranges = [entry for entry in srat.typed(1) if is_enabled(entry.number(28, 4))] if srat else []
+    if policy.hotplug == "counted":
+        return [[span_of(entry) for entry in ranges]]
+    return [[span_of(entry) for entry in ranges if entry.number(28, 4) >> 1 & 1 == kind] for kind in (0, 1)]
 
 
 def span_of(entry):
@@ -309,15 +329,12 @@ def domain_faults(tables, policy):
     asked = 0b11 if policy.processors == "usable" else 0b01
     processors = {entry.number(3, 1) for entry in tables.madt.typed(0) if entry.number(4, 4) & asked}
     processors |= {entry.number(4, 4) for entry in tables.madt.typed(9) if entry.number(8, 4) & asked}
-    first = {}
+    domains = []
     for entry in tables.srat.typed(0, 2):
         number, flags = (entry.number(3, 1), entry.number(4, 4)) if entry.kind == 0 else (entry.number(8, 4), entry.number(12, 4))
-        if number not in processors or not is_enabled(flags):
-            continue
-        domain, offset = first.setdefault(number, (domain_of(entry), entry.offset))
-        if domain_of(entry) != domain:
-            yield Finding("TwoDomains", entry.offset, offset, number)
-            return
+        if number in processors and is_enabled(flags):
+            domains.append((entry.offset, number, domain_of(entry)))
+    yield from differing("TwoDomains", domains)
 
 
 # ---- the SLIT (5.2.17)
@@ -330,15 +347,15 @@ def slit_faults(tables):
         return
     count = slit_count(table)
     if count is None:
-        yield Finding("SlitSize", 36)
+        yield Fault("SlitSize", 36)
         return
     cells = table.data[44:]
     for place in range(count):
         if cells[place * count + place] != 10:
-            yield Finding("SlitDiagonal", 44 + place * count + place)
+            yield Fault("SlitDiagonal", 44 + place * count + place)
     for place, cell in enumerate(cells):
         if cell < 10:
-            yield Finding("SlitLow", 44 + place)
+            yield Fault("SlitLow", 44 + place)
 
 
 # ---- the PPTT (5.2.30)
@@ -349,37 +366,47 @@ def pptt_faults(tables):
     yield from entry_faults("Pptt", pptt)
     if not pptt:
         return
-    nodes = {entry.offset: entry for entry in pptt.typed(0)}
-    caches = {entry.offset: entry for entry in pptt.typed(1)}
+    for kind, dangling, cyclic in ((0, "DanglingParent", "ParentCycle"), (1, "DanglingCache", "CacheCycle")):
+        links = links_of(pptt, kind)
+        for offset, named in links.items():
+            if named and named not in links:
+                yield Fault(dangling, offset, named)
+        cycle = first_cycle(links)
+        if cycle:
+            yield Fault(cyclic, *cycle)
     resources = {entry.offset for entry in pptt.entries if entry.kind != 0}
-    for offset, node in nodes.items():
-        if node.number(8, 4) and node.number(8, 4) not in nodes:
-            yield Finding("DanglingParent", offset, node.number(8, 4))
+    for node in pptt.typed(0):
         for place in range(node.number(16, 4)):
             if node.number(20 + 4 * place, 4) not in resources:
-                yield Finding("DanglingResource", offset, place, node.number(20 + 4 * place, 4))
-    for offset, cache in caches.items():
-        if cache.number(8, 4) and cache.number(8, 4) not in caches:
-            yield Finding("DanglingCache", offset, cache.number(8, 4))
-    for name, entries in (("ParentCycle", nodes), ("CacheCycle", caches)):
-        cycle = first_cycle({offset: entry.number(8, 4) for offset, entry in entries.items()})
-        if cycle:
-            yield Finding(name, *cycle)
+                yield Fault("DanglingResource", node.offset, place, node.number(20 + 4 * place, 4))
 
 
-def first_cycle(parents):
-    """The least offset whose chain does not end, how many steps lead to the cycle, and how many go around it; None if all
-    chains end. A chain ends at a parent that is none of these."""
+def links_of(pptt, kind):
+    """What each entry of a type names by its offset: a node its Parent, a cache its Next Level."""
+    return {entry.offset: entry.number(8, 4) for entry in pptt.typed(kind)}
+
+
+def first_cycle(links):
+    """The least offset whose chain does not end, how many steps lead to the cycle, and how many go around it; None if all chains
+    end."""
     ended = set()
-    for offset in parents:
-        path = {}
-        at = offset
-        while at in parents and at not in ended and at not in path:
-            path[at] = len(path)
-            at = parents[at]
-        if at in path:
-            return offset, path[at], len(path) - path[at]
-        ended.update(path)
+    for offset in links:
+        steps = cycle_from(offset, links, ended)
+        if steps:
+            return offset, *steps
+    return None
+
+
+def cycle_from(offset, links, ended):
+    """How many steps lead from an entry to a cycle, and how many go around it; None if its chain ends: at what is none of these, or
+    at one of those whose chains are known to end, which all on this chain then are too."""
+    path, at = {}, offset
+    while at in links and at not in ended and at not in path:
+        path[at] = len(path)
+        at = links[at]
+    if at in path:
+        return path[at], len(path) - path[at]
+    ended.update(path)
     return None
 
 
@@ -393,11 +420,11 @@ def leaf_faults(tables):
     uids = {entry.number(2, 1) for entry in madt.typed(0)} | {entry.number(12, 4) for entry in madt.typed(9)}
     for node in tables.pptt.typed(0):
         if node.number(4, 4) & 0b1010 == 0b1010 and node.number(12, 4) not in uids:
-            yield Finding("LeafUnknown", node.offset, 0, node.number(12, 4))
+            yield Fault("LeafUnknown", node.offset, 0, node.number(12, 4))
 
 
 def all_faults(tables, policy):
-    """At least the first fault of each name."""
+    """All faults, but of overlaps and cycles the first of each name alone."""
     return chain(
         rsdp_faults(tables),
         root_faults(tables),
@@ -406,6 +433,7 @@ def all_faults(tables, policy):
         facs_faults(tables),
         madt_faults(tables, policy),
         srat_faults(tables, policy),
+        overlap_faults(tables, policy),
         slit_faults(tables),
         pptt_faults(tables),
         domain_faults(tables, policy),

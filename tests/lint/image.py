@@ -1,9 +1,10 @@
-"""What the second reading of `lint` reads: an image, the policy, the tables that the RSDP leads to, and their entries, from the
+"""What the second reading of the rules reads: an image, the policy, the tables that the RSDP leads to, and their entries, from the
 layouts of ACPI 6.5, section 5.2, alone. A table is read where its bytes are present, whatever they sum to."""
 
 import sys
 from dataclasses import dataclass, field
 from pathlib import Path
+from typing import NamedTuple
 
 sys.path += [str(Path(__file__).parent.parent / place) for place in ("rows", "show")]
 
@@ -27,8 +28,7 @@ class Policy:
         return self.inputs.get(address, self.default_inputs)
 
 
-@dataclass(frozen=True)
-class Finding:
+class Finding(NamedTuple):
     """A fault or a broken rule: its name and its three numbers."""
 
     name: str
@@ -36,20 +36,17 @@ class Finding:
     other: int = 0
     point: int = 0
 
-    @property
-    def numbers(self):
-        return (self.at, self.other, self.point)
-
     def __str__(self):
-        return " ".join((self.name, *map(hex, self.numbers)))
+        return " ".join((self.name, *map(hex, self[1:])))
 
 
 def find_rsdp(image):
     """The least address at which a search finds an RSDP, or None."""
-    for address in PLACES:
-        head = image.held(address, 20)
-        if head and head.data[:8] == b"RSD PTR " and head.sums_to_0():
-            return address
+    for start, data in image.runs:
+        for address in range(start + -start % 16, start + len(data), 16):
+            head = image.held(address, 20) if address in PLACES else None
+            if head and head.data[:8] == b"RSD PTR " and head.sums_to_0():
+                return address
     return None
 
 

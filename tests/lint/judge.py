@@ -19,9 +19,7 @@ def firsts(findings):
     """The least finding of each name."""
     first = {}
     for finding in findings:
-        known = first.setdefault(finding.name, finding)
-        if finding.numbers < known.numbers:
-            first[finding.name] = finding
+        first[finding.name] = min(finding, first.get(finding.name, finding))
     return first
 
 
@@ -33,7 +31,7 @@ def judged(image, rsdp, policy):
     tables = TableSet(image, rsdp)
     faults = firsts(all_faults(tables, policy))
     advice = firsts(all_advice(tables, policy))
-    lines = [f"no {stage} {faults[name]}" for name, stage in STAGE_OF.items() if name in faults]
+    lines = [f"no {faults[name]}" for name in STAGE_OF if name in faults]
     return (lines or ["yes"]) + [f"advice {advice[name]}" for name in RULES if name in advice]
 
 
