@@ -55,6 +55,6 @@ read_wrong text words i word h e q all was =
     ∙ one_wrong q (text (get_or words i word)) (map text (drop (i + 1) words)) e
 
 -- what holds where a result is no error
-pub held : {T E : Type 0} (result : Result T E) (P : Type 0) → is_err result ≡ false → OnOk result P → P
-held (Ok x) P ok holds = holds
-held (Err e) P ok holds = absurd (false≢true (sym ok))
+pub present : {T E : Type 0} (result : Result T E) (P : Type 0) → is_err result ≡ false → OnOk result P → P
+present (Ok x) P ok holds = holds
+present (Err e) P ok holds = absurd (false≢true (sym ok))

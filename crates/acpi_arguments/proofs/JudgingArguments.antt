@@ -9,7 +9,7 @@ use Rattle.std.proofs.lemmas.List.Folds.{list_any-append}
 use Rattle.std.proofs.lemmas.Slice.Eq.{bytes_eq-Decides}
 use Rattle.clap.specs.Lexer.{long_of}
 use Rattle.clap.specs.Words.{Row, Rule, Text, Shape}
-use Rattle.clap.specs.Walk.{Held, Waiting, Walk, arg_by_id, at_row, arg_by_index, arg_by_long, finished, has_long, has_row, idle, more_values, nothing_held, option, positional, rows_after, settled, settled_rows, walked, with_default, with_values}
+use Rattle.clap.specs.Walk.{Present, Waiting, Walk, arg_by_id, at_row, arg_by_index, arg_by_long, finished, has_long, has_row, idle, more_values, nothing_present, option, positional, rows_after, settled, settled_rows, walked, with_default, with_values}
 use Rattle.clap.specs.Simple.{filled, filled_from, help_rule, new_shape, with_index}
 use Rattle.clap.specs.Kinds.{Kinds, or_else}
 use Rattle.clap.specs.Faults.{defaults_fault, level_fault, settle_fault, turn_fault, walk_fault}
@@ -100,30 +100,30 @@ takes_words (choice ∷ options) flag = takes_words options flag
 -- ---- the walk over the words
 
 -- what is read so far, and whose values are being read
-abbrev pub held : List Row → Option (Text × List Text) → Held
-held rows pending = record { rows = rows; pending = pending; skip = 0 }
+abbrev pub present : List Row → Option (Text × List Text) → Present
+present rows pending = record { rows = rows; pending = pending; skip = 0 }
 
 -- the walk between two words, before any `--`
 abbrev pub standing : List Row → Option (Text × List Text) → Waiting → Walk
 standing rows pending waiting =
-    record { held = held rows pending; waiting = waiting; position = 1; is_trailing = false; stopped = None }
+    record { present = present rows pending; waiting = waiting; position = 1; is_trailing = false; stopped = None }
 
 -- from here on the words have no fault, and give these rows
 pub record Reads (l : Line) (start : Walk) (words : List Text) (rows : List Row) : Type 0 where
   pub no_fault : walk_fault (shape l) [] start words ≡ []
-  pub settles : settle_fault (rules l.options l.flag) false (fold (walked (rules l.options l.flag) []) start words).held
+  pub settles : settle_fault (rules l.options l.flag) false (fold (walked (rules l.options l.flag) []) start words).present
       ≡ []
-  pub gives : (settled (rules l.options l.flag) (fold (walked (rules l.options l.flag) []) start words).held).rows
+  pub gives : (settled (rules l.options l.flag) (fold (walked (rules l.options l.flag) []) start words).present).rows
       ≡ rows
 
 -- what is read so far and what is pending come to these rows
 record Holds (l : Line) (before : List Row) (pending : Option (Text × List Text)) (rows : List Row) : Type 0 where
-  pub sound : settle_fault (rules l.options l.flag) false (held before pending) ≡ []
+  pub valid : settle_fault (rules l.options l.flag) false (present before pending) ≡ []
   pub come_to : settled_rows (rules l.options l.flag) pending before ≡ rows
 
 -- the word has no fault, and leads on
 record Steps (l : Line) (start : Walk) (word : Text) (next : Walk) : Type 0 where
-  pub sound : turn_fault (shape l) [] start word ≡ []
+  pub valid : turn_fault (shape l) [] start word ≡ []
   pub leads : walked (rules l.options l.flag) [] start word ≡ next
 
 -- no word is left
@@ -132,7 +132,7 @@ reads_none : (l : Line) (before rows : List Row) (pending : Option (Text × List
     → Reads l (standing before pending waiting) [] rows
 unfolding clap_on_literals
 reads_none l before rows pending waiting holds =
-    record { no_fault = refl; settles = holds.sound; gives = holds.come_to }
+    record { no_fault = refl; settles = holds.valid; gives = holds.come_to }
 
 -- one word more
 reads_one : (l : Line) (start next : Walk) (word : Text) (words : List Text) (rows : List Row) → Steps l start word next
@@ -141,14 +141,14 @@ reads_one : (l : Line) (start next : Walk) (word : Text) (words : List Text) (ro
 unfolding shape clap_on_literals
 reads_one l start next word words rows steps reads = record {
   no_fault = ap (λ (kinds : Kinds). or_else kinds
-      (walk_fault (shape l) [] (walked (rules l.options l.flag) [] start word) words)) steps.sound
+      (walk_fault (shape l) [] (walked (rules l.options l.flag) [] start word) words)) steps.valid
       ∙ ap (λ (w : Walk). walk_fault (shape l) [] w words) steps.leads
       ∙ reads.no_fault;
   settles = ap (λ (w : Walk). settle_fault (rules l.options l.flag) false
-      (fold (walked (rules l.options l.flag) []) w words).held)
+      (fold (walked (rules l.options l.flag) []) w words).present)
       steps.leads ∙ reads.settles;
   gives = ap (λ (w : Walk). (settled (rules l.options l.flag)
-      (fold (walked (rules l.options l.flag) []) w words).held).rows)
+      (fold (walked (rules l.options l.flag) []) w words).present).rows)
       steps.leads ∙ reads.gives;
 }
 
@@ -195,12 +195,12 @@ option_is options flag id is =
 -- its name is read
 to_option : (l : Line) (id : Text) (rows : List Row) (pending : Option (Text × List Text))
     → IsOption l.options l.flag id
-    → settle_fault (rules l.options l.flag) false (held rows pending) ≡ []
+    → settle_fault (rules l.options l.flag) false (present rows pending) ≡ []
     → Steps l (standing rows pending idle) (codes "--" ++ id)
     (standing (settled_rows (rules l.options l.flag) pending rows) (Some (id, [])) (option id))
 unfolding shape clap_on_literals
-to_option l id rows pending is sound = record {
-  sound = rw (is.more, is.long, is.by_long, sound) refl;
+to_option l id rows pending is valid = record {
+  valid = rw (is.more, is.long, is.by_long, valid) refl;
   leads = rw (is.more, is.long, is.by_long) refl;
 }
 
@@ -210,7 +210,7 @@ to_value : (l : Line) (id text : Text) (rows : List Row) → IsOption l.options 
 unfolding shape clap_on_literals
 to_value l id [] rows is plain = absurd (true≢false (sym plain))
 to_value l id (c ∷ cs) rows is plain = record {
-  sound = simp (not-true (c == 45) plain);
+  valid = simp (not-true (c == 45) plain);
   leads = simp (not-true (c == 45) plain, is.by_id, (bytes_eq-Decides id id).1 refl);
 }
 
@@ -218,7 +218,7 @@ to_value l id (c ∷ cs) rows is plain = record {
 option_behind : (l : Line) (id text : Text) (rows : List Row) → IsOption l.options l.flag id → has_row id rows ≡ false
     → Holds l rows (Some (id, text ∷ [])) (rows ++ option_rows id (Some text))
 option_behind l id text rows is other = record {
-  sound = rw (is.by_id, other) refl;
+  valid = rw (is.by_id, other) refl;
   come_to = rw is.by_id
       (ap (with_values id AsWritten CommandLine (text ∷ []))
       (at_row_absent id (λ _. []) [] rows other ∙ append-nil rows)
@@ -233,9 +233,9 @@ reads_option : (l : Line) (id : Text) (text : Option Text) (words : List Text) (
     → Reads l (standing now waits idle) words rows)
     → Reads l (standing before pending idle) (option_words id text ++ words) rows
 reads_option l id None words before options rows pending is plain holds other reads =
-    reads before pending (record { sound = holds.sound; come_to = holds.come_to ∙ sym (append-nil options) })
+    reads before pending (record { valid = holds.valid; come_to = holds.come_to ∙ sym (append-nil options) })
 reads_option l id (Some text) words before options rows pending is plain holds other reads =
-    reads_one l _ _ _ _ _ (to_option l id before pending is holds.sound)
+    reads_one l _ _ _ _ _ (to_option l id before pending is holds.valid)
     (subst (λ (r : List Row). Reads l (standing r (Some (id, [])) (option id)) (text ∷ words) rows) (sym holds.come_to)
     (reads_one l _ _ _ _ _ (to_value l id text options is plain)
     (reads options (Some (id, text ∷ [])) (option_behind l id text options is other))))
@@ -249,17 +249,17 @@ behind false = idle
 
 -- it is the next word of `ADDRESS=COUNT`, and may come where what is pending has no fault
 to_word : (l : Line) (text : Text) (rows : List Row) (pending : Option (Text × List Text)) (is_more : Bool)
-    → IsPlain text → settle_fault (rules l.options l.flag) false (held rows pending) ≡ []
+    → IsPlain text → settle_fault (rules l.options l.flag) false (present rows pending) ≡ []
     → Steps l (standing rows pending (behind is_more)) text
     (standing (settled_rows (rules l.options l.flag) pending rows) (Some (codes "inputs", text ∷ [])) positional)
 unfolding shape clap_on_literals
-to_word l [] rows pending is_more plain sound = absurd (true≢false (sym plain))
-to_word l (c ∷ cs) rows pending true plain sound = record {
-  sound = simp (not-true (c == 45) plain, takes_words l.options l.flag, and-false, sound);
+to_word l [] rows pending is_more plain valid = absurd (true≢false (sym plain))
+to_word l (c ∷ cs) rows pending true plain valid = record {
+  valid = simp (not-true (c == 45) plain, takes_words l.options l.flag, and-false, valid);
   leads = simp (not-true (c == 45) plain, takes_words l.options l.flag, and-false);
 }
-to_word l (c ∷ cs) rows pending false plain sound = record {
-  sound = simp (not-true (c == 45) plain, takes_words l.options l.flag, and-false, sound);
+to_word l (c ∷ cs) rows pending false plain valid = record {
+  valid = simp (not-true (c == 45) plain, takes_words l.options l.flag, and-false, valid);
   leads = simp (not-true (c == 45) plain, takes_words l.options l.flag, and-false);
 }
 
@@ -269,7 +269,7 @@ reads_word : (l : Line) (text : Text) (words : List Text) (before now rows : Lis
     → Holds l before pending now → Reads l (standing now (Some (codes "inputs", text ∷ [])) positional) words rows
     → Reads l (standing before pending (behind is_more)) (text ∷ words) rows
 reads_word l text words before now rows pending is_more plain holds reads =
-    reads_one l _ _ _ _ _ (to_word l text before pending is_more plain holds.sound)
+    reads_one l _ _ _ _ _ (to_word l text before pending is_more plain holds.valid)
     (subst (λ (r : List Row). Reads l (standing r (Some (codes "inputs", text ∷ [])) positional) words rows)
     (sym holds.come_to) reads)
 
@@ -278,7 +278,7 @@ one_more_word : (l : Line) (options : List Row) (read : List Text) (word : Text)
     → has_row (codes "inputs") options ≡ false
     → Holds l (options ++ word_rows read) (Some (codes "inputs", word ∷ [])) (options ++ word_rows (read ++ word ∷ []))
 one_more_word l options read word other = record {
-  sound = rw (finds_inputs l.options l.flag l.no_inputs) refl;
+  valid = rw (finds_inputs l.options l.flag l.no_inputs) refl;
   come_to = rw (finds_inputs l.options l.flag l.no_inputs) (go read);
 }
   where
@@ -312,7 +312,7 @@ reads_all_words : (l : Line) (before options : List Row) (pending : Option (Text
     → Reads l (standing before pending idle) words (options ++ word_rows words)
 reads_all_words l before options pending [] holds other plain =
     reads_none l before _ pending idle
-    (record { sound = holds.sound; come_to = holds.come_to ∙ sym (append-nil options) })
+    (record { valid = holds.valid; come_to = holds.come_to ∙ sym (append-nil options) })
 reads_all_words l before options pending (word ∷ words) holds other plain =
     reads_word l word words before options _ pending false plain.0 holds
     (subst (λ (rows : List Row). Reads l (standing rows (Some (codes "inputs", word ∷ [])) positional) words
@@ -323,13 +323,13 @@ reads_all_words l before options pending (word ∷ words) holds other plain =
 
 -- it is put behind what is read
 flag_behind : (l : Line) (is_given : Bool) (rows : List Row) (pending : Option (Text × List Text))
-    → l.flag ≡ Some is_given → settle_fault (rules l.options l.flag) false (held rows pending) ≡ []
+    → l.flag ≡ Some is_given → settle_fault (rules l.options l.flag) false (present rows pending) ≡ []
     → has_row (codes "strict") (settled_rows (rules l.options l.flag) pending rows) ≡ false
     → Steps l (standing rows pending idle) (codes "--strict")
     (standing (settled_rows (rules l.options l.flag) pending rows ++ flag_rows (Some true)) None idle)
 unfolding shape clap_on_literals
-flag_behind l is_given rows pending has sound other = record {
-  sound = rw (by_long, sound, other) refl;
+flag_behind l is_given rows pending has valid other = record {
+  valid = rw (by_long, valid, other) refl;
   leads = rw by_long (ap (λ (r : List Row). standing r None idle)
       (ap (with_values (codes "strict") AsWritten CommandLine (codes "true" ∷ []))
       (at_row_absent (codes "strict") (λ _. []) [] read other ∙ append-nil read)
@@ -361,14 +361,14 @@ reads_flag l (Some false) before options pending words is holds other new plain 
     reads_all_words l before options pending words holds other plain
 reads_flag l (Some true) before options pending words is holds other new plain =
     reads_one l _ _ _ _ _
-    (flag_behind l true before pending is holds.sound
+    (flag_behind l true before pending is holds.valid
     (ap (has_row (codes "strict")) holds.come_to ∙ new))
     (subst (λ (r : List Row). Reads l (standing (r ++ flag_rows (Some true)) None idle) words
     (options ++ (flag_rows (Some true) ++ word_rows words))) (sym holds.come_to)
     (subst (λ (all : List Row). Reads l (standing (options ++ flag_rows (Some true)) None idle) words all)
     (append_assoc options (flag_rows (Some true)) (word_rows words))
     (reads_all_words l (options ++ flag_rows (Some true)) (options ++ flag_rows (Some true)) None words
-    (record { sound = refl; come_to = refl })
+    (record { valid = refl; come_to = refl })
     (no_row_in_both (codes "inputs") options (flag_rows (Some true)) other refl) plain)))
 
 -- ---- all arguments
@@ -393,7 +393,7 @@ reads_rest : (l : Line) (done left : List (Text × Option Text)) (words : List T
 reads_rest l done [] words before pending e are new begin plain holds =
     let come_to = holds.come_to ∙ ap options_rows (sym (append-nil done) ∙ e) in
     reads_flag l l.flag before (options_rows l.options) pending words refl
-    (record { sound = holds.sound; come_to = come_to })
+    (record { valid = holds.valid; come_to = come_to })
     (no_option_row (codes "inputs") l.options l.no_inputs) (no_option_row (codes "strict") l.options l.no_strict) plain
 reads_rest l done (choice ∷ left) words before pending e are new begin plain holds =
     let first = and_parts (is_option l.options choice.0) (list_all (λ choice. is_option l.options choice.0) left) are in
@@ -404,7 +404,7 @@ reads_rest l done (choice ∷ left) words before pending e are new begin plain h
     (no_option_row choice.0 done (not-true (has_option choice.0 done) others.0))
     (λ now waits holds. reads_rest l (done ++ choice ∷ []) left words now waits
     (append_assoc done (choice ∷ []) left ∙ e) first.1 others.1 begin.1 plain
-    (record { sound = holds.sound; come_to = holds.come_to ∙ sym (rows_of_one_more done choice) }))
+    (record { valid = holds.valid; come_to = holds.come_to ∙ sym (rows_of_one_more done choice) }))
 
 -- all options and words of a plain line
 pub reads_options : (l : Line) (words : List Text) → list_all (λ choice. is_option l.options choice.0) l.options ≡ true
@@ -412,7 +412,7 @@ pub reads_options : (l : Line) (words : List Text) → list_all (λ choice. is_o
     → Reads l (standing [] None idle) (options_words l.options (flag_words l.flag ++ words))
     (options_rows l.options ++ (flag_rows l.flag ++ word_rows words))
 reads_options l words are new begin plain =
-    reads_rest l [] l.options words [] None refl are new begin plain (record { sound = refl; come_to = refl })
+    reads_rest l [] l.options words [] None refl are new begin plain (record { valid = refl; come_to = refl })
 
 -- ---- at the end of the words
 
@@ -455,7 +455,7 @@ none_needed (choice ∷ options) flag rows = none_needed options flag rows
 
 -- `clap` takes the words
 pub taken : (l : Line) (words : List Text) (rows : List Row) → Reads l (standing [] None idle) words rows
-    → level_fault (shape l) [] nothing_held words false [] ≡ []
+    → level_fault (shape l) [] nothing_present words false [] ≡ []
 unfolding shape
 taken l words rows reads =
     rw (
@@ -463,7 +463,7 @@ taken l words rows reads =
       reads.settles,
       no_default_fault l.options l.flag _,
       none_needed l.options l.flag (finished (rules l.options l.flag)
-          (fold (walked (rules l.options l.flag) []) (standing [] None idle) words).held),
+          (fold (walked (rules l.options l.flag) []) (standing [] None idle) words).present),
     ) refl
 
 -- what it then has read

@@ -20,7 +20,7 @@ use clap::ArgMatches;
 use std::alloc::Global;
 use thiserror::Error;
 
-/// A command, and the arguments of its engine.
+/// A command, and the arguments of its command function.
 #[derive(Drop)]
 pub enum Job {
     /// Check the tables that are reached from the RSDP, up to the stage `last`: the RSDP at `rsdp`, or the

@@ -79,9 +79,9 @@ ends_or_leads : (Names : ℕ → ℕ → Type 0) (naming : IsNaming Names) → N
     → (n : ℕ)
     → Ends Names o ⊎ (IsAt Names (after Names naming o n) × AreSteps Names (after Names naming o) n)
 unfolding after
-ends_or_leads Names naming sound o here zero = inr (here, λ k less. absurd (omega arith))
-ends_or_leads Names naming sound o here (suc n) =
-    elim (ends_or_leads Names naming sound o here n) [
+ends_or_leads Names naming valid o here zero = inr (here, λ k less. absurd (omega arith))
+ends_or_leads Names naming valid o here (suc n) =
+    elim (ends_or_leads Names naming valid o here n) [
       | inl ends ↦ inl ends
       | inr (there, each) ↦ next there each (is_named Names (at n) (naming.decide (at n)) there)
     ]
@@ -102,7 +102,7 @@ ends_or_leads Names naming sound o here (suc n) =
         elim (cases_eq (at (suc n)) 0) [
           | inl none ↦ inl (ends_before Names at n each ([], subst (Names (at n)) none names))
           | inr some ↦
-              elim (sound (at n) (at (suc n)) names) [
+              elim (valid (at n) (at (suc n)) names) [
                 | inl none ↦ absurd (some none)
                 | inr above ↦ inr (above, more each (record { names = names; some = some; there = above }))
               ]
@@ -135,8 +135,8 @@ pub ends_or_goes_round : (Names : ℕ → ℕ → Type 0) (most : ℕ) → IsNam
     → NoneDangles Names
     → (o : ℕ) → IsAt Names o → Ends Names o ⊎ GoesRound Names most o
 unfolding after
-ends_or_goes_round Names most naming numbered sound o here =
-    elim (ends_or_leads Names naming sound o here most) [
+ends_or_goes_round Names most naming numbered valid o here =
+    elim (ends_or_leads Names naming valid o here most) [
       | inl ends ↦ inl ends
       | inr (there, each) ↦ inr (goes_round Names most numbered (after Names naming o) here each)
     ]
@@ -144,8 +144,8 @@ ends_or_goes_round Names most naming numbered sound o here =
 -- where none goes round, all end
 pub end_without_cycle : (Names : ℕ → ℕ → Type 0) (most : ℕ) → IsNaming Names → IsNumbered Names most → NoneDangles Names
     → ((o lead round : ℕ) → ¬ IsCycle Names most o lead round) → AllEnd Names
-end_without_cycle Names most naming numbered sound none o here =
-    elim (ends_or_goes_round Names most naming numbered sound o here) [
+end_without_cycle Names most naming numbered valid none o here =
+    elim (ends_or_goes_round Names most naming numbered valid o here) [
       | inl ends ↦ ends
       | inr (lead, round, cycle) ↦ absurd (none o lead round cycle)
     ]
@@ -185,9 +185,9 @@ cycle_excludes Names naming most o lead round cycle end =
 
 pub ends_or_round : (Names : ℕ → ℕ → Type 0) (most : ℕ) → IsNaming Names → IsNumbered Names most → NoneDangles Names
     → EndOrGoRound Names most
-ends_or_round Names most naming numbered sound =
+ends_or_round Names most naming numbered valid =
     record {
-      either = ends_or_goes_round Names most naming numbered sound;
+      either = ends_or_goes_round Names most naming numbered valid;
       apart = λ o ends round. cycle_excludes_end Names naming most o round.0 round.1 round.2 ends;
     }
 

@@ -1,4 +1,4 @@
--- The faults of the FACS: each can be decided, excludes that it is sound, and where there is none it is sound.
+-- The faults of the FACS: each can be decided, excludes that it is valid, and where there is none it is valid.
 use Rattle.std.proofs.Common.{◌≡◌, ◌^◌, ◌<◌, ℕ, List, Some, true, refl, sym, ◌∙◌, ap, subst, inr, arith}
 use Rattle.std.specs.Prelude.{◌≢◌, ◌%◌}
 use Rattle.std.proofs.lemmas.Bool.{both_ways}
@@ -8,14 +8,14 @@ use Rattle.acpi_base.specs.Number.{field}
 use Rattle.acpi_base.specs.Signature.{has_signature}
 use Rattle.acpi_base.specs.Tables.{length_of}
 use Rattle.acpi_base.specs.Listed.{fadt_signature}
-use Rattle.acpi_base.specs.Fadt.{is_reduced, wide_address, facs_address, IsFadt, IsSoundFadt}
-use Rattle.acpi_base.specs.Facs.{facs_signature, facs_frame, IsFacs, HasSoundFacs, IsSoundFacs, NamedFacsFault, FacsFault}
+use Rattle.acpi_base.specs.Fadt.{is_reduced, wide_address, facs_address, IsFadt, IsValidFadt}
+use Rattle.acpi_base.specs.Facs.{facs_signature, facs_frame, IsFacs, HasValidFacs, IsValidFacs, NamedFacsFault, FacsFault}
 use Rattle.acpi_base.specs.Codes.{stage_of}
 use Rattle.acpi_base.specs.declared.code.Code.{Code}
 use Rattle.acpi_base.specs.declared.code.Code.TheVariants as code
 use Rattle.acpi_base.specs.declared.frame.Question.TheVariants as question
 use Rattle.acpi_base.specs.declared.stage.Stage.TheVariants as stage
-use Rattle.acpi_base.proofs.Images.HeldBytes.{cases_Option, held_field_below}
+use Rattle.acpi_base.proofs.Images.PresentBytes.{cases_Option, present_field_below}
 use Rattle.acpi_base.proofs.Faults.Deciding.{Decided, decided_as, all3, same, differs, is_false, not_other, not_false}
 use Rattle.acpi_base.proofs.Frames as frame
 use Rattle.acpi_base.proofs.Frames.{stands_wrong}
@@ -32,7 +32,7 @@ wide_is whole end offset address e = grind (arith, cond_some)
 -- the address of the FACS that a FADT of an image names fits
 address_fits : {m : Memory} {p : ℕ} {fadt : List ℕ} → IsImage m → IsFadt m p fadt → facs_address fadt < 2 ^ 64
 address_fits {m = m} {fadt = fadt} image is =
-    let below_width = held_field_below m image is.a (length_of is.header) fadt is.table.held in
+    let below_width = present_field_below m image is.a (length_of is.header) fadt is.table.present in
     grind (arith, cases_Option (wide_address fadt 140 132), wide_is fadt 140 132, below_width 132 8, below_width 36 4)
 
 -- a fault of the FACS that a FADT names is at the address that is named, which is 0 for none
@@ -65,9 +65,9 @@ named_decided m fadt code.FacsLength at = there_with fadt at _ (frame.decided fa
 named_decided m fadt code.FacsOut at = there_with fadt at _ (frame.decided facs_frame m at question.Bytes)
 named_decided m fadt _ at = inr (λ fault. fault)
 
--- a FACS without a fault is sound
+-- a FACS without a fault is valid
 named_without_fault : (m : Memory) (fadt : List ℕ)
-    → ((c : Code) (at : ℕ) → stage_of c ≡ stage.Facs → ¬ NamedFacsFault m fadt c at) → HasSoundFacs m fadt
+    → ((c : Code) (at : ℕ) → stage_of c ≡ stage.Facs → ¬ NamedFacsFault m fadt c at) → HasValidFacs m fadt
 named_without_fault m fadt none = record { none = reduced; named = facs }
   where
     f : ℕ
@@ -83,46 +83,46 @@ named_without_fault m fadt none = record { none = reduced; named = facs }
         (λ short. none code.FacsLength f refl (named, refl, short))
         (λ out. none code.FacsOut f refl (named, refl, out)) in
         let signed = not_false (has_signature is.0 facs_signature)
-        (λ unsigned. none code.FacsSignature f refl (named, refl, (is.0, is.2.header_held, unsigned))) in
+        (λ unsigned. none code.FacsSignature f refl (named, refl, (is.0, is.2.header_present, unsigned))) in
         (is.1, record { aligned = aligned; header = is.0; frame = is.2; signed = signed })
 
--- a fault excludes that the FACS is sound
-named_excludes : (m : Memory) (fadt : List ℕ) (c : Code) (at : ℕ) → NamedFacsFault m fadt c at → ¬ HasSoundFacs m fadt
-named_excludes m fadt c at fault sound =
+-- a fault excludes that the FACS is valid
+named_excludes : (m : Memory) (fadt : List ℕ) (c : Code) (at : ℕ) → NamedFacsFault m fadt c at → ¬ HasValidFacs m fadt
+named_excludes m fadt c at fault valid =
     by_code c (subst (λ (x : ℕ). NamedFacsFault m fadt c x) (named_place m fadt c at fault) fault)
   where
     by_code : (c : Code) → NamedFacsFault m fadt c (facs_address fadt) → ⊥
-    by_code code.NoFacs (full, zero, is) = both_ways (is_reduced fadt) full (sound.none zero)
-    by_code code.FacsAlign (named, is, loose) = loose (sound.named named).1.aligned
-    by_code code.FacsHeaderOut (named, is, out) = stands_wrong question.Header out (sound.named named).1.frame
+    by_code code.NoFacs (full, zero, is) = both_ways (is_reduced fadt) full (valid.none zero)
+    by_code code.FacsAlign (named, is, loose) = loose (valid.named named).1.aligned
+    by_code code.FacsHeaderOut (named, is, out) = stands_wrong question.Header out (valid.named named).1.frame
     by_code code.FacsSignature (named, is, unsigned) =
-        let facs = (sound.named named).1 in
+        let facs = (valid.named named).1 in
         both_ways _ (stands_wrong (question.Signature facs_signature) unsigned facs.frame) facs.signed
-    by_code code.FacsLength (named, is, short) = stands_wrong question.Length short (sound.named named).1.frame
-    by_code code.FacsOut (named, is, out) = stands_wrong question.Bytes out (sound.named named).1.frame
+    by_code code.FacsLength (named, is, short) = stands_wrong question.Length short (valid.named named).1.frame
+    by_code code.FacsOut (named, is, out) = stands_wrong question.Bytes out (valid.named named).1.frame
     by_code _ fault = fault
 
 -- ---- of a set's FACS
 
 -- where the FADT is known, a fault of the FACS can be decided
-pub decided : (m : Memory) (p : ℕ) (fadt : IsSoundFadt m p) (c : Code) (at : ℕ) → Decided (FacsFault m p c at)
+pub decided : (m : Memory) (p : ℕ) (fadt : IsValidFadt m p) (c : Code) (at : ℕ) → Decided (FacsFault m p c at)
 decided m p fadt c at =
-    decided_as (λ h. (fadt.whole, fadt.fadt, fadt.sound.long, h))
+    decided_as (λ h. (fadt.whole, fadt.fadt, fadt.valid.long, h))
     (λ h. rw (one_listed m p fadt_signature h.0 fadt.whole h.1 fadt.fadt) at h.3) (named_decided m fadt.whole c at)
 
 -- and is at the address that it names
-pub place : (m : Memory) (p : ℕ) (fadt : IsSoundFadt m p) (c : Code) (at : ℕ) → FacsFault m p c at
+pub place : (m : Memory) (p : ℕ) (fadt : IsValidFadt m p) (c : Code) (at : ℕ) → FacsFault m p c at
     → at ≡ facs_address fadt.whole
 place m p fadt c at (whole, is, long, fault) =
     named_place m whole c at fault ∙ ap facs_address (one_listed m p fadt_signature whole fadt.whole is fadt.fadt)
 
--- a FACS without a fault is sound
-pub sound_without_fault : (m : Memory) (p : ℕ) (fadt : IsSoundFadt m p)
-    → ((c : Code) (at : ℕ) → stage_of c ≡ stage.Facs → ¬ FacsFault m p c at) → IsSoundFacs m p
-sound_without_fault m p fadt none whole is =
+-- a FACS without a fault is valid
+pub valid_without_fault : (m : Memory) (p : ℕ) (fadt : IsValidFadt m p)
+    → ((c : Code) (at : ℕ) → stage_of c ≡ stage.Facs → ¬ FacsFault m p c at) → IsValidFacs m p
+valid_without_fault m p fadt none whole is =
     rw (one_listed m p fadt_signature whole fadt.whole is fadt.fadt)
-    (named_without_fault m fadt.whole (λ c at own fault. none c at own (fadt.whole, fadt.fadt, fadt.sound.long, fault)))
+    (named_without_fault m fadt.whole (λ c at own fault. none c at own (fadt.whole, fadt.fadt, fadt.valid.long, fault)))
 
--- a fault excludes that the FACS is sound
-pub excludes : (m : Memory) (p : ℕ) (c : Code) (at : ℕ) → FacsFault m p c at → ¬ IsSoundFacs m p
-excludes m p c at (fadt, is, long, fault) sound = named_excludes m fadt c at fault (sound fadt is)
+-- a fault excludes that the FACS is valid
+pub excludes : (m : Memory) (p : ℕ) (c : Code) (at : ℕ) → FacsFault m p c at → ¬ IsValidFacs m p
+excludes m p c at (fadt, is, long, fault) valid = named_excludes m fadt c at fault (valid fadt is)

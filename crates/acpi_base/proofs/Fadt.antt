@@ -1,10 +1,10 @@
--- The faults of the FADT: each can be decided, excludes that it is sound, and where there is none it is sound.
+-- The faults of the FADT: each can be decided, excludes that it is valid, and where there is none it is valid.
 use Rattle.std.proofs.Common.{◌≡◌, ◌≤◌, ℕ, List, length, Some, None, true, false, refl, ap, inl, inr, arith}
 use Rattle.std.specs.Prelude.{◌⊎◌, ◌%◌}
 use Rattle.std.proofs.lemmas.Bool.{cases_eq}
 use Rattle.acpi_base.specs.Memory.{Memory}
 use Rattle.acpi_base.specs.Number.{field}
-use Rattle.acpi_base.specs.Fadt.{is_reduced, has_reset, gas_at, HasBlockLengths, IsResetRegister, IsSoundFadtTable, IsSoundFadt, FadtTableFault, FadtFault}
+use Rattle.acpi_base.specs.Fadt.{is_reduced, has_reset, gas_at, HasBlockLengths, IsResetRegister, IsValidFadtTable, IsValidFadt, FadtTableFault, FadtFault}
 use Rattle.acpi_base.specs.Listed.{fadt_signature}
 use Rattle.acpi_base.specs.Codes.{code_number, stage_of}
 use Rattle.acpi_base.specs.declared.code.Code.{Code}
@@ -44,9 +44,9 @@ table_place whole code.GpeLength at (long, full, place, odd) = omega (arith, pla
 table_place whole code.ResetRegister at (long, with, more, wrong, place) = omega arith
 table_place whole _ at fault = absurd fault
 
--- a FADT's bytes without a fault are sound
+-- a FADT's bytes without a fault are valid
 table_without_fault : (whole : List ℕ) → ((c : Code) (at : ℕ) → stage_of c ≡ stage.Fadt → ¬ FadtTableFault whole c at)
-    → IsSoundFadtTable whole
+    → IsValidFadtTable whole
 table_without_fault whole none = record { long = long; blocks = blocks; reset = reset }
   where
     long : 116 ≤ length whole
@@ -82,20 +82,20 @@ table_without_fault whole none = record { long = long; blocks = blocks; reset = 
               (λ wrong. none code.ResetRegister 116 refl (long, with, more, inr (inr wrong), refl));
         }
 
--- a fault excludes that a FADT's bytes are sound
-table_excludes : (whole : List ℕ) (c : Code) (at : ℕ) → FadtTableFault whole c at → ¬ IsSoundFadtTable whole
-table_excludes whole code.FadtShort at (short, place) sound = omega (arith, sound.long)
-table_excludes whole code.PmEventLength at (long, full, short, place) sound = omega (arith, (sound.blocks full).event)
-table_excludes whole code.PmControlLength at (long, full, short, place) sound =
-    omega (arith, (sound.blocks full).control)
-table_excludes whole code.PmTimerLength at (long, full, some, wrong, place) sound =
-    grind (arith, (sound.blocks full).timer)
-table_excludes whole code.GpeLength at (long, full, place, odd) sound =
-    grind (arith, (sound.blocks full).gpe0, (sound.blocks full).gpe1)
-table_excludes whole code.ResetRegister at (long, with, more, wrong, place) sound =
-    let is = sound.reset with more in
+-- a fault excludes that a FADT's bytes are valid
+table_excludes : (whole : List ℕ) (c : Code) (at : ℕ) → FadtTableFault whole c at → ¬ IsValidFadtTable whole
+table_excludes whole code.FadtShort at (short, place) valid = omega (arith, valid.long)
+table_excludes whole code.PmEventLength at (long, full, short, place) valid = omega (arith, (valid.blocks full).event)
+table_excludes whole code.PmControlLength at (long, full, short, place) valid =
+    omega (arith, (valid.blocks full).control)
+table_excludes whole code.PmTimerLength at (long, full, some, wrong, place) valid =
+    grind (arith, (valid.blocks full).timer)
+table_excludes whole code.GpeLength at (long, full, place, odd) valid =
+    grind (arith, (valid.blocks full).gpe0, (valid.blocks full).gpe1)
+table_excludes whole code.ResetRegister at (long, with, more, wrong, place) valid =
+    let is = valid.reset with more in
     grind (arith, is.space, is.width, is.offset)
-table_excludes whole _ at fault sound = absurd fault
+table_excludes whole _ at fault valid = absurd fault
 
 -- ---- of a set's FADT
 
@@ -120,20 +120,20 @@ decided m p (Some whole, fadt) c at =
     ])
     (table_decided whole c at)
 
--- a FADT without a fault is sound
-pub sound_without_fault : (m : Memory) (p : ℕ) (fadt : IsListedOrNone m p fadt_signature)
-    → ((c : Code) (at : ℕ) → stage_of c ≡ stage.Fadt → ¬ FadtFault m p c at) → IsSoundFadt m p
-sound_without_fault m p (None, lists_none) none = absurd (none code.NoFadt 0 refl (inl (lists_none, refl, refl)))
-sound_without_fault m p (Some whole, fadt) none =
+-- a FADT without a fault is valid
+pub valid_without_fault : (m : Memory) (p : ℕ) (fadt : IsListedOrNone m p fadt_signature)
+    → ((c : Code) (at : ℕ) → stage_of c ≡ stage.Fadt → ¬ FadtFault m p c at) → IsValidFadt m p
+valid_without_fault m p (None, lists_none) none = absurd (none code.NoFadt 0 refl (inl (lists_none, refl, refl)))
+valid_without_fault m p (Some whole, fadt) none =
     record {
       whole = whole;
       fadt = fadt;
-      sound = table_without_fault whole (λ c at own fault. none c at own (inr (whole, fadt, fault)));
+      valid = table_without_fault whole (λ c at own fault. none c at own (inr (whole, fadt, fault)));
     }
 
--- a fault excludes that the FADT is sound
-pub excludes : (m : Memory) (p : ℕ) (c : Code) (at : ℕ) → FadtFault m p c at → ¬ IsSoundFadt m p
-excludes m p c at (inl (none, is, zero)) sound = none_and_listed none sound.fadt
-excludes m p c at (inr (whole, fadt, fault)) sound =
-    table_excludes sound.whole c at (rw (one_listed m p fadt_signature whole sound.whole fadt sound.fadt) at fault)
-    sound.sound
+-- a fault excludes that the FADT is valid
+pub excludes : (m : Memory) (p : ℕ) (c : Code) (at : ℕ) → FadtFault m p c at → ¬ IsValidFadt m p
+excludes m p c at (inl (none, is, zero)) valid = none_and_listed none valid.fadt
+excludes m p c at (inr (whole, fadt, fault)) valid =
+    table_excludes valid.whole c at (rw (one_listed m p fadt_signature whole valid.whole fadt valid.fadt) at fault)
+    valid.valid

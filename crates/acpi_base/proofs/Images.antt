@@ -2,7 +2,7 @@ pub mod Adopted
 pub mod ByteRuns
 pub mod Drafts
 pub mod FirstTwice
-pub mod HeldBytes
+pub mod PresentBytes
 pub mod Holders
 pub mod Inserts
 pub mod Rests

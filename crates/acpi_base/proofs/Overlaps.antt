@@ -85,7 +85,7 @@ clash_at {HoldsAt} ranges x =
     below : (o s : ℕ) → HoldsAt o s x → (o < ranges.offsets) × (s < suc x)
     below o s holds = (omega (arith, ranges.within o s x holds), omega (arith, ranges.from_start o s x holds))
 
--- no number is held by two ranges, or there is a first overlap
+-- no number is present by two ranges, or there is a first overlap
 pub apart_or_first : {HoldsAt : ℕ → ℕ → ℕ → Type 0} → AreFiniteRanges HoldsAt
     → AreApart HoldsAt ⊎ ((at other point : ℕ) × IsFirstIntervalOverlap HoldsAt at other point)
 apart_or_first {HoldsAt} ranges =

@@ -1,7 +1,7 @@
--- The faults of the SLIT: each can be decided, excludes that it is sound, and where there is none it is sound.
+-- The faults of the SLIT: each can be decided, excludes that it is valid, and where there is none it is valid.
 use Rattle.std.proofs.Common.{◌≡◌, ◌<◌, ◌≤◌, ◌+◌, ◌*◌, ℕ, List, length, refl, subst, inr, arith}
 use Rattle.std.proofs.lemmas.Nat.{mul-add-lt}
-use Rattle.acpi_base.specs.Slit.{SlitContents, slit_contents, cell_place, distance, HasSlitSize, IsCell, SomeCell, IsSoundSlit, SlitFaultAt, SlitFault}
+use Rattle.acpi_base.specs.Slit.{SlitContents, slit_contents, cell_place, distance, HasSlitSize, IsCell, SomeCell, IsValidSlit, SlitFaultAt, SlitFault}
 use Rattle.acpi_base.specs.Codes.{stage_of}
 use Rattle.acpi_base.specs.declared.code.Code.{Code}
 use Rattle.acpi_base.specs.declared.code.Code.TheVariants as code
@@ -31,11 +31,11 @@ decided_at c _ at = inr (λ fault. fault)
 pub decided : (c : SlitContents) (fault : Code) (at other point : ℕ) → Decided (SlitFault c fault at other point)
 decided c fault at other point = all3 (decided_at c fault at) (same other 0) (same point 0)
 
--- a SLIT without a fault is sound
-pub sound_without_fault : (c : SlitContents)
+-- a SLIT without a fault is valid
+pub valid_without_fault : (c : SlitContents)
     → ((fault : Code) (at other point : ℕ) → stage_of fault ≡ stage.Slit → ¬ SlitFault c fault at other point)
-    → IsSoundSlit c
-sound_without_fault c none =
+    → IsValidSlit c
+valid_without_fault c none =
     record {
       size = size;
       least = λ i j row column. not_below (distance c i j) 10
@@ -53,16 +53,16 @@ sound_without_fault c none =
     size = not_other c.size (44 + c.count * c.count)
         (λ other. none code.SlitSize 36 0 0 refl ((long, other, refl), refl, refl))
 
--- a fault excludes that a SLIT is sound
+-- a fault excludes that a SLIT is valid
 pub excludes : (c : SlitContents) (fault : Code) (at other point : ℕ) → SlitFault c fault at other point
-    → ¬ IsSoundSlit c
-excludes c code.SlitShort at other point ((short, is), _, _) sound = omega (arith, sound.size)
-excludes c code.SlitSize at other point ((long, wrong, is), _, _) sound = wrong sound.size
-excludes c code.SlitDiagonal at other point ((size, (i, j, cell, wrong)), _, _) sound =
-    wrong.1 (subst (λ (k : ℕ). distance c i k ≡ 10) wrong.0 (sound.diagonal i cell.row))
-excludes c code.SlitLow at other point ((size, (i, j, cell, low)), _, _) sound =
-    omega (arith, sound.least i j cell.row cell.column)
-excludes c _ at other point fault sound = fault.0
+    → ¬ IsValidSlit c
+excludes c code.SlitShort at other point ((short, is), _, _) valid = omega (arith, valid.size)
+excludes c code.SlitSize at other point ((long, wrong, is), _, _) valid = wrong valid.size
+excludes c code.SlitDiagonal at other point ((size, (i, j, cell, wrong)), _, _) valid =
+    wrong.1 (subst (λ (k : ℕ). distance c i k ≡ 10) wrong.0 (valid.diagonal i cell.row))
+excludes c code.SlitLow at other point ((size, (i, j, cell, low)), _, _) valid =
+    omega (arith, valid.least i j cell.row cell.column)
+excludes c _ at other point fault valid = fault.0
 
 -- a cell lies within a table of the right size
 cell_within : (c : SlitContents) (i j at : ℕ) → HasSlitSize c → IsCell c i j at → at < c.size

@@ -2,4 +2,4 @@
 pub mod Faults
 pub mod Kinds
 pub mod Listed
-pub mod Whole
+pub mod Complete

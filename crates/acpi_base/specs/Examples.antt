@@ -29,5 +29,5 @@ abbrev pub placed_entry : {E : Type 0} → ℕ → E → PlacedEntry E
 placed_entry offset entry = record { offset = offset; entry = entry }
 
 -- the bytes sum to 0 and are as many as Length says
-abbrev pub IsSoundExample : List ℕ → Type 0
-IsSoundExample bytes = (byte_sum bytes ≡ 0) × (field bytes 4 4 ≡ length bytes)
+abbrev pub IsValidExample : List ℕ → Type 0
+IsValidExample bytes = (byte_sum bytes ≡ 0) × (field bytes 4 4 ≡ length bytes)

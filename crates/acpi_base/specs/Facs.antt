@@ -24,15 +24,15 @@ pub record IsFacs (m : Memory) (f : ℕ) (whole : List ℕ) : Type 0 where
   pub frame : IsFrame facs_frame m f header whole
   pub signed : has_signature header facs_signature ≡ true
 
--- the FADT names a FACS, which is sound, or it names none and the hardware is reduced
-pub record HasSoundFacs (m : Memory) (fadt : List ℕ) : Type 0 where
+-- the FADT names a FACS, which is valid, or it names none and the hardware is reduced
+pub record HasValidFacs (m : Memory) (fadt : List ℕ) : Type 0 where
   pub none : facs_address fadt ≡ 0 → is_reduced fadt ≡ true
   pub named : facs_address fadt ≢ 0 → (whole : List ℕ) × IsFacs m (facs_address fadt) whole
 
--- Stage 5: the FADT of the set, where there is one, has a sound FACS or needs none. Stage 4 refuses a FADT
+-- Stage 5: the FADT of the set, where there is one, has a valid FACS or needs none. Stage 4 refuses a FADT
 -- of fewer than 116 bytes.
-abbrev pub IsSoundFacs : Memory → ℕ → Type 0
-IsSoundFacs m p = (fadt : List ℕ) → IsFadt m p fadt → HasSoundFacs m fadt
+abbrev pub IsValidFacs : Memory → ℕ → Type 0
+IsValidFacs m p = (fadt : List ℕ) → IsFadt m p fadt → HasValidFacs m fadt
 
 -- The faults of the FACS that a FADT names, by their code, and the address that each is reported at; 0 where
 -- none is named.

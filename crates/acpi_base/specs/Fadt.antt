@@ -1,4 +1,4 @@
--- The FADT (ACPI 6.5, 5.2.9): its fields, its blocks, and when it is sound. Offsets are from its start.
+-- The FADT (ACPI 6.5, 5.2.9): its fields, its blocks, and when it is valid. Offsets are from its start.
 use Rattle.std.specs.Prelude.{◌≡◌, ◌≢◌, ℕ, ◌+◌, ◌*◌, ◌/◌, ◌%◌, ◌^◌, ◌<◌, ◌≤◌, ◌⊎◌, Bool, true, false, not, List, [], ◌∷◌, length, slice_get, slice_index, Option, Some, None, nat_le, ◌==◌, ◌&&◌, if◌then◌else◌, unwrap_or}
 use Rattle.std.specs.Option.{option_and_then, option_map_or}
 use Rattle.acpi_base.specs.Layouts.{Part, NumberOf, PartValue, Number}
@@ -11,15 +11,15 @@ use Rattle.acpi_base.specs.declared.code.Code.TheVariants as code
 -- ---- fields
 
 -- where a field begins, and how many bytes it has
-pub record Place : Type 0 where
+pub record FieldPlace : Type 0 where
   pub offset : ℕ
   pub width : ℕ
 
-abbrev pub place : ℕ → ℕ → Place
+abbrev pub place : ℕ → ℕ → FieldPlace
 place offset width = record { offset = offset; width = width }
 
 -- the fields that are whole numbers of 1, 2 or 4 bytes, in the standard's order (table 5.9), from 0 on
-abbrev pub fadt_places : List Place
+abbrev pub fadt_places : List FieldPlace
 fadt_places =
     place 36 4 ∷  -- 0 FIRMWARE_CTRL
     place 40 4 ∷  -- 1 DSDT
@@ -183,8 +183,8 @@ pub record IsResetRegister (gas : GasValue) : Type 0 where
   pub width : gas.bit_width ≡ 8
   pub offset : gas.bit_offset ≡ 0
 
--- the bytes of a sound FADT
-pub record IsSoundFadtTable (whole : List ℕ) : Type 0 where
+-- the bytes of a valid FADT
+pub record IsValidFadtTable (whole : List ℕ) : Type 0 where
   pub long : 116 ≤ length whole
   pub blocks : is_reduced whole ≡ false → HasBlockLengths whole
   pub reset : has_reset whole ≡ true → 129 ≤ length whole → IsResetRegister (gas_at whole 116)
@@ -197,11 +197,11 @@ IsFadt m p whole = IsListedTable m p fadt_signature whole
 abbrev pub HasNoFadt : Memory → ℕ → Type 0
 HasNoFadt m p = ListsNone m p fadt_signature
 
--- Stage 4: there is a FADT, and it is sound.
-pub record IsSoundFadt (m : Memory) (p : ℕ) : Type 0 where
+-- Stage 4: there is a FADT, and it is valid.
+pub record IsValidFadt (m : Memory) (p : ℕ) : Type 0 where
   pub whole : List ℕ
   pub fadt : IsFadt m p whole
-  pub sound : IsSoundFadtTable whole
+  pub valid : IsValidFadtTable whole
 
 -- what is wrong with a reset register
 abbrev pub IsNoResetRegister : GasValue → Type 0

@@ -1,7 +1,8 @@
 -- The faults of an image, and the first of them.
-use Rattle.std.specs.Prelude.{◌≡◌, ◌<◌, ◌≤◌, ◌⊎◌}
+use Rattle.std.specs.Prelude.{◌≡◌, ◌≤◌, ℕ, List, [], ◌∷◌}
 use Rattle.acpi_base.specs.Memory.{Memory}
 use Rattle.acpi_base.specs.Policy.{PolicyValue}
+use Rattle.acpi_base.specs.Order.{AreNotAfter}
 use Rattle.acpi_base.specs.Codes.{stage_number, code_number, stage_of}
 use Rattle.acpi_base.specs.Rsdp.{RsdpFault}
 use Rattle.acpi_base.specs.Root.{RootFault, IsSlot}
@@ -57,15 +58,13 @@ pub record FaultOfStage (stage : Stage) (m : Memory) (q : PolicyValue) (w : Witn
 abbrev pub Fault : Memory → PolicyValue → Witness → Type 0
 Fault m q w = FaultOfStage (stage_of w.code) m q w
 
--- w stands before v in the order by at, code, other and point, or is like it
+-- the numbers by which the faults of a stage are ordered
+abbrev pub order_of : Witness → List ℕ
+order_of w = w.at ∷ code_number w.code ∷ w.other ∷ w.point ∷ []
+
+-- w comes before v in that order, or is equal to it
 abbrev pub NotAfter : Witness → Witness → Type 0
-NotAfter w v =
-    (w.at < v.at)
-    ⊎ ((w.at ≡ v.at)
-    × ((code_number w.code < code_number v.code)
-    ⊎ ((code_number w.code ≡ code_number v.code)
-    × ((w.other < v.other)
-    ⊎ ((w.other ≡ v.other) × (w.point ≤ v.point))))))
+NotAfter w v = AreNotAfter (order_of w) (order_of v)
 
 -- w comes first of its stage's faults: no other stands before it. The two stages of overlaps have an order of their own: w
 -- names the least interrupt number that two I/O APICs serve, or the least address that two ranges cover that are compared,

@@ -11,15 +11,15 @@ use Rattle.acpi_base.specs.declared.frame.Question.TheVariants as question
 abbrev pub frame_length : Frame → List ℕ → ℕ
 frame_length frame header = field header frame.length_at 4
 
--- a structure stands at a: the bytes of its header are held, its Length is at least the least one, and its
--- Length bytes are held
+-- a structure stands at a: the bytes of its header are present, its Length is at least the least one, and its
+-- Length bytes are present
 pub record IsFrame (frame : Frame) (m : Memory) (a : ℕ) (header whole : List ℕ) : Type 0 where
-  pub header_held : bytes_at m a frame.header ≡ Some header
+  pub header_present : bytes_at m a frame.header ≡ Some header
   pub least : frame.least ≤ frame_length frame header
-  pub held : bytes_at m a (frame_length frame header) ≡ Some whole
+  pub present : bytes_at m a (frame_length frame header) ≡ Some whole
 
 -- a structure stands at a whose bytes sum to 0
-pub record IsSoundFrame (f : Frame) (m : Memory) (a : ℕ) : Type 0 where
+pub record IsValidFrame (f : Frame) (m : Memory) (a : ℕ) : Type 0 where
   pub header : List ℕ
   pub whole : List ℕ
   pub frame : IsFrame f m a header whole

@@ -18,6 +18,7 @@ pub mod Listed
 pub mod Madt
 pub mod Memory
 pub mod Number
+pub mod Order
 pub mod Overlaps
 pub mod Policy
 pub mod PolicyFields

@@ -39,7 +39,7 @@ unfoldable pub listed_addresses : List ℕ → ℕ → List ℕ
 listed_addresses whole d = filter (λ a. not (a == 0)) (slot_numbers whole d)
 
 -- a is the first address with this signature in the slots, of d bytes each, of a root's bytes, in their
--- order: a held header is all that is asked there
+-- order: a present header is all that is asked there
 pub record IsFirstListed (m : Memory) (whole : List ℕ) (d : ℕ) (signature : List ℕ) (a : ℕ) : Type 0 where
   pub k : ℕ
   pub slot : HasSlot whole d k a

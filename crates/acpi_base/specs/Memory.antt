@@ -1,4 +1,4 @@
--- A memory image: which byte each held address has.
+-- A memory image: which byte each present address has.
 use Rattle.std.specs.Prelude.{◌≡◌, ℕ, zero, suc, ◌+◌, ◌^◌, ◌<◌, List, [], ◌∷◌, length, slice_index, Option, Some, None, IsSome, is_some, if◌then◌else◌}
 use Rattle.std.specs.Option.{option_map}
 use Rattle.std.specs.Ordering.{nat_cmp}
@@ -36,7 +36,7 @@ unfoldable pub run_of : (ℕ → Option ℕ) → ℕ → ℕ → Option (List �
 run_of f a zero = Some []
 run_of f a (suc n) = cons_both (f a) (run_of f (a + 1) n)
 
--- the n bytes from a on, if all are there: the form that proofs compute with. `acpi_base::laws::held_bytes`
+-- the n bytes from a on, if all are there: the form that proofs compute with. `acpi_base::laws::present_bytes`
 -- ties it to `Has` and `AreBytes`.
 abbrev pub bytes_at : Memory → ℕ → ℕ → Option (List ℕ)
 bytes_at m a n = run_of (byte_of m) a n
@@ -52,5 +52,5 @@ least_defined f a zero = None
 least_defined f a (suc n) = if is_some (f a) then Some a else least_defined f (a + 1) n
 
 -- the least of the n addresses from a on that has a byte
-abbrev pub first_held : Memory → ℕ → ℕ → Option ℕ
-first_held m a n = least_defined (byte_of m) a n
+abbrev pub first_present : Memory → ℕ → ℕ → Option ℕ
+first_present m a n = least_defined (byte_of m) a n

@@ -1,9 +1,9 @@
--- The PPTT (ACPI 6.5, 5.2.30): its entries, what it says, and when that is sound. Offsets of fields are from the start
+-- The PPTT (ACPI 6.5, 5.2.30): its entries, what it says, and when that is valid. Offsets of fields are from the start
 -- of the table or the entry; those that entries name are from the start of the table.
 use Rattle.std.specs.Prelude.{◌≡◌, ◌≢◌, ℕ, ◌+◌, ◌*◌, ◌/◌, ◌≤◌, Bool, List, length, map, slice_get, slice_index, Option, Some, None, ◌||◌, ◌==◌, if◌then◌else◌}
 use Rattle.std.specs.List.{range_with_len}
 use Rattle.acpi_base.specs.Number.{field}
-use Rattle.acpi_base.specs.Entries.{PlacedEntry, Stands, entries_of, cut_of, entries_read_by, has_form, Kind, kind, StandsWith}
+use Rattle.acpi_base.specs.Entries.{PlacedEntry, Stands, entries_of, cut_of, entries_read_by, has_form, EntryKind, kind, StandsWith}
 use Rattle.acpi_base.specs.Chains.{IsAt, Dangles, NoneDangles, AllEnd, IsCycle, EndOrGoRound}
 use Rattle.acpi_base.specs.declared.code.Code.{Code}
 use Rattle.acpi_base.specs.declared.code.Code.TheVariants as code
@@ -52,10 +52,10 @@ cache_of e =
       id = if length e == 28 then Some (field e 24 4) else None;
     }
 
-abbrev pub cache24 : Kind CacheValue
+abbrev pub cache24 : EntryKind CacheValue
 cache24 = kind 1 24 cache_of
 
-abbrev pub cache28 : Kind CacheValue
+abbrev pub cache28 : EntryKind CacheValue
 cache28 = kind 1 28 cache_of
 
 -- what an entry says: one of the above, which is a typed entry, or any other bytes, also those of type 0 or 1 with
@@ -160,7 +160,7 @@ pub record IsCutPptt (c : PpttContents) : Type 0 where
 
 -- Stage 13: at each offset that an entry names, what it names stands. A Parent or Next Level of 0 names nothing; a private
 -- resource of 0 is an offset, at which nothing stands.
-pub record AreReferencesSound (c : PpttContents) : Type 0 where
+pub record AreReferencesValid (c : PpttContents) : Type 0 where
   pub parents : NoneDangles (NamesParent c)
   pub resources : (o j r : ℕ) → NamesResource c o j r → IsResourceAt c r
   pub next_levels : NoneDangles (NamesNextLevel c)
@@ -219,12 +219,12 @@ CacheFault c _ at other point = ⊥
 
 -- ---- laws
 
--- where the references are sound, a chain of parents ends or comes to a cycle within as many steps as nodes fit
+-- where the references are valid, a chain of parents ends or comes to a cycle within as many steps as nodes fit
 abbrev pub ParentsEndOrGoRound : Type 0
 ParentsEndOrGoRound =
-    (whole : List ℕ) → AreReferencesSound (pptt_contents whole) → EndOrGoRound (NamesParent (pptt_contents whole)) (most_nodes (pptt_contents whole))
+    (whole : List ℕ) → AreReferencesValid (pptt_contents whole) → EndOrGoRound (NamesParent (pptt_contents whole)) (most_nodes (pptt_contents whole))
 
 -- the same of next levels and caches
 abbrev pub CachesEndOrGoRound : Type 0
 CachesEndOrGoRound =
-    (whole : List ℕ) → AreReferencesSound (pptt_contents whole) → EndOrGoRound (NamesNextLevel (pptt_contents whole)) (most_caches (pptt_contents whole))
+    (whole : List ℕ) → AreReferencesValid (pptt_contents whole) → EndOrGoRound (NamesNextLevel (pptt_contents whole)) (most_caches (pptt_contents whole))

@@ -67,18 +67,18 @@ pub record IsSlot (m : Memory) (p k a : ℕ) : Type 0 where
 
 -- a root with slots of d bytes stands at r whose bytes, these, are a whole number of slots after the
 -- header and sum to 0
-pub record IsSoundRootTable (m : Memory) (r d : ℕ) (whole : List ℕ) : Type 0 where
+pub record IsValidRootTable (m : Memory) (r d : ℕ) (whole : List ℕ) : Type 0 where
   pub table : IsRootTable m r d whole
   pub slots : (length whole - 36) % d ≡ 0
   pub zero_sum : byte_sum whole ≡ 0
 
--- Stage 2: there is a root, and it is sound.
-pub record IsSoundRoot (m : Memory) (p : ℕ) : Type 0 where
+-- Stage 2: there is a root, and it is valid.
+pub record IsValidRoot (m : Memory) (p : ℕ) : Type 0 where
   pub r : ℕ
   pub d : ℕ
   pub whole : List ℕ
   pub root : IsRoot m p r d
-  pub sound : IsSoundRootTable m r d whole
+  pub valid : IsValidRootTable m r d whole
 
 -- The faults of a root at r with slots of d bytes, by their code.
 abbrev pub RootTableFault : Memory → ℕ → ℕ → Code → Type 0

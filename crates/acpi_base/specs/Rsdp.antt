@@ -1,7 +1,7 @@
--- The RSDP (ACPI 6.5, 5.2.5.3): what it says, and when it is sound. Offsets are from its start.
+-- The RSDP (ACPI 6.5, 5.2.5.3): what it says, and when it is valid. Offsets are from its start.
 use Rattle.std.specs.Prelude.{◌≡◌, ◌≢◌, ℕ, ◌≤◌, List, take, drop, Option, Some, None, true, false, nat_lt, if◌then◌else◌}
 use Rattle.std.specs.Option.{option_map, option_and_then}
-use Rattle.acpi_base.specs.Frames.{IsSoundFrame, FrameFault}
+use Rattle.acpi_base.specs.Frames.{IsValidFrame, FrameFault}
 use Rattle.acpi_base.specs.Memory.{Memory, bytes_at}
 use Rattle.acpi_base.specs.Number.{field, byte_sum}
 use Rattle.acpi_base.specs.Signature.{has_signature, rsdp_signature}
@@ -29,7 +29,7 @@ short_addresses head = record { rsdt = field head 16 4; xsdt = 0 }
 abbrev pub extended_addresses : List ℕ → Addresses
 extended_addresses prefix = record { rsdt = field prefix 16 4; xsdt = field prefix 24 8 }
 
--- what the RSDP at p names, where its 20 bytes are held, and in the extended form its 36; a short one
+-- what the RSDP at p names, where its 20 bytes are present, and in the extended form its 36; a short one
 -- names no XSDT
 unfoldable pub addresses_at : Memory → ℕ → Option Addresses
 addresses_at m p =
@@ -48,23 +48,23 @@ pub record RsdpValue : Type 0 where
 pub record IsRsdp (m : Memory) (p : ℕ) (v : RsdpValue) : Type 0 where
   pub address : v.address ≡ p
   pub head : List ℕ
-  pub head_held : bytes_at m p 20 ≡ Some head
+  pub head_present : bytes_at m p 20 ≡ Some head
   pub oemid : v.oemid ≡ take 6 (drop 9 head)
   pub revision : v.revision ≡ revision_of head
   pub named : addresses_at m p ≡ Some v.named
 
--- the 20 bytes at p are held and are those of the extended form
+-- the 20 bytes at p are present and are those of the extended form
 abbrev pub IsExtended : Memory → ℕ → Type 0
 IsExtended m p = (head : List ℕ) × (bytes_at m p 20 ≡ Some head) × (2 ≤ revision_of head)
 
--- Stage 1: the 20 bytes at p are held, begin with the signature and sum to 0; the extended form is
--- sound whole.
-pub record IsSoundRsdp (m : Memory) (p : ℕ) : Type 0 where
+-- Stage 1: the 20 bytes at p are present, begin with the signature and sum to 0; the extended form is
+-- valid whole.
+pub record IsValidRsdp (m : Memory) (p : ℕ) : Type 0 where
   pub head : List ℕ
-  pub head_held : bytes_at m p 20 ≡ Some head
+  pub head_present : bytes_at m p 20 ≡ Some head
   pub signed : has_signature head rsdp_signature ≡ true
   pub zero_sum : byte_sum head ≡ 0
-  pub extended : 2 ≤ revision_of head → IsSoundFrame extended_frame m p
+  pub extended : 2 ≤ revision_of head → IsValidFrame extended_frame m p
 
 -- The faults of stage 1, by their code.
 abbrev pub RsdpFault : Memory → ℕ → Code → Type 0

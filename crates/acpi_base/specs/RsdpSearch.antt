@@ -10,10 +10,10 @@ pub record IsSearched (a : ℕ) : Type 0 where
   pub most : a ≤ 0xffff0
   pub aligned : a % 16 ≡ 0
 
--- the 20 bytes at a are held, begin with the RSDP's signature and sum to 0
+-- the 20 bytes at a are present, begin with the RSDP's signature and sum to 0
 pub record LooksLikeRsdp (m : Memory) (a : ℕ) : Type 0 where
   pub head : List ℕ
-  pub held : bytes_at m a 20 ≡ Some head
+  pub present : bytes_at m a 20 ≡ Some head
   pub signed : has_signature head rsdp_signature ≡ true
   pub zero_sum : byte_sum head ≡ 0
 

@@ -1,4 +1,4 @@
--- The SLIT (ACPI 6.5, 5.2.17): what it says, and when that is sound. Offsets are from its start.
+-- The SLIT (ACPI 6.5, 5.2.17): what it says, and when that is valid. Offsets are from its start.
 use Rattle.std.specs.Prelude.{◌≡◌, ◌≢◌, ℕ, ◌+◌, ◌*◌, ◌<◌, ◌≤◌, List, length, drop, slice_index}
 use Rattle.acpi_base.specs.Number.{field}
 use Rattle.acpi_base.specs.declared.code.Code.{Code}
@@ -36,7 +36,7 @@ abbrev pub SomeCell : SlitContents → ℕ → (ℕ → ℕ → Type 0) → Type
 SomeCell c at P = (i j : ℕ) × IsCell c i j at × P i j
 
 -- Stage 11: the table has its cells; no distance is below 10, as 0 to 9 have no meaning, and the diagonal's are 10.
-pub record IsSoundSlit (c : SlitContents) : Type 0 where
+pub record IsValidSlit (c : SlitContents) : Type 0 where
   pub size : HasSlitSize c
   pub least : (i j : ℕ) → i < c.count → j < c.count → 10 ≤ distance c i j
   pub diagonal : (i : ℕ) → i < c.count → distance c i i ≡ 10

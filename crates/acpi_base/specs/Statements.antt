@@ -3,40 +3,40 @@ use Rattle.std.specs.Prelude.{ℕ, ◌<◌, ◌≤◌}
 use Rattle.acpi_base.specs.Memory.{Memory}
 use Rattle.acpi_base.specs.Policy.{PolicyValue}
 use Rattle.acpi_base.specs.Codes.{stage_number}
-use Rattle.acpi_base.specs.Rsdp.{IsSoundRsdp}
-use Rattle.acpi_base.specs.Root.{IsSoundRoot, IsSlot}
-use Rattle.acpi_base.specs.Tables.{IsSoundTable}
-use Rattle.acpi_base.specs.Fadt.{IsSoundFadt}
-use Rattle.acpi_base.specs.Facs.{IsSoundFacs}
+use Rattle.acpi_base.specs.Rsdp.{IsValidRsdp}
+use Rattle.acpi_base.specs.Root.{IsValidRoot, IsSlot}
+use Rattle.acpi_base.specs.Tables.{IsValidTable}
+use Rattle.acpi_base.specs.Fadt.{IsValidFadt}
+use Rattle.acpi_base.specs.Facs.{IsValidFacs}
 use Rattle.acpi_base.specs.Contents.{ForMadt, ForSrat, ForSlit, ForPptt}
-use Rattle.acpi_base.specs.Madt.{IsSoundMadt, AreInterruptsApart, DoOverridesAgree}
-use Rattle.acpi_base.specs.Srat.{IsSoundSrat, AreRangesApart}
-use Rattle.acpi_base.specs.Slit.{IsSoundSlit}
-use Rattle.acpi_base.specs.Pptt.{IsCutPptt, AreReferencesSound, DoParentsEnd, DoCachesEnd}
+use Rattle.acpi_base.specs.Madt.{IsValidMadt, AreInterruptsApart, DoOverridesAgree}
+use Rattle.acpi_base.specs.Srat.{IsValidSrat, AreRangesApart}
+use Rattle.acpi_base.specs.Slit.{IsValidSlit}
+use Rattle.acpi_base.specs.Pptt.{IsCutPptt, AreReferencesValid, DoParentsEnd, DoCachesEnd}
 use Rattle.acpi_base.specs.Across.{HaveOneDomain, AreNamedServed, AreLeavesKnown}
 use Rattle.acpi_base.specs.declared.stage.Stage.{Stage}
 use Rattle.acpi_base.specs.declared.stage.Stage.TheVariants as stage
 
 -- Stage 3: every listed table is whole and sums to 0.
-abbrev pub AreSoundTables : Memory → ℕ → Type 0
-AreSoundTables m p = (k a : ℕ) → IsSlot m p k a → IsSoundTable m a
+abbrev pub AreValidTables : Memory → ℕ → Type 0
+AreValidTables m p = (k a : ℕ) → IsSlot m p k a → IsValidTable m a
 
 -- What a stage states. From stage 6 on a stage holds of a set that does not list a table that it speaks of, or whose first
 -- one with the signature is not whole.
 abbrev pub Holds : Stage → Memory → PolicyValue → Type 0
-Holds stage.Rsdp m q = IsSoundRsdp m q.rsdp
-Holds stage.Root m q = IsSoundRoot m q.rsdp
-Holds stage.Tables m q = AreSoundTables m q.rsdp
-Holds stage.Fadt m q = IsSoundFadt m q.rsdp
-Holds stage.Facs m q = IsSoundFacs m q.rsdp
-Holds stage.Madt m q = ForMadt m q (IsSoundMadt q)
+Holds stage.Rsdp m q = IsValidRsdp m q.rsdp
+Holds stage.Root m q = IsValidRoot m q.rsdp
+Holds stage.Tables m q = AreValidTables m q.rsdp
+Holds stage.Fadt m q = IsValidFadt m q.rsdp
+Holds stage.Facs m q = IsValidFacs m q.rsdp
+Holds stage.Madt m q = ForMadt m q (IsValidMadt q)
 Holds stage.Interrupts m q = ForMadt m q (AreInterruptsApart q)
 Holds stage.Overrides m q = ForMadt m q DoOverridesAgree
-Holds stage.Srat m q = ForSrat m q IsSoundSrat
+Holds stage.Srat m q = ForSrat m q IsValidSrat
 Holds stage.Ranges m q = ForSrat m q (AreRangesApart q.hotplug)
-Holds stage.Slit m q = ForSlit m q IsSoundSlit
+Holds stage.Slit m q = ForSlit m q IsValidSlit
 Holds stage.Pptt m q = ForPptt m q IsCutPptt
-Holds stage.References m q = ForPptt m q AreReferencesSound
+Holds stage.References m q = ForPptt m q AreReferencesValid
 Holds stage.Parents m q = ForPptt m q DoParentsEnd
 Holds stage.Caches m q = ForPptt m q DoCachesEnd
 Holds stage.Domains m q = ForMadt m q (λ madt. ForSrat m q (HaveOneDomain q.processors madt))

@@ -1,6 +1,6 @@
 -- System description tables (ACPI 6.5, 5.2.6). Offsets are from a table's start.
 use Rattle.std.specs.Prelude.{◌≡◌, ℕ, List, Some, true}
-use Rattle.acpi_base.specs.Frames.{IsFrame, IsSoundFrame, FrameFault}
+use Rattle.acpi_base.specs.Frames.{IsFrame, IsValidFrame, FrameFault}
 use Rattle.acpi_base.specs.Memory.{Memory, bytes_at}
 use Rattle.acpi_base.specs.Number.{field}
 use Rattle.acpi_base.specs.Signature.{has_signature}
@@ -17,20 +17,20 @@ length_of header = field header 4 4
 abbrev pub table_frame : Frame
 table_frame = record { header = 36; length_at = 4; least = 36 }
 
--- a table stands at a: its 36 header bytes are held, its Length is at least 36, and its Length bytes
--- are held
+-- a table stands at a: its 36 header bytes are present, its Length is at least 36, and its Length bytes
+-- are present
 abbrev pub IsTable : Memory → ℕ → List ℕ → List ℕ → Type 0
 IsTable m a header whole = IsFrame table_frame m a header whole
 
--- a header is held at a, with this signature
+-- a header is present at a, with this signature
 pub record IsSigned (m : Memory) (a : ℕ) (signature : List ℕ) : Type 0 where
   pub header : List ℕ
-  pub header_held : bytes_at m a 36 ≡ Some header
+  pub header_present : bytes_at m a 36 ≡ Some header
   pub signed : has_signature header signature ≡ true
 
 -- a table stands at a whose bytes sum to 0
-abbrev pub IsSoundTable : Memory → ℕ → Type 0
-IsSoundTable m a = IsSoundFrame table_frame m a
+abbrev pub IsValidTable : Memory → ℕ → Type 0
+IsValidTable m a = IsValidFrame table_frame m a
 
 -- The faults of a listed table at a, by their code.
 abbrev pub TableFault : Memory → ℕ → Code → Type 0

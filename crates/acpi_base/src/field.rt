@@ -57,7 +57,7 @@ pub fn number_at(bytes: &[u8], offset: usize, width: usize) -> u64
 }
 
 /// The bytes at an offset, as many as the array has.
-pub fn bytes_at<const N: usize>(bytes: &[u8], offset: usize) -> [u8; N]
+pub fn array_at<const N: usize>(bytes: &[u8], offset: usize) -> [u8; N]
     requires { offset + N ≤ length bytes.now }
     ensures { result ≡ take N (drop offset bytes.now) }
 {

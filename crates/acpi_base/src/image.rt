@@ -7,7 +7,7 @@ ghost use Rattle.acpi_base.specs.Memory.{IsImage, least_defined, byte_of, bytes_
 ghost use Rattle.acpi_base.specs.Image.Adding.{add_refusal};
 ghost use Rattle.acpi_base.specs.Number.{byte_sum};
 ghost use Rattle.acpi_base.specs.Image.Runs.{lookup};
-ghost use Rattle.acpi_base.specs.Image.Segments.{IsSound, runs_of};
+ghost use Rattle.acpi_base.specs.Image.Segments.{IsValid, runs_of};
 
 pub(crate) mod draft;
 mod prefix_sums;
@@ -47,7 +47,7 @@ impl From<AllocError> for ImageFault {
 /// Why `count` bytes cannot be added from an address on.
 #[tactic(auto, using(crate::proofs::Images::RunMemory::no_refusal))]
 fn refusal(segments: &Segments, base: u64, count: u64) -> Option<ImageFault>
-    requires { IsSound segments.now }
+    requires { IsValid segments.now }
     ensures { result ≡ (if nat_lt (2 ^ 64) (base + count) then Some ImageFault.PastEnd
         else option_map (λ address. ImageFault.Twice address)
         (least_defined (lookup (runs_of segments.now)) base count)) }
@@ -60,7 +60,7 @@ fn refusal(segments: &Segments, base: u64, count: u64) -> Option<ImageFault>
         return Some(ImageFault::PastEnd);
     }
     segments
-        .first_held(base, count)
+        .first_present(base, count)
         .map(|address| ImageFault::Twice { address })
 }
 
@@ -82,11 +82,11 @@ impl Model for Image {
 
     ghost coded = { code coded_ℕ coded_ℕ };
 
-    ghost use Rattle.acpi_base.specs.Image.Segments.{IsSound, memory_in};
+    ghost use Rattle.acpi_base.specs.Image.Segments.{IsValid, memory_in};
 
     ghost view = { λ image. memory_in image.segments };
 
-    ghost invariant = { λ image. IsSound image.segments };
+    ghost invariant = { λ image. IsValid image.segments };
 }
 
 impl Image {
@@ -140,7 +140,7 @@ impl Image {
     }
 
     /// Returns the byte at an address, or `None` if there is none. Takes no memory.
-    #[tactic(auto, using(crate::proofs::Images::RunMemory::byte_of_held_by))]
+    #[tactic(auto, using(crate::proofs::Images::RunMemory::byte_of_present_by))]
     pub fn byte_at(&self, address: u64) -> Option<u8>
         ensures { result ≡ byte_of self.now address }
     {
@@ -149,7 +149,7 @@ impl Image {
 
     /// Returns the `count` bytes from an address on, or `None` if one of these addresses has no byte. The bytes may have
     /// been added in several calls. For a count of 0 it returns no bytes, at any address. Takes no memory.
-    #[tactic(auto, using(crate::proofs::Images::RunMemory::bytes_at_held_by))]
+    #[tactic(auto, using(crate::proofs::Images::RunMemory::bytes_at_present_by))]
     pub fn window(&self, address: u64, count: u64) -> Option<&[u8]>
         ensures bytes { option_map (λ bytes. bytes.now) result ≡ bytes_at self.now address count }
         ensures count { IfSome result (λ bytes. length bytes.now ≡ count) }
@@ -160,7 +160,7 @@ impl Image {
     /// Returns the sum modulo 256 of the `count` bytes from an address on, or `None` if one of these addresses has no byte.
     /// It is 0 if a checksum is right, and for a count of 0, at any address. However many bytes there are, fewer than 256
     /// of them are read. Takes no memory.
-    #[tactic(auto, using(crate::proofs::Images::RunMemory::bytes_at_held_by))]
+    #[tactic(auto, using(crate::proofs::Images::RunMemory::bytes_at_present_by))]
     pub fn window_sum(&self, address: u64, count: u64) -> Option<u8>
         ensures { result ≡ option_map byte_sum (bytes_at self.now address count) }
     {

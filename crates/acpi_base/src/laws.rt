@@ -13,7 +13,7 @@ ghost use Rattle.acpi_base.specs.Examples.AlteredSets.{AreRsdpFaults, AreRootFau
 ghost use Rattle.acpi_base.specs.Examples.Madts.{AreMadtContents, AreMadtFaults, IsFirstInterrupt, HasNoMadtFault};
 ghost use Rattle.acpi_base.specs.Examples.Pptts.{ArePpttContents, ArePpttFaults, AreCycleFaults, HasNoPpttFault};
 ghost use Rattle.acpi_base.specs.Examples.Sets.{AreListedTables, AreSetFaults};
-ghost use Rattle.acpi_base.specs.Examples.Slits.{AreSlitContents, AreSlitFaults, AreSoundSlits};
+ghost use Rattle.acpi_base.specs.Examples.Slits.{AreSlitContents, AreSlitFaults, AreValidSlits};
 ghost use Rattle.acpi_base.specs.Examples.Srats.{AreSratContents, AreSratFaults, AreFirstOverlaps, HasNoSratFault};
 ghost use Rattle.acpi_base.specs.Examples.WholeSets.{whole_set, example_policy};
 ghost use Rattle.acpi_base.specs.Laws.{FaultsExcludeClean, FaultsFit, CleanOrFaulty, CleanOrFirstFault, OneFirstFault, OneVerdict, RootsListSlots, TextsDiffer};
@@ -145,8 +145,8 @@ pub fn lines_mean()
 {}
 
 /// `bytes_at` returns a list exactly when all addresses are present, and then it is the list of their bytes.
-pub fn held_bytes()
-    ensures held { (m : Memory) (a n : ℕ) → IsSome (bytes_at m a n) ↔ Has m a n }
+pub fn present_bytes()
+    ensures present { (m : Memory) (a n : ℕ) → IsSome (bytes_at m a n) ↔ Has m a n }
     ensures bytes { (m : Memory) (a n : ℕ) (l : List ℕ)
         → (bytes_at m a n ≡ Some l) ↔ AreBytes m a n l }
 {}
@@ -172,8 +172,8 @@ pub fn madt_and_srat_examples()
     ensures srat_faults { AreSratFaults }
     ensures first_interrupt { (q : PolicyValue) → IsFirstInterrupt q }
     ensures first_overlaps { AreFirstOverlaps }
-    ensures sound_madt { (q : PolicyValue) → HasNoMadtFault q }
-    ensures sound_srat { HasNoSratFault }
+    ensures valid_madt { (q : PolicyValue) → HasNoMadtFault q }
+    ensures valid_srat { HasNoSratFault }
 {}
 
 /// Examples of the SLIT and the PPTT: the contents of small tables, a fault of each code, and that valid tables have
@@ -181,11 +181,11 @@ pub fn madt_and_srat_examples()
 pub fn slit_and_pptt_examples()
     ensures slit { AreSlitContents }
     ensures slit_faults { AreSlitFaults }
-    ensures sound_slit { AreSoundSlits }
+    ensures valid_slit { AreValidSlits }
     ensures pptt { ArePpttContents }
     ensures pptt_faults { ArePpttFaults }
     ensures cycles { AreCycleFaults }
-    ensures sound_pptt { HasNoPpttFault }
+    ensures valid_pptt { HasNoPpttFault }
 {}
 
 /// Examples of complete sets, as images: which tables their root tables list, and a fault of each stage that compares

@@ -8,13 +8,13 @@ use Rattle.std.proofs.lemmas.Bool.{cases_lt, le-ltb, lt-ltb}
 use Rattle.std.proofs.lemmas.Bool.Decides.{nat_tests}
 use Rattle.acpi_base.specs.Image.Adding.{added}
 use Rattle.acpi_base.specs.Image.Runs.{byte_in, run_at}
-use Rattle.acpi_base.specs.Memory.{Memory, byte_of, first_held, with_bytes}
+use Rattle.acpi_base.specs.Memory.{Memory, byte_of, first_present, with_bytes}
 use Rattle.acpi_base.specs.Text.ImageText.{on_ok}
 use Rattle.acpi_base.specs.declared.image.ImageFault.{ImageFault}
 use Rattle.acpi_base.specs.declared.image.ImageFault.TheVariants as image
-use Rattle.acpi_base.proofs.Images.RunBytes.{byte_of-with_bytes, held_none, held_some}
+use Rattle.acpi_base.proofs.Images.RunBytes.{byte_of-with_bytes, present_none, present_some}
 use Rattle.acpi_base.proofs.Images.ByteRuns.{first_of_from, first_of_here, first_of_none}
-use Rattle.acpi_base.proofs.Images.Searches.{nothing_held}
+use Rattle.acpi_base.proofs.Images.Searches.{nothing_present}
 use Rattle.acpi_c.specs.AddedPieces.{RefusesFirst, Stands, has_address, second_with}
 use Rattle.acpi_c.specs.Pieces.{FirstFits, piece_refusal, with_pieces}
 use Rattle.acpi_c.specs.Sources.{Fails, pieces_source}
@@ -39,20 +39,20 @@ has_or_not p a = elim (cases_lt a p.address) [
   ]
 ]
 
--- where none of its addresses was held, the search for the second holder goes on behind it
+-- where none of its addresses was present, the search for the second holder goes on behind it
 passed : (m : Memory) (p : Piece) (rest : List Piece) (index a : ℕ)
-    → first_held m p.address (length p.bytes.now) ≡ None
+    → first_present m p.address (length p.bytes.now) ≡ None
     → second_with (is_some (byte_of (with_bytes m p.address p.bytes.now) a)) (suc index) rest a
     ≡ second_with (is_some (byte_of m a)) index (p ∷ rest) a
 passed m p rest index a free =
     ap (λ o. second_with (is_some o) (suc index) rest a) (byte_of-with_bytes m p.address p.bytes.now a)
     ∙ elim (has_or_not p a) [
       | inl y ↦
-          let here : is_some (byte_at a) ≡ true = held_some (run_at p.address p.bytes.now) a y.1 y.2 in
-          let before : byte_of m a ≡ None = nothing_held (byte_of m) p.address (length p.bytes.now) a free y.1 y.2 in
+          let here : is_some (byte_at a) ≡ true = present_some (run_at p.address p.bytes.now) a y.1 y.2 in
+          let before : byte_of m a ≡ None = nothing_present (byte_of m) p.address (length p.bytes.now) a free y.1 y.2 in
           grind (arith, here, before, y.0)
       | inr y ↦
-          let none : byte_at a ≡ None = held_none (run_at p.address p.bytes.now) a y.1 in
+          let none : byte_at a ≡ None = present_none (run_at p.address p.bytes.now) a y.1 in
           grind (arith, none, y.0)
     ]
   where
@@ -68,7 +68,7 @@ stands_next ps index d (Ok m) new below fits is (so_far, seen) =
     let place : suc index ≡ index + 1 = omega arith in
     subst (Stands ps (index + 1)) (sym is)
     (subst (λ k. Stands ps k (added m p.address p.bytes.now)) place
-    (go (first_held m p.address (length p.bytes.now)) refl))
+    (go (first_present m p.address (length p.bytes.now)) refl))
   where
     p : Piece
     p = get_or ps index d
@@ -88,18 +88,18 @@ stands_next ps index d (Ok m) new below fits is (so_far, seen) =
     searched : (a : ℕ) → second_with (is_some (byte_of m a)) index (p ∷ rest) a ≡ second_with false 0 ps a
     searched a = ap (λ l. second_with (is_some (byte_of m a)) index l a) (sym split) ∙ seen a
 
-    go : (o : Option ℕ) → first_held m p.address (length p.bytes.now) ≡ o
+    go : (o : Option ℕ) → first_present m p.address (length p.bytes.now) ≡ o
         → Stands ps (suc index) (option_map_or (λ a. Err a) o (Ok (with_bytes m p.address p.bytes.now)))
     go None free = (
       rw (low, free) at all,
       λ a. passed m p rest index a free ∙ searched a,
     )
-    go (Some a) held =
-        let from = first_of_from (byte_of m) p.address (length p.bytes.now) a held in
-        let there = first_of_here (byte_of m) p.address (length p.bytes.now) a held in
+    go (Some a) present =
+        let from = first_of_from (byte_of m) p.address (length p.bytes.now) a present in
+        let there = first_of_here (byte_of m) p.address (length p.bytes.now) a present in
         let here : has_address p a ≡ true = grind (arith, nat_tests, there.0) in
         let second : second_with false 0 ps a ≡ index = sym (searched a) ∙ rw (here, there.1) refl in
-        let overlap : Err (PiecesOverlap index a) ≡ with_pieces 0 empty ps = rw (low, held) at all in
+        let overlap : Err (PiecesOverlap index a) ≡ with_pieces 0 empty ps = rw (low, present) at all in
         sym overlap ∙ ap (λ k. Err (PiecesOverlap k a)) (sym second)
 
 -- ---- how adding ends

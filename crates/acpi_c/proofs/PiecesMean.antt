@@ -8,9 +8,9 @@ use Rattle.acpi_base.specs.Image.Adding.{add_refusal}
 use Rattle.acpi_base.specs.Image.Runs.{byte_in, run_at}
 use Rattle.acpi_base.specs.Memory.{Memory, byte_of, with_bytes}
 use Rattle.acpi_base.specs.declared.image.ImageFault.{ImageFault}
-use Rattle.acpi_base.proofs.Images.RunBytes.{byte_of-with_bytes, held_from, held_inside}
+use Rattle.acpi_base.proofs.Images.RunBytes.{byte_of-with_bytes, present_from, present_inside}
 use Rattle.acpi_base.proofs.Images.RunMemory.{fits_unless, same_memory}
-use Rattle.acpi_base.proofs.Images.Searches.{nothing_held}
+use Rattle.acpi_base.proofs.Images.Searches.{nothing_present}
 use Rattle.acpi_c.specs.Laws.{PiecesMean, OneImage, HaveByte, HasByte}
 use Rattle.acpi_c.specs.Pieces.{unless_refused, with_pieces}
 use Rattle.acpi_c.specs.declared.pieces.Piece.{Piece}
@@ -21,18 +21,18 @@ byte_at p a = byte_in (run_at p.address p.bytes.now) a
 
 pub byte_at_has : (p : Piece) (a b : ℕ) → byte_at p a ≡ Some b → HasByte p a b
 byte_at_has p a b e =
-    let inside = held_inside (run_at p.address p.bytes.now) a (ap is_some e) in
+    let inside = present_inside (run_at p.address p.bytes.now) a (ap is_some e) in
     record {
       offset = a - p.address;
       place = omega (arith, inside.0);
-      byte = sym (held_from (run_at p.address p.bytes.now) a inside.0) ∙ e;
+      byte = sym (present_from (run_at p.address p.bytes.now) a inside.0) ∙ e;
     }
 
 pub has_byte_at : (p : Piece) (a b : ℕ) → HasByte p a b → byte_at p a ≡ Some b
 has_byte_at p a b h =
     let above : p.address ≤ a = omega (arith, h.place) in
     let same : a - p.address ≡ h.offset = omega (arith, h.place) in
-    held_from (run_at p.address p.bytes.now) a above ∙ ap (slice_get p.bytes.now) same ∙ h.byte
+    present_from (run_at p.address p.bytes.now) a above ∙ ap (slice_get p.bytes.now) same ∙ h.byte
 
 -- an image with one more piece, no address of which it had
 one_more : (m : Memory) (p : Piece) (a b : ℕ) → add_refusal m p.address p.bytes.now ≡ None
@@ -49,8 +49,8 @@ one_more m p a b free = (there (byte_at p a) refl, back)
 
     apart : IsSome (byte_at p a) → byte_of m a ≡ None
     apart some =
-        let inside = held_inside (run_at p.address p.bytes.now) a some in
-        nothing_held (byte_of m) p.address (length p.bytes.now) a (fits_unless _ _ free).1 inside.0 inside.1
+        let inside = present_inside (run_at p.address p.bytes.now) a some in
+        nothing_present (byte_of m) p.address (length p.bytes.now) a (fits_unless _ _ free).1 inside.0 inside.1
 
     still : (o : Option ℕ) → byte_at p a ≡ o → byte_of m a ≡ Some b
         → byte_of (with_bytes m p.address p.bytes.now) a ≡ Some b

@@ -7,12 +7,12 @@ use Rattle.std.proofs.lemmas.Bool.{cases_lt}
 use Rattle.std.proofs.lemmas.Bool.Decides.{nat_tests}
 use Rattle.acpi_base.specs.Image.Adding.{add_refusal}
 use Rattle.acpi_base.specs.Image.Runs.{run_at}
-use Rattle.acpi_base.specs.Memory.{Memory, byte_of, first_held, least_defined, with_bytes}
+use Rattle.acpi_base.specs.Memory.{Memory, byte_of, first_present, least_defined, with_bytes}
 use Rattle.acpi_base.specs.declared.image.ImageFault.{ImageFault}
 use Rattle.acpi_base.specs.declared.image.ImageFault.TheVariants.{PastEnd, Twice}
 use Rattle.acpi_base.specs.declared.image.ImageFault.TheVariants as image
 use Rattle.acpi_base.proofs.Images.ByteRuns.{first_of_at}
-use Rattle.acpi_base.proofs.Images.RunBytes.{held_inside, held_some}
+use Rattle.acpi_base.proofs.Images.RunBytes.{present_inside, present_some}
 use Rattle.acpi_c.specs.Laws.{StandsBehind, IsPastEnd, IsOverlap, HasByte, HaveByte, PastEndMeans, OverlapMeans}
 use Rattle.acpi_c.specs.Pieces.{piece_refusal, unless_refused, with_pieces}
 use Rattle.acpi_c.specs.declared.pieces.Piece.{Piece}
@@ -99,7 +99,7 @@ refuse (q ∷ earlier) i m image p later fault made why =
         let place : suc i + length earlier ≡ i + suc (length earlier) = omega arith in
         rw free (more h ∙ ap (λ k. Err (piece_refusal k fault)) place)
 
--- ---- the first address that is held
+-- ---- the first address that is present
 
 -- x is the first of the n numbers from a on at which f has something
 record IsFirstAt (f : ℕ → Option ℕ) (a n x : ℕ) : Type 0 where
@@ -199,11 +199,11 @@ overlap_fault image.PastEnd k index a e = absurd (cc)
 overlap_fault (image.Twice b) k index a e = (let same : b ≡ a = cc in ap (λ x. Twice x) same, cc)
 overlap_fault image.Memory k index a e = absurd (cc)
 
--- the piece has a byte at its first address that is held
+-- the piece has a byte at its first address that is present
 own_byte : (m : Memory) (p : Piece) (a : ℕ) → IsFirstAt (byte_of m) p.address (length p.bytes.now) a
     → (b : ℕ) × HasByte p a b
 own_byte m p a first =
-    let found = value_of (byte_at p a) (held_some (run_at p.address p.bytes.now) a first.from first.below) in
+    let found = value_of (byte_at p a) (present_some (run_at p.address p.bytes.now) a first.from first.below) in
     (found.0, byte_at_has p a found.0 found.1)
 
 -- no lesser address of the piece is one of the earlier pieces'
@@ -240,9 +240,9 @@ overlap_there ps index a it =
 shared_first : (m : Memory) (p : Piece) (earlier : List Piece) (a : ℕ) → with_pieces 0 empty earlier ≡ Ok m
     → ((b : ℕ) × HasByte p a b) → ((b : ℕ) × HaveByte earlier a b)
     → ((x b c : ℕ) → HasByte p x b → HaveByte earlier x c → a ≤ x)
-    → first_held m p.address (length p.bytes.now) ≡ Some a
+    → first_present m p.address (length p.bytes.now) ≡ Some a
 shared_first m p earlier a made own taken least =
-    let inside = held_inside (run_at p.address p.bytes.now) a (ap is_some (has_byte_at p a own.0 own.1)) in
+    let inside = present_inside (run_at p.address p.bytes.now) a (ap is_some (has_byte_at p a own.0 own.1)) in
     let same : p.address + (a - p.address) ≡ a = omega (arith, inside.0) in
     let here : byte_of m a ≡ Some taken.0 = (pieces_mean earlier m made a taken.0).1 taken.1 in
     first_of_at (byte_of m) p.address (length p.bytes.now) (a - p.address) (omega (arith, inside.0, inside.1))
@@ -253,13 +253,13 @@ shared_first m p earlier a made own taken least =
     free j below = go (byte_of m (p.address + j)) refl
       where
         inside : a < p.address + length p.bytes.now
-        inside = (held_inside (run_at p.address p.bytes.now) a (ap is_some (has_byte_at p a own.0 own.1))).1
+        inside = (present_inside (run_at p.address p.bytes.now) a (ap is_some (has_byte_at p a own.0 own.1))).1
 
         go : (o : Option ℕ) → byte_of m (p.address + j) ≡ o → o ≡ None
         go None e = refl
         go (Some c) e =
             let mine = value_of (byte_at p (p.address + j))
-            (held_some (run_at p.address p.bytes.now) (p.address + j) (omega arith) (omega (arith, inside, below))) in
+            (present_some (run_at p.address p.bytes.now) (p.address + j) (omega arith) (omega (arith, inside, below))) in
             let theirs = (pieces_mean earlier m made (p.address + j) c).0 e in
             let above = least (p.address + j) mine.0 c (byte_at_has p (p.address + j) mine.0 mine.1) theirs in
             absurd (omega (arith, above, below))

@@ -9,13 +9,13 @@ use Rattle.acpi_base.specs.declared.witness.Witness.{Witness}
 use Rattle.acpi_c.specs.Kinds.{kind_number}
 use Rattle.acpi_c.specs.declared.answer.Answer.{Answer}
 use Rattle.acpi_c.specs.declared.answer.Finding.{Finding}
-use Rattle.acpi_c.specs.declared.kind.Kind.{Kind}
-use Rattle.acpi_c.specs.declared.kind.Kind.TheVariants as kind
+use Rattle.acpi_c.specs.declared.kind.AnswerKind.{AnswerKind}
+use Rattle.acpi_c.specs.declared.kind.AnswerKind.TheVariants as kind
 use Rattle.acpi_c.specs.declared.refusal.Refusal.{Refusal}
 use Rattle.acpi_c.specs.declared.refusal.Refusal.TheVariants as refusal
 
 -- a kind without numbers: the other numbers are 0
-abbrev pub plain_answer : Kind → Answer
+abbrev pub plain_answer : AnswerKind → Answer
 plain_answer kind = record { kind = kind_number kind; stage = 0; code = 0; at = 0; other = 0; point = 0 }
 
 -- `at` is the index or the line of what is refused, and `other` the address that is covered twice
@@ -62,7 +62,7 @@ find_answer (Ok None) = plain_answer kind.No
 find_answer (Err r) = refusal_answer r
 
 -- yes if there is no fault
-abbrev pub kind_of_faults : List Witness → Kind
+abbrev pub kind_of_faults : List Witness → AnswerKind
 kind_of_faults [] = kind.Yes
 kind_of_faults (w ∷ rest) = kind.No
 

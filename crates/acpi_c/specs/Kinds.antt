@@ -1,10 +1,10 @@
 -- The numbers of the kinds of answers.
 use Rattle.std.specs.Prelude.{ℕ}
-use Rattle.acpi_c.specs.declared.kind.Kind.{Kind}
-use Rattle.acpi_c.specs.declared.kind.Kind.TheVariants as kind
+use Rattle.acpi_c.specs.declared.kind.AnswerKind.{AnswerKind}
+use Rattle.acpi_c.specs.declared.kind.AnswerKind.TheVariants as kind
 
 -- a kind's number, which never changes
-abbrev pub kind_number : Kind → ℕ
+abbrev pub kind_number : AnswerKind → ℕ
 kind_number kind.Yes = 0
 kind_number kind.No = 1
 kind_number kind.OutOfMemory = 2

@@ -3,7 +3,7 @@
 ghost use Rattle.std.specs.Prelude.{◌≡◌, Ok};
 ghost use Rattle.acpi_c.specs.Answers.{check_answer, confirm_answer, find_answer, plain_answer, refusal_answer};
 
-use crate::kind::Kind;
+use crate::kind::AnswerKind;
 use crate::refusal::Refusal;
 use acpi_base::Verdict;
 
@@ -44,7 +44,7 @@ pub struct Answer {
 
 impl Answer {
     /// A kind without numbers.
-    pub fn plain(kind: Kind) -> Answer
+    pub fn plain(kind: AnswerKind) -> Answer
         ensures { result ≡ plain_answer kind }
     {
         Answer {
@@ -58,7 +58,7 @@ impl Answer {
     }
 
     /// A kind with a first number.
-    pub fn with_at(kind: Kind, at: u64) -> Answer
+    pub fn with_at(kind: AnswerKind, at: u64) -> Answer
         ensures { result ≡ record (plain_answer kind) { at = at } }
     {
         Answer {
@@ -68,7 +68,7 @@ impl Answer {
     }
 
     /// A kind with two numbers.
-    pub fn with_two(kind: Kind, at: u64, other: u64) -> Answer
+    pub fn with_two(kind: AnswerKind, at: u64, other: u64) -> Answer
         ensures { result ≡ record (plain_answer kind) { at = at; other = other } }
     {
         Answer {
@@ -84,23 +84,23 @@ impl From<Refusal> for Answer {
 
     fn from(refusal: Refusal) -> Answer {
         match refusal {
-            Refusal::OutOfMemory => Answer::plain(Kind::OutOfMemory),
-            Refusal::Size => Answer::plain(Kind::BadSize),
-            Refusal::DefaultInputs => Answer::plain(Kind::BadDefaultInputs),
-            Refusal::HotPlug => Answer::plain(Kind::BadHotPlug),
-            Refusal::Processors => Answer::plain(Kind::BadProcessors),
-            Refusal::Inputs { index } => Answer::with_at(Kind::BadInputs, index),
-            Refusal::Stage => Answer::plain(Kind::BadStage),
-            Refusal::Code => Answer::plain(Kind::BadCode),
-            Refusal::PiecePastEnd { index } => Answer::with_at(Kind::PiecePastEnd, index),
+            Refusal::OutOfMemory => Answer::plain(AnswerKind::OutOfMemory),
+            Refusal::Size => Answer::plain(AnswerKind::BadSize),
+            Refusal::DefaultInputs => Answer::plain(AnswerKind::BadDefaultInputs),
+            Refusal::HotPlug => Answer::plain(AnswerKind::BadHotPlug),
+            Refusal::Processors => Answer::plain(AnswerKind::BadProcessors),
+            Refusal::Inputs { index } => Answer::with_at(AnswerKind::BadInputs, index),
+            Refusal::Stage => Answer::plain(AnswerKind::BadStage),
+            Refusal::Code => Answer::plain(AnswerKind::BadCode),
+            Refusal::PiecePastEnd { index } => Answer::with_at(AnswerKind::PiecePastEnd, index),
             Refusal::PiecesOverlap { index, address } => {
-                Answer::with_two(Kind::PiecesOverlap, index, address)
+                Answer::with_two(AnswerKind::PiecesOverlap, index, address)
             }
-            Refusal::BadLine { line } => Answer::with_at(Kind::BadLine, line),
-            Refusal::NoAddress { line } => Answer::with_at(Kind::NoAddress, line),
-            Refusal::TextOverlap { address } => Answer::with_two(Kind::TextOverlap, 0, address),
-            Refusal::TextPastEnd { line } => Answer::with_at(Kind::TextPastEnd, line),
-            Refusal::TextTooLong => Answer::plain(Kind::TextTooLong),
+            Refusal::BadLine { line } => Answer::with_at(AnswerKind::BadLine, line),
+            Refusal::NoAddress { line } => Answer::with_at(AnswerKind::NoAddress, line),
+            Refusal::TextOverlap { address } => Answer::with_two(AnswerKind::TextOverlap, 0, address),
+            Refusal::TextPastEnd { line } => Answer::with_at(AnswerKind::TextPastEnd, line),
+            Refusal::TextTooLong => Answer::plain(AnswerKind::TextTooLong),
         }
     }
 }
@@ -110,9 +110,9 @@ impl From<Verdict> for Answer {
 
     fn from(verdict: Verdict) -> Answer {
         match verdict {
-            Verdict::Yes => Answer::plain(Kind::Yes),
+            Verdict::Yes => Answer::plain(AnswerKind::Yes),
             Verdict::No(fault) => Answer {
-                kind: Kind::No.number(),
+                kind: AnswerKind::No.number(),
                 stage: u32::from(fault.code.stage().number()),
                 code: u32::from(fault.code.number()),
                 at: fault.at,
@@ -127,7 +127,7 @@ impl From<Verdict> for Answer {
 pub fn yes_or_no(is_so: bool) -> Answer
     ensures { result ≡ confirm_answer (Ok is_so) }
 {
-    Answer::plain(if is_so { Kind::Yes } else { Kind::No })
+    Answer::plain(if is_so { AnswerKind::Yes } else { AnswerKind::No })
 }
 
 /// The answer of a search for the RSDP.
@@ -135,7 +135,7 @@ pub fn found(address: Option<u64>) -> Answer
     ensures { result ≡ find_answer (Ok address) }
 {
     match address {
-        Some(address) => Answer::with_at(Kind::Yes, address),
-        None => Answer::plain(Kind::No),
+        Some(address) => Answer::with_at(AnswerKind::Yes, address),
+        None => Answer::plain(AnswerKind::No),
     }
 }

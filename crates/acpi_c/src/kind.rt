@@ -5,7 +5,7 @@ ghost use Rattle.acpi_c.specs.Kinds.{kind_number};
 
 /// The kind of an answer. A kind's number never changes.
 #[derive(Clone, Copy, Debug, PartialEq, Eq)]
-pub enum Kind {
+pub enum AnswerKind {
     /// All statements hold; or the image has the fault; or the RSDP was found; or there is no fault.
     Yes,
     /// A statement does not hold; or the image does not have the fault; or no RSDP was found; or there are faults.
@@ -42,29 +42,29 @@ pub enum Kind {
     TextTooLong,
 }
 
-impl Kind {
+impl AnswerKind {
     /// The kind's number, from 0 to 16.
     pub fn number(self) -> u32
         ensures { result ≡ kind_number self }
     {
         match self {
-            Kind::Yes => 0,
-            Kind::No => 1,
-            Kind::OutOfMemory => 2,
-            Kind::BadSize => 3,
-            Kind::BadDefaultInputs => 4,
-            Kind::BadHotPlug => 5,
-            Kind::BadProcessors => 6,
-            Kind::BadStage => 7,
-            Kind::BadInputs => 8,
-            Kind::BadCode => 9,
-            Kind::PiecePastEnd => 10,
-            Kind::PiecesOverlap => 11,
-            Kind::BadLine => 12,
-            Kind::NoAddress => 13,
-            Kind::TextOverlap => 14,
-            Kind::TextPastEnd => 15,
-            Kind::TextTooLong => 16,
+            AnswerKind::Yes => 0,
+            AnswerKind::No => 1,
+            AnswerKind::OutOfMemory => 2,
+            AnswerKind::BadSize => 3,
+            AnswerKind::BadDefaultInputs => 4,
+            AnswerKind::BadHotPlug => 5,
+            AnswerKind::BadProcessors => 6,
+            AnswerKind::BadStage => 7,
+            AnswerKind::BadInputs => 8,
+            AnswerKind::BadCode => 9,
+            AnswerKind::PiecePastEnd => 10,
+            AnswerKind::PiecesOverlap => 11,
+            AnswerKind::BadLine => 12,
+            AnswerKind::NoAddress => 13,
+            AnswerKind::TextOverlap => 14,
+            AnswerKind::TextPastEnd => 15,
+            AnswerKind::TextTooLong => 16,
         }
     }
 }

@@ -23,7 +23,7 @@
 //!     },
 //! ];
 //! let answer = answered(acpiset_check(alloc, &pieces, &[], &SETTINGS))?; // unless memory ran out
-//! assert!(rt; answer.kind == Kind::PiecesOverlap.number());
+//! assert!(rt; answer.kind == AnswerKind::PiecesOverlap.number());
 //! assert!(rt; answer.at == 1);
 //! assert!(rt; answer.other == 0x1000);
 //! ```
@@ -49,7 +49,7 @@ mod text;
 ghost use Rattle.std.specs.Prelude.{◌≡◌};
 
 pub use answer::{Answer, Finding};
-pub use kind::Kind;
+pub use kind::AnswerKind;
 pub use pieces::Piece;
 pub use settings::{Inputs, Settings};
 

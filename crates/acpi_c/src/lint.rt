@@ -10,7 +10,7 @@ ghost use Rattle.acpi_c.specs.Sources.{pieces_source};
 ghost use Rattle.acpi_c.specs.declared.refusal.Refusal.{Refusal};
 
 use crate::answer::{Answer, Finding};
-use crate::kind::Kind;
+use crate::kind::AnswerKind;
 use crate::pieces::{Piece, image_of_pieces};
 use crate::refusal::Refusal;
 use crate::settings::{Inputs, Settings, add_inputs, tested_policy};
@@ -104,9 +104,9 @@ fn answer_of(found: &Findings) -> Answer
     ensures { result ≡ lint_answer (Ok (found.now.faults.items, found.now.advice.items)) }
 {
     let kind = if found.faults.is_empty() {
-        Kind::Yes
+        AnswerKind::Yes
     } else {
-        Kind::No
+        AnswerKind::No
     };
     Answer::with_two(kind, found.faults.len() as u64, found.advice.len() as u64)
 }

@@ -1,7 +1,7 @@
 use crate::answer::{Answer, Finding};
 use crate::check::{acpiset_check, acpiset_check_text};
 use crate::confirm::acpiset_confirm;
-use crate::kind::Kind;
+use crate::kind::AnswerKind;
 use crate::lint::acpiset_lint;
 use crate::pieces::Piece;
 use crate::settings::{Inputs, Settings};
@@ -20,7 +20,7 @@ const SETTINGS: Settings = Settings {
 };
 
 /// Settings, numbers of inputs, and the kind of the answer for no pieces.
-type Refused = (Settings, &'static [Inputs], Kind);
+type Refused = (Settings, &'static [Inputs], AnswerKind);
 
 /// Settings that are refused, each for the first wrong number.
 const REFUSED: [Refused; 5] = [
@@ -31,7 +31,7 @@ const REFUSED: [Refused; 5] = [
             ..SETTINGS
         },
         &[],
-        Kind::BadSize,
+        AnswerKind::BadSize,
     ),
     (
         Settings {
@@ -40,7 +40,7 @@ const REFUSED: [Refused; 5] = [
             ..SETTINGS
         },
         &[],
-        Kind::BadDefaultInputs,
+        AnswerKind::BadDefaultInputs,
     ),
     (
         Settings {
@@ -49,7 +49,7 @@ const REFUSED: [Refused; 5] = [
             ..SETTINGS
         },
         &[],
-        Kind::BadHotPlug,
+        AnswerKind::BadHotPlug,
     ),
     (
         Settings {
@@ -60,7 +60,7 @@ const REFUSED: [Refused; 5] = [
             address: 0xfec00000,
             count: 0,
         }],
-        Kind::BadInputs,
+        AnswerKind::BadInputs,
     ),
     (
         Settings {
@@ -68,13 +68,13 @@ const REFUSED: [Refused; 5] = [
             ..SETTINGS
         },
         &[],
-        Kind::BadStage,
+        AnswerKind::BadStage,
     ),
 ];
 
 /// The answer, unless memory ran out.
 fn answered(answer: Answer) -> Result<Answer, AllocError> {
-    if answer.kind == Kind::OutOfMemory.number() {
+    if answer.kind == AnswerKind::OutOfMemory.number() {
         return Err(AllocError);
     }
     Ok(answer)
@@ -101,7 +101,7 @@ fn refuse_an_overlap(rt: &impl Abort, alloc: Global) -> Result<(), AllocError> {
         },
     ];
     let answer = answered(acpiset_check(alloc, &pieces, &[], &SETTINGS))?;
-    assert!(rt; answer.kind == Kind::PiecesOverlap.number());
+    assert!(rt; answer.kind == AnswerKind::PiecesOverlap.number());
     assert!(rt; answer.at == 1);
     assert!(rt; answer.other == 0x1000);
     Ok(())
@@ -117,13 +117,13 @@ fn report_a_fault(rt: &impl Abort, alloc: Global) -> Result<(), AllocError> {
     };
     let mut findings = [none; 2];
     let answer = answered(acpiset_check_text(alloc, b"@1000\n01 02\n", &[], &SETTINGS))?;
-    assert!(rt; answer.kind == Kind::No.number() && answer.code == 1);
+    assert!(rt; answer.kind == AnswerKind::No.number() && answer.code == 1);
     let answer = answered(acpiset_lint(alloc, &[], &[], &SETTINGS, &mut findings))?;
-    assert!(rt; answer.kind == Kind::No.number() && answer.at == 1);
+    assert!(rt; answer.kind == AnswerKind::No.number() && answer.at == 1);
     assert!(rt; findings[0].number == 1 && findings[0].at == 0xe0000);
     assert!(rt; findings[1].number == 0);
     let answer = answered(acpiset_confirm(alloc, &[], &[], &SETTINGS, &findings[0]))?;
-    assert!(rt; answer.kind == Kind::Yes.number());
+    assert!(rt; answer.kind == AnswerKind::Yes.number());
     Ok(())
 }
 

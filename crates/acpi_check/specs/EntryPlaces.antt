@@ -11,8 +11,8 @@ use Rattle.acpi_base.specs.declared.code.Code.TheVariants as code
 use Rattle.acpi_base.specs.declared.stage.Stage.TheVariants as stage
 use Rattle.acpi_base.specs.declared.witness.Witness.{Witness}
 use Rattle.acpi_check.specs.OffsetSets.{IsIn}
-use Rattle.acpi_check.specs.declared.places.Kind.{Kind}
-use Rattle.acpi_check.specs.declared.places.Kind.TheVariants as kind
+use Rattle.acpi_check.specs.declared.places.PlaceKind.{PlaceKind}
+use Rattle.acpi_check.specs.declared.places.PlaceKind.TheVariants as kind
 use Rattle.acpi_check.specs.declared.places.Places.{Places}
 
 -- ---- offsets
@@ -26,25 +26,25 @@ pub record ArePlaces (c : PpttContents) (places : Places) : Type 0 where
 -- ---- how they are collected
 
 -- what an entry is
-abbrev pub kind_of : PpttEntry → Kind
+abbrev pub kind_of : PpttEntry → PlaceKind
 kind_of (Node v) = kind.Node
 kind_of (Cache v) = kind.Cache
 kind_of (Opaque e) = kind.Other
 
-abbrev pub is_node : Kind → Bool
+abbrev pub is_node : PlaceKind → Bool
 is_node kind.Node = true
 is_node _ = false
 
-abbrev pub is_cache : Kind → Bool
+abbrev pub is_cache : PlaceKind → Bool
 is_cache kind.Cache = true
 is_cache _ = false
 
-abbrev pub is_resource : Kind → Bool
+abbrev pub is_resource : PlaceKind → Bool
 is_resource kind.Node = false
 is_resource _ = true
 
 -- the offsets of entries of the kinds, in their order
-abbrev pub kind_offsets : (Kind → Bool) → List (PlacedEntry PpttEntry) → List ℕ
+abbrev pub kind_offsets : (PlaceKind → Bool) → List (PlacedEntry PpttEntry) → List ℕ
 kind_offsets kinds entries = filter_map (λ s. if kinds (kind_of s.entry) then Some s.offset else None) entries
 
 -- ---- what an entry names

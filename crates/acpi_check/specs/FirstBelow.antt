@@ -2,7 +2,7 @@
 use Rattle.std.specs.Prelude.{◌<◌, ℕ, List, Option, Some, None}
 use Rattle.acpi_base.specs.Memory.{Memory}
 use Rattle.acpi_base.specs.Root.{HasSlot}
-use Rattle.acpi_base.specs.Tables.{IsSigned, IsSoundTable, IsTable}
+use Rattle.acpi_base.specs.Tables.{IsSigned, IsValidTable, IsTable}
 use Rattle.acpi_base.specs.Listed.{IsFirstListed}
 use Rattle.acpi_base.specs.TableKinds.{signature_of}
 use Rattle.acpi_base.specs.declared.table_kind.TableKind.{TableKind}
@@ -17,5 +17,5 @@ IsFirstBelow m bytes d k signature (Some whole) = (a : ℕ) × (header : List �
 
 -- the same for each kind; and the tables of these slots are valid
 pub record AreFirstBelow (m : Memory) (root : RootValue) (k : ℕ) (firsts : FirstTables) : Type 0 where
-  pub sound : (j a : ℕ) → j < k → HasSlot root.bytes root.width j a → IsSoundTable m a
+  pub valid : (j a : ℕ) → j < k → HasSlot root.bytes root.width j a → IsValidTable m a
   pub first : (kind : TableKind) → IsFirstBelow m root.bytes root.width k (signature_of kind) (first_table firsts kind)

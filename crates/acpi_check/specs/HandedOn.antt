@@ -6,7 +6,7 @@ use Rattle.acpi_base.specs.Facs.{IsFacs}
 use Rattle.acpi_base.specs.Fadt.{IsFadt, facs_address}
 use Rattle.acpi_base.specs.Root.{HasSlot}
 use Rattle.acpi_base.specs.Rsdp.{IsRsdp}
-use Rattle.acpi_base.specs.Statements.{AreSoundTables, IsClean}
+use Rattle.acpi_base.specs.Statements.{AreValidTables, IsClean}
 use Rattle.acpi_base.specs.Tables.{IsTable}
 use Rattle.acpi_read.specs.Fadts.{FacsValue}
 use Rattle.acpi_read.specs.declared.first_tables.Listed.{Listed}
@@ -22,7 +22,7 @@ pub record IsListedSetOf (m : Memory) (p : ℕ) (set : ListedSet) : Type 0 where
   pub image : set.image.now ≡ m
   pub rsdp : IsRsdp m p set.rsdp
   pub root : IsRootOf m p set.root
-  pub sound : AreSoundTables m p
+  pub valid : AreValidTables m p
   pub tables : AreFirstTables m p set.tables
 
 -- the same for its own image and its RSDP's own address

@@ -10,6 +10,6 @@ leaf_id (Node v) = if has_bit v.flags 1 && has_bit v.flags 3 then Some v.id else
 leaf_id _ = None
 
 -- whether an entry of a MADT is of a known type
-abbrev pub is_typed : MadtEntry → Bool
-is_typed (Opaque e) = false
-is_typed _ = true
+abbrev pub has_known_type : MadtEntry → Bool
+has_known_type (Opaque e) = false
+has_known_type _ = true

@@ -12,8 +12,8 @@ use Rattle.acpi_check.specs.TableResults.{IsFirstOfTable}
 
 -- the tables are valid, or this is their first fault
 abbrev pub FindsFault : Stage → Type 0 → (Code → ℕ → ℕ → ℕ → Type 0) → Option Witness → Type 0
-FindsFault s Sound IsFault None = Sound
-FindsFault s Sound IsFault (Some w) = IsFirstOfTable s IsFault w
+FindsFault s Valid IsFault None = Valid
+FindsFault s Valid IsFault (Some w) = IsFirstOfTable s IsFault w
 
 -- of the codes of which `Has` holds this is the lowest
 abbrev pub IsLowest : (Code → Type 0) → Code → Type 0

@@ -17,13 +17,13 @@ pub record IsFirstOfTable (s : Stage) (IsFault : Code → ℕ → ℕ → ℕ �
 -- What the result of a stage on its tables means: they are valid for it, or this is their first fault of the stage.
 -- Stages 1 to 6 never run out of memory.
 abbrev pub Finds : Stage → Type 0 → (Witness → Type 0) → Result ⊤ Refusal → Type 0
-Finds s Sound IsFirst (Ok _) = Sound
-Finds s Sound IsFirst (Err (Fault w)) = IsFirst w
-Finds s Sound IsFirst (Err OutOfMemory) = 6 < stage_number s
+Finds s Valid IsFirst (Ok _) = Valid
+Finds s Valid IsFirst (Err (Fault w)) = IsFirst w
+Finds s Valid IsFirst (Err OutOfMemory) = 6 < stage_number s
 
 -- the same if the first fault is the one that comes after no other
 abbrev pub FindsFirst : Stage → Type 0 → (Code → ℕ → ℕ → ℕ → Type 0) → Result ⊤ Refusal → Type 0
-FindsFirst s Sound IsFault = Finds s Sound (IsFirstOfTable s IsFault)
+FindsFirst s Valid IsFault = Finds s Valid (IsFirstOfTable s IsFault)
 
 -- w is the overlap that is reported, under this code
 pub record IsOverlap (c : Code) (IsFirst : ℕ → ℕ → ℕ → Type 0) (w : Witness) : Type 0 where

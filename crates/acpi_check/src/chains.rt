@@ -1,7 +1,7 @@
 //! Stages 14 and 15: the chains of Parents and of Next Levels in the PPTT.
 
 ghost use Rattle.std.specs.Prelude.{◌≡◌, AllPairs, IfOk, ◌<◌};
-ghost use Rattle.acpi_base.specs.Pptt.{pptt_contents, AreReferencesSound, DoParentsEnd, DoCachesEnd, ParentFault, CacheFault};
+ghost use Rattle.acpi_base.specs.Pptt.{pptt_contents, AreReferencesValid, DoParentsEnd, DoCachesEnd, ParentFault, CacheFault};
 ghost use Rattle.acpi_base.specs.declared.stage.Stage.{Stage};
 ghost use Rattle.acpi_read.specs.Pptts.{pptt_value};
 ghost use Rattle.acpi_check.specs.ChainIndices.{IsIndexOf};
@@ -108,8 +108,8 @@ pub fn first_cycle(
 
 /// Whether the chain of Parents from every node of a PPTT ends. The first fault is at the offset of the first node
 /// whose chain does not. Allocates for each node.
-pub fn parents_end(alloc: Global, pptt: &Table<'_>) -> Result<(), Refusal>
-    requires { AreReferencesSound (pptt_contents pptt.now) }
+pub fn check_parents(alloc: Global, pptt: &Table<'_>) -> Result<(), Refusal>
+    requires { AreReferencesValid (pptt_contents pptt.now) }
     ensures { FindsFirst Stage.Parents (DoParentsEnd (pptt_contents pptt.now))
         (ParentFault (pptt_contents pptt.now)) result }
 {
@@ -118,8 +118,8 @@ pub fn parents_end(alloc: Global, pptt: &Table<'_>) -> Result<(), Refusal>
 
 /// Whether the chain of Next Levels from every cache of a PPTT ends. The first fault is at the offset of the first
 /// cache whose chain does not. Allocates for each cache.
-pub fn caches_end(alloc: Global, pptt: &Table<'_>) -> Result<(), Refusal>
-    requires { AreReferencesSound (pptt_contents pptt.now) }
+pub fn check_caches(alloc: Global, pptt: &Table<'_>) -> Result<(), Refusal>
+    requires { AreReferencesValid (pptt_contents pptt.now) }
     ensures { FindsFirst Stage.Caches (DoCachesEnd (pptt_contents pptt.now))
         (CacheFault (pptt_contents pptt.now)) result }
 {

@@ -110,7 +110,7 @@ fn first_other_domain(
 ///
 /// Refuses with `OutOfMemory`: unless the entries name processors in rising order, it allocates for each processor that
 /// counts as enabled.
-pub fn one_domain(
+pub fn check_domains(
     alloc: Global,
     processors: Processors,
     madt: &Table<'_>,

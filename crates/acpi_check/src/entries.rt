@@ -51,11 +51,11 @@ fn pass_entry<'a, E: TableEntry<'a> + Copy>(
 
 /// Whether the entries of a table are valid, each by itself. The first fault is at an entry's offset, at that of the
 /// bytes after the entries, or at 0 for a table that is too short.
-pub fn sound_entries<'a, E: TableEntry<'a> + Copy>(
+pub fn check_entries<'a, E: TableEntry<'a> + Copy>(
     policy: &Policy,
     table: Table<'a>,
 ) -> Result<(), Refusal>
-    ensures { FindsFirst E.stage (E.IsSound policy.now table.entry)
+    ensures { FindsFirst E.stage (E.IsValid policy.now table.entry)
         (E.IsFault policy.now table.entry) result }
 {
     let mut entries = match E::raw_entries(table) {

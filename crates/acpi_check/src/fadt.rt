@@ -13,7 +13,7 @@ use acpi_read::{Fadt, FirstTables};
 
 /// The FADT, which is valid; its faults are at an offset from the FADT's start, and at 0 if there is none or it is
 /// too short.
-pub fn sound_fadt<'a>(tables: &FirstTables<'a>) -> Result<Fadt<'a>, Witness>
+pub fn check_fadt<'a>(tables: &FirstTables<'a>) -> Result<Fadt<'a>, Witness>
     ensures { (m : Memory) (q : PolicyValue) → CleanBefore Stage.Fadt m q
         → AreFirstTables m q.rsdp tables.now
         → Reads Stage.Fadt m q (IsFadt m q.rsdp) result }

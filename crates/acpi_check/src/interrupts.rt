@@ -65,7 +65,7 @@ fn first_gsi_clash(alloc: Global, policy: &Policy, madt: &Table<'_>) -> Result<C
 /// Refuses with `Fault` and the code `GsiClash` if two serve one number: `point` is the lowest such number, which is
 /// below 2^32; `at` and `other` are the offsets, in bytes from the table's start, of the first two that serve it, by
 /// their first number and then by offset. Refuses with `OutOfMemory`: it allocates a span for each I/O APIC.
-pub fn apart_interrupts(alloc: Global, policy: &Policy, madt: &Table<'_>) -> Result<(), Refusal>
+pub fn check_interrupts(alloc: Global, policy: &Policy, madt: &Table<'_>) -> Result<(), Refusal>
     ensures { Finds Stage.Interrupts (AreInterruptsApart policy.now (madt_contents madt.now))
         (IsOverlap Code.GsiClash (IsFirstGsiClash policy.now (madt_contents madt.now))) result }
 {

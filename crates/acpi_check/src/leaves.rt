@@ -8,7 +8,7 @@ ghost use Rattle.acpi_base.specs.declared.code.Code.{Code};
 ghost use Rattle.acpi_base.specs.declared.stage.Stage.{Stage};
 ghost use Rattle.acpi_read.specs.Madts.{madt_value};
 ghost use Rattle.acpi_read.specs.Pptts.{pptt_value};
-ghost use Rattle.acpi_check.specs.Leaves.{is_typed, leaf_id};
+ghost use Rattle.acpi_check.specs.Leaves.{has_known_type, leaf_id};
 ghost use Rattle.acpi_check.specs.NamedNumbers.{IsKnown, IsUnknown, FindsUnknown};
 ghost use Rattle.acpi_check.specs.TableResults.{FindsFirst};
 
@@ -21,8 +21,8 @@ use std::alloc::Global;
 
 /// Whether an entry of a MADT is of one of the eight types that are read here: one of another type may describe a
 /// processor.
-fn is_typed(entry: &MadtEntry<'_>) -> bool
-    ensures { result ≡ is_typed (madt_value entry.now) }
+fn has_known_type(entry: &MadtEntry<'_>) -> bool
+    ensures { result ≡ has_known_type (madt_value entry.now) }
 {
     match entry {
         MadtEntry::Opaque(_) => false,
@@ -31,7 +31,7 @@ fn is_typed(entry: &MadtEntry<'_>) -> bool
 }
 
 /// Whether a MADT has its 44 bytes, entries fill it, and each is of such a type, so that all its processors are known.
-fn is_wholly_typed(madt: &Table<'_>) -> bool
+fn are_types_known(madt: &Table<'_>) -> bool
     ensures { MatchBool result (IsWhollyTyped (madt_contents madt.now))
         (¬ IsWhollyTyped (madt_contents madt.now)) }
 {
@@ -39,7 +39,7 @@ fn is_wholly_typed(madt: &Table<'_>) -> bool
         return false;
     };
     while let Some(entry) = entries.next() {
-        if !is_typed(&MadtEntry::of(entry.bytes)) {
+        if !has_known_type(&MadtEntry::of(entry.bytes)) {
             return false;
         }
     }
@@ -107,12 +107,12 @@ const HAS_LEAVES: u8 = 2;
 ///
 /// Refuses with `OutOfMemory`. What exempts tables is tested first, in this order, and allocates nothing. After that
 /// it allocates for the UID of each processor; these are sorted, and each leaf's ID is looked up among them.
-pub fn known_leaves(alloc: Global, madt: &Table<'_>, pptt: &Table<'_>) -> Result<(), Refusal>
+pub fn check_leaves(alloc: Global, madt: &Table<'_>, pptt: &Table<'_>) -> Result<(), Refusal>
     ensures { FindsFirst Stage.Leaves
         (AreLeavesKnown (madt_contents madt.now) (pptt_contents pptt.now))
         (LeafFault (madt_contents madt.now) (pptt_contents pptt.now)) result }
 {
-    if pptt.header().revision < HAS_LEAVES || !is_wholly_typed(madt) {
+    if pptt.header().revision < HAS_LEAVES || !are_types_known(madt) {
         return Ok(());
     }
     let uids = numbers_of(alloc, Key::Uid, madt)?;

@@ -6,8 +6,8 @@
 //! `read_set` and `check_set` return the set for which stages 1 to 3, or all eighteen, hold. Stages 7, 10 and 13 to 18
 //! allocate; the others do not.
 //!
-//! The finders of stages that have one code are public: `apart_interrupts`, `agreeing_overrides`, `apart_ranges`,
-//! `first_cycle`, `one_domain`, `named_served` and `known_leaves` require nothing of earlier stages, and may be
+//! The finders of stages that have one code are public: `check_interrupts`, `check_overrides`, `check_ranges`,
+//! `first_cycle`, `check_domains`, `check_served` and `check_leaves` require nothing of earlier stages, and may be
 //! called on any table. So are what they read of an entry of a PPTT (`named_offset`, `first_dangling`), `collected`, with
 //! which they gather values, and the searches with which they look them up.
 //!
@@ -30,7 +30,7 @@ mod fadt;
 mod first_seen;
 mod interrupts;
 mod leaves;
-mod listed;
+mod later_stages;
 mod nodes;
 mod offset_set;
 mod overrides;
@@ -51,16 +51,16 @@ mod tables;
 
 pub use chains::{first_cycle, named_offset};
 pub use collecting::collected;
-pub use domains::one_domain;
-pub use interrupts::apart_interrupts;
-pub use leaves::known_leaves;
+pub use domains::check_domains;
+pub use interrupts::check_interrupts;
+pub use leaves::check_leaves;
 pub use nodes::Chain;
 pub use offset_set::OffsetSet;
-pub use overrides::agreeing_overrides;
-pub use ranges::apart_ranges;
+pub use overrides::check_overrides;
+pub use ranges::check_ranges;
 pub use references::first_dangling;
 pub use refusal::Refusal;
 pub use search::{binary_search, has, sorted_unique};
-pub use served::named_served;
+pub use served::check_served;
 pub use set::{CleanSet, ListedSet};
 pub use stages::{check, check_set, check_to, read_set};

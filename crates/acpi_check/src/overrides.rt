@@ -54,7 +54,7 @@ fn do_sources_rise(madt: &Table<'_>) -> bool
 /// Refuses with `Fault` and the code `OverrideClash` if one gives its Source another number than an earlier one: `at`
 /// is the offset, in bytes from the table's start, of the first that gives its Source another number than the first
 /// override of this Source, whose offset is `other`; `point` is the Source, from 0 to 255.
-pub fn agreeing_overrides(madt: &Table<'_>) -> Result<(), Refusal>
+pub fn check_overrides(madt: &Table<'_>) -> Result<(), Refusal>
     ensures settled { FindsFirst Stage.Overrides (DoOverridesAgree (madt_contents madt.now))
         (OverrideFault (madt_contents madt.now)) result }
     ensures memory { IfErr result (λ refusal. refusal ≢ Refusal.OutOfMemory) }

@@ -4,7 +4,7 @@ use crate::offset_set::OffsetSet;
 
 /// What an entry is.
 #[derive(Clone, Copy)]
-pub enum Kind {
+pub enum PlaceKind {
     /// A processor hierarchy node.
     Node,
     /// A cache.

@@ -118,7 +118,7 @@ fn first_overlap(alloc: Global, hotplug: HotPlug, srat: &Table<'_>) -> Result<Cl
 /// and then by offset. If they are compared by kind, both are of one kind; if both kinds have the same lowest
 /// address, those that are not hot-pluggable are named. Refuses with `OutOfMemory`: it allocates a span for each
 /// range that is compared.
-pub fn apart_ranges(alloc: Global, hotplug: HotPlug, srat: &Table<'_>) -> Result<(), Refusal>
+pub fn check_ranges(alloc: Global, hotplug: HotPlug, srat: &Table<'_>) -> Result<(), Refusal>
     ensures { Finds Stage.Ranges (AreRangesApart hotplug (srat_contents srat.now))
         (IsOverlap Code.Overlap (IsFirstOverlap hotplug (srat_contents srat.now))) result }
 {

@@ -2,7 +2,7 @@
 
 ghost use Rattle.std.specs.Prelude.{◌≡◌, ◌≢◌, ◌*◌, ◌<◌, ◌⊎◌, ℕ, IfOk, OnOk, MatchOption, length};
 ghost use Rattle.acpi_base.specs.Number.{field};
-ghost use Rattle.acpi_base.specs.Pptt.{pptt_contents, IsCutPptt, AreReferencesSound, ReferenceFault};
+ghost use Rattle.acpi_base.specs.Pptt.{pptt_contents, IsCutPptt, AreReferencesValid, ReferenceFault};
 ghost use Rattle.acpi_base.specs.declared.stage.Stage.{Stage};
 ghost use Rattle.acpi_read.specs.Pptts.{pptt_value, HasReferences};
 ghost use Rattle.acpi_check.specs.TableResults.{FindsFirst};
@@ -10,7 +10,7 @@ ghost use Rattle.acpi_check.specs.OffsetSets.{IsIn, Adds};
 ghost use Rattle.acpi_check.specs.EntryPlaces.{kind_of, is_node, is_cache, is_resource, ArePlaces, NamesPlaces, IsFirstReference};
 
 use crate::offset_set::OffsetSet;
-use crate::places::{Kind, Places};
+use crate::places::{PlaceKind, Places};
 use crate::refusal::Refusal;
 use acpi_base::field::u32_at;
 use acpi_base::{Code, Witness};
@@ -18,30 +18,30 @@ use acpi_read::{EntryAt, PpttEntry, Table};
 use std::alloc::{AllocError, Global};
 
 /// What an entry is.
-fn kind_of(entry: &PpttEntry<'_>) -> Kind
+fn kind_of(entry: &PpttEntry<'_>) -> PlaceKind
     ensures { result ≡ kind_of (pptt_value entry.now) }
 {
     match entry {
-        PpttEntry::Node(..) => Kind::Node,
-        PpttEntry::Cache24(_) | PpttEntry::Cache28(_) => Kind::Cache,
-        PpttEntry::Opaque(_) => Kind::Other,
+        PpttEntry::Node(..) => PlaceKind::Node,
+        PpttEntry::Cache24(_) | PpttEntry::Cache28(_) => PlaceKind::Cache,
+        PpttEntry::Opaque(_) => PlaceKind::Other,
     }
 }
 
 /// Adds the offset of an entry to those of its kind.
-fn add_place(places: &mut Places, kind: Kind, offset: u64) -> Result<(), AllocError>
+fn add_place(places: &mut Places, kind: PlaceKind, offset: u64) -> Result<(), AllocError>
     ensures nodes { OnOk result (Adds (is_node kind) offset places.old.nodes places.new.nodes) }
     ensures caches { OnOk result (Adds (is_cache kind) offset places.old.caches places.new.caches) }
     ensures resources { OnOk result
         (Adds (is_resource kind) offset places.old.resources places.new.resources) }
 {
     match kind {
-        Kind::Node => places.nodes.add(offset)?,
-        Kind::Cache => {
+        PlaceKind::Node => places.nodes.add(offset)?,
+        PlaceKind::Cache => {
             places.caches.add(offset)?;
             places.resources.add(offset)?;
         }
-        Kind::Other => places.resources.add(offset)?,
+        PlaceKind::Other => places.resources.add(offset)?,
     }
     Ok(())
 }
@@ -138,7 +138,7 @@ fn own_fault(places: &Places, at: &EntryAt<PpttEntry<'_>>) -> Option<Witness>
 /// The first fault of the entries' references, in the entries' order.
 fn first_fault(places: &Places, pptt: &Table<'_>) -> Result<(), Refusal>
     requires { ArePlaces (pptt_contents pptt.now) places.now }
-    ensures { FindsFirst Stage.References (AreReferencesSound (pptt_contents pptt.now))
+    ensures { FindsFirst Stage.References (AreReferencesValid (pptt_contents pptt.now))
         (ReferenceFault (pptt_contents pptt.now)) result }
 {
     let mut entries = pptt.entries::<PpttEntry<'_>>();
@@ -152,9 +152,9 @@ fn first_fault(places: &Places, pptt: &Table<'_>) -> Result<(), Refusal>
 
 /// Whether there is an entry at each offset that a PPTT's entries refer to, of the required kind. The first fault is
 /// at the offset of the entry with the reference. Allocates a bit for each byte of the table, three times.
-pub fn sound_references(alloc: Global, pptt: &Table<'_>) -> Result<(), Refusal>
+pub fn check_references(alloc: Global, pptt: &Table<'_>) -> Result<(), Refusal>
     requires { IsCutPptt (pptt_contents pptt.now) }
-    ensures { FindsFirst Stage.References (AreReferencesSound (pptt_contents pptt.now))
+    ensures { FindsFirst Stage.References (AreReferencesValid (pptt_contents pptt.now))
         (ReferenceFault (pptt_contents pptt.now)) result }
 {
     let places = places_of(alloc, pptt)?;

@@ -15,7 +15,7 @@ use acpi_read::{Root, Rsdp};
 
 /// The root table that the RSDP names; its faults are at the RSDP's address if it names none, otherwise at the root
 /// table's.
-pub fn sound_root<'a>(image: &'a Image, rsdp: &Rsdp) -> Result<Root<'a>, Witness>
+pub fn check_root<'a>(image: &'a Image, rsdp: &Rsdp) -> Result<Root<'a>, Witness>
     ensures { (q : PolicyValue) → CleanBefore Stage.Root image.now q
         → IsRsdp image.now q.rsdp rsdp.now
         → Reads Stage.Root image.now q (IsRootOf image.now q.rsdp) result }

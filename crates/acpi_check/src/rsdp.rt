@@ -10,7 +10,7 @@ use acpi_base::{Image, Witness};
 use acpi_read::Rsdp;
 
 /// The RSDP at an address; its faults are at that address.
-pub fn sound_rsdp(image: &Image, address: u64) -> Result<Rsdp, Witness>
+pub fn check_rsdp(image: &Image, address: u64) -> Result<Rsdp, Witness>
     ensures { (q : PolicyValue) → q.rsdp ≡ address
         → Reads Stage.Rsdp image.now q (IsRsdp image.now q.rsdp) result }
 {

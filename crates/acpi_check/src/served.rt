@@ -109,7 +109,7 @@ fn first_unserved(spans: &[Span], madt: &Table<'_>) -> Option<Witness>
 ///
 /// Refuses with `OutOfMemory`: it allocates two spans for each I/O APIC. These are sorted, and each number is looked
 /// up among them.
-pub fn named_served(alloc: Global, policy: &Policy, madt: &Table<'_>) -> Result<(), Refusal>
+pub fn check_served(alloc: Global, policy: &Policy, madt: &Table<'_>) -> Result<(), Refusal>
     ensures { FindsFirst Stage.Served (AreNamedServed policy.now (madt_contents madt.now))
         (ServedFault policy.now (madt_contents madt.now)) result }
 {

@@ -36,7 +36,7 @@ impl<'a> ListedSet<'a> {
         if address == 0 {
             return None;
         }
-        let table = Table::sound(self.image, address);
+        let table = Table::valid(self.image, address);
         Some(Listed { address, table })
     }
 }

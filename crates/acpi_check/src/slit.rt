@@ -1,6 +1,6 @@
 //! Stage 11: the SLIT's distances.
 
-ghost use Rattle.acpi_base.specs.Slit.{slit_contents, IsSoundSlit, SlitFault};
+ghost use Rattle.acpi_base.specs.Slit.{slit_contents, IsValidSlit, SlitFault};
 ghost use Rattle.acpi_base.specs.declared.stage.Stage.{Stage};
 ghost use Rattle.acpi_check.specs.TableResults.{FindsFirst};
 
@@ -9,8 +9,8 @@ use acpi_read::{Slit, Table};
 
 /// Whether a SLIT is valid. The first fault is at 0 for one that is too short, at 36 for a number of localities that
 /// does not match its length, otherwise at a cell's offset.
-pub fn sound_slit(table: Table<'_>) -> Result<(), Refusal>
-    ensures { FindsFirst Stage.Slit (IsSoundSlit (slit_contents table.entry))
+pub fn check_slit(table: Table<'_>) -> Result<(), Refusal>
+    ensures { FindsFirst Stage.Slit (IsValidSlit (slit_contents table.entry))
         (SlitFault (slit_contents table.entry)) result }
 {
     match Slit::new(table) {

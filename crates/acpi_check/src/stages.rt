@@ -12,14 +12,14 @@ ghost use Rattle.acpi_check.specs.StageResults.{ReadsTo, IsResultTo};
 ghost use Rattle.acpi_check.specs.HandedOn.{IsListedSetOf, IsCleanSetOf};
 ghost use Rattle.acpi_check.specs.Set.{IsSetOf, IsSet};
 
-use crate::facs::sound_facs;
-use crate::fadt::sound_fadt;
-use crate::listed::run_stage;
+use crate::facs::check_facs;
+use crate::fadt::check_fadt;
+use crate::later_stages::run_stage;
 use crate::refusal::Refusal;
-use crate::root::sound_root;
-use crate::rsdp::sound_rsdp;
+use crate::root::check_root;
+use crate::rsdp::check_rsdp;
 use crate::set::{CleanSet, ListedSet, Set};
-use crate::tables::sound_tables;
+use crate::tables::check_tables;
 use acpi_base::{Image, Policy, Stage, Verdict, Witness};
 use std::alloc::{AllocError, Global};
 
@@ -61,7 +61,7 @@ pub fn check_to(
 fn stages_to(alloc: Global, image: &Image, policy: &Policy, last: Stage) -> Result<(), Refusal>
     ensures { IsResultTo last image.now policy.now (λ _. CleanTo last image.now policy.now) result }
 {
-    match sound_set(image, policy) {
+    match valid_set(image, policy) {
         Ok(set) => later_stages(alloc, &set, last),
         Err(fault) if fault.code.stage().number() <= last.number() => Err(Refusal::Fault(fault)),
         Err(_) => Ok(()),
@@ -75,9 +75,9 @@ pub fn read_set<'a>(image: &'a Image, rsdp: u64) -> Result<ListedSet<'a>, Witnes
     ensures { (q : PolicyValue) → q.rsdp ≡ rsdp
         → ReadsTo Stage.Tables image.now q (IsListedSetOf image.now q.rsdp) result }
 {
-    let rsdp = sound_rsdp(image, rsdp)?;
-    let root = sound_root(image, &rsdp)?;
-    let tables = sound_tables(image, &root)?;
+    let rsdp = check_rsdp(image, rsdp)?;
+    let root = check_root(image, &rsdp)?;
+    let tables = check_tables(image, &root)?;
     Ok(ListedSet {
         image,
         rsdp,
@@ -87,12 +87,12 @@ pub fn read_set<'a>(image: &'a Image, rsdp: u64) -> Result<ListedSet<'a>, Witnes
 }
 
 /// The set for which the stages up to the FACS hold, or its first fault, which is one of theirs.
-fn sound_set<'a, 'p>(image: &'a Image, policy: &'p Policy) -> Result<Set<'a, 'p>, Witness>
+fn valid_set<'a, 'p>(image: &'a Image, policy: &'p Policy) -> Result<Set<'a, 'p>, Witness>
     ensures { ReadsTo Stage.Facs image.now policy.now (IsSetOf image.now policy.now) result }
 {
     let listed = read_set(image, policy.rsdp())?;
-    let fadt = sound_fadt(&listed.tables)?;
-    let facs = sound_facs(image, &fadt)?;
+    let fadt = check_fadt(&listed.tables)?;
+    let facs = check_facs(image, &fadt)?;
     Ok(Set {
         listed,
         policy,
@@ -125,7 +125,7 @@ pub fn check_set<'a>(
     ensures { IsResultTo Stage.Leaves image.now policy.now (IsCleanSetOf image.now policy.now)
         result }
 {
-    let set = sound_set(image, policy)?;
+    let set = valid_set(image, policy)?;
     later_stages(alloc, &set, Stage::LAST)?;
     Ok(CleanSet {
         listed: set.listed,

@@ -3,7 +3,7 @@ use Rattle.std.proofs.Common.{◌≡◌, List, [], ◌∷◌, false, length, tru
 use Rattle.std.specs.Prelude.{◌==◌}
 use Rattle.std.specs.List.{flat_map}
 use Rattle.acpi_base.specs.declared.witness.Witness.{Witness}
-use Rattle.acpi_cli.specs.Engine.{fault_lines, no_line}
+use Rattle.acpi_cli.specs.Commands.{fault_lines, no_line}
 
 -- where there is a fault, each has its line
 pub lines_of_faults : (faults : List Witness) → (length faults == 0) ≡ false

@@ -4,7 +4,7 @@ use Rattle.std.specs.Prelude.{IsSome, Result}
 use Rattle.std.specs.Io.KnownBytes.{Consumes, Keeps}
 use Rattle.acpi_base.specs.Memory.{Memory}
 use Rattle.acpi_arguments.specs.CommandLine.{Asked, Does, DoesAsked, check, confirm, find, lint, rebuild, show}
-use Rattle.acpi_cli.specs.Engine.{Device, Reads, ReportsJob, Runs}
+use Rattle.acpi_cli.specs.Commands.{Device, Reads, ReportsJob, Runs}
 use Rattle.acpi_cli.specs.Outcome.{exit_status}
 use Rattle.acpi_cli.specs.Program.{IsUntouched, Obeys, ReportsAsked}
 use Rattle.acpi_cli.specs.declared.outcome.Outcome.{Outcome}
@@ -17,19 +17,19 @@ use Rattle.acpi_arguments.specs.declared.words.WordFault.TheVariants as fault
 -- a job that does what is asked reports it
 reports_asked : (what : Asked) (job : Job) → Does what job → (m : Memory) (bytes : List ℕ) (returned : Outcome)
     → ReportsJob job m bytes returned → ReportsAsked what m bytes returned
-reports_asked (check rsdp policy last) (Check given held stage) does m bytes returned reports =
+reports_asked (check rsdp policy last) (Check given present stage) does m bytes returned reports =
     (stage, does.2, rw (sym does.0, sym does.1) reports)
-reports_asked (lint rsdp policy strict) (Lint given held is_strict) does m bytes returned reports =
+reports_asked (lint rsdp policy strict) (Lint given present is_strict) does m bytes returned reports =
     rw (sym does.0, sym does.1, sym does.2) reports
-reports_asked (confirm rsdp policy w) (Confirm given held witness) does m bytes returned reports =
+reports_asked (confirm rsdp policy w) (Confirm given present witness) does m bytes returned reports =
     rw (sym does.0, sym does.1, sym does.2) reports
-reports_asked (rebuild rsdp policy base) (Rebuild given held at) does m bytes returned reports =
+reports_asked (rebuild rsdp policy base) (Rebuild given present at) does m bytes returned reports =
     rw (sym does.0, sym does.1, sym does.2) reports
 reports_asked (show rsdp) (Show given) does m bytes returned reports = rw (sym does) reports
 reports_asked find Find does m bytes returned reports = reports
 reports_asked _ _ does m bytes returned reports = absurd does
 
--- so an engine that does the job does what is asked
+-- so a command function that does the job does what is asked
 pub obeyed : (a : Option Asked) (job : Job) (input output : Device) (result : Result Outcome RunFault) (status : ℕ)
     → DoesAsked a job
     → Runs (ReportsJob job) input output result → status ≡ exit_status result → Obeys a input output status
@@ -60,7 +60,7 @@ consumes_nothing None after keeps = keeps
 consumes_nothing (Some xs) None keeps = absurd keeps
 consumes_nothing (Some xs) (Some ys) keeps = sym keeps
 
--- where memory runs out before anything is read, that is what an engine may do
+-- where memory runs out before anything is read, that is what a command function may do
 pub starved : (a : Option Asked) (input output : Device) (status : ℕ) → IsUntouched input → IsUntouched output
     → status ≡ 4 → Obeys a input output status
 starved None input output status nothing_read nothing_written e = (nothing_read, nothing_written, inr e)
@@ -71,7 +71,7 @@ starved (Some what) input output status nothing_read nothing_written e =
       inr (
         run.Memory,
         refl,
-        record { text = []; read = reads; sound = nothing_read.1 },
+        record { text = []; read = reads; valid = nothing_read.1 },
         nothing_written,
       ),
       e,

@@ -1,4 +1,4 @@
 -- What the contracts of the program cite.
-pub mod Engine
+pub mod Commands
 pub mod Outcome
 pub mod Program

@@ -1,4 +1,4 @@
--- The exit status that goes with what an engine returns.
+-- The exit status that goes with what a command function returns.
 use Rattle.std.specs.Prelude.{ℕ, Result, Ok, Err}
 use Rattle.acpi_cli.specs.declared.outcome.Outcome.{Outcome}
 use Rattle.acpi_cli.specs.declared.outcome.Outcome.TheVariants as outcome

@@ -5,12 +5,12 @@ use Rattle.acpi_base.specs.Memory.{Memory}
 use Rattle.acpi_base.specs.Codes.{stage_number}
 use Rattle.acpi_base.specs.declared.stage.Stage.{Stage}
 use Rattle.acpi_arguments.specs.CommandLine.{Asked, check, confirm, find, lint, rebuild, show}
-use Rattle.acpi_cli.specs.Engine.{Device, HasNotFailed, ReportsCheck, ReportsConfirm, ReportsFound, ReportsLint, ReportsRebuild, ReportsShow, Runs}
+use Rattle.acpi_cli.specs.Commands.{Device, HasNotFailed, ReportsCheck, ReportsConfirm, ReportsFound, ReportsLint, ReportsRebuild, ReportsShow, Runs}
 use Rattle.acpi_cli.specs.Outcome.{exit_status}
 use Rattle.acpi_cli.specs.declared.outcome.Outcome.{Outcome}
 use Rattle.acpi_cli.specs.declared.outcome.RunFault.{RunFault}
 
--- what is reported on an image by an engine that does what is asked
+-- what is reported on an image by a command function that does what is asked
 abbrev pub ReportsAsked : Asked → Memory → List ℕ → Outcome → Type 0
 ReportsAsked (check given policy last) m bytes returned =
     (stage : Stage) × (stage_number stage ≡ last) × ReportsCheck given policy stage m bytes returned
@@ -24,8 +24,8 @@ ReportsAsked find m bytes returned = ReportsFound m bytes returned
 abbrev pub IsUntouched : Device → Type 0
 IsUntouched device = Keeps device.bytes_before device.bytes_after × HasNotFailed device
 
--- What the program does. If its arguments ask for something, an engine does it, and the exit status is that of the
--- engine's result. If they ask for nothing, it reads and writes nothing, and the exit status is 2, or 4 if memory ran out.
+-- What the program does. If its arguments ask for something, a command function does it, and the exit status is that of the
+-- command function's result. If they ask for nothing, it reads and writes nothing, and the exit status is 2, or 4 if memory ran out.
 abbrev pub Obeys : Option Asked → Device → Device → ℕ → Type 0
 Obeys (Some what) input output status =
     (result : Result Outcome RunFault) × Runs (ReportsAsked what) input output result × (status ≡ exit_status result)

@@ -1,7 +1,7 @@
-//! The engine of the command `check`.
+//! The command `check`.
 
 ghost use Rattle.std.specs.Prelude.{◌≡◌, IfOk, IfSome, IsNone, codes};
-ghost use Rattle.acpi_cli.specs.Engine.{device, HasNoRsdp, IsRsdpAddress, Runs, ReportsCheck, outcome_of};
+ghost use Rattle.acpi_cli.specs.Commands.{device, HasNoRsdp, IsRsdpAddress, Runs, ReportsCheck, outcome_of};
 
 use crate::devices::{Output, read_input, write_output};
 use crate::outcome::{Outcome, RunFault};

@@ -1,7 +1,7 @@
-//! The engine of the command `confirm`.
+//! The command `confirm`.
 
 ghost use Rattle.std.specs.Prelude.{IfOk};
-ghost use Rattle.acpi_cli.specs.Engine.{device, Runs, ReportsConfirm};
+ghost use Rattle.acpi_cli.specs.Commands.{device, Runs, ReportsConfirm};
 
 use crate::check::{no_rsdp, rsdp_address};
 use crate::devices::{Output, read_input, write_output};

@@ -1,16 +1,16 @@
-//! Reading an engine's input and writing its output.
+//! Reading a command function's input and writing its output.
 
 ghost use Rattle.std.specs.Prelude.{◌≡◌, ℕ, OnOk, OnErr, take};
 ghost use Rattle.std.specs.Io.KnownBytes.{Appends};
 ghost use Rattle.acpi_base.specs.Tally.{CountsFailure};
-ghost use Rattle.acpi_cli.specs.Engine.{device, ReadsInput, WritesOutput};
+ghost use Rattle.acpi_cli.specs.Commands.{device, ReadsInput, WritesOutput};
 
 use crate::outcome::{Outcome, RunFault};
 use acpi_base::{DeviceFailed, Image, Tally, TextFault, read_image};
 use std::alloc::Global;
 use std::io::{Read, Write};
 
-/// What an engine is to write, and the outcome that it then returns.
+/// What a command function is to write, and the outcome that it then returns.
 #[derive(Drop)]
 pub struct Output {
     pub bytes: Vec<u8>,
@@ -45,7 +45,7 @@ pub fn write_output<W: Write>(writer: &mut Tally<W>, output: &Output) -> Result<
 fn write_whole<W: Write>(writer: &mut Tally<W>, bytes: &[u8]) -> Result<(), DeviceFailed>
     ensures ok { OnOk result
         (Appends (W.contents writer.old.inner) (W.contents writer.new.inner) bytes.now) }
-    ensures sound { OnOk result (writer.new.failures ≡ writer.old.failures) }
+    ensures valid { OnOk result (writer.new.failures ≡ writer.old.failures) }
     ensures err { OnErr result
         ((n : ℕ) × Appends (W.contents writer.old.inner) (W.contents writer.new.inner)
         (take n bytes.now)) }

@@ -1,7 +1,7 @@
-//! The engine of the command `find`.
+//! The command `find`.
 
 ghost use Rattle.std.specs.Prelude.{IfOk};
-ghost use Rattle.acpi_cli.specs.Engine.{device, Runs, ReportsFound};
+ghost use Rattle.acpi_cli.specs.Commands.{device, Runs, ReportsFound};
 
 use crate::devices::{Output, read_input, write_output};
 use crate::outcome::{Outcome, RunFault};

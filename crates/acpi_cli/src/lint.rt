@@ -1,8 +1,8 @@
-//! The engine of the command `lint`.
+//! The command `lint`.
 
 ghost use Rattle.std.specs.Prelude.{◌≡◌, IfOk};
 ghost use Rattle.std.specs.List.{flat_map};
-ghost use Rattle.acpi_cli.specs.Engine.{device, no_line, Runs, ReportsLint, fault_lines, finding_lines, outcome_of_findings};
+ghost use Rattle.acpi_cli.specs.Commands.{device, no_line, Runs, ReportsLint, fault_lines, finding_lines, outcome_of_findings};
 
 use crate::check::{no_rsdp, rsdp_address};
 use crate::devices::{Output, read_input, write_output};

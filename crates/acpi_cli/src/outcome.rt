@@ -1,4 +1,4 @@
-//! What an engine returns, and the exit status that goes with it.
+//! What a command function returns, and the exit status that goes with it.
 
 ghost use Rattle.std.specs.Prelude.{◌≡◌};
 ghost use Rattle.acpi_cli.specs.Outcome.{exit_status};
@@ -6,7 +6,7 @@ ghost use Rattle.acpi_cli.specs.Outcome.{exit_status};
 use acpi_base::TextFault;
 use thiserror::Error;
 
-/// What an engine returns if nothing failed.
+/// What a command function returns if nothing failed.
 #[derive(Clone, Copy, Debug, PartialEq, Eq)]
 pub enum Outcome {
     /// What was asked holds.
@@ -15,7 +15,7 @@ pub enum Outcome {
     No,
 }
 
-/// Why an engine failed.
+/// Why a command function failed.
 #[derive(Clone, Copy, Debug, PartialEq, Eq, Error)]
 pub enum RunFault {
     /// The input is not image text: a fault of the text, never `Read` or `Memory`.
@@ -30,7 +30,7 @@ pub enum RunFault {
 }
 
 /// The program's exit status: 0 for `Yes`, 1 for `No`, 3 if the text is refused, and 4 if memory ran out or
-/// a device failed. Refused arguments have status 2, before any engine runs.
+/// a device failed. Refused arguments have status 2, before any command function runs.
 pub fn status_of(run: &Result<Outcome, RunFault>) -> u8
     ensures { result ≡ exit_status run.now }
 {

@@ -3,7 +3,7 @@
 ghost use Rattle.std.specs.Prelude.{◌≡◌, map};
 ghost use Rattle.std.specs.String.{string_bytes};
 ghost use Rattle.acpi_arguments.specs.CommandLine.{asked_job};
-ghost use Rattle.acpi_cli.specs.Engine.{device, Runs, ReportsJob};
+ghost use Rattle.acpi_cli.specs.Commands.{device, Runs, ReportsJob};
 ghost use Rattle.acpi_cli.specs.Program.{Obeys};
 
 use crate::check::run_check;
@@ -26,7 +26,7 @@ const OUT_OF_MEMORY: u8 = 4;
 
 /// Does what the arguments `words` ask for, of which the first is the program's name, and returns the exit status.
 ///
-/// If they ask for a job, its engine runs on `reader` and `writer`, and the status is that of its result: 0, 1, 3 or 4. If
+/// If they ask for a job, its command function runs on `reader` and `writer`, and the status is that of its result: 0, 1, 3 or 4. If
 /// they ask for none, or for help, nothing is read or written, and the status is 2; if memory runs out while they are parsed,
 /// nothing is read or written either, and the status is 4. Errors are reported on `errors`; a failed write there changes
 /// nothing else.
@@ -84,7 +84,7 @@ pub fn do_job<R: Read, W: Write>(
     }
 }
 
-/// Reports an engine's error, if it returned one.
+/// Reports a command function's error, if it returned one.
 fn report<E: Write>(errors: &mut E, ended: &Result<Outcome, RunFault>) {
     if let Err(fault) = ended {
         let _ = writeln!(errors, "acpiset: {fault}");

@@ -1,7 +1,7 @@
-//! The engine of the command `rebuild`.
+//! The command `rebuild`.
 
 ghost use Rattle.std.specs.Prelude.{◌≡◌, IfOk};
-ghost use Rattle.acpi_cli.specs.Engine.{device, IsRefusalLine, Runs, ReportsRebuild, TellsRebuilt};
+ghost use Rattle.acpi_cli.specs.Commands.{device, IsRefusalLine, Runs, ReportsRebuild, TellsRebuilt};
 
 use crate::check::{no_rsdp, rsdp_address};
 use crate::devices::{Output, read_input, write_output};

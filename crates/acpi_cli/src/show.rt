@@ -1,18 +1,18 @@
-//! The engine of the command `show`.
+//! The command `show`.
 
 mod entries;
 mod fadt;
 mod fields;
-mod listed;
 mod madt;
 mod pptt;
 mod root;
 mod set;
 mod slit;
 mod srat;
+mod unread;
 
 ghost use Rattle.std.specs.Prelude.{IfOk};
-ghost use Rattle.acpi_cli.specs.Engine.{device, Runs, ReportsShow};
+ghost use Rattle.acpi_cli.specs.Commands.{device, Runs, ReportsShow};
 
 use crate::check::{no_rsdp, rsdp_address};
 use crate::devices::{Output, read_input, write_output};

@@ -73,10 +73,10 @@ const NO_FADT: Witness = Witness {
     point: 0,
 };
 
-/// The most bytes that an engine writes in these tests.
+/// The most bytes that a command function writes in these tests.
 const ROOM: usize = 1024;
 
-/// What the engine of a job returns on the bytes of a reader, and what it writes.
+/// What the command function of a job returns on the bytes of a reader, and what it writes.
 fn told<R: Read + Drop>(
     alloc: Global,
     reader: R,
@@ -88,7 +88,7 @@ fn told<R: Read + Drop>(
     Ok((returned, writer.into_inner()))
 }
 
-/// The engine of the job returns this outcome on the text, and writes these bytes.
+/// The command function of the job returns this outcome on the text, and writes these bytes.
 fn expect_report(
     rt: &impl Abort,
     alloc: Global,
@@ -247,7 +247,7 @@ const SHOWS: [(&[u8], Option<u64>, Outcome, &[u8]); 3] = [
 ];
 
 #[test]
-fn a_set_of_sound_tables_is_shown(rt: HostRuntime) -> Result<(), Fail> {
+fn a_set_of_valid_tables_is_shown(rt: HostRuntime) -> Result<(), Fail> {
     let alloc = rt.alloc();
     for (text, rsdp, outcome, lines) in SHOWS {
         expect_report(&rt, alloc, text, Job::Show { rsdp }, outcome, lines)?;
@@ -322,7 +322,7 @@ fn job(alloc: Global, command: Command) -> Result<Job, PolicyFault> {
 }
 
 #[test]
-fn each_engine_refuses_a_bad_line_and_writes_nothing(rt: HostRuntime) -> Result<(), Fail> {
+fn each_command_refuses_a_bad_line_and_writes_nothing(rt: HostRuntime) -> Result<(), Fail> {
     let alloc = rt.alloc();
     for (command, _) in COMMANDS {
         let (returned, written) = told(alloc, b"@0\n1".as_slice(), job(alloc, command)?)?;
@@ -350,7 +350,7 @@ impl Read for Cut {
 
 // The whole text was read when the read fails.
 #[test]
-fn each_engine_tells_of_a_failed_read_and_writes_nothing(rt: HostRuntime) -> Result<(), Fail> {
+fn each_command_tells_of_a_failed_read_and_writes_nothing(rt: HostRuntime) -> Result<(), Fail> {
     let alloc = rt.alloc();
     for (command, _) in COMMANDS {
         let (returned, written) = told(alloc, Cut(LISTS_NOTHING), job(alloc, command)?)?;
@@ -362,7 +362,7 @@ fn each_engine_tells_of_a_failed_read_and_writes_nothing(rt: HostRuntime) -> Res
     Ok(())
 }
 
-/// What the engine of a job returns if its writer accepts only three bytes, and these bytes.
+/// What the command function of a job returns if its writer accepts only three bytes, and these bytes.
 fn told_to_three_bytes(alloc: Global, job: Job) -> (Result<Outcome, RunFault>, [u8; 3]) {
     let mut bytes = [0; 3];
     let mut reader = Tally::new(LISTS_NOTHING);
@@ -372,7 +372,7 @@ fn told_to_three_bytes(alloc: Global, job: Job) -> (Result<Outcome, RunFault>, [
 }
 
 #[test]
-fn each_engine_tells_of_a_failed_write_behind_a_prefix(rt: HostRuntime) -> Result<(), Fail> {
+fn each_command_tells_of_a_failed_write_behind_a_prefix(rt: HostRuntime) -> Result<(), Fail> {
     let alloc = rt.alloc();
     for (command, prefix) in COMMANDS {
         let told = told_to_three_bytes(alloc, job(alloc, command)?);

@@ -12,24 +12,24 @@ use Rattle.acpi_base.specs.Listed.{fadt_signature, IsFirstListed, IsNoneListed, 
 use Rattle.acpi_base.specs.declared.code.Code.{Code}
 use Rattle.acpi_base.proofs.Root.Named.{of_root}
 use Rattle.acpi_base.proofs.Tables.Listed.{one_first_listed, one_listed, none_and_first_listed, none_and_listed, listed_of_root, listed_in_root, none_in_root}
-use Rattle.acpi_confirm.specs.Roots.{IsFirstSoFar, IsSignedIn, IsWholeRoot}
+use Rattle.acpi_confirm.specs.Roots.{IsFirstSoFar, IsSignedIn, IsCompleteRoot}
 
 -- ---- one table
 
 -- a set without a root lists no table
 pub none_without_root : {m : Memory} {p : ℕ} {signature : List ℕ}
-    → ((d : ℕ) (bytes : List ℕ) → ¬ IsWholeRoot m p d bytes) → (whole : List ℕ) → ¬ IsListedTable m p signature whole
+    → ((d : ℕ) (bytes : List ℕ) → ¬ IsCompleteRoot m p d bytes) → (whole : List ℕ) → ¬ IsListedTable m p signature whole
 none_without_root none whole listed =
     let first = listed.first in none _ _ (record { r = first.r; root = first.root; table = first.table })
 
 -- the table that a set lists comes first in its slots
-pub first_of_listed : {m : Memory} {p d : ℕ} {bytes signature whole : List ℕ} → IsWholeRoot m p d bytes
+pub first_of_listed : {m : Memory} {p d : ℕ} {bytes signature whole : List ℕ} → IsCompleteRoot m p d bytes
     → (listed : IsListedTable m p signature whole) → IsFirstListed m bytes d signature listed.a
 first_of_listed root listed = listed_of_root root.root root.table listed.first
 
 -- the table at the first address is the set's, if it is complete
 pub table_of_first : {m : Memory} {p d : ℕ} {bytes signature : List ℕ} (a : ℕ) (table : Option (Bor (List ℕ)))
-    → IsWholeRoot m p d bytes → IsFirstListed m bytes d signature a
+    → IsCompleteRoot m p d bytes → IsFirstListed m bytes d signature a
     → MatchOption table ((header whole : List ℕ) → ¬ IsTable m a header whole)
     (λ whole. (header : List ℕ) × IsTable m a header whole.now)
     → MatchOption table ((whole : List ℕ) → ¬ IsListedTable m p signature whole)
@@ -42,12 +42,12 @@ table_of_first a (Some whole) root first table = listed_in_root root.root root.t
 -- ---- none
 
 pub root_of_none : {m : Memory} {p : ℕ} {signature : List ℕ} (none : ListsNone m p signature)
-    → IsWholeRoot m p none.d none.root_bytes
+    → IsCompleteRoot m p none.d none.root_bytes
 root_of_none none = record { r = none.r; root = none.root; table = none.table }
 
 -- no slot has such a header exactly where the set lists none
 pub test_of_none : {m : Memory} {p d : ℕ} {bytes signature : List ℕ} (found : Option ℕ) (test : Bool)
-    → IsWholeRoot m p d bytes → is_some found ≡ not test
+    → IsCompleteRoot m p d bytes → is_some found ≡ not test
     → MatchOption found (IsNoneListed m bytes d signature) (IsFirstListed m bytes d signature)
     → IsTrue test ↔ ListsNone m p signature
 test_of_none None true root is none = (λ _. none_in_root root.root root.table none, λ _. refl)

@@ -9,8 +9,8 @@ use Rattle.acpi_base.specs.Entries.{StandsWith, has_form, cut_of}
 use Rattle.acpi_base.specs.Pptt.{pptt_entry, pptt_type, has_node_form, has_cache_form, resource_count, resources_of, PpttContents, pptt_contents}
 use Rattle.acpi_confirm.specs.Links.{Names, named_offset}
 use Rattle.acpi_confirm.specs.Walks.{IsOnly}
-use Rattle.acpi_confirm.specs.declared.pptt.Link.{Link}
-use Rattle.acpi_confirm.specs.declared.pptt.Link.TheVariants.{Parent, NextLevel}
+use Rattle.acpi_confirm.specs.declared.pptt.Chain.{Chain}
+use Rattle.acpi_confirm.specs.declared.pptt.Chain.TheVariants.{Parent, NextLevel}
 
 form_type : (e : List ℕ) (type size : ℕ) → has_form e type size ≡ true → slice_index e 0 ≡ type
 unfolding has_form
@@ -74,8 +74,8 @@ pub ruleset resources = (resource_is, no_resource, node_size)
 
 -- ---- what entries name
 
--- what an entry names by a link is all that is named there
-pub names_of : (link : Link) (c : PpttContents) (at : ℕ) (only : Option ℕ)
-    → IsOnly (λ p. StandsWith c.entries at (λ e. named_offset link e ≡ Some p)) only → IsOnly (Names link c at) only
+-- what an entry names by a chain is all that is named there
+pub names_of : (chain : Chain) (c : PpttContents) (at : ℕ) (only : Option ℕ)
+    → IsOnly (λ p. StandsWith c.entries at (λ e. named_offset chain e ≡ Some p)) only → IsOnly (Names chain c at) only
 names_of Parent c at only is = is
 names_of NextLevel c at only is = is

@@ -3,17 +3,17 @@ use Rattle.std.specs.Prelude.{ℕ, Option, Some}
 use Rattle.acpi_base.specs.Chains.{IsStep}
 use Rattle.acpi_base.specs.Pptt.{PpttEntry, PpttContents, parent_of, next_level_of, NamesParent, NamesNextLevel}
 use Rattle.acpi_confirm.specs.Walks.{IsOnly}
-use Rattle.acpi_confirm.specs.declared.pptt.Link.{Link}
-use Rattle.acpi_confirm.specs.declared.pptt.Link.TheVariants.{Parent, NextLevel}
+use Rattle.acpi_confirm.specs.declared.pptt.Chain.{Chain}
+use Rattle.acpi_confirm.specs.declared.pptt.Chain.TheVariants.{Parent, NextLevel}
 use Rattle.acpi_confirm.specs.declared.pptt.chains.Linked.{Linked}
 
 -- the offset that an entry refers to
-abbrev pub named_offset : Link → PpttEntry → Option ℕ
+abbrev pub named_offset : Chain → PpttEntry → Option ℕ
 named_offset Parent e = parent_of e
 named_offset NextLevel e = next_level_of e
 
 -- the entry at o refers to p
-abbrev pub Names : Link → PpttContents → ℕ → ℕ → Type 0
+abbrev pub Names : Chain → PpttContents → ℕ → ℕ → Type 0
 Names Parent c = NamesParent c
 Names NextLevel c = NamesNextLevel c
 

@@ -7,7 +7,7 @@ use Rattle.acpi_base.specs.Root.{HasSlot, IsRoot, IsRootTable, IsSlotWidth}
 use Rattle.acpi_base.specs.Tables.{IsSigned}
 
 -- the RSDP at p names a root table with slots of d bytes, which is complete, and these are its bytes
-pub record IsWholeRoot (m : Memory) (p d : ℕ) (bytes : List ℕ) : Type 0 where
+pub record IsCompleteRoot (m : Memory) (p d : ℕ) (bytes : List ℕ) : Type 0 where
   pub r : ℕ
   pub root : IsRoot m p r d
   pub table : IsRootTable m r d bytes
@@ -17,13 +17,13 @@ pub record HasSlots (d : ℕ) (bytes : List ℕ) : Type 0 where
   pub width : IsSlotWidth d
   pub long : 36 ≤ length bytes
 
--- what slot k of a root's bytes lists: its address and the header there, if the slot has an address and one is held there
+-- what slot k of a root's bytes lists: its address and the header there, if the slot has an address and one is present there
 abbrev pub IsHeaderIn : Memory → List ℕ → ℕ → ℕ → Option (ℕ × Bor (List ℕ)) → Type 0
 IsHeaderIn m bytes d k found =
     MatchOption found ((a : ℕ) (header : List ℕ) → HasSlot bytes d k a → ¬ (bytes_at m a 36 ≡ Some header))
     (λ here. HasSlot bytes d k here.0 × (bytes_at m here.0 36 ≡ Some here.1.now))
 
--- the address in slot k, if a header with the signature is held there
+-- the address in slot k, if a header with the signature is present there
 abbrev pub IsSignedIn : Memory → List ℕ → ℕ → ℕ → List ℕ → Option ℕ → Type 0
 IsSignedIn m bytes d k signature found =
     MatchOption found ((a : ℕ) → HasSlot bytes d k a → ¬ IsSigned m a signature)

@@ -159,7 +159,7 @@ fn has_opaque(madt: &[u8]) -> bool
 
 /// Whether the MADT has at least 44 bytes, and the rest of it is filled by entries of known types.
 #[tactic(auto, using(crate::proofs::MadtFaults::madt_codes))]
-fn is_wholly_typed(madt: &[u8]) -> bool
+fn are_types_known(madt: &[u8]) -> bool
     ensures { IsTrue result ↔ IsWhollyTyped (madt_contents madt.now) }
 {
     if madt.len() < 44 {
@@ -219,6 +219,6 @@ pub(crate) fn is_leaf_fault(madt: &[u8], pptt: &[u8], witness: &Witness) -> bool
         && witness.other == 0
         && has_revision_2(pptt)
         && is_leaf_at(pptt, witness.at, witness.point)
-        && is_wholly_typed(madt)
+        && are_types_known(madt)
         && !is_uid(madt, witness.point)
 }

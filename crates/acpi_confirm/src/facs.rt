@@ -8,7 +8,7 @@ ghost use Rattle.acpi_base.specs.Memory.{bytes_at};
 ghost use Rattle.acpi_base.specs.declared.stage.Stage.{Stage};
 
 use crate::fadt::is_reduced;
-use crate::listed::listed;
+use crate::listed_tables::listed;
 use acpi_base::field::{is_signed, u32_at, u64_at};
 use acpi_base::{Code, Image, Policy, Witness};
 

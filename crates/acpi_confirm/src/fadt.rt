@@ -5,7 +5,7 @@ ghost use Rattle.acpi_base.specs.Fadt.{has_flag, is_reduced, gas_at, IsNoResetRe
 ghost use Rattle.acpi_base.specs.Faults.{FaultCondition};
 ghost use Rattle.acpi_base.specs.declared.stage.Stage.{Stage};
 
-use crate::listed::{listed, lists_none};
+use crate::listed_tables::{listed, lists_none};
 use acpi_base::field::{u8_at, u32_at};
 use acpi_base::{Code, Image, Policy, Witness};
 

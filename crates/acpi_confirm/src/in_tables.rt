@@ -8,7 +8,7 @@ ghost use Rattle.acpi_base.specs.Slit.{SlitFault};
 ghost use Rattle.acpi_confirm.specs.Conditions.{MadtCondition, SratCondition, PpttCondition};
 
 use crate::cross::{is_domain_fault, is_leaf_fault};
-use crate::listed::{both_listed, listed};
+use crate::listed_tables::{both_listed, listed};
 use crate::madt::is_madt_fault;
 use crate::pptt::is_pptt_fault;
 use crate::slit::is_slit_fault;

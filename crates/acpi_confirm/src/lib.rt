@@ -43,7 +43,7 @@ mod entries;
 mod facs;
 mod fadt;
 mod in_tables;
-mod listed;
+mod listed_tables;
 mod madt;
 mod pptt;
 mod root;

@@ -23,7 +23,7 @@ pub(crate) const FIRST_ENTRY: usize = 36;
 
 /// A reference from a node to a node, or from a cache to a cache.
 #[derive(Clone, Copy)]
-enum Link {
+enum Chain {
     /// From a node to its Parent.
     Parent,
     /// From a cache to its Next Level of Cache.
@@ -53,25 +53,25 @@ fn is_cache(entry: &[u8]) -> bool
     matches!((entry[0], entry.len()), (1, 24 | 28))
 }
 
-/// The offset that an entry refers to by the link, which is 0 if it refers to none. None for an entry that is not of
-/// the link's kind.
+/// The offset that an entry refers to by the chain, which is 0 if it refers to none. None for an entry that is not of
+/// the chain's kind.
 #[tactic(auto, unfolding(acpi_base::specs::Pptt::pptt_entry), using(crate::proofs::PpttEntries::kinds))]
-fn named(entry: &[u8], link: Link) -> Option<u64>
+fn named(entry: &[u8], chain: Chain) -> Option<u64>
     requires { IsEntry entry.now }
-    ensures { result ≡ named_offset link (pptt_entry entry.now) }
+    ensures { result ≡ named_offset chain (pptt_entry entry.now) }
 {
-    match link {
-        Link::Parent if is_node(entry) => Some(u64::from(u32_at(entry, 8))),
-        Link::NextLevel if is_cache(entry) => Some(u64::from(u32_at(entry, 8))),
+    match chain {
+        Chain::Parents if is_node(entry) => Some(u64::from(u32_at(entry, 8))),
+        Chain::NextLevels if is_cache(entry) => Some(u64::from(u32_at(entry, 8))),
         _ => None,
     }
 }
 
-/// The offset that the entry at an offset refers to by the link.
-fn named_at(pptt: &[u8], link: Link, at: u64) -> Option<u64>
-    ensures { IsOnly (Names link (pptt_contents pptt.now) at) result }
+/// The offset that the entry at an offset refers to by the chain.
+fn named_at(pptt: &[u8], chain: Chain, at: u64) -> Option<u64>
+    ensures { IsOnly (Names chain (pptt_contents pptt.now) at) result }
 {
-    entry_at(pptt, FIRST_ENTRY, at).and_then(|entry| named(entry, link))
+    entry_at(pptt, FIRST_ENTRY, at).and_then(|entry| named(entry, chain))
 }
 
 /// Whether an entry has type 0 or 1, but no length of that type.
@@ -124,18 +124,18 @@ fn is_resource_at(pptt: &[u8], at: u64) -> bool
     entry_at(pptt, FIRST_ENTRY, at).is_some_and(|entry| entry[0] != 0)
 }
 
-/// Whether there is an entry of the link's kind at an offset.
-fn is_linked_at(pptt: &[u8], link: Link, at: u64) -> bool
-    ensures { IsTrue result ↔ IsAt (Names link (pptt_contents pptt.now)) at }
+/// Whether there is an entry of the chain's kind at an offset.
+fn is_linked_at(pptt: &[u8], chain: Chain, at: u64) -> bool
+    ensures { IsTrue result ↔ IsAt (Names chain (pptt_contents pptt.now)) at }
 {
-    named_at(pptt, link, at).is_some()
+    named_at(pptt, chain, at).is_some()
 }
 
-/// Whether the entry at an offset refers to this other offset by the link, and there is no entry of the link's kind.
-fn dangles(pptt: &[u8], link: Link, at: u64, other: u64) -> bool
-    ensures { IsTrue result ↔ Dangles (Names link (pptt_contents pptt.now)) at other }
+/// Whether the entry at an offset refers to this other offset by the chain, and there is no entry of the chain's kind.
+fn dangles(pptt: &[u8], chain: Chain, at: u64, other: u64) -> bool
+    ensures { IsTrue result ↔ Dangles (Names chain (pptt_contents pptt.now)) at other }
 {
-    named_at(pptt, link, at) == Some(other) && other != 0 && !is_linked_at(pptt, link, other)
+    named_at(pptt, chain, at) == Some(other) && other != 0 && !is_linked_at(pptt, chain, other)
 }
 
 /// Whether the private resource `index` of the entry at an offset is this one.
@@ -153,11 +153,11 @@ fn has_reference_fault(pptt: &[u8], witness: &Witness) -> bool
 {
     let (at, other, point) = (witness.at, witness.other, witness.point);
     match witness.code {
-        Code::DanglingParent => point == 0 && dangles(pptt, Link::Parent, at, other),
+        Code::DanglingParent => point == 0 && dangles(pptt, Chain::Parents, at, other),
         Code::DanglingResource => {
             names_resource(pptt, at, other, point) && !is_resource_at(pptt, point)
         }
-        Code::DanglingCache => point == 0 && dangles(pptt, Link::NextLevel, at, other),
+        Code::DanglingCache => point == 0 && dangles(pptt, Chain::NextLevels, at, other),
         _ => false,
     }
 }

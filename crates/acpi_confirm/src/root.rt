@@ -6,7 +6,7 @@ ghost use Rattle.acpi_base.specs.Faults.{FaultCondition};
 ghost use Rattle.acpi_base.specs.Rsdp.{addresses_at};
 ghost use Rattle.acpi_base.specs.Root.{chosen_root, root_signature, IsSlotWidth, HasNoRoot, IsRoot, HasSlot, RootTableFault};
 ghost use Rattle.acpi_base.specs.declared.stage.Stage.{Stage};
-ghost use Rattle.acpi_confirm.specs.Roots.{IsWholeRoot, HasSlots};
+ghost use Rattle.acpi_confirm.specs.Roots.{IsCompleteRoot, HasSlots};
 
 use crate::tables::table_at;
 use acpi_base::field::{is_signed, u8_at, u32_at, u64_at};
@@ -22,7 +22,7 @@ struct Addresses {
 
 /// Where the root table is, and how wide its slots are.
 #[derive(Clone, Copy, Debug)]
-struct Place {
+struct RootPlace {
     address: u64,
     /// In bytes: 8 in an XSDT, 4 in an RSDT.
     width: u32,
@@ -53,7 +53,7 @@ fn has_named_fault(image: &Image, rsdp: u64, at: u64, code: Code) -> bool
 }
 
 /// Whether the root table at a place has the fault with this code.
-fn has_fault(image: &Image, root: Place, code: Code) -> bool
+fn has_fault(image: &Image, root: RootPlace, code: Code) -> bool
     requires { IsSlotWidth root.width }
     ensures { IsTrue result ↔ RootTableFault image.now root.address root.width code }
 {
@@ -101,19 +101,19 @@ fn addresses_at(image: &Image, address: u64) -> Option<Addresses>
 
 /// The XSDT if one is named, otherwise the RSDT if one is named.
 #[tactic(auto, unfolding(acpi_base::specs::Root::chosen_root))]
-fn chosen_root(named: Addresses) -> Option<Place>
+fn chosen_root(named: Addresses) -> Option<RootPlace>
     ensures root { option_map (λ root. record { address = root.address; width = root.width })
         result ≡ chosen_root (record { rsdt = named.rsdt; xsdt = named.xsdt }) }
     ensures width { IfSome result (λ root. IsSlotWidth root.width) }
 {
     if named.xsdt != 0 {
-        return Some(Place {
+        return Some(RootPlace {
             address: named.xsdt,
             width: 8,
         });
     }
     if named.rsdt != 0 {
-        return Some(Place {
+        return Some(RootPlace {
             address: u64::from(named.rsdt),
             width: 4,
         });
@@ -129,7 +129,7 @@ fn names_no_root(image: &Image, address: u64) -> bool
 }
 
 /// The place of the root table that the RSDP at an address names.
-fn named_root(image: &Image, address: u64) -> Option<Place>
+fn named_root(image: &Image, address: u64) -> Option<RootPlace>
     ensures found { MatchOption result ((r d : ℕ) → ¬ IsRoot image.now address r d)
         (λ root. IsRoot image.now address root.address root.width) }
     ensures width { IfSome result (λ root. IsSlotWidth root.width) }
@@ -150,10 +150,10 @@ pub(crate) struct Root<'a> {
 
 /// The root table that the RSDP at an address names, if it is complete and has its kind's signature.
 #[tactic(auto, using(acpi_base::proofs::Tables::Whole::signed_table))]
-pub(crate) fn whole_root(image: &Image, address: u64) -> Option<Root<'_>>
+pub(crate) fn complete_root(image: &Image, address: u64) -> Option<Root<'_>>
     ensures found { MatchOption result ((d : ℕ) (bytes : List ℕ)
-        → ¬ IsWholeRoot image.now address d bytes)
-        (λ root. IsWholeRoot image.now address root.width root.bytes.now) }
+        → ¬ IsCompleteRoot image.now address d bytes)
+        (λ root. IsCompleteRoot image.now address root.width root.bytes.now) }
     ensures slots { IfSome result (λ root. HasSlots root.width root.bytes.now) }
 {
     let place = named_root(image, address)?;

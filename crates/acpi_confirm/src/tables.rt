@@ -6,7 +6,7 @@ ghost use Rattle.acpi_base.specs.Tables.{IsTable, TableFault};
 ghost use Rattle.acpi_base.specs.Root.{IsSlot};
 ghost use Rattle.acpi_base.specs.declared.stage.Stage.{Stage};
 
-use crate::root::whole_root;
+use crate::root::complete_root;
 use acpi_base::field::u32_at;
 use acpi_base::{Code, Image, Policy, Witness, sum};
 
@@ -25,7 +25,7 @@ pub(crate) fn is_table_fault(image: &Image, policy: &Policy, witness: &Witness) 
 fn is_listed(image: &Image, rsdp: u64, k: u64, table: u64) -> bool
     ensures { IsTrue result ↔ IsSlot image.now rsdp k table }
 {
-    match whole_root(image, rsdp) {
+    match complete_root(image, rsdp) {
         Some(root) => root.slot(k) == Some(table),
         None => false,
     }

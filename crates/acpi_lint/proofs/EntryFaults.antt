@@ -79,9 +79,9 @@ second_found t whole c first found one behind =
 
 -- the least fault about what the code is about is that of the stage
 pub of_stage : {E : Type 0} {s : Stage} {codes : EntryCodes} {table : PolicyValue → EntryTable E}
-    {IsFault : PolicyValue → List ℕ → Code → ℕ → ℕ → ℕ → Type 0} {IsSound : PolicyValue → List ℕ → Type 0}
+    {IsFault : PolicyValue → List ℕ → Code → ℕ → ℕ → ℕ → Type 0} {IsValid : PolicyValue → List ℕ → Type 0}
     (q : PolicyValue) (whole : List ℕ) (c : Code) (about : Subject) (found : Option Place)
-    → AreFaults s codes table IsFault IsSound → about ≡ subject_of codes c
+    → AreFaults s codes table IsFault IsValid → about ≡ subject_of codes c
     → FindsLeast (IsAbout (table q) whole about c) found → FindsLeast (IsFault q whole c) found
 of_stage {table = table} q whole c about found are is least =
     least_as found (are.fault q whole c) (λ at other point wrong. (are.about q whole c at other point wrong).1)

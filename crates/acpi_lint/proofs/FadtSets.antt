@@ -10,12 +10,12 @@ use Rattle.acpi_base.specs.declared.code.Code.TheVariants as code
 use Rattle.acpi_base.specs.declared.stage.Stage.TheVariants as stage
 use Rattle.acpi_base.proofs.Root.Slots.{slot_of_root, root_slot}
 use Rattle.acpi_base.proofs.Tables.Listed.{none_in_root}
-use Rattle.acpi_read.specs.Roots.{RootValue, IsWholeRoot}
+use Rattle.acpi_read.specs.Roots.{RootValue, IsCompleteRoot}
 use Rattle.acpi_lint.specs.FadtPlaces.{IsFadtFault}
 use Rattle.acpi_lint.specs.Places.{FindsLeast}
 use Rattle.acpi_lint.specs.Slots.{FindsSlot}
 use Rattle.acpi_lint.specs.StageFaults.{IsFaultOfStage}
-use Rattle.acpi_lint.specs.declared.listed.Slot.{Slot}
+use Rattle.acpi_lint.specs.declared.listed_slots.Slot.{Slot}
 use Rattle.acpi_lint.specs.declared.place.Place.{Place}
 use Rattle.acpi_lint.proofs.LeastPlaces.{least_as}
 use Rattle.acpi_lint.proofs.OfSets.{of_table, of_no_table}
@@ -24,7 +24,7 @@ use Rattle.acpi_lint.proofs.OfSets.{of_table, of_no_table}
 
 -- a set lists none with a signature exactly where no slot of its root is found
 pub lists_none : {m : Memory} {p : ℕ} {root : RootValue} {signature : List ℕ} (found : Option Slot) (b : Bool)
-    → (IsTrue b ↔ IsNone found) → IsWholeRoot m p root → FindsSlot m p (λ a. IsSigned m a signature) found
+    → (IsTrue b ↔ IsNone found) → IsCompleteRoot m p root → FindsSlot m p (λ a. IsSigned m a signature) found
     → IsTrue b ↔ ListsNone m p signature
 lists_none None b test is first = (
   λ yes. none_in_root is.named is.table (λ k a slot. first k a (root_slot is.named is.table slot)),
@@ -38,7 +38,7 @@ lists_none {m} {p} (Some s) b test is first = (
 )
 
 -- a set with no whole root does not list none
-pub no_root_lists : {m : Memory} {p : ℕ} {signature : List ℕ} → ((root : RootValue) → ¬ IsWholeRoot m p root)
+pub no_root_lists : {m : Memory} {p : ℕ} {signature : List ℕ} → ((root : RootValue) → ¬ IsCompleteRoot m p root)
     → ¬ ListsNone m p signature
 no_root_lists none lists =
     none (record { address = lists.r; width = lists.d; bytes = lists.root_bytes })

@@ -36,11 +36,11 @@ from_left : {E : Type 0} (IsFault : ℕ → E → ℕ → ℕ → Type 0) (s : P
     → ((other point : ℕ) → ¬ IsFault s.offset s.entry other point)
     → (found : Option Place) → FindsLeast (IsFaultAt IsFault left) found
     → FindsLeast (IsFaultAt IsFault (s ∷ left)) found
-from_left IsFault s left none None sound = λ at other point (e, stands, wrong).
+from_left IsFault s left none None valid = λ at other point (e, stands, wrong).
     elim (here_or_behind s left at e stands) [
       | inl (place, entry) ↦
           none other point (rw (place, entry) wrong)
-      | inr later ↦ sound at other point (e, later, wrong)
+      | inr later ↦ valid at other point (e, later, wrong)
     ]
 from_left {E} IsFault s left none (Some p) first =
     record {

@@ -11,9 +11,9 @@ use Rattle.acpi_base.proofs.Root.Slots.{one_slot, root_slot, slot_of_root}
 use Rattle.acpi_base.proofs.Tables.Listed.{one_first_listed, listed_of_root, listed_in_root}
 use Rattle.acpi_lint.specs.Places.{FindsLeast}
 use Rattle.acpi_lint.specs.Slots.{FindsSlot}
-use Rattle.acpi_lint.specs.WholeTables.{IsFound}
+use Rattle.acpi_lint.specs.CompleteTables.{IsFound}
 use Rattle.acpi_lint.specs.declared.place.Place.{Place}
-use Rattle.acpi_lint.specs.declared.listed.Slot.{Slot}
+use Rattle.acpi_lint.specs.declared.listed_slots.Slot.{Slot}
 use Rattle.acpi_lint.proofs.OnePlace.{not_after_itself}
 
 -- one address stands in a slot of a set

@@ -10,10 +10,10 @@ use Rattle.acpi_base.specs.Root.{HasSlot, IsSlot}
 use Rattle.acpi_base.proofs.Elements.{first_element, first_or_later, no_element}
 use Rattle.acpi_base.proofs.Root.Slots.{one_slot, slot_of_root, root_slot}
 use Rattle.acpi_check.proofs.EntryPasses.Kept.{map_has}
-use Rattle.acpi_read.specs.Roots.{RootValue, IsWholeRoot}
+use Rattle.acpi_read.specs.Roots.{RootValue, IsCompleteRoot}
 use Rattle.acpi_lint.specs.Numbered.{at_place, HasAt, AreNumbersAt}
 use Rattle.acpi_lint.specs.Slots.{IsTableAt, AreSlots, numbered_slot}
-use Rattle.acpi_lint.specs.declared.listed.Slot.{Slot}
+use Rattle.acpi_lint.specs.declared.listed_slots.Slot.{Slot}
 use Rattle.acpi_lint.specs.declared.numbered.Numbered.{Numbered}
 use Rattle.acpi_lint.proofs.KnownOnes.{map_from}
 use Rattle.acpi_lint.proofs.RisingLists.{rise_more}
@@ -101,14 +101,14 @@ all_listed slots before inside =
     slots_as slots (λ k a lists. lists.1) (λ k a lists. (inside k lists.inside, lists)) before
 
 -- those of a root are those of its set
-pub set_listed : {m : Memory} {p : ℕ} {root : RootValue} (slots : List Slot) → IsWholeRoot m p root
+pub set_listed : {m : Memory} {p : ℕ} {root : RootValue} (slots : List Slot) → IsCompleteRoot m p root
     → AreSlots m (HasSlot root.bytes root.width) slots → AreSlots m (IsSlot m p) slots
 set_listed {m} {p} {root} slots is are =
     slots_as slots (λ k a here. root_slot is.named is.table here)
     (λ k a slot. slot_of_root m p root.address root.width k a root.bytes is.named is.table slot) are
 
 -- without a root there are none
-pub no_slots : {m : Memory} {p : ℕ} → ((root : RootValue) → ¬ IsWholeRoot m p root) → AreSlots m (IsSlot m p) []
+pub no_slots : {m : Memory} {p : ℕ} → ((root : RootValue) → ¬ IsCompleteRoot m p root) → AreSlots m (IsSlot m p) []
 no_slots none =
     record {
       rise = λ i j d less within. absurd (omega (arith, within));

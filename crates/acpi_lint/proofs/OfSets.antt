@@ -10,9 +10,9 @@ use Rattle.acpi_base.specs.declared.table_kind.TableKind.TheVariants as kind
 use Rattle.acpi_base.proofs.Faults.ListedTables.{of_listed}
 use Rattle.acpi_lint.specs.Places.{FindsLeast}
 use Rattle.acpi_lint.specs.Slots.{IsRootOf, AreSlots, AreFirstSlots}
-use Rattle.acpi_lint.specs.WholeTables.{IsFound, IsLong, table_of, AreWholeTables}
+use Rattle.acpi_lint.specs.CompleteTables.{IsFound, IsLong, table_of, AreCompleteTables}
 use Rattle.acpi_lint.specs.declared.place.Place.{Place}
-use Rattle.acpi_lint.specs.declared.whole_tables.WholeTables.{WholeTables}
+use Rattle.acpi_lint.specs.declared.complete_tables.CompleteTables.{CompleteTables}
 use Rattle.acpi_lint.proofs.LeastPlaces.{least_as}
 
 -- the least place in the first listed table is the set's
@@ -59,11 +59,11 @@ none_long m p signature least P (Some bytes) looked long short =
     of_table P None looked (short bytes (long bytes refl))
 
 -- the root and the table of each kind are those of the set
-pub are_whole : {m : Memory} {p : ℕ} (tables : WholeTables)
+pub are_whole : {m : Memory} {p : ℕ} (tables : CompleteTables)
     → IsRootOf m p tables.root → AreSlots m (IsSlot m p) tables.slots.items → AreFirstSlots m p tables.firsts
     → IsFound m p fadt_signature tables.fadt → IsFound m p madt_signature tables.madt
     → IsFound m p srat_signature tables.srat → IsFound m p slit_signature tables.slit
-    → IsFound m p pptt_signature tables.pptt → AreWholeTables m p tables
+    → IsFound m p pptt_signature tables.pptt → AreCompleteTables m p tables
 are_whole {m} {p} tables root slots firsts fadt madt srat slit pptt =
     record { root = root; slots = slots; firsts = firsts; listed = listed }
   where

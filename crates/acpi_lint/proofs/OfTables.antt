@@ -27,10 +27,10 @@ use Rattle.acpi_lint.specs.EntryNumbers.{FindsRepeated}
 use Rattle.acpi_lint.specs.FirstPicked.{PicksFirst, FindsOwn}
 use Rattle.acpi_lint.specs.Numbered.{at_place}
 use Rattle.acpi_lint.specs.Places.{FindsLeast}
-use Rattle.acpi_lint.specs.WholeTables.{IsFound, IsLong, AreEntries, AreWholeTables}
+use Rattle.acpi_lint.specs.CompleteTables.{IsFound, IsLong, AreEntries, AreCompleteTables}
 use Rattle.acpi_lint.specs.declared.numbered.Numbered.{Numbered}
 use Rattle.acpi_lint.specs.declared.place.Place.{Place}
-use Rattle.acpi_lint.specs.declared.whole_tables.WholeTables.{WholeTables}
+use Rattle.acpi_lint.specs.declared.complete_tables.CompleteTables.{CompleteTables}
 use Rattle.acpi_lint.proofs.CollectedNumbers.{each_ok, repeated_read}
 use Rattle.acpi_lint.proofs.FirstEntries.{least_of_entries}
 use Rattle.acpi_lint.proofs.LeastPlaces.{least_as}
@@ -70,30 +70,30 @@ read_lifts : {C : Type 0} (Of : (List ℕ → Type 0) → Type 0) (read : List �
 read_lifts Of read None lifts = λ P. lifts (λ whole. P (read whole))
 read_lifts Of read (Some whole) lifts = λ P. lifts (λ whole. P (read whole))
 
-pub fadt_lifts : (m : Memory) (q : PolicyValue) {tables : WholeTables} (view : Option (List ℕ))
-    → AreWholeTables m q.rsdp tables → IsLong 116 tables.fadt view → Lifts (OfFadt m q) (λ whole. whole) view
+pub fadt_lifts : (m : Memory) (q : PolicyValue) {tables : CompleteTables} (view : Option (List ℕ))
+    → AreCompleteTables m q.rsdp tables → IsLong 116 tables.fadt view → Lifts (OfFadt m q) (λ whole. whole) view
 fadt_lifts m q {tables = tables} view are long =
     long_lifts (HasListed m q.rsdp fadt_signature) 116 tables.fadt view
     (listed_lifts m q.rsdp fadt_signature tables.fadt (are.listed kind.Fadt)) long
 
-pub madt_lifts : (m : Memory) (q : PolicyValue) {tables : WholeTables} (view : Option (List ℕ))
-    → AreWholeTables m q.rsdp tables → IsLong 44 tables.madt view → Lifts (OfMadt m q) madt_contents view
+pub madt_lifts : (m : Memory) (q : PolicyValue) {tables : CompleteTables} (view : Option (List ℕ))
+    → AreCompleteTables m q.rsdp tables → IsLong 44 tables.madt view → Lifts (OfMadt m q) madt_contents view
 unfolding madt_contents
 madt_lifts m q {tables = tables} view are long =
     read_lifts (λ P. HasListed m q.rsdp madt_signature (λ whole. (44 ≤ length whole) × P whole)) madt_contents view
     (long_lifts (HasListed m q.rsdp madt_signature) 44 tables.madt view
     (listed_lifts m q.rsdp madt_signature tables.madt (are.listed kind.Madt)) long)
 
-pub srat_lifts : (m : Memory) (q : PolicyValue) {tables : WholeTables} (view : Option (List ℕ))
-    → AreWholeTables m q.rsdp tables → IsLong 48 tables.srat view → Lifts (OfSrat m q) srat_contents view
+pub srat_lifts : (m : Memory) (q : PolicyValue) {tables : CompleteTables} (view : Option (List ℕ))
+    → AreCompleteTables m q.rsdp tables → IsLong 48 tables.srat view → Lifts (OfSrat m q) srat_contents view
 unfolding srat_contents
 srat_lifts m q {tables = tables} view are long =
     read_lifts (λ P. HasListed m q.rsdp srat_signature (λ whole. (48 ≤ length whole) × P whole)) srat_contents view
     (long_lifts (HasListed m q.rsdp srat_signature) 48 tables.srat view
     (listed_lifts m q.rsdp srat_signature tables.srat (are.listed kind.Srat)) long)
 
-pub pptt_lifts : (m : Memory) (q : PolicyValue) {tables : WholeTables} (view : Option (List ℕ))
-    → AreWholeTables m q.rsdp tables → view ≡ tables.pptt → Lifts (HasPptt m q) pptt_contents view
+pub pptt_lifts : (m : Memory) (q : PolicyValue) {tables : CompleteTables} (view : Option (List ℕ))
+    → AreCompleteTables m q.rsdp tables → view ≡ tables.pptt → Lifts (HasPptt m q) pptt_contents view
 pptt_lifts m q {tables = tables} view are is =
     read_lifts (HasListed m q.rsdp pptt_signature) pptt_contents view
     (rw is (listed_lifts m q.rsdp pptt_signature tables.pptt (are.listed kind.Pptt)))
@@ -161,7 +161,7 @@ own_of {Said = Said} Of read list low rises value {Answers = Answers} Is found s
 
 pub own_madt : (m : Memory) (q : PolicyValue) {E T : Type 0} (value : E → MadtEntry)
     {Answers : Bor (EntryAt E) → Option Place → Type 0} (Is : MadtEntry → ℕ → ℕ → Type 0) (found : Option Place)
-    (said : T → List (PlacedEntry MadtEntry)) (entries : Option T) {tables : WholeTables} → AreWholeTables m q.rsdp
+    (said : T → List (PlacedEntry MadtEntry)) (entries : Option T) {tables : CompleteTables} → AreCompleteTables m q.rsdp
     tables
     → AreEntries 44 (λ whole. (madt_contents whole).entries) tables.madt (option_map said entries)
     → MatchOption entries (found ≡ None) (λ e. PicksFirst (Picks value Answers) (said e) found)
@@ -174,7 +174,7 @@ own_madt m q value Is found said entries are (view, long, same) is each =
 
 pub own_srat : (m : Memory) (q : PolicyValue) {E T : Type 0} (value : E → SratEntry)
     {Answers : Bor (EntryAt E) → Option Place → Type 0} (Is : SratEntry → ℕ → ℕ → Type 0) (found : Option Place)
-    (said : T → List (PlacedEntry SratEntry)) (entries : Option T) {tables : WholeTables} → AreWholeTables m q.rsdp
+    (said : T → List (PlacedEntry SratEntry)) (entries : Option T) {tables : CompleteTables} → AreCompleteTables m q.rsdp
     tables
     → AreEntries 48 (λ whole. (srat_contents whole).entries) tables.srat (option_map said entries)
     → MatchOption entries (found ≡ None) (λ e. PicksFirst (Picks value Answers) (said e) found)
@@ -187,7 +187,7 @@ own_srat m q value Is found said entries are (view, long, same) is each =
 
 pub own_pptt : (m : Memory) (q : PolicyValue) {E T : Type 0} (value : E → PpttEntry)
     {Answers : Bor (EntryAt E) → Option Place → Type 0} (Is : PpttEntry → ℕ → ℕ → Type 0) (found : Option Place)
-    (said : T → List (PlacedEntry PpttEntry)) (entries : Option T) {tables : WholeTables} → AreWholeTables m q.rsdp
+    (said : T → List (PlacedEntry PpttEntry)) (entries : Option T) {tables : CompleteTables} → AreCompleteTables m q.rsdp
     tables
     → option_map said entries ≡ option_map (λ whole. (pptt_contents whole).entries) tables.pptt
     → MatchOption entries (found ≡ None) (λ e. PicksFirst (Picks value Answers) (said e) found)
@@ -201,7 +201,7 @@ own_pptt m q value Is found said entries {tables = tables} are same is each =
 -- a number that repeats
 pub repeated_madt : (m : Memory) (q : PolicyValue) {E T X : Type 0} (value : E → MadtEntry)
     {Answers : Bor (EntryAt E) → Option Numbered → Type 0} (read : MadtEntry → Option ℕ) (r : Result (Option Place) X)
-    (said : T → List (PlacedEntry MadtEntry)) (entries : Option T) {tables : WholeTables} → AreWholeTables m q.rsdp
+    (said : T → List (PlacedEntry MadtEntry)) (entries : Option T) {tables : CompleteTables} → AreCompleteTables m q.rsdp
     tables
     → AreEntries 44 (λ whole. (madt_contents whole).entries) tables.madt (option_map said entries)
     → IfOk r (λ found. MatchOption entries (found ≡ None) (λ e. FindsRepeated (Picks value Answers) (said e) found))
@@ -221,15 +221,15 @@ repeated_madt m q {X = X} value {Answers = Answers} read (Ok found) said entries
 
 -- ---- the SRAT and the SLIT
 
-slit_found : (m : Memory) (q : PolicyValue) {tables : WholeTables} (view : Option (List ℕ))
-    → AreWholeTables m q.rsdp tables → view ≡ tables.slit
+slit_found : (m : Memory) (q : PolicyValue) {tables : CompleteTables} (view : Option (List ℕ))
+    → AreCompleteTables m q.rsdp tables → view ≡ tables.slit
     → Lifts (HasListed m q.rsdp slit_signature) (λ whole. whole) view
 slit_found m q {tables = tables} view are is =
     rw is (listed_lifts m q.rsdp slit_signature tables.slit (are.listed kind.Slit))
 
 -- no SLIT of the set has its size
-pub no_slit : (m : Memory) (q : PolicyValue) {tables : WholeTables} (view : Option (List ℕ))
-    → AreWholeTables m q.rsdp tables → view ≡ tables.slit
+pub no_slit : (m : Memory) (q : PolicyValue) {tables : CompleteTables} (view : Option (List ℕ))
+    → AreCompleteTables m q.rsdp tables → view ≡ tables.slit
     → MatchOption view (Unit {0}) (λ slit. ¬ HasSlitSize (slit_contents slit)) → (P : SlitContents → Type 0)
     → ¬ OfSlit m q P
 no_slit m q None are is not P (slit, listed, (size, has)) =
@@ -238,8 +238,8 @@ no_slit m q (Some whole) are is not P (slit, listed, (size, has)) =
     not ((slit_found m q (Some whole) are is (λ other. HasSlitSize (slit_contents other))).0 (slit, listed, size))
 
 -- one that has its size is that of the set
-pub sized_slit : (m : Memory) (q : PolicyValue) {tables : WholeTables} (slit : List ℕ) (n : ℕ)
-    → AreWholeTables m q.rsdp tables → Some slit ≡ tables.slit → HasRows slit n
+pub sized_slit : (m : Memory) (q : PolicyValue) {tables : CompleteTables} (slit : List ℕ) (n : ℕ)
+    → AreCompleteTables m q.rsdp tables → Some slit ≡ tables.slit → HasRows slit n
     → Lifts (OfSlit m q) slit_contents (Some slit)
 unfolding slit_contents
 sized_slit m q slit n are is rows = λ P.

@@ -29,7 +29,7 @@ use Rattle.acpi_check.specs.declared.refusal.Refusal.TheVariants as refusal
 use Rattle.acpi_lint.specs.Places.{IsLeast}
 use Rattle.acpi_lint.specs.StageFaults.{FindsFirstAt}
 use Rattle.acpi_lint.specs.Verdicts.{IsPlaceOf}
-use Rattle.acpi_lint.specs.WholeTables.{IsFound, IsLong}
+use Rattle.acpi_lint.specs.CompleteTables.{IsFound, IsLong}
 use Rattle.acpi_lint.specs.declared.place.Place.{Place}
 use Rattle.acpi_lint.proofs.ShortTables.{no_madt_entry, no_srat_entry}
 use Rattle.acpi_lint.proofs.OfSets.{none_long}
@@ -74,9 +74,9 @@ cycle_least links c w (_, first) =
 -- ---- overlaps, which have an order of their own
 
 -- what a fault with a code says
-held : (m : Memory) (q : PolicyValue) (c : Code) (w : Witness) → w.code ≡ c → Fault m q w
+present : (m : Memory) (q : PolicyValue) (c : Code) (w : Witness) → w.code ≡ c → Fault m q w
     → FaultCondition (stage_of c) m q (record { code = c; at = w.at; other = w.other; point = w.point })
-held m q c w own fault =
+present m q c w own fault =
     let same = subst (λ (d : Code). Fault m q (record { code = d; at = w.at; other = w.other; point = w.point })) own
     fault in
     same.holds
@@ -89,7 +89,7 @@ pub gsi_found : (m : Memory) (q : PolicyValue) (whole : List ℕ) → IsListedTa
     → IsPlaceOf verdict found → FindsFirstAt code.GsiClash m q found
 gsi_found m q whole is (Ok _) None apart same = λ w own fault.
     let holds : HasMadt m q (λ madt. InterruptFault q madt code.GsiClash w.at w.other w.point) =
-    held m q code.GsiClash w own fault in
+    present m q code.GsiClash w own fault in
     apart w.at w.other w.point
     (of_listed (λ bytes. InterruptFault q (madt_contents bytes) code.GsiClash w.at w.other w.point) is holds)
 gsi_found m q whole is (Err (refusal.Fault w)) (Some p) first same =
@@ -116,7 +116,7 @@ pub overlap_found : (m : Memory) (q : PolicyValue) (whole : List ℕ) → IsList
     → IsPlaceOf verdict found → IfSome found (λ p. p.point < 2 ^ 64) → FindsFirstAt code.Overlap m q found
 overlap_found m q whole is (Ok _) None apart same fits = λ w own fault.
     let holds : HasSrat m q (λ srat. (w.point < 2 ^ 64) × IsOverlap q.hotplug srat w.at w.other w.point) =
-    held m q code.Overlap w own fault in
+    present m q code.Overlap w own fault in
     apart w.at w.other w.point
     (of_listed (λ bytes. (w.point < 2 ^ 64) × IsOverlap q.hotplug (srat_contents bytes) w.at w.other w.point) is
     holds).1
@@ -158,7 +158,7 @@ pub no_gsi : (m : Memory) (q : PolicyValue) (found : Option (List ℕ)) → IsFo
     → IsLong 44 found None → FindsFirstAt code.GsiClash m q None
 no_gsi m q found looked long = λ w own fault.
     let holds : HasMadt m q (λ madt. InterruptFault q madt code.GsiClash w.at w.other w.point) =
-    held m q code.GsiClash w own fault in
+    present m q code.GsiClash w own fault in
     none_long m q.rsdp madt_signature 44 (λ bytes. InterruptFault q (madt_contents bytes) code.GsiClash) found looked
     long
     (λ whole less at other point overlap. no_madt_entry whole less at overlap.one_holds.0 overlap.one_holds.1)
@@ -168,7 +168,7 @@ pub no_overlap : (m : Memory) (q : PolicyValue) (found : Option (List ℕ)) → 
     → IsLong 48 found None → FindsFirstAt code.Overlap m q None
 no_overlap m q found looked long = λ w own fault.
     let holds : HasSrat m q (λ srat. RangeFault q.hotplug srat code.Overlap w.at w.other w.point) =
-    held m q code.Overlap w own fault in
+    present m q code.Overlap w own fault in
     none_long m q.rsdp srat_signature 48 (λ bytes. RangeFault q.hotplug (srat_contents bytes) code.Overlap) found looked
     long (λ whole less at other point wrong. none_covered q.hotplug whole less at other point wrong.1)
     w.at w.other w.point holds

@@ -24,14 +24,14 @@ place_not_after w v same (inr (at, inl less)) = absurd (omega (arith, less, ap c
 place_not_after w v same (inr (at, inr (code, rest))) = inr (at, rest)
 
 -- a stage that has one code finds the least place of it
-pub of_verdict : (s : Stage) (c : Code) (Sound : Type 0) (IsFault : Code → ℕ → ℕ → ℕ → Type 0)
-    → ((at other point : ℕ) → IsFault c at other point → ¬ Sound)
+pub of_verdict : (s : Stage) (c : Code) (Valid : Type 0) (IsFault : Code → ℕ → ℕ → ℕ → Type 0)
+    → ((at other point : ℕ) → IsFault c at other point → ¬ Valid)
     → ((d : Code) (at other point : ℕ) → IsFault d at other point → d ≡ c)
-    → (verdict : Result ⊤ Refusal) (found : Option Place) → FindsFirst s Sound IsFault verdict → IsPlaceOf verdict found
+    → (verdict : Result ⊤ Refusal) (found : Option Place) → FindsFirst s Valid IsFault verdict → IsPlaceOf verdict found
     → FindsLeast (IsFault c) found
-of_verdict s c Sound IsFault excludes one (Ok _) None sound is = λ at other point fault. excludes at other point fault
-    sound
-of_verdict s c Sound IsFault excludes one (Err (Fault w)) (Some p) first is =
+of_verdict s c Valid IsFault excludes one (Ok _) None valid is = λ at other point fault. excludes at other point fault
+    valid
+of_verdict s c Valid IsFault excludes one (Err (Fault w)) (Some p) first is =
     let code : w.code ≡ c = one w.code w.at w.other w.point first.fault in
     rw is record {
       here = rw code at first.fault;
@@ -39,14 +39,14 @@ of_verdict s c Sound IsFault excludes one (Err (Fault w)) (Some p) first is =
           place_not_after w (record { code = c; at = at; other = other; point = point }) code
           (first.least (record { code = c; at = at; other = other; point = point }) fault);
     }
-of_verdict s c Sound IsFault excludes one _ _ found is = absurd is
+of_verdict s c Valid IsFault excludes one _ _ found is = absurd is
 
 -- the same where memory may run out
-pub verdict_found : (s : Stage) (c : Code) (Sound : Type 0) (IsFault : Code → ℕ → ℕ → ℕ → Type 0) {X : Type 0}
-    → ((at other point : ℕ) → IsFault c at other point → ¬ Sound)
+pub verdict_found : (s : Stage) (c : Code) (Valid : Type 0) (IsFault : Code → ℕ → ℕ → ℕ → Type 0) {X : Type 0}
+    → ((at other point : ℕ) → IsFault c at other point → ¬ Valid)
     → ((d : Code) (at other point : ℕ) → IsFault d at other point → d ≡ c)
-    → (verdict : Result ⊤ Refusal) (r : Result (Option Place) X) → FindsFirst s Sound IsFault verdict
+    → (verdict : Result ⊤ Refusal) (r : Result (Option Place) X) → FindsFirst s Valid IsFault verdict
     → IfOk r (IsPlaceOf verdict) → IfOk r (FindsLeast (IsFault c))
-verdict_found s c Sound IsFault excludes one verdict (Ok found) first is =
-    of_verdict s c Sound IsFault excludes one verdict found first is
-verdict_found s c Sound IsFault excludes one verdict (Err e) first is = tt
+verdict_found s c Valid IsFault excludes one verdict (Ok found) first is =
+    of_verdict s c Valid IsFault excludes one verdict found first is
+verdict_found s c Valid IsFault excludes one verdict (Err e) first is = tt

@@ -18,10 +18,10 @@ use Rattle.acpi_lint.specs.declared.table_at.Sought.TheVariants as sought
 -- of a header that is present
 signed_there : {m : Memory} {a : ℕ} {signature : List ℕ} (header : List ℕ) → bytes_at m a 36 ≡ Some header
     → (has_signature header signature ≡ true) ↔ IsSigned m a signature
-signed_there {m} {a} {signature} header held = (
-  λ signed. record { header = header; header_held = held; signed = signed },
+signed_there {m} {a} {signature} header present = (
+  λ signed. record { header = header; header_present = present; signed = signed },
   λ is. subst (λ (bytes : List ℕ). has_signature bytes signature ≡ true)
-      (same_Some _ _ (sym is.header_held ∙ held)) is.signed,
+      (same_Some _ _ (sym is.header_present ∙ present)) is.signed,
 )
 
 kind_there : (header : List ℕ) (found : Option TableKind) (kind : TableKind) → IsKindOf header found
@@ -39,23 +39,23 @@ pub table_there : {m : Memory} (a : ℕ) (header : List ℕ) (fault : Option Cod
     → bytes_at m a 36 ≡ Some header → ((c : Code) → (fault ≡ Some c) ↔ TableFault m a c) → IsKindOf header kind
     → (IsTrue apart ↔ ((has_signature header dsdt_signature ≡ true) ⊎ (has_signature header facs_signature ≡ true)))
     → IsTableAt m (record { address = a; fault = fault; kind = kind; is_apart = apart })
-table_there {m} a header fault found apart held faults is tells = record { tells = sides }
+table_there {m} a header fault found apart present faults is tells = record { tells = sides }
   where
     sides : (s : Sought)
         → HasSought s (record { address = a; fault = fault; kind = found; is_apart = apart }) ↔ IsSought m s a
     sides (sought.Fault code) = faults code
     sides (sought.Kind kind) = (
-      λ same. (signed_there header held).0 ((kind_there header found kind is).0 same),
-      λ signed. (kind_there header found kind is).1 ((signed_there header held).1 signed),
+      λ same. (signed_there header present).0 ((kind_there header found kind is).0 same),
+      λ signed. (kind_there header found kind is).1 ((signed_there header present).1 signed),
     )
     sides sought.Apart = (
       λ sure. elim (tells.0 sure) [
-        | inl dsdt ↦ inl ((signed_there header held).0 dsdt)
-        | inr facs ↦ inr ((signed_there header held).0 facs)
+        | inl dsdt ↦ inl ((signed_there header present).0 dsdt)
+        | inr facs ↦ inr ((signed_there header present).0 facs)
       ],
       λ apart. tells.1
           (elim apart [
-            | inl dsdt ↦ inl ((signed_there header held).1 dsdt)
-            | inr facs ↦ inr ((signed_there header held).1 facs)
+            | inl dsdt ↦ inl ((signed_there header present).1 dsdt)
+            | inr facs ↦ inr ((signed_there header present).1 facs)
           ]),
     )

@@ -67,9 +67,9 @@ places_to c o uid d ones ((e, stands, names), (f, also, domain)) =
     (record { number = uid; at = o; value = d }) stands (rw (names, rw same at domain) refl)
 
 -- at one offset an entry has one domain
-one_domain : (c : SratContents) (o p uid vid d f : ℕ) → AreOnes c.entries → o ≡ p → PlacesUid c o uid d
+check_domains : (c : SratContents) (o p uid vid d f : ℕ) → AreOnes c.entries → o ≡ p → PlacesUid c o uid d
     → PlacesUid c p vid f → d ≡ f
-one_domain c o p uid vid d f ones same (_, (e, stands, domain)) (_, (b, also, other)) =
+check_domains c o p uid vid d f ones same (_, (e, stands, domain)) (_, (b, also, other)) =
     let one : e ≡ b = ones p e b (subst (λ (q : ℕ). Stands c.entries q e) same stands) also in
     same_Some d f (sym domain ∙ ap processor_domain one ∙ other)
 
@@ -119,7 +119,7 @@ two_to c at other point ones two = (
     no_later x places same =
         elim (eq-or-lt_of_le {n = at} {m = x.at} (two.least x.at (rw same at places.0))) [
           | inl here ↦
-              let domain = one_domain c at x.at point x.number two.d x.value ones here two.first places in
+              let domain = check_domains c at x.at point x.number two.d x.value ones here two.first places in
               inr (here, omega (arith, domain))
           | inr less ↦ inl less
         ]

@@ -15,4 +15,4 @@ pub mod Slots
 pub mod StageFaults
 pub mod UnknownNumbers
 pub mod Verdicts
-pub mod WholeTables
+pub mod CompleteTables

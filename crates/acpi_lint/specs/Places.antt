@@ -1,11 +1,11 @@
 -- Places of findings, and the lowest of them.
-use Rattle.std.specs.Prelude.{◌≡◌, ℕ, ◌<◌, ◌≤◌, ◌⊎◌, Option, Some, None}
+use Rattle.std.specs.Prelude.{◌≡◌, ℕ, List, [], ◌∷◌, Option, Some, None}
+use Rattle.acpi_base.specs.Order.{AreNotAfter}
 use Rattle.acpi_lint.specs.declared.place.Place.{Place}
 
--- the place comes before these numbers in the order by at, other and point, or is equal to them
+-- the place comes before these numbers in the order of findings, or is equal to them
 abbrev pub IsNotAfter : Place → ℕ → ℕ → ℕ → Type 0
-IsNotAfter p at other point =
-    (p.at < at) ⊎ ((p.at ≡ at) × ((p.other < other) ⊎ ((p.other ≡ other) × (p.point ≤ point))))
+IsNotAfter p at other point = AreNotAfter (p.at ∷ p.other ∷ p.point ∷ []) (at ∷ other ∷ point ∷ [])
 
 -- P holds for the place's numbers, and for none before it
 pub record IsLeast (P : ℕ → ℕ → ℕ → Type 0) (p : Place) : Type 0 where

@@ -9,9 +9,9 @@ use Rattle.acpi_base.specs.TableKinds.{signature_of}
 use Rattle.acpi_base.specs.Tables.{IsSigned, TableFault}
 use Rattle.acpi_base.specs.declared.table_kind.TableKind.{TableKind}
 use Rattle.acpi_base.specs.declared.table_kind.TableKind.TheVariants as kind
-use Rattle.acpi_read.specs.Roots.{RootValue, IsWholeRoot}
+use Rattle.acpi_read.specs.Roots.{RootValue, IsCompleteRoot}
 use Rattle.acpi_lint.specs.declared.first_slots.FirstSlots.{FirstSlots}
-use Rattle.acpi_lint.specs.declared.listed.Slot.{Slot}
+use Rattle.acpi_lint.specs.declared.listed_slots.Slot.{Slot}
 use Rattle.acpi_lint.specs.declared.numbered.Numbered.{Numbered}
 use Rattle.acpi_lint.specs.declared.place.Place.{Place}
 use Rattle.acpi_lint.specs.declared.table_at.Sought.{Sought}
@@ -20,7 +20,7 @@ use Rattle.acpi_lint.specs.declared.table_at.TableAt.{TableAt}
 
 -- ---- what is at an address
 
--- the signature of a table that should not be listed is held at a
+-- the signature of a table that should not be listed is present at a
 abbrev pub IsApart : Memory → ℕ → Type 0
 IsApart m a = IsSigned m a dsdt_signature ⊎ IsSigned m a facs_signature
 
@@ -44,7 +44,7 @@ pub record IsTableAt (m : Memory) (table : TableAt) : Type 0 where
 
 -- this is the root table that the RSDP at p names, or there is no complete one
 abbrev pub IsRootOf : Memory → ℕ → Option RootValue → Type 0
-IsRootOf m p found = MatchOption found ((root : RootValue) → ¬ IsWholeRoot m p root) (IsWholeRoot m p)
+IsRootOf m p found = MatchOption found ((root : RootValue) → ¬ IsCompleteRoot m p root) (IsCompleteRoot m p)
 
 -- `Lists k a` says that slot k lists the address a: these are the slots, in their order, each with what is there
 pub record AreSlots (m : Memory) (Lists : ℕ → ℕ → Type 0) (slots : List Slot) : Type 0 where

@@ -8,7 +8,7 @@ ghost use Rattle.acpi_base.specs.Policy.{PolicyValue};
 ghost use Rattle.acpi_base.specs.declared.rule.Rule.{Rule};
 ghost use Rattle.acpi_lint.specs.Places.{FindsLeast};
 ghost use Rattle.acpi_lint.specs.StageFaults.{FindsFirstAdvice};
-ghost use Rattle.acpi_lint.specs.WholeTables.{AreWholeTables};
+ghost use Rattle.acpi_lint.specs.CompleteTables.{AreCompleteTables};
 
 use crate::fadt_advice::{block_differs, dsdt_differs, facs_differs, fadt_of_revision};
 use crate::nowhere::{
@@ -24,13 +24,13 @@ use crate::repeated::{repeated, same_cache_id, same_leaf, two_uid_domains};
 use crate::sci::sci_nowhere;
 use crate::slit::{rows, slit_differs};
 use crate::slot_advice::{listed_apart, listed_twice, second_table};
-use crate::whole_tables::WholeTables;
+use crate::complete_tables::CompleteTables;
 use acpi_base::{Advice, Image, Policy, Rule, TableKind};
 use std::alloc::{AllocError, Global};
 
 /// The place of the first entry of a set's SRAT whose domain is not one of the localities of its SLIT.
-fn past_slit(tables: &WholeTables<'_>) -> Option<Place>
-    ensures { (m : Memory) (q : PolicyValue) → AreWholeTables m q.rsdp tables.now
+fn past_slit(tables: &CompleteTables<'_>) -> Option<Place>
+    ensures { (m : Memory) (q : PolicyValue) → AreCompleteTables m q.rsdp tables.now
         → FindsLeast (IsBroken Rule.DomainPastSlit m q) result }
 {
     let slit = tables.table(TableKind::Slit)?;
@@ -43,11 +43,11 @@ fn past_slit(tables: &WholeTables<'_>) -> Option<Place>
 fn first_place(
     alloc: Global,
     image: &Image,
-    tables: &WholeTables<'_>,
+    tables: &CompleteTables<'_>,
     policy: &Policy,
     rule: Rule,
 ) -> Result<Option<Place>, AllocError>
-    requires { AreWholeTables image.now policy.now.rsdp tables.now }
+    requires { AreCompleteTables image.now policy.now.rsdp tables.now }
     ensures { IfOk result (FindsLeast (IsBroken rule image.now policy.now)) }
 {
     let (fadt, madt, srat, pptt) = (tables.fadt(), tables.madt(), tables.srat(), tables.pptt());
@@ -117,11 +117,11 @@ fn first_place(
 fn first_finding(
     alloc: Global,
     image: &Image,
-    tables: &WholeTables<'_>,
+    tables: &CompleteTables<'_>,
     policy: &Policy,
     rule: Rule,
 ) -> Result<Option<Advice>, AllocError>
-    requires { AreWholeTables image.now policy.now.rsdp tables.now }
+    requires { AreCompleteTables image.now policy.now.rsdp tables.now }
     ensures { IfOk result (FindsFirstAdvice rule image.now policy.now) }
 {
     let Some(Place { at, other, point }) = first_place(alloc, image, tables, policy, rule)? else {
@@ -139,10 +139,10 @@ fn first_finding(
 pub fn first_advice(
     alloc: Global,
     image: &Image,
-    tables: &WholeTables<'_>,
+    tables: &CompleteTables<'_>,
     policy: &Policy,
 ) -> Result<Vec<Advice>, AllocError>
-    requires { AreWholeTables image.now policy.now.rsdp tables.now }
+    requires { AreCompleteTables image.now policy.now.rsdp tables.now }
     ensures { IfOk result (λ advice. AreFirstAdvice image.now policy.now advice.items) }
 {
     let mut advice = Vec::new(alloc);

@@ -8,10 +8,10 @@ ghost use Rattle.acpi_base.specs.declared.stage.Stage.{Stage};
 ghost use Rattle.acpi_lint.specs.FacsPlaces.{IsFacsFault, IsFacsFaultOf};
 ghost use Rattle.acpi_lint.specs.Places.{FindsLeast};
 ghost use Rattle.acpi_lint.specs.StageFaults.{IsFaultOfStage};
-ghost use Rattle.acpi_lint.specs.WholeTables.{AreWholeTables};
+ghost use Rattle.acpi_lint.specs.CompleteTables.{AreCompleteTables};
 
 use crate::place::Place;
-use crate::whole_tables::WholeTables;
+use crate::complete_tables::CompleteTables;
 use acpi_base::{Code, Frame, Image, Question, TableKind};
 use acpi_read::{Fadt, Table, fails};
 
@@ -55,8 +55,8 @@ fn table_fault(image: &Image, table: Table<'_>, code: Code) -> Option<Place>
 
 /// The fault with this code of the FACS that the set's FADT names: its address, or 0 if none is named. The tables are
 /// those of the image's set.
-pub fn facs_fault(image: &Image, tables: &WholeTables<'_>, code: Code) -> Option<Place>
-    ensures { (q : PolicyValue) → AreWholeTables image.now q.rsdp tables.now
+pub fn facs_fault(image: &Image, tables: &CompleteTables<'_>, code: Code) -> Option<Place>
+    ensures { (q : PolicyValue) → AreCompleteTables image.now q.rsdp tables.now
         → FindsLeast (IsFaultOfStage Stage.Facs code image.now q) result }
 {
     table_fault(image, tables.table(TableKind::Fadt)?, code)

@@ -8,10 +8,10 @@ ghost use Rattle.acpi_base.specs.declared.stage.Stage.{Stage};
 ghost use Rattle.acpi_lint.specs.FadtPlaces.{IsFadtFault};
 ghost use Rattle.acpi_lint.specs.Places.{FindsLeast};
 ghost use Rattle.acpi_lint.specs.StageFaults.{IsFaultOfStage};
-ghost use Rattle.acpi_lint.specs.WholeTables.{AreWholeTables};
+ghost use Rattle.acpi_lint.specs.CompleteTables.{AreCompleteTables};
 
 use crate::place::Place;
-use crate::whole_tables::WholeTables;
+use crate::complete_tables::CompleteTables;
 use acpi_base::field::u8_at;
 use acpi_base::{Code, TableKind};
 use acpi_read::{Fadt, RESET_REG_SUP, Table, has_flag};
@@ -60,8 +60,8 @@ fn table_fault(table: Table<'_>, code: Code) -> Option<Place>
 }
 
 /// Whether the root table is complete and lists no header of a FADT.
-fn lists_no_fadt(tables: &WholeTables<'_>) -> bool
-    ensures { (m : Memory) (p : ℕ) → AreWholeTables m p tables.now
+fn lists_no_fadt(tables: &CompleteTables<'_>) -> bool
+    ensures { (m : Memory) (p : ℕ) → AreCompleteTables m p tables.now
         → IsTrue result ↔ HasNoFadt m p }
 {
     match &tables.root {
@@ -72,8 +72,8 @@ fn lists_no_fadt(tables: &WholeTables<'_>) -> bool
 
 /// The first fault of the FADT with this code: its offset in the table, or 0 if none is listed. The tables are those
 /// of the set.
-pub fn fadt_fault(tables: &WholeTables<'_>, code: Code) -> Option<Place>
-    ensures { (m : Memory) (q : PolicyValue) → AreWholeTables m q.rsdp tables.now
+pub fn fadt_fault(tables: &CompleteTables<'_>, code: Code) -> Option<Place>
+    ensures { (m : Memory) (q : PolicyValue) → AreCompleteTables m q.rsdp tables.now
         → FindsLeast (IsFaultOfStage Stage.Fadt code m q) result }
 {
     match code {

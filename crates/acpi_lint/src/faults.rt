@@ -4,7 +4,7 @@ ghost use Rattle.std.specs.Prelude.{IfOk};
 ghost use Rattle.acpi_base.specs.Lint.Findings.{AreFirstFaults};
 ghost use Rattle.acpi_base.specs.Lint.FirstOfCode.{FindsFirstOfCode};
 ghost use Rattle.acpi_lint.specs.StageFaults.{FindsFirstAt};
-ghost use Rattle.acpi_lint.specs.WholeTables.{AreWholeTables};
+ghost use Rattle.acpi_lint.specs.CompleteTables.{AreCompleteTables};
 
 use crate::facs::facs_fault;
 use crate::fadt::fadt_fault;
@@ -18,7 +18,7 @@ use crate::root::root_fault;
 use crate::rsdp::rsdp_fault;
 use crate::slit::slit_fault;
 use crate::slots::slot_fault;
-use crate::whole_tables::WholeTables;
+use crate::complete_tables::CompleteTables;
 use acpi_base::{Code, Image, Policy, Stage, TableKind, Witness};
 use acpi_check::Chain;
 use acpi_read::{MadtEntry, PpttEntry, SratEntry};
@@ -28,11 +28,11 @@ use std::alloc::{AllocError, Global};
 fn first_place(
     alloc: Global,
     image: &Image,
-    tables: &WholeTables<'_>,
+    tables: &CompleteTables<'_>,
     policy: &Policy,
     code: Code,
 ) -> Result<Option<Place>, AllocError>
-    requires { AreWholeTables image.now policy.now.rsdp tables.now }
+    requires { AreCompleteTables image.now policy.now.rsdp tables.now }
     ensures { IfOk result (FindsFirstAt code image.now policy.now) }
 {
     let (slit, pptt) = (tables.table(TableKind::Slit), tables.pptt());
@@ -65,11 +65,11 @@ fn first_place(
 fn first_fault(
     alloc: Global,
     image: &Image,
-    tables: &WholeTables<'_>,
+    tables: &CompleteTables<'_>,
     policy: &Policy,
     code: Code,
 ) -> Result<Option<Witness>, AllocError>
-    requires { AreWholeTables image.now policy.now.rsdp tables.now }
+    requires { AreCompleteTables image.now policy.now.rsdp tables.now }
     ensures { IfOk result (FindsFirstOfCode code image.now policy.now) }
 {
     let Some(Place { at, other, point }) = first_place(alloc, image, tables, policy, code)? else {
@@ -87,10 +87,10 @@ fn first_fault(
 pub fn first_faults(
     alloc: Global,
     image: &Image,
-    tables: &WholeTables<'_>,
+    tables: &CompleteTables<'_>,
     policy: &Policy,
 ) -> Result<Vec<Witness>, AllocError>
-    requires { AreWholeTables image.now policy.now.rsdp tables.now }
+    requires { AreCompleteTables image.now policy.now.rsdp tables.now }
     ensures { IfOk result (λ faults. AreFirstFaults image.now policy.now faults.items) }
 {
     let mut faults = Vec::new(alloc);

@@ -5,7 +5,7 @@ ghost use Rattle.acpi_base.specs.Lint.Findings.{AreFindings};
 
 use crate::advice::first_advice;
 use crate::faults::first_faults;
-use crate::whole_tables::WholeTables;
+use crate::complete_tables::CompleteTables;
 use acpi_base::{Advice, Image, Policy, Witness};
 use std::alloc::{AllocError, Global};
 
@@ -28,7 +28,7 @@ pub fn lint(alloc: Global, image: &Image, policy: &Policy) -> Result<Findings, A
     ensures { IfOk result (λ found.
         AreFindings image.now policy.now found.faults.items found.advice.items) }
 {
-    let tables = WholeTables::of(alloc, image, policy.rsdp())?;
+    let tables = CompleteTables::of(alloc, image, policy.rsdp())?;
     let faults = first_faults(alloc, image, &tables, policy)?;
     let advice = first_advice(alloc, image, &tables, policy)?;
     Ok(Findings { faults, advice })

@@ -5,7 +5,7 @@ ghost use Rattle.acpi_base.specs.Memory.{Memory};
 ghost use Rattle.acpi_base.specs.Root.{IsSlot};
 ghost use Rattle.acpi_lint.specs.Slots.{AreSlots, AreFirstSlots, first_of};
 
-use crate::listed::{Slot, first_slot};
+use crate::listed_slots::{Slot, first_slot};
 use crate::table_at::Sought;
 use acpi_base::TableKind;
 

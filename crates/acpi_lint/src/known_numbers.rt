@@ -9,7 +9,7 @@ ghost use Rattle.acpi_base.specs.Madt.{madt_contents};
 ghost use Rattle.acpi_base.specs.Madt as madts;
 ghost use Rattle.acpi_base.specs.Pptt.{pptt_contents};
 ghost use Rattle.acpi_base.specs.Srat.{srat_contents};
-ghost use Rattle.acpi_read.specs.Madts.{madt_value, IsWholeEntry};
+ghost use Rattle.acpi_read.specs.Madts.{madt_value, IsCompleteEntry};
 ghost use Rattle.acpi_check.specs.CollectedValues.{Picks};
 ghost use Rattle.acpi_lint.specs.EntryNumbers.{AreGathered};
 ghost use Rattle.acpi_lint.specs.KnownNumbers.{AreKnown, IsAnyNamed};
@@ -75,7 +75,7 @@ fn is_other_form(bytes: &[u8]) -> bool
 
 /// The same for an entry.
 fn is_other_processor(entry: &MadtEntry<'_>) -> bool
-    requires { IsWholeEntry entry.now }
+    requires { IsCompleteEntry entry.now }
     ensures { IsTrue result ↔ IsOtherProcessor (madt_value entry.now) }
 {
     match entry {

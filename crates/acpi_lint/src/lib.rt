@@ -41,7 +41,7 @@ mod findings;
 mod first_slots;
 mod known_numbers;
 mod leaves;
-mod listed;
+mod listed_slots;
 mod nowhere;
 mod numbered;
 mod one_code;
@@ -59,6 +59,6 @@ mod slot_advice;
 mod slots;
 mod table_at;
 mod verdicts;
-mod whole_tables;
+mod complete_tables;
 
 pub use findings::{Findings, lint};

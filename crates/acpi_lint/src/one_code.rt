@@ -10,30 +10,30 @@ ghost use Rattle.acpi_base.specs.declared.stage.Stage.{Stage};
 ghost use Rattle.acpi_check.specs.ChainCycles.{Names, most_of};
 ghost use Rattle.acpi_lint.specs.Places.{FindsLeast};
 ghost use Rattle.acpi_lint.specs.StageFaults.{IsFaultOfStage, FindsFirstAt};
-ghost use Rattle.acpi_lint.specs.WholeTables.{AreWholeTables};
+ghost use Rattle.acpi_lint.specs.CompleteTables.{AreCompleteTables};
 
 use crate::place::Place;
 use crate::verdicts::place_of;
-use crate::whole_tables::WholeTables;
+use crate::complete_tables::CompleteTables;
 use acpi_base::{Policy, TableKind};
 use acpi_check::{
-    Chain, agreeing_overrides, apart_interrupts, apart_ranges, first_cycle, known_leaves,
-    named_served, one_domain,
+    Chain, check_overrides, check_interrupts, check_ranges, first_cycle, check_leaves,
+    check_served, check_domains,
 };
 use acpi_read::Table;
 use std::alloc::{AllocError, Global};
 
 /// The place of the first override of a set's MADT that gives its Source another interrupt number than an earlier one.
 pub fn override_clash(
-    tables: &WholeTables<'_>,
+    tables: &CompleteTables<'_>,
     policy: &Policy,
 ) -> Result<Option<Place>, AllocError>
-    ensures { (m : Memory) → AreWholeTables m policy.now.rsdp tables.now
+    ensures { (m : Memory) → AreCompleteTables m policy.now.rsdp tables.now
         → IfOk result (FindsLeast
         (IsFaultOfStage Stage.Overrides Code.OverrideClash m policy.now)) }
 {
     match tables.madt() {
-        Some(madt) => place_of(agreeing_overrides(&madt)),
+        Some(madt) => place_of(check_overrides(&madt)),
         None => Ok(None),
     }
 }
@@ -42,14 +42,14 @@ pub fn override_clash(
 /// Allocates as the stage does.
 pub fn gsi_nowhere(
     alloc: Global,
-    tables: &WholeTables<'_>,
+    tables: &CompleteTables<'_>,
     policy: &Policy,
 ) -> Result<Option<Place>, AllocError>
-    ensures { (m : Memory) → AreWholeTables m policy.now.rsdp tables.now
+    ensures { (m : Memory) → AreCompleteTables m policy.now.rsdp tables.now
         → IfOk result (FindsLeast (IsFaultOfStage Stage.Served Code.GsiNowhere m policy.now)) }
 {
     match tables.madt() {
-        Some(madt) => place_of(named_served(alloc, policy, &madt)),
+        Some(madt) => place_of(check_served(alloc, policy, &madt)),
         None => Ok(None),
     }
 }
@@ -57,14 +57,14 @@ pub fn gsi_nowhere(
 /// The place of the lowest interrupt number that two I/O APICs of a set's MADT serve. Allocates as the stage does.
 pub fn gsi_clash(
     alloc: Global,
-    tables: &WholeTables<'_>,
+    tables: &CompleteTables<'_>,
     policy: &Policy,
 ) -> Result<Option<Place>, AllocError>
-    ensures { (m : Memory) → AreWholeTables m policy.now.rsdp tables.now
+    ensures { (m : Memory) → AreCompleteTables m policy.now.rsdp tables.now
         → IfOk result (FindsFirstAt Code.GsiClash m policy.now) }
 {
     match tables.madt() {
-        Some(madt) => place_of(apart_interrupts(alloc, policy, &madt)),
+        Some(madt) => place_of(check_interrupts(alloc, policy, &madt)),
         None => Ok(None),
     }
 }
@@ -72,14 +72,14 @@ pub fn gsi_clash(
 /// The place of the lowest address that two compared ranges of a set's SRAT cover. Allocates as the stage does.
 pub fn overlap(
     alloc: Global,
-    tables: &WholeTables<'_>,
+    tables: &CompleteTables<'_>,
     policy: &Policy,
 ) -> Result<Option<Place>, AllocError>
-    ensures { (m : Memory) → AreWholeTables m policy.now.rsdp tables.now
+    ensures { (m : Memory) → AreCompleteTables m policy.now.rsdp tables.now
         → IfOk result (FindsFirstAt Code.Overlap m policy.now) }
 {
     match tables.srat() {
-        Some(srat) => place_of(apart_ranges(alloc, policy.hotplug(), &srat)),
+        Some(srat) => place_of(check_ranges(alloc, policy.hotplug(), &srat)),
         None => Ok(None),
     }
 }
@@ -108,10 +108,10 @@ pub fn cycle_place(
 /// domain than the first entry for this processor. Allocates as the stage does.
 pub fn two_domains(
     alloc: Global,
-    tables: &WholeTables<'_>,
+    tables: &CompleteTables<'_>,
     policy: &Policy,
 ) -> Result<Option<Place>, AllocError>
-    ensures { (m : Memory) → AreWholeTables m policy.now.rsdp tables.now
+    ensures { (m : Memory) → AreCompleteTables m policy.now.rsdp tables.now
         → IfOk result (FindsLeast (IsFaultOfStage Stage.Domains Code.TwoDomains m policy.now)) }
 {
     let Some(madt) = tables.madt() else {
@@ -120,17 +120,17 @@ pub fn two_domains(
     let Some(srat) = tables.srat() else {
         return Ok(None);
     };
-    place_of(one_domain(alloc, policy.processors(), &madt, &srat))
+    place_of(check_domains(alloc, policy.processors(), &madt, &srat))
 }
 
 /// The place of the first leaf of a set's PPTT whose ID is the UID of no processor of its MADT, if the MADT's entries
 /// fill it and all have types that are read. Allocates as the stage does.
 pub fn leaf_unknown(
     alloc: Global,
-    tables: &WholeTables<'_>,
+    tables: &CompleteTables<'_>,
     policy: &Policy,
 ) -> Result<Option<Place>, AllocError>
-    ensures { (m : Memory) → AreWholeTables m policy.now.rsdp tables.now
+    ensures { (m : Memory) → AreCompleteTables m policy.now.rsdp tables.now
         → IfOk result (FindsLeast (IsFaultOfStage Stage.Leaves Code.LeafUnknown m policy.now)) }
 {
     let Some(madt) = tables.table(TableKind::Madt) else {
@@ -139,5 +139,5 @@ pub fn leaf_unknown(
     let Some(pptt) = tables.pptt() else {
         return Ok(None);
     };
-    place_of(known_leaves(alloc, &madt, &pptt))
+    place_of(check_leaves(alloc, &madt, &pptt))
 }

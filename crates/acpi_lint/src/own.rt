@@ -65,7 +65,7 @@ fn is_madt_unread(bytes: &[u8]) -> bool
 
 /// The place of an entry of a MADT that neither the stages nor these rules read; `other` is its type.
 pub fn madt_unread(at: &EntryAt<MadtEntry<'_>>) -> Option<Place>
-    requires { madts.IsWholeEntry at.now.entry }
+    requires { madts.IsCompleteEntry at.now.entry }
     ensures { FindsOwn (λ at. IsMadtUnread) (entry_at_value madt_value at.now) result }
 {
     match at.entry {
@@ -94,7 +94,7 @@ fn is_srat_unread(bytes: &[u8]) -> bool
 
 /// The place of an entry of an SRAT that neither the stages nor these rules read; `other` is its type.
 pub fn srat_unread(at: &EntryAt<SratEntry<'_>>) -> Option<Place>
-    requires { srats.IsWholeEntry at.now.entry }
+    requires { srats.IsCompleteEntry at.now.entry }
     ensures { FindsOwn (λ at. IsSratUnread) (entry_at_value srat_value at.now) result }
 {
     match at.entry {

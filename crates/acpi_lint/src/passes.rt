@@ -11,13 +11,13 @@ ghost use Rattle.acpi_check.specs.CollectedValues.{Picks};
 ghost use Rattle.acpi_lint.specs.EntryPlaces.{IsSoughtEntry};
 ghost use Rattle.acpi_lint.specs.FirstPicked.{FindsOwn, PicksFirst};
 ghost use Rattle.acpi_lint.specs.Places.{FindsLeast};
-ghost use Rattle.acpi_lint.specs.WholeTables.{AreWholeTables};
+ghost use Rattle.acpi_lint.specs.CompleteTables.{AreCompleteTables};
 ghost use Rattle.acpi_read.specs.EntryTables.{entry_table, IsAbout};
 ghost use Rattle.acpi_read.specs.TypedEntries.{entry_at_value};
 ghost use Rattle.acpi_read.specs.declared.entry_codes.Subject.{Subject};
 
 use crate::place::Place;
-use crate::whole_tables::WholeTables;
+use crate::complete_tables::CompleteTables;
 use acpi_base::{Code, Policy, TableKind};
 use acpi_read::{EntryAt, Subject, Table, TableEntry, TypedEntries};
 
@@ -135,12 +135,12 @@ fn table_fault<'a, E: TableEntry<'a> + Copy>(
 /// The place of the first fault with this code of a set's table of a kind. None for a code of another stage, and if
 /// the set lists no complete table of the kind.
 pub fn listed_fault<'a, E: TableEntry<'a> + Copy>(
-    tables: &WholeTables<'a>,
+    tables: &CompleteTables<'a>,
     kind: TableKind,
     policy: &Policy,
     code: Code,
 ) -> Option<Place>
-    ensures { (m : Memory) → AreWholeTables m policy.now.rsdp tables.now
+    ensures { (m : Memory) → AreCompleteTables m policy.now.rsdp tables.now
         → FindsLeast (λ at other point. HasListed m policy.now.rsdp (signature_of kind)
         (λ whole. E.IsFault policy.now whole code at other point)) result }
 {

@@ -6,14 +6,14 @@ ghost use Rattle.acpi_base.specs.Lint.Slots.{IsListedTwice, IsSecondTable, IsLis
 ghost use Rattle.acpi_base.specs.Memory.{Memory};
 ghost use Rattle.acpi_lint.specs.Places.{FindsLeast};
 ghost use Rattle.acpi_lint.specs.Slots.{numbered_slot, second_place};
-ghost use Rattle.acpi_lint.specs.WholeTables.{AreWholeTables};
+ghost use Rattle.acpi_lint.specs.CompleteTables.{AreCompleteTables};
 
 use crate::first_slots::FirstSlots;
-use crate::listed::{Slot, first_slot};
+use crate::listed_slots::{Slot, first_slot};
 use crate::numbered::{Numbered, first_repeated};
 use crate::place::Place;
 use crate::table_at::Sought;
-use crate::whole_tables::WholeTables;
+use crate::complete_tables::CompleteTables;
 use std::alloc::{AllocError, Global};
 
 /// The addresses that slots list, each at its slot's number.
@@ -33,8 +33,8 @@ fn numbered_slots(alloc: Global, slots: &[Slot]) -> Result<Vec<Numbered>, AllocE
 
 /// The first slot that lists an address that an earlier slot also lists. The tables are those of the set. Allocates for
 /// each slot.
-pub fn listed_twice(alloc: Global, tables: &WholeTables<'_>) -> Result<Option<Place>, AllocError>
-    ensures { (m : Memory) (p : ℕ) → AreWholeTables m p tables.now
+pub fn listed_twice(alloc: Global, tables: &CompleteTables<'_>) -> Result<Option<Place>, AllocError>
+    ensures { (m : Memory) (p : ℕ) → AreCompleteTables m p tables.now
         → IfOk result (FindsLeast (IsListedTwice m p)) }
 {
     let given = numbered_slots(alloc, &tables.slots)?;
@@ -56,8 +56,8 @@ fn second_place(firsts: &FirstSlots, slot: &Slot) -> Option<Place>
 
 /// The first slot that lists a table of the same kind as an earlier one, at another address. The tables are those of
 /// the set.
-pub fn second_table(tables: &WholeTables<'_>) -> Option<Place>
-    ensures { (m : Memory) (p : ℕ) → AreWholeTables m p tables.now
+pub fn second_table(tables: &CompleteTables<'_>) -> Option<Place>
+    ensures { (m : Memory) (p : ℕ) → AreCompleteTables m p tables.now
         → FindsLeast (IsSecondTable m p) result }
 {
     for slot in &tables.slots {
@@ -69,8 +69,8 @@ pub fn second_table(tables: &WholeTables<'_>) -> Option<Place>
 }
 
 /// The first slot that lists a DSDT or a FACS, which only the FADT should name. The tables are those of the set.
-pub fn listed_apart(tables: &WholeTables<'_>) -> Option<Place>
-    ensures { (m : Memory) (p : ℕ) → AreWholeTables m p tables.now
+pub fn listed_apart(tables: &CompleteTables<'_>) -> Option<Place>
+    ensures { (m : Memory) (p : ℕ) → AreCompleteTables m p tables.now
         → FindsLeast (IsListedApart m p) result }
 {
     let slot = first_slot(&tables.slots, Sought::Apart)?;

@@ -5,17 +5,17 @@ ghost use Rattle.acpi_base.specs.Policy.{PolicyValue};
 ghost use Rattle.acpi_base.specs.declared.stage.Stage.{Stage};
 ghost use Rattle.acpi_lint.specs.Places.{FindsLeast};
 ghost use Rattle.acpi_lint.specs.StageFaults.{IsFaultOfStage};
-ghost use Rattle.acpi_lint.specs.WholeTables.{AreWholeTables};
+ghost use Rattle.acpi_lint.specs.CompleteTables.{AreCompleteTables};
 
-use crate::listed::first_slot;
+use crate::listed_slots::first_slot;
 use crate::place::Place;
 use crate::table_at::Sought;
-use crate::whole_tables::WholeTables;
+use crate::complete_tables::CompleteTables;
 use acpi_base::Code;
 
 /// The first slot whose table has the fault with this code, and the table's address. The tables are those of the set.
-pub fn slot_fault(tables: &WholeTables<'_>, code: Code) -> Option<Place>
-    ensures { (m : Memory) (q : PolicyValue) → AreWholeTables m q.rsdp tables.now
+pub fn slot_fault(tables: &CompleteTables<'_>, code: Code) -> Option<Place>
+    ensures { (m : Memory) (q : PolicyValue) → AreCompleteTables m q.rsdp tables.now
         → FindsLeast (IsFaultOfStage Stage.Tables code m q) result }
 {
     let slot = first_slot(&tables.slots, Sought::Fault(code))?;

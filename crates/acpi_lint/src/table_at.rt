@@ -41,7 +41,7 @@ pub struct TableAt {
 /// The fault of a table whose header is present. `run` has the bytes from its address on.
 fn table_fault(image: &Image, address: u64, run: &[u8], header: &[u8]) -> Option<Code>
     requires run { AreBytesFrom image.now address run.now }
-    requires held { bytes_at image.now address 36 ≡ Some header.now }
+    requires present { bytes_at image.now address 36 ≡ Some header.now }
     requires long { length header.now ≡ 36 }
     ensures { (code : Code) → (result ≡ Some code) ↔ TableFault image.now address code }
 {

@@ -9,24 +9,24 @@ use Rattle.acpi_base.specs.Root.{Root, chosen_root, IsRoot}
 use Rattle.acpi_base.specs.Rsdp.{addresses_at}
 use Rattle.acpi_base.specs.Listed.{IsFirstListed, IsListedTable}
 use Rattle.acpi_base.proofs.Tables.Listed.{one_first_listed, listed_of_root, listed_in_root}
-use Rattle.acpi_read.specs.Roots.{RootValue, IsWholeRoot}
+use Rattle.acpi_read.specs.Roots.{RootValue, IsCompleteRoot}
 
-pub listed_of_set : {m : Memory} {p a : ℕ} {root : RootValue} {signature header whole : List ℕ} → IsWholeRoot m p root
+pub listed_of_set : {m : Memory} {p a : ℕ} {root : RootValue} {signature header whole : List ℕ} → IsCompleteRoot m p root
     → IsFirstListed m root.bytes root.width signature a → IsTable m a header whole → IsListedTable m p signature whole
 listed_of_set root first table = listed_in_root root.named root.table first table
 
 -- a set that lists a table has a root
 pub root_of_listed : {m : Memory} {p : ℕ} {signature whole : List ℕ} (listed : IsListedTable m p signature whole)
-    → IsWholeRoot m p (record { address = listed.first.r; width = listed.first.d; bytes = listed.first.whole })
+    → IsCompleteRoot m p (record { address = listed.first.r; width = listed.first.d; bytes = listed.first.whole })
 root_of_listed listed = record { named = listed.first.root; table = listed.first.table }
 
 -- and the table comes first in its slots
-pub first_of_listed : {m : Memory} {p : ℕ} {root : RootValue} {signature whole : List ℕ} → IsWholeRoot m p root
+pub first_of_listed : {m : Memory} {p : ℕ} {root : RootValue} {signature whole : List ℕ} → IsCompleteRoot m p root
     → (listed : IsListedTable m p signature whole) → IsFirstListed m root.bytes root.width signature listed.a
 first_of_listed root listed = listed_of_root root.named root.table listed.first
 
 -- the table at the first address is the set's
-pub table_of_set : {m : Memory} {p a : ℕ} {root : RootValue} {signature whole : List ℕ} → IsWholeRoot m p root
+pub table_of_set : {m : Memory} {p a : ℕ} {root : RootValue} {signature whole : List ℕ} → IsCompleteRoot m p root
     → IsFirstListed m root.bytes root.width signature a → (listed : IsListedTable m p signature whole)
     → IsTable m a listed.header whole
 table_of_set {m} {a = a} {root = root} {signature = signature} {whole = whole} is first listed =

@@ -2,12 +2,12 @@
 use Rattle.std.proofs.Common.{◌≡◌, ◌≤◌, ℕ, List, refl, inl, inr, arith}
 use Rattle.std.proofs.lemmas.Bool.Decides.{eqb_tells}
 use Rattle.acpi_base.specs.Codes.{code_number, stage_of}
-use Rattle.acpi_base.specs.Madt.{MadtEntry, IoApic, Override, AddressOverride, Opaque, madt_entry, madt_contents, IsAddressOverride, IsSoundMadt, MadtEntryFault, MadtFault}
+use Rattle.acpi_base.specs.Madt.{MadtEntry, IoApic, Override, AddressOverride, Opaque, madt_entry, madt_contents, IsAddressOverride, IsValidMadt, MadtEntryFault, MadtFault}
 use Rattle.acpi_base.specs.Policy.{PolicyValue}
 use Rattle.acpi_base.specs.declared.code.Code.{Code}
 use Rattle.acpi_base.specs.declared.code.Code.TheVariants as code
 use Rattle.acpi_base.specs.declared.stage.Stage.TheVariants as stage
-use Rattle.acpi_base.proofs.Madt.Faults.{sound_without_fault}
+use Rattle.acpi_base.proofs.Madt.Faults.{valid_without_fault}
 use Rattle.acpi_read.specs.EntryTables.{EntryTable, entry_table, subject_of, IsAbout, AreFaults}
 use Rattle.acpi_read.specs.EntryFaults.{madt_codes, madt_own_code}
 use Rattle.acpi_read.specs.declared.entry_codes.Subject.TheVariants as subject
@@ -62,13 +62,13 @@ unfolding madt_contents
 fault q whole code.MadtShort at other point wrong = wrong
 fault q whole _ at other point wrong = wrong
 
-sound : (q : PolicyValue) (whole : List ℕ)
+valid : (q : PolicyValue) (whole : List ℕ)
     → ((c : Code) (at other point : ℕ) → ¬ MadtFault q (madt_contents whole) c at other point)
-    → IsSoundMadt q (madt_contents whole)
-sound q whole none = sound_without_fault q whole (λ c at other point own wrong. none c at other point wrong)
+    → IsValidMadt q (madt_contents whole)
+valid q whole none = valid_without_fault q whole (λ c at other point own wrong. none c at other point wrong)
 
 pub madt_faults : AreFaults stage.Madt madt_codes madt_table (λ q whole. MadtFault q (madt_contents whole))
-    (λ q whole. IsSoundMadt q (madt_contents whole))
+    (λ q whole. IsValidMadt q (madt_contents whole))
 madt_faults =
     record {
       cut = refl;
@@ -76,5 +76,5 @@ madt_faults =
       single = single;
       about = about;
       fault = fault;
-      sound = sound;
+      valid = valid;
     }

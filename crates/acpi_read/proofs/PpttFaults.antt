@@ -40,9 +40,9 @@ fault whole code.PpttEntryCut at other point (is, unused) = (is, unused.0, unuse
 fault whole code.PpttEntryLength at other point (wrong, unused) = (wrong, unused.0, unused.1)
 fault whole _ at other point wrong = absurd wrong.0.2
 
-sound : (whole : List ℕ) → ((c : Code) (at other point : ℕ) → ¬ PpttFault (pptt_contents whole) c at other point)
+valid : (whole : List ℕ) → ((c : Code) (at other point : ℕ) → ¬ PpttFault (pptt_contents whole) c at other point)
     → IsCutPptt (pptt_contents whole)
-sound whole none = cut_without_fault (pptt_contents whole) (λ c at other point own wrong. none c at other point wrong)
+valid whole none = cut_without_fault (pptt_contents whole) (λ c at other point own wrong. none c at other point wrong)
 
 pub pptt_faults : AreFaults stage.Pptt pptt_codes (λ q. pptt_table) (λ q whole. PpttFault (pptt_contents whole))
     (λ q whole. IsCutPptt (pptt_contents whole))
@@ -53,5 +53,5 @@ pptt_faults =
       single = λ q c e is. absurd is;
       about = λ q. about;
       fault = λ q. fault;
-      sound = λ q. sound;
+      valid = λ q. valid;
     }

@@ -8,7 +8,7 @@ use Rattle.std.proofs.lemmas.List.{drop-drop, length-take, length-drop}
 use Rattle.acpi_base.specs.Number.{field}
 use Rattle.acpi_base.specs.Entries.{IsEntry, IsEntryOf, has_form}
 use Rattle.acpi_base.specs.Pptt.{NodeValue, node_of, CacheValue, cache_of, cache24, cache28, resource_count, has_node_form, has_cache_form, pptt_entry, Node, Cache, Opaque}
-use Rattle.acpi_base.proofs.Images.HeldBytes.{field-take}
+use Rattle.acpi_base.proofs.Images.PresentBytes.{field-take}
 use Rattle.acpi_read.specs.Pptts.{node_value}
 use Rattle.acpi_base.proofs.Layouts.Kinds.{byte_field}
 use Rattle.acpi_base.specs.Layouts.{values_at, layout_bytes, FitLayout, IsOfLayout, HasValues}

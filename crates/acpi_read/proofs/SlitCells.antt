@@ -1,4 +1,4 @@
--- The cells of a SLIT, one by one: which are sound, and which has the first fault.
+-- The cells of a SLIT, one by one: which are valid, and which has the first fault.
 use Rattle.std.proofs.Common.{◌≡◌, ◌≢◌, ◌<◌, ◌≤◌, ◌+◌, ◌*◌, ℕ, List, length, refl, subst, sym, ap, ◌∙◌, inl, inr, arith}
 use Rattle.std.specs.Prelude.{◌⊎◌, slice_index}
 use Rattle.std.proofs.lemmas.Bool.{cases_lt, cases_eq}
@@ -6,13 +6,13 @@ use Rattle.std.proofs.lemmas.List.{get_or-drop}
 use Rattle.std.proofs.Math.Nat.{mul-le-mul_left}
 use Rattle.acpi_base.specs.Number.{field}
 use Rattle.acpi_base.specs.Codes.{code_number}
-use Rattle.acpi_base.specs.Slit.{SlitContents, slit_contents, cell_place, distance, HasSlitSize, IsCell, IsSoundSlit, SlitFault}
+use Rattle.acpi_base.specs.Slit.{SlitContents, slit_contents, cell_place, distance, HasSlitSize, IsCell, IsValidSlit, SlitFault}
 use Rattle.acpi_base.specs.declared.code.Code.{Code}
 use Rattle.acpi_base.specs.declared.code.Code.TheVariants as code
 use Rattle.acpi_base.specs.declared.witness.Witness.{Witness}
 use Rattle.acpi_base.proofs.Slit.{excludes}
 use Rattle.acpi_base.proofs.Faults.Deciding.{not_other}
-use Rattle.acpi_read.specs.Slits.{HasRows, IsSoundCell, AreSoundTo, IsFirstSlitFault}
+use Rattle.acpi_read.specs.Slits.{HasRows, IsValidCell, AreValidTo, IsFirstSlitFault}
 
 -- ---- what a SLIT's bytes say
 
@@ -29,7 +29,7 @@ pub slit_distance : (whole : List ℕ) (i j : ℕ)
 unfolding slit_contents
 slit_distance whole i j = grind (arith, get_or-drop 44 whole (field whole 36 8 * i + j) 0)
 
--- ---- sound cells
+-- ---- valid cells
 
 right_size : (whole : List ℕ) (n : ℕ) → HasRows whole n → HasSlitSize (slit_contents whole)
 right_size whole n rows = grind (arith, slit_size whole, rows.count, rows.size)
@@ -38,34 +38,34 @@ distance_at : (whole : List ℕ) (n i j : ℕ) → HasRows whole n
     → slice_index whole (44 + n * i + j) ≡ distance (slit_contents whole) i j
 distance_at whole n i j rows = grind (arith, slit_distance whole i j, rows.count)
 
--- where a cell is sound, so are those before the next one
-next_cell : (c : SlitContents) (i j : ℕ) → AreSoundTo c i j → IsSoundCell i j (distance c i j) → AreSoundTo c i (j + 1)
+-- where a cell is valid, so are those before the next one
+next_cell : (c : SlitContents) (i j : ℕ) → AreValidTo c i j → IsValidCell i j (distance c i j) → AreValidTo c i (j + 1)
 next_cell c i j before here =
     record {
       above = before.above;
       left = λ b less. elim (cases_eq b j) [
-        | inl is ↦ subst (λ (k : ℕ). IsSoundCell i k (distance c i k)) (sym is) here
+        | inl is ↦ subst (λ (k : ℕ). IsValidCell i k (distance c i k)) (sym is) here
         | inr other ↦ before.left b (omega arith)
       ];
     }
 
-pub sound_cell : (whole : List ℕ) (n i j : ℕ) → HasRows whole n → AreSoundTo (slit_contents whole) i j
+pub valid_cell : (whole : List ℕ) (n i j : ℕ) → HasRows whole n → AreValidTo (slit_contents whole) i j
     → 10 ≤ slice_index whole (44 + n * i + j) → ((i ≡ j) × (slice_index whole (44 + n * i + j) ≢ 10) → ⊥)
-    → AreSoundTo (slit_contents whole) i (j + 1)
-sound_cell whole n i j rows before high ten =
-    let here : IsSoundCell i j (slice_index whole (44 + n * i + j)) =
+    → AreValidTo (slit_contents whole) i (j + 1)
+valid_cell whole n i j rows before high ten =
+    let here : IsValidCell i j (slice_index whole (44 + n * i + j)) =
     record { least = high; diagonal = λ same. not_other _ 10 (λ other. ten (same, other)) } in
     next_cell (slit_contents whole) i j before (rw (distance_at whole n i j rows) at here)
 
--- where a row is sound, so are those above the next one
-pub sound_row : (whole : List ℕ) (n i j : ℕ) → HasRows whole n → AreSoundTo (slit_contents whole) i j → n ≤ j
-    → AreSoundTo (slit_contents whole) (i + 1) 0
-sound_row whole n i j rows before all =
+-- where a row is valid, so are those above the next one
+pub valid_row : (whole : List ℕ) (n i j : ℕ) → HasRows whole n → AreValidTo (slit_contents whole) i j → n ≤ j
+    → AreValidTo (slit_contents whole) (i + 1) 0
+valid_row whole n i j rows before all =
     let c = slit_contents whole in
     record {
       above = λ a b less column.
           elim (cases_eq a i) [
-            | inl is ↦ subst (λ (k : ℕ). IsSoundCell k b (distance c k b)) (sym is)
+            | inl is ↦ subst (λ (k : ℕ). IsValidCell k b (distance c k b)) (sym is)
                 (before.left b (omega (arith, rows.count)))
             | inr other ↦ before.above a b (omega arith) column
           ];
@@ -73,9 +73,9 @@ sound_row whole n i j rows before all =
     }
 
 -- where all rows are, the table is
-pub sound_rows : (whole : List ℕ) (n i : ℕ) → HasRows whole n → AreSoundTo (slit_contents whole) i 0 → n ≤ i
-    → IsSoundSlit (slit_contents whole)
-sound_rows whole n i rows all last =
+pub valid_rows : (whole : List ℕ) (n i : ℕ) → HasRows whole n → AreValidTo (slit_contents whole) i 0 → n ≤ i
+    → IsValidSlit (slit_contents whole)
+valid_rows whole n i rows all last =
     record {
       size = right_size whole n rows;
       least = λ a b row column. (all.above a b (omega (arith, rows.count)) column).least;
@@ -84,9 +84,9 @@ sound_rows whole n i rows all last =
 
 -- ---- the first fault
 
--- a cell that is not sound is the first one, or stands behind it
-later_cell : (c : SlitContents) (i j a b : ℕ) → AreSoundTo c i j → j < c.count → b < c.count
-    → ¬ IsSoundCell a b (distance c a b)
+-- a cell that is not valid is the first one, or stands behind it
+later_cell : (c : SlitContents) (i j a b : ℕ) → AreValidTo c i j → j < c.count → b < c.count
+    → ¬ IsValidCell a b (distance c a b)
     → (cell_place c i j < cell_place c a b) ⊎ ((a ≡ i) × (b ≡ j))
 later_cell c i j a b before inside column not =
     elim (cases_lt a i) [
@@ -98,19 +98,19 @@ later_cell c i j a b before inside column not =
                 let row : c.count * a ≡ c.count * i = ap (λ (k : ℕ). c.count * k) is in
                 elim (cases_lt b j) [
                   | inl left ↦ absurd
-                      (not (subst (λ (k : ℕ). IsSoundCell k b (distance c k b)) (sym is) (before.left b left)))
+                      (not (subst (λ (k : ℕ). IsValidCell k b (distance c k b)) (sym is) (before.left b left)))
                   | inr right ↦ elim (cases_eq b j) [ inl same ↦ inr (is, same) | inr other ↦ inl (omega arith) ]
                 ]
           ]
     ]
 
--- a fault of a table of the right size is that of a cell which is not sound, and above the diagonal's it is not the
+-- a fault of a table of the right size is that of a cell which is not valid, and above the diagonal's it is not the
 -- least
 record IsOfCell (c : SlitContents) (fault : Code) (at : ℕ) : Type 0 where
   a : ℕ
   b : ℕ
   cell : IsCell c a b at
-  unsound : ¬ IsSoundCell a b (distance c a b)
+  unsound : ¬ IsValidCell a b (distance c a b)
   least : 48 ≤ code_number fault
   low : a ≢ b → 49 ≤ code_number fault
 
@@ -123,7 +123,7 @@ cell_of c code.SlitDiagonal at other point size ((_, (a, b, cell, wrong)), _, _)
       a = a;
       b = b;
       cell = cell;
-      unsound = λ sound. wrong.1 (sound.diagonal wrong.0);
+      unsound = λ valid. wrong.1 (valid.diagonal wrong.0);
       least = omega arith;
       low = λ apart. absurd (apart wrong.0);
     }
@@ -132,14 +132,14 @@ cell_of c code.SlitLow at other point size ((_, (a, b, cell, low)), _, _) =
       a = a;
       b = b;
       cell = cell;
-      unsound = λ sound. omega (arith, sound.least);
+      unsound = λ valid. omega (arith, valid.least);
       least = omega arith;
       low = λ apart. omega arith;
     }
 cell_of c _ at other point size fault = absurd fault.0
 
 -- no fault stands before that of a cell
-least_of : (c : SlitContents) (i j number : ℕ) → HasSlitSize c → j < c.count → AreSoundTo c i j
+least_of : (c : SlitContents) (i j number : ℕ) → HasSlitSize c → j < c.count → AreValidTo c i j
     → (number ≤ 48) ⊎ ((number ≤ 49) × (i ≢ j))
     → (other : Code) (at second third : ℕ) → SlitFault c other at second third
     → (44 + cell_place c i j < at) ⊎ ((44 + cell_place c i j ≡ at) × (number ≤ code_number other))
@@ -165,7 +165,7 @@ cell_at whole n i j rows row column =
     record { row = omega (arith, rows.count); column = omega (arith, rows.count); place = grind (arith, rows.count) }
 
 pub first_diagonal : (whole : List ℕ) (n i j : ℕ) → HasRows whole n → i < n → j < n
-    → AreSoundTo (slit_contents whole) i j → i ≡ j → slice_index whole (44 + n * i + j) ≢ 10
+    → AreValidTo (slit_contents whole) i j → i ≡ j → slice_index whole (44 + n * i + j) ≢ 10
     → IsFirstSlitFault (slit_contents whole)
     (record { code = code.SlitDiagonal; at = 44 + n * i + j; other = 0; point = 0 })
 first_diagonal whole n i j rows row column before same other =
@@ -178,7 +178,7 @@ first_diagonal whole n i j rows row column before same other =
       least = rw (← cell.place) at (least_of (slit_contents whole) i j 48 size cell.column before (inl (omega arith)));
     }
 
-pub first_low : (whole : List ℕ) (n i j : ℕ) → HasRows whole n → i < n → j < n → AreSoundTo (slit_contents whole) i j
+pub first_low : (whole : List ℕ) (n i j : ℕ) → HasRows whole n → i < n → j < n → AreValidTo (slit_contents whole) i j
     → ((i ≡ j) × (slice_index whole (44 + n * i + j) ≢ 10) → ⊥) → slice_index whole (44 + n * i + j) < 10
     → IsFirstSlitFault (slit_contents whole) (record { code = code.SlitLow; at = 44 + n * i + j; other = 0; point = 0 })
 first_low whole n i j rows row column before ten low =
@@ -224,14 +224,14 @@ first_size whole least other =
     let not : ¬ HasSlitSize (slit_contents whole) = λ is. other (grind (arith, slit_size whole, slit_count whole)) in
     record { stage = refl; fault = ((long, not, refl), refl, refl); least = least_size (slit_contents whole) long not }
 
--- a SLIT with a first fault is not sound
-pub not_sound : (c : SlitContents) (w : Witness) → IsFirstSlitFault c w → ¬ IsSoundSlit c
-not_sound c w first = excludes c w.code w.at w.other w.point first.fault
+-- a SLIT with a first fault is not valid
+pub not_valid : (c : SlitContents) (w : Witness) → IsFirstSlitFault c w → ¬ IsValidSlit c
+not_valid c w first = excludes c w.code w.at w.other w.point first.fault
 
-pub ruleset cells = (sound_cell, first_diagonal, first_low)
+pub ruleset cells = (valid_cell, first_diagonal, first_low)
 
-pub ruleset rows = (sound_row, sound_rows)
+pub ruleset rows = (valid_row, valid_rows)
 
 pub ruleset slit_says = (slit_size, slit_count, slit_distance)
 
-pub ruleset slit_faults = (slit_size, slit_count, first_short, first_size, not_sound)
+pub ruleset slit_faults = (slit_size, slit_count, first_short, first_size, not_valid)

@@ -1,11 +1,11 @@
 -- The faults of an SRAT are those of a table of entries.
 use Rattle.std.proofs.Common.{◌≡◌, ◌≤◌, ℕ, List, refl, arith}
 use Rattle.acpi_base.specs.Codes.{code_number, stage_of}
-use Rattle.acpi_base.specs.Srat.{SratEntry, MemoryRange, Opaque, srat_entry, srat_contents, IsSoundSrat, SratEntryFault, SratFault}
+use Rattle.acpi_base.specs.Srat.{SratEntry, MemoryRange, Opaque, srat_entry, srat_contents, IsValidSrat, SratEntryFault, SratFault}
 use Rattle.acpi_base.specs.declared.code.Code.{Code}
 use Rattle.acpi_base.specs.declared.code.Code.TheVariants as code
 use Rattle.acpi_base.specs.declared.stage.Stage.TheVariants as stage
-use Rattle.acpi_base.proofs.Srat.Faults.{sound_without_fault}
+use Rattle.acpi_base.proofs.Srat.Faults.{valid_without_fault}
 use Rattle.acpi_read.specs.EntryTables.{EntryTable, entry_table, subject_of, IsAbout, AreFaults}
 use Rattle.acpi_read.specs.EntryFaults.{srat_codes, srat_own_code}
 use Rattle.acpi_read.specs.declared.entry_codes.Subject.TheVariants as subject
@@ -43,12 +43,12 @@ unfolding srat_contents
 fault whole code.SratShort at other point wrong = wrong
 fault whole _ at other point wrong = wrong
 
-sound : (whole : List ℕ) → ((c : Code) (at other point : ℕ) → ¬ SratFault (srat_contents whole) c at other point)
-    → IsSoundSrat (srat_contents whole)
-sound whole none = sound_without_fault whole (λ c at other point own wrong. none c at other point wrong)
+valid : (whole : List ℕ) → ((c : Code) (at other point : ℕ) → ¬ SratFault (srat_contents whole) c at other point)
+    → IsValidSrat (srat_contents whole)
+valid whole none = valid_without_fault whole (λ c at other point own wrong. none c at other point wrong)
 
 pub srat_faults : AreFaults stage.Srat srat_codes (λ q. srat_table) (λ q whole. SratFault (srat_contents whole))
-    (λ q whole. IsSoundSrat (srat_contents whole))
+    (λ q whole. IsValidSrat (srat_contents whole))
 srat_faults =
     record {
       cut = refl;
@@ -56,5 +56,5 @@ srat_faults =
       single = λ q c e is. absurd is;
       about = λ q. about;
       fault = λ q. fault;
-      sound = λ q. sound;
+      valid = λ q. valid;
     }

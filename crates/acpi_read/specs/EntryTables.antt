@@ -50,10 +50,10 @@ IsAbout t whole Own c at other point = StandsWith (entries_in t whole) at (t.IsO
 
 -- these are the faults of a stage, of a table with these bytes under a policy; where there is none it holds. An entry of
 -- which a table has at most one has none by itself
-pub record AreFaults {E : Type 0} (s : Stage) (codes : EntryCodes) (table : PolicyValue → EntryTable E) (IsFault : PolicyValue → List ℕ → Code → ℕ → ℕ → ℕ → Type 0) (IsSound : PolicyValue → List ℕ → Type 0) : Type 0 where
+pub record AreFaults {E : Type 0} (s : Stage) (codes : EntryCodes) (table : PolicyValue → EntryTable E) (IsFault : PolicyValue → List ℕ → Code → ℕ → ℕ → ℕ → Type 0) (IsValid : PolicyValue → List ℕ → Type 0) : Type 0 where
   pub cut : subject_of codes codes.cut ≡ Cut
   pub own : (q : PolicyValue) (c : Code) (e : E) → (table q).IsOwn c e → subject_of codes c ≡ Own
   pub single : (q : PolicyValue) (c : Code) (e : E) → (table q).IsSingle e → ¬ (table q).IsOwn c e
   pub about : (q : PolicyValue) (whole : List ℕ) (c : Code) (at other point : ℕ) → IsFault q whole c at other point → (stage_of c ≡ s) × IsAbout (table q) whole (subject_of codes c) c at other point
   pub fault : (q : PolicyValue) (whole : List ℕ) (c : Code) (at other point : ℕ) → IsAbout (table q) whole (subject_of codes c) c at other point → IsFault q whole c at other point
-  pub sound : (q : PolicyValue) (whole : List ℕ) → ((c : Code) (at other point : ℕ) → ¬ IsFault q whole c at other point) → IsSound q whole
+  pub valid : (q : PolicyValue) (whole : List ℕ) → ((c : Code) (at other point : ℕ) → ¬ IsFault q whole c at other point) → IsValid q whole

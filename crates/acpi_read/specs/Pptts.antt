@@ -125,9 +125,9 @@ HasReferences (entry.Node head references) = length references.now ≡ 4 * head.
 HasReferences _ = Unit {0}
 
 -- if it is not of a known type, its bytes are those of an entry
-abbrev pub IsWholeEntry : PpttEntry → Type 0
-IsWholeEntry (entry.Opaque bytes) = IsEntry bytes.now
-IsWholeEntry _ = Unit {0}
+abbrev pub IsCompleteEntry : PpttEntry → Type 0
+IsCompleteEntry (entry.Opaque bytes) = IsEntry bytes.now
+IsCompleteEntry _ = Unit {0}
 
 -- ---- the bytes that are written for an entry: its fields, with 0 in reserved bytes
 

@@ -12,14 +12,14 @@ pub record HasRows (whole : List ℕ) (n : ℕ) : Type 0 where
   pub size : length whole ≡ 44 + n * n
 
 -- the distance d in the cell of row i and column j has no fault
-pub record IsSoundCell (i j d : ℕ) : Type 0 where
+pub record IsValidCell (i j d : ℕ) : Type 0 where
   pub least : 10 ≤ d
   pub diagonal : i ≡ j → d ≡ 10
 
 -- the cells before that of row i and column j have no fault
-pub record AreSoundTo (c : SlitContents) (i j : ℕ) : Type 0 where
-  pub above : (a b : ℕ) → a < i → b < c.count → IsSoundCell a b (distance c a b)
-  pub left : (b : ℕ) → b < j → IsSoundCell i b (distance c i b)
+pub record AreValidTo (c : SlitContents) (i j : ℕ) : Type 0 where
+  pub above : (a b : ℕ) → a < i → b < c.count → IsValidCell a b (distance c a b)
+  pub left : (b : ℕ) → b < j → IsValidCell i b (distance c i b)
 
 -- w is the first fault of a SLIT
 pub record IsFirstSlitFault (c : SlitContents) (w : Witness) : Type 0 where

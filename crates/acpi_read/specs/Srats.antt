@@ -90,9 +90,9 @@ IsOfOwnLength (said.Opaque e) = ¬ IsTypeOf said.srat_kinds (slice_index e 0)
 IsOfOwnLength _ = Unit {0}
 
 -- if it is not of a known type, its bytes are those of an entry
-abbrev pub IsWholeEntry : SratEntry → Type 0
-IsWholeEntry (entry.Opaque bytes) = IsEntry bytes.now
-IsWholeEntry _ = Unit {0}
+abbrev pub IsCompleteEntry : SratEntry → Type 0
+IsCompleteEntry (entry.Opaque bytes) = IsEntry bytes.now
+IsCompleteEntry _ = Unit {0}
 
 -- the bytes that are written for an entry of a known type have the same contents
 pub srat_kept : KeepKinds srat_bytes said.srat_kinds

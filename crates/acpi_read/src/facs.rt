@@ -5,7 +5,7 @@ ghost use Rattle.acpi_base.specs.Codes.{code_number, stage_of};
 ghost use Rattle.acpi_base.specs.declared.stage.Stage.{Stage};
 ghost use Rattle.acpi_base.specs.Fadt.{facs_address, is_reduced};
 ghost use Rattle.acpi_base.specs.Frames.{frame_length};
-ghost use Rattle.acpi_base.specs.Facs.{facs_frame, IsFacs, HasSoundFacs, NamedFacsFault};
+ghost use Rattle.acpi_base.specs.Facs.{facs_frame, IsFacs, HasValidFacs, NamedFacsFault};
 ghost use Rattle.acpi_base.specs.declared.code.Code.{Code};
 
 use crate::fadt::Fadt;
@@ -48,7 +48,7 @@ impl<'a> Facs<'a> {
     /// `FacsSignature` if they do not begin with `FACS`; `FacsLength` if its Length is below 64; `FacsOut` if its
     /// Length bytes are not all present.
     pub fn read(image: &'a Image, fadt: &Fadt<'_>) -> Result<Option<Facs<'a>>, Code>
-        ensures ok { IsOk result ↔ HasSoundFacs image.now fadt.now }
+        ensures ok { IsOk result ↔ HasValidFacs image.now fadt.now }
         ensures none { (result ≡ Ok None)
             ↔ ((is_reduced fadt.now ≡ true) × (facs_address fadt.now ≡ 0)) }
         ensures some { IfOk result

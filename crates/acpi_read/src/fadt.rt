@@ -6,7 +6,7 @@ ghost use Rattle.std.specs.Prelude.{◌≡◌, ◌≤◌, ◌<◌, ◌+◌, ◌^
 ghost use Rattle.acpi_base.specs.Codes.{code_number, stage_of};
 ghost use Rattle.acpi_base.specs.declared.stage.Stage.{Stage};
 ghost use Rattle.acpi_base.specs.Header.{header_of};
-ghost use Rattle.acpi_base.specs.Fadt.{fadt_places, field_number, has_flag, is_reduced, wide_address, address_of, facs_address, dsdt_address, block_value, HasBlockLengths, IsResetRegister, IsSoundFadtTable, FadtTableFault};
+ghost use Rattle.acpi_base.specs.Fadt.{fadt_places, field_number, has_flag, is_reduced, wide_address, address_of, facs_address, dsdt_address, block_value, HasBlockLengths, IsResetRegister, IsValidFadtTable, FadtTableFault};
 ghost use Rattle.acpi_base.specs.Tables.{length_of};
 ghost use Rattle.acpi_base.specs.declared.code.Code.{Code};
 ghost use Rattle.acpi_read.specs.Fadts.{block_view_value};
@@ -25,51 +25,51 @@ use std::marker::Model;
 
 /// Where a field begins, and how many bytes it has.
 #[derive(Clone, Copy, Debug)]
-struct Place(u8, u8);
+struct FieldPlace(u8, u8);
 
 /// The fields that are whole numbers, in the standard's order (ACPI 6.5, table 5.9).
-const PLACES: [Place; 41] = [
-    Place(36, 4), // 0 FIRMWARE_CTRL
-    Place(40, 4), // 1 DSDT
-    Place(44, 1), // 2 reserved
-    Place(45, 1), // 3 Preferred_PM_Profile
-    Place(46, 2), // 4 SCI_INT
-    Place(48, 4), // 5 SMI_CMD
-    Place(52, 1), // 6 ACPI_ENABLE
-    Place(53, 1), // 7 ACPI_DISABLE
-    Place(54, 1), // 8 S4BIOS_REQ
-    Place(55, 1), // 9 PSTATE_CNT
-    Place(56, 4), // 10 PM1a_EVT_BLK
-    Place(60, 4), // 11 PM1b_EVT_BLK
-    Place(64, 4), // 12 PM1a_CNT_BLK
-    Place(68, 4), // 13 PM1b_CNT_BLK
-    Place(72, 4), // 14 PM2_CNT_BLK
-    Place(76, 4), // 15 PM_TMR_BLK
-    Place(80, 4), // 16 GPE0_BLK
-    Place(84, 4), // 17 GPE1_BLK
-    Place(88, 1), // 18 PM1_EVT_LEN
-    Place(89, 1), // 19 PM1_CNT_LEN
-    Place(90, 1), // 20 PM2_CNT_LEN
-    Place(91, 1), // 21 PM_TMR_LEN
-    Place(92, 1), // 22 GPE0_BLK_LEN
-    Place(93, 1), // 23 GPE1_BLK_LEN
-    Place(94, 1), // 24 GPE1_BASE
-    Place(95, 1), // 25 CST_CNT
-    Place(96, 2), // 26 P_LVL2_LAT
-    Place(98, 2), // 27 P_LVL3_LAT
-    Place(100, 2), // 28 FLUSH_SIZE
-    Place(102, 2), // 29 FLUSH_STRIDE
-    Place(104, 1), // 30 DUTY_OFFSET
-    Place(105, 1), // 31 DUTY_WIDTH
-    Place(106, 1), // 32 DAY_ALRM
-    Place(107, 1), // 33 MON_ALRM
-    Place(108, 1), // 34 CENTURY
-    Place(109, 2), // 35 IAPC_BOOT_ARCH
-    Place(111, 1), // 36 reserved
-    Place(112, 4), // 37 Flags
-    Place(128, 1), // 38 RESET_VALUE
-    Place(129, 2), // 39 ARM_BOOT_ARCH
-    Place(131, 1), // 40 minor version
+const PLACES: [FieldPlace; 41] = [
+    FieldPlace(36, 4), // 0 FIRMWARE_CTRL
+    FieldPlace(40, 4), // 1 DSDT
+    FieldPlace(44, 1), // 2 reserved
+    FieldPlace(45, 1), // 3 Preferred_PM_Profile
+    FieldPlace(46, 2), // 4 SCI_INT
+    FieldPlace(48, 4), // 5 SMI_CMD
+    FieldPlace(52, 1), // 6 ACPI_ENABLE
+    FieldPlace(53, 1), // 7 ACPI_DISABLE
+    FieldPlace(54, 1), // 8 S4BIOS_REQ
+    FieldPlace(55, 1), // 9 PSTATE_CNT
+    FieldPlace(56, 4), // 10 PM1a_EVT_BLK
+    FieldPlace(60, 4), // 11 PM1b_EVT_BLK
+    FieldPlace(64, 4), // 12 PM1a_CNT_BLK
+    FieldPlace(68, 4), // 13 PM1b_CNT_BLK
+    FieldPlace(72, 4), // 14 PM2_CNT_BLK
+    FieldPlace(76, 4), // 15 PM_TMR_BLK
+    FieldPlace(80, 4), // 16 GPE0_BLK
+    FieldPlace(84, 4), // 17 GPE1_BLK
+    FieldPlace(88, 1), // 18 PM1_EVT_LEN
+    FieldPlace(89, 1), // 19 PM1_CNT_LEN
+    FieldPlace(90, 1), // 20 PM2_CNT_LEN
+    FieldPlace(91, 1), // 21 PM_TMR_LEN
+    FieldPlace(92, 1), // 22 GPE0_BLK_LEN
+    FieldPlace(93, 1), // 23 GPE1_BLK_LEN
+    FieldPlace(94, 1), // 24 GPE1_BASE
+    FieldPlace(95, 1), // 25 CST_CNT
+    FieldPlace(96, 2), // 26 P_LVL2_LAT
+    FieldPlace(98, 2), // 27 P_LVL3_LAT
+    FieldPlace(100, 2), // 28 FLUSH_SIZE
+    FieldPlace(102, 2), // 29 FLUSH_STRIDE
+    FieldPlace(104, 1), // 30 DUTY_OFFSET
+    FieldPlace(105, 1), // 31 DUTY_WIDTH
+    FieldPlace(106, 1), // 32 DAY_ALRM
+    FieldPlace(107, 1), // 33 MON_ALRM
+    FieldPlace(108, 1), // 34 CENTURY
+    FieldPlace(109, 2), // 35 IAPC_BOOT_ARCH
+    FieldPlace(111, 1), // 36 reserved
+    FieldPlace(112, 4), // 37 Flags
+    FieldPlace(128, 1), // 38 RESET_VALUE
+    FieldPlace(129, 2), // 39 ARM_BOOT_ARCH
+    FieldPlace(131, 1), // 40 minor version
 ];
 
 /// RESET_REG_SUP, a bit of Flags: the reset register may be used.
@@ -91,7 +91,7 @@ const BLOCK_LENGTHS: [usize; 8] = [
 ];
 
 /// Where a field is.
-fn field_place(index: u8) -> Place
+fn field_place(index: u8) -> FieldPlace
     requires { index < 41 }
     ensures place { slice_get fadt_places index ≡ Some (place_value result) }
     ensures width { (1 ≤ result.1) × (result.1 ≤ 8) }
@@ -244,7 +244,7 @@ impl<'a> Fadt<'a> {
     /// the table has at least 129 bytes (4.8.3.6): `ResetRegister` at 116 if RESET_REG's space is above 2, its width
     /// is not 8 bits or its bit offset is not 0.
     pub fn fault(&self) -> Option<Witness>
-        ensures none { IsNone result ↔ IsSoundFadtTable self.now }
+        ensures none { IsNone result ↔ IsValidFadtTable self.now }
         ensures fault { IfSome result
             (λ w. FadtTableFault self.now w.code w.at × (w.other ≡ 0) × (w.point ≡ 0)) }
         ensures stage { IfSome result (λ w. stage_of w.code ≡ Stage.Fadt) }
@@ -289,7 +289,7 @@ impl<'a> Fadt<'a> {
         requires { index < 41 }
         ensures { result ≡ field_number self.now index }
     {
-        let Place(offset, width) = field_place(index);
+        let FieldPlace(offset, width) = field_place(index);
         let bytes = self.bytes();
         let offset = offset as usize;
         let width = width as usize;

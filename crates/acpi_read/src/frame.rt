@@ -25,7 +25,7 @@ pub(crate) fn bytes_of<'a>(
     ensures ok { IfOk result (λ bytes. AreBytesOf frame image.now address signature bytes.now) }
     ensures count { IfOk result
         (λ bytes. (frame.least ≤ length bytes.now) × (length bytes.now < 2 ^ 32)) }
-    ensures held { IfOk result
+    ensures present { IfOk result
         (λ bytes. bytes_at image.now address (length bytes.now) ≡ Some bytes.now) }
     ensures said { IfOk result (λ bytes. field bytes.now frame.length_at 4 ≡ length bytes.now) }
     ensures fault { IfErr result (IsFirstFrameFault frame image.now address signature) }

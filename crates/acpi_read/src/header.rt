@@ -7,7 +7,7 @@ ghost use Rattle.acpi_read.specs.Headers.{header_value};
 ghost use Rattle.acpi_read.specs.declared.header.Header.{Header};
 
 use crate::layout::Layout;
-use acpi_base::field::{Value, bytes_at, put_values, u8_at, u32_at};
+use acpi_base::field::{Value, array_at, put_values, u8_at, u32_at};
 
 /// The 36 bytes that every system description table begins with (ACPI 6.5, 5.2.6). It has no reserved
 /// bytes, and any 36 bytes are one: a signature or an OEM's name may be any bytes.
@@ -40,12 +40,12 @@ pub(crate) fn header_at(bytes: &[u8]) -> Header
     ensures { header_value result ≡ header_of bytes.now }
 {
     Header {
-        signature: bytes_at(bytes, 0),
+        signature: array_at(bytes, 0),
         length: u32_at(bytes, 4),
         revision: u8_at(bytes, 8),
         checksum: u8_at(bytes, 9),
-        oemid: bytes_at(bytes, 10),
-        oem_table_id: bytes_at(bytes, 16),
+        oemid: array_at(bytes, 10),
+        oem_table_id: array_at(bytes, 16),
         oem_revision: u32_at(bytes, 24),
         creator_id: u32_at(bytes, 28),
         creator_revision: u32_at(bytes, 32),

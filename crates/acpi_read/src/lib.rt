@@ -9,7 +9,7 @@
 //! Rsdp::read(image, address)     RsdpOut .. RsdpExtendedSum     20 bytes, or the Length that it says
 //! Root::read(image, rsdp)        NoRoot .. RootSum              the XSDT, else the RSDT
 //! Table::read(image, address)    TableHeaderOut .. TableSum     any table that a slot lists
-//! first(image, root, signature)  an address or none             only the header must be held
+//! first(image, root, signature)  an address or none             only the header must be present
 //! Fadt::new(table)               FadtShort                      at least 116 bytes
 //! Facs::read(image, fadt)        NoFacs .. FacsOut              the one that a FADT names, or none
 //! Entries::madt(table)           MadtShort                      its entries, from offset 44 on
@@ -80,7 +80,7 @@ pub use gas::Gas;
 pub use header::Header;
 pub use kind::EntryKind;
 pub use layout::{Layout, read_back};
-pub use listed::{first, listed_table};
+pub use listed::first;
 pub use madt::{
     AddressOverride, GICC, GICC_LEN, IoApic, LocalApic, LocalNmi, MADT_FLAGS,
     MADT_LOCAL_APIC_ADDRESS, MadtEntry, NmiSource, Override, X2apic, X2apicNmi,

@@ -1,15 +1,14 @@
 //! The tables that a root table lists.
 
-ghost use Rattle.std.specs.Prelude.{◌≡◌, ◌<◌, ◌↔◌, IsTrue, IsNone, IfSome, MatchOption, Some, ℕ, List};
+ghost use Rattle.std.specs.Prelude.{◌≡◌, ◌<◌, ◌↔◌, IsTrue, IsNone, IfSome, Some, ℕ};
 ghost use Rattle.acpi_base.specs.Root.{HasSlot};
-ghost use Rattle.acpi_base.specs.Listed.{IsFirstListed, IsListedTable};
+ghost use Rattle.acpi_base.specs.Listed.{IsFirstListed};
 ghost use Rattle.acpi_base.specs.Tables.{IsSigned};
 ghost use Rattle.acpi_read.specs.Roots.{slots_of};
 
 use crate::header::Header;
 use crate::layout::Layout;
 use crate::root::Root;
-use crate::table::Table;
 use acpi_base::Image;
 use acpi_base::field::is_signed;
 
@@ -57,17 +56,4 @@ pub fn first(image: &Image, root: &Root<'_>, signature: [u8; 4]) -> Option<u64>
         }
     }
     None
-}
-
-/// The first listed table with the signature in the set that the RSDP at an address leads to, if it is complete: the
-/// first slot at whose address a header with the signature is present decides, and no later one is looked at. No
-/// checksum is required, neither of the table nor of the RSDP or the root table.
-pub fn listed_table<'a>(image: &'a Image, rsdp: u64, signature: [u8; 4]) -> Option<Table<'a>>
-    ensures { MatchOption result
-        ((whole : List ℕ) → ¬ IsListedTable image.now rsdp signature whole)
-        (IsListedTable image.now rsdp signature) }
-{
-    let root = Root::whole(image, rsdp)?;
-    let address = first(image, &root, signature)?;
-    Table::whole(image, address)
 }

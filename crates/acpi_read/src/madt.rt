@@ -58,7 +58,7 @@ impl<'a> MadtEntry<'a> {
     ghost use Rattle.acpi_base.specs.Entries.{IsEntry, IsTypeOf};
     ghost use Rattle.acpi_base.specs.Madt.{madt_kinds, madt_entry, Opaque};
     ghost use Rattle.acpi_base.specs.declared.code.Code.{Code};
-    ghost use Rattle.acpi_read.specs.Madts.{madt_value, IsOfOwnLength, IsWholeEntry};
+    ghost use Rattle.acpi_read.specs.Madts.{madt_value, IsOfOwnLength, IsCompleteEntry};
 
     /// The contents of an entry with these bytes: at least two, the second of which is their count, as those of an
     /// `Entry` are. Refuses with `MadtEntryLength` those of a type above that have another length. Neither the bus of
@@ -68,7 +68,7 @@ impl<'a> MadtEntry<'a> {
     pub fn read(bytes: &'a [u8]) -> Result<MadtEntry<'a>, Code>
         requires { IsEntry bytes.now }
         ensures ok { IfOk result (λ entry. madt_value entry ≡ madt_entry bytes.now) }
-        ensures whole { IfOk result IsWholeEntry }
+        ensures whole { IfOk result IsCompleteEntry }
         ensures length { IfOk result (λ entry. IsOfOwnLength (madt_value entry)) }
         ensures err { IfErr result
             (λ code. (code ≡ Code.MadtEntryLength) × (madt_entry bytes.now ≡ Opaque bytes.now)
@@ -132,10 +132,10 @@ impl<'a> TableEntry<'a> for MadtEntry<'a> {
     ghost use Rattle.std.specs.Prelude.{◌≡◌, ℕ, List};
     ghost use Rattle.acpi_base.specs.Entries.{entries_of, entries_read_by};
     ghost use Rattle.acpi_base.specs.Madt as said;
-    ghost use Rattle.acpi_base.specs.Madt.{madt_entry, madt_contents, IsAddressOverride, IsSoundMadt, MadtEntryFault, MadtFault};
+    ghost use Rattle.acpi_base.specs.Madt.{madt_entry, madt_contents, IsAddressOverride, IsValidMadt, MadtEntryFault, MadtFault};
     ghost use Rattle.acpi_base.specs.declared.stage.Stage.{Stage};
     ghost use Rattle.acpi_read.specs.EntryFaults.{madt_codes, madt_own_code};
-    ghost use Rattle.acpi_read.specs.Madts.{madt_value, IsWholeEntry};
+    ghost use Rattle.acpi_read.specs.Madts.{madt_value, IsCompleteEntry};
 
     ghost Said = { said.MadtEntry };
 
@@ -143,7 +143,7 @@ impl<'a> TableEntry<'a> for MadtEntry<'a> {
 
     ghost said_by = { madt_entry };
 
-    ghost IsRead = { IsWholeEntry };
+    ghost IsRead = { IsCompleteEntry };
 
     ghost first = { 44 };
 
@@ -161,7 +161,7 @@ impl<'a> TableEntry<'a> for MadtEntry<'a> {
 
     ghost IsFault = { λ q whole. MadtFault q (madt_contents whole) };
 
-    ghost IsSound = { λ q whole. IsSoundMadt q (madt_contents whole) };
+    ghost IsValid = { λ q whole. IsValidMadt q (madt_contents whole) };
 
     #[inline(always)]
     fn of(bytes: &'a [u8]) -> MadtEntry<'a> {

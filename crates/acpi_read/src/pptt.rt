@@ -31,7 +31,7 @@ impl<'a> PpttEntry<'a> {
     ghost use Rattle.acpi_base.specs.Entries.{IsEntry};
     ghost use Rattle.acpi_base.specs.Pptt.{pptt_entry, HasOtherPpttLength, Opaque};
     ghost use Rattle.acpi_base.specs.declared.code.Code.{Code};
-    ghost use Rattle.acpi_read.specs.Pptts.{pptt_value, HasReferences, IsWholeEntry};
+    ghost use Rattle.acpi_read.specs.Pptts.{pptt_value, HasReferences, IsCompleteEntry};
 
     /// The contents of an entry with these bytes: at least two, the second of which is their count, as those of an
     /// `Entry` are. Refuses with `PpttEntryLength` those of types 0 and 1 that do not have a length of their type.
@@ -42,7 +42,7 @@ impl<'a> PpttEntry<'a> {
         requires { IsEntry bytes.now }
         ensures ok { IfOk result (λ entry. pptt_value entry ≡ pptt_entry bytes.now) }
         ensures references { IfOk result HasReferences }
-        ensures whole { IfOk result IsWholeEntry }
+        ensures whole { IfOk result IsCompleteEntry }
         ensures length { IfOk result (λ entry. ¬ HasOtherPpttLength (pptt_value entry)) }
         ensures err { IfErr result
             (λ code. (code ≡ Code.PpttEntryLength) × (pptt_entry bytes.now ≡ Opaque bytes.now)
@@ -71,7 +71,7 @@ impl<'a> TableEntry<'a> for PpttEntry<'a> {
     ghost use Rattle.acpi_base.specs.Pptt.{pptt_entry, pptt_contents, IsCutPptt, PpttEntryFault, PpttFault};
     ghost use Rattle.acpi_base.specs.declared.stage.Stage.{Stage};
     ghost use Rattle.acpi_read.specs.EntryFaults.{pptt_codes, pptt_own_code};
-    ghost use Rattle.acpi_read.specs.Pptts.{pptt_value, HasReferences, IsWholeEntry};
+    ghost use Rattle.acpi_read.specs.Pptts.{pptt_value, HasReferences, IsCompleteEntry};
 
     ghost Said = { said.PpttEntry };
 
@@ -79,7 +79,7 @@ impl<'a> TableEntry<'a> for PpttEntry<'a> {
 
     ghost said_by = { pptt_entry };
 
-    ghost IsRead = { λ entry. HasReferences entry × IsWholeEntry entry };
+    ghost IsRead = { λ entry. HasReferences entry × IsCompleteEntry entry };
 
     ghost first = { 36 };
 
@@ -97,7 +97,7 @@ impl<'a> TableEntry<'a> for PpttEntry<'a> {
 
     ghost IsFault = { λ q whole. PpttFault (pptt_contents whole) };
 
-    ghost IsSound = { λ q whole. IsCutPptt (pptt_contents whole) };
+    ghost IsValid = { λ q whole. IsCutPptt (pptt_contents whole) };
 
     #[inline(always)]
     fn of(bytes: &'a [u8]) -> PpttEntry<'a> {

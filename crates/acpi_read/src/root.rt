@@ -7,11 +7,11 @@ ghost use Rattle.acpi_base.specs.declared.stage.Stage.{Stage};
 ghost use Rattle.acpi_base.specs.Header.{header_of};
 ghost use Rattle.acpi_base.specs.Number.{field};
 ghost use Rattle.acpi_base.specs.Rsdp.{addresses_at};
-ghost use Rattle.acpi_base.specs.Root.{chosen_root, root_signature, IsSlotWidth, IsSoundRootTable, RootTableFault, NamedRootFault};
+ghost use Rattle.acpi_base.specs.Root.{chosen_root, root_signature, IsSlotWidth, IsValidRootTable, RootTableFault, NamedRootFault};
 ghost use Rattle.acpi_base.specs.Tables.{length_of};
 ghost use Rattle.acpi_base.specs.declared.code.Code.{Code};
 ghost use Rattle.acpi_read.specs.Headers.{header_value};
-ghost use Rattle.acpi_read.specs.Roots.{RootValue, place_value, slots_of, IsSoundNamedRoot, IsWholeRoot};
+ghost use Rattle.acpi_read.specs.Roots.{RootValue, place_value, slots_of, IsValidNamedRoot, IsCompleteRoot};
 
 use crate::frame::bytes_of;
 use crate::header::{Header, header_at};
@@ -153,8 +153,8 @@ fn read_at(image: &Image, place: RootPlace) -> Result<Root<'_>, Code>
     requires { IsSlotWidth place.width }
     ensures ok { IfOk result
         (λ root. (root.address ≡ place.address) × (root.width ≡ place.width)
-        × IsSoundRootTable image.now place.address place.width root.bytes) }
-    ensures sound { (whole : List ℕ) → IsSoundRootTable image.now place.address place.width whole
+        × IsValidRootTable image.now place.address place.width root.bytes) }
+    ensures valid { (whole : List ℕ) → IsValidRootTable image.now place.address place.width whole
         → IsOk result }
     ensures fault { IfErr result (RootTableFault image.now place.address place.width) }
     ensures stage { IfErr result (λ code. stage_of code ≡ Stage.Root) }
@@ -198,8 +198,8 @@ impl<'a> Root<'a> {
     /// is below 36; `RootOut` if its Length bytes are not all present; `RootRagged` if its Length ends within a slot;
     /// `RootSum` if its bytes do not sum to 0.
     pub fn read(image: &'a Image, rsdp: &Rsdp) -> Result<Root<'a>, Code>
-        ensures ok { IfOk result (IsSoundNamedRoot image.now rsdp.now.named) }
-        ensures sound { (root : RootValue) → IsSoundNamedRoot image.now rsdp.now.named root
+        ensures ok { IfOk result (IsValidNamedRoot image.now rsdp.now.named) }
+        ensures valid { (root : RootValue) → IsValidNamedRoot image.now rsdp.now.named root
             → IsOk result }
         ensures fault { IfErr result (NamedRootFault image.now rsdp.now.named) }
         ensures stage { IfErr result (λ code. stage_of code ≡ Stage.Root) }
@@ -217,8 +217,8 @@ impl<'a> Root<'a> {
     /// whatever its bytes and those of the RSDP sum to, and even if its Length ends within a slot. None if the RSDP
     /// cannot be read or names none, and if no such table is there.
     pub fn whole(image: &'a Image, rsdp: u64) -> Option<Root<'a>>
-        ensures { MatchOption result ((root : RootValue) → ¬ IsWholeRoot image.now rsdp root)
-            (IsWholeRoot image.now rsdp) }
+        ensures { MatchOption result ((root : RootValue) → ¬ IsCompleteRoot image.now rsdp root)
+            (IsCompleteRoot image.now rsdp) }
     {
         let place = named_root(image, rsdp)??;
         let RootPlace { address, width } = place;

@@ -3,11 +3,11 @@
 ghost use Rattle.std.specs.Prelude.{◌≡◌, ◌≤◌, ◌↔◌, length, take, drop, IsOk, IfOk, IfErr};
 ghost use Rattle.acpi_base.specs.Codes.{code_number, stage_of};
 ghost use Rattle.acpi_base.specs.declared.stage.Stage.{Stage};
-ghost use Rattle.acpi_base.specs.Rsdp.{revision_of, short_addresses, IsRsdp, IsSoundRsdp, RsdpFault};
+ghost use Rattle.acpi_base.specs.Rsdp.{revision_of, short_addresses, IsRsdp, IsValidRsdp, RsdpFault};
 ghost use Rattle.acpi_base.specs.declared.code.Code.{Code};
 
 use crate::frame::bytes_of;
-use acpi_base::field::{bytes_at, is_signed, u8_at, u32_at, u64_at};
+use acpi_base::field::{array_at, is_signed, u8_at, u32_at, u64_at};
 use acpi_base::{Code, Frame, Image, Question, sum};
 use std::marker::Model;
 
@@ -61,7 +61,7 @@ fn short_form(address: u64, head: &[u8]) -> Rsdp
     Rsdp {
         address,
         revision: u8_at(head, 15),
-        oemid: bytes_at(head, 9),
+        oemid: array_at(head, 9),
         rsdt: u32_at(head, 16),
         xsdt: 0,
     }
@@ -82,7 +82,7 @@ impl Rsdp {
     /// all present; `RsdpExtendedSum` if they do not sum to 0.
     #[tactic(auto, using(acpi_base::proofs::Rsdp::Naming::extended_named), unfolding(acpi_base::specs::Rsdp::addresses_at))]
     pub fn read(image: &Image, address: u64) -> Result<Rsdp, Code>
-        ensures ok { IsOk result ↔ IsSoundRsdp image.now address }
+        ensures ok { IsOk result ↔ IsValidRsdp image.now address }
         ensures value { IfOk result (IsRsdp image.now address) }
         ensures fault { IfErr result (RsdpFault image.now address) }
         ensures stage { IfErr result (λ code. stage_of code ≡ Stage.Rsdp) }

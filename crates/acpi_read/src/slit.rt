@@ -1,8 +1,8 @@
 //! The system locality information table.
 
 ghost use Rattle.std.specs.Prelude.{◌≡◌, ◌<◌, ◌+◌, ◌↔◌, IsOk, IfOk, IfErr, MatchOption};
-ghost use Rattle.acpi_base.specs.Slit.{slit_contents, distance, IsSoundSlit};
-ghost use Rattle.acpi_read.specs.Slits.{HasRows, AreSoundTo, IsFirstSlitFault};
+ghost use Rattle.acpi_base.specs.Slit.{slit_contents, distance, IsValidSlit};
+ghost use Rattle.acpi_read.specs.Slits.{HasRows, AreValidTo, IsFirstSlitFault};
 
 use crate::table::Table;
 use acpi_base::field::u64_at;
@@ -37,8 +37,8 @@ fn cell_fault(bytes: &[u8], count: usize, i: usize, j: usize) -> Option<Witness>
     requires rows { HasRows bytes.now count }
     requires row { i < count }
     requires column { j < count }
-    requires before { AreSoundTo (slit_contents bytes.now) i j }
-    ensures { MatchOption result (AreSoundTo (slit_contents bytes.now) i (j + 1))
+    requires before { AreValidTo (slit_contents bytes.now) i j }
+    ensures { MatchOption result (AreValidTo (slit_contents bytes.now) i (j + 1))
         (IsFirstSlitFault (slit_contents bytes.now)) }
 {
     let at = Slit::CELLS + count * i + j;
@@ -56,7 +56,7 @@ fn cell_fault(bytes: &[u8], count: usize, i: usize, j: usize) -> Option<Witness>
 #[tactic(auto, using(crate::proofs::SlitCells::rows))]
 fn cells_fault(bytes: &[u8], count: usize) -> Option<Witness>
     requires { HasRows bytes.now count }
-    ensures { MatchOption result (IsSoundSlit (slit_contents bytes.now))
+    ensures { MatchOption result (IsValidSlit (slit_contents bytes.now))
         (IsFirstSlitFault (slit_contents bytes.now)) }
 {
     for i in 0..count {
@@ -82,7 +82,7 @@ impl<'a> Slit<'a> {
     /// not 10; `SlitLow` at a cell if it is below 10.
     #[tactic(auto, using(crate::proofs::SlitCells::slit_faults))]
     pub fn new(table: Table<'a>) -> Result<Slit<'a>, Witness>
-        ensures ok { IsOk result ↔ IsSoundSlit (slit_contents table.entry) }
+        ensures ok { IsOk result ↔ IsValidSlit (slit_contents table.entry) }
         ensures same { IfOk result (λ contents. contents ≡ slit_contents table.entry) }
         ensures fault { IfErr result (IsFirstSlitFault (slit_contents table.entry)) }
     {

@@ -39,7 +39,7 @@ impl<'a> SratEntry<'a> {
     ghost use Rattle.acpi_base.specs.Entries.{IsEntry, IsTypeOf};
     ghost use Rattle.acpi_base.specs.Srat.{srat_kinds, srat_entry, Opaque};
     ghost use Rattle.acpi_base.specs.declared.code.Code.{Code};
-    ghost use Rattle.acpi_read.specs.Srats.{srat_value, IsOfOwnLength, IsWholeEntry};
+    ghost use Rattle.acpi_read.specs.Srats.{srat_value, IsOfOwnLength, IsCompleteEntry};
 
     /// The contents of an entry with these bytes: at least two, the second of which is their count, as those of an
     /// `Entry` are. Refuses with `SratEntryLength` those of a type above that have another length. Neither flags nor
@@ -49,7 +49,7 @@ impl<'a> SratEntry<'a> {
     pub fn read(bytes: &'a [u8]) -> Result<SratEntry<'a>, Code>
         requires { IsEntry bytes.now }
         ensures ok { IfOk result (λ entry. srat_value entry ≡ srat_entry bytes.now) }
-        ensures whole { IfOk result IsWholeEntry }
+        ensures whole { IfOk result IsCompleteEntry }
         ensures length { IfOk result (λ entry. IsOfOwnLength (srat_value entry)) }
         ensures err { IfErr result
             (λ code. (code ≡ Code.SratEntryLength) × (srat_entry bytes.now ≡ Opaque bytes.now)
@@ -94,10 +94,10 @@ impl<'a> TableEntry<'a> for SratEntry<'a> {
     ghost use Rattle.std.specs.Prelude.{◌≡◌, ℕ, List};
     ghost use Rattle.acpi_base.specs.Entries.{entries_of, entries_read_by};
     ghost use Rattle.acpi_base.specs.Srat as said;
-    ghost use Rattle.acpi_base.specs.Srat.{srat_entry, srat_contents, IsSoundSrat, SratEntryFault, SratFault};
+    ghost use Rattle.acpi_base.specs.Srat.{srat_entry, srat_contents, IsValidSrat, SratEntryFault, SratFault};
     ghost use Rattle.acpi_base.specs.declared.stage.Stage.{Stage};
     ghost use Rattle.acpi_read.specs.EntryFaults.{srat_codes, srat_own_code};
-    ghost use Rattle.acpi_read.specs.Srats.{srat_value, IsWholeEntry};
+    ghost use Rattle.acpi_read.specs.Srats.{srat_value, IsCompleteEntry};
 
     ghost Said = { said.SratEntry };
 
@@ -105,7 +105,7 @@ impl<'a> TableEntry<'a> for SratEntry<'a> {
 
     ghost said_by = { srat_entry };
 
-    ghost IsRead = { IsWholeEntry };
+    ghost IsRead = { IsCompleteEntry };
 
     ghost first = { 48 };
 
@@ -123,7 +123,7 @@ impl<'a> TableEntry<'a> for SratEntry<'a> {
 
     ghost IsFault = { λ q whole. SratFault (srat_contents whole) };
 
-    ghost IsSound = { λ q whole. IsSoundSrat (srat_contents whole) };
+    ghost IsValid = { λ q whole. IsValidSrat (srat_contents whole) };
 
     #[inline(always)]
     fn of(bytes: &'a [u8]) -> SratEntry<'a> {

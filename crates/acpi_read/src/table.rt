@@ -6,7 +6,7 @@ ghost use Rattle.acpi_base.specs.declared.stage.Stage.{Stage};
 ghost use Rattle.acpi_base.specs.Header.{header_of};
 ghost use Rattle.acpi_base.specs.Memory.{bytes_at};
 ghost use Rattle.acpi_base.specs.Number.{byte_sum};
-ghost use Rattle.acpi_base.specs.Tables.{length_of, IsTable, IsSoundTable, TableFault};
+ghost use Rattle.acpi_base.specs.Tables.{length_of, IsTable, IsValidTable, TableFault};
 ghost use Rattle.acpi_base.specs.declared.code.Code.{Code};
 ghost use Rattle.acpi_read.specs.Headers.{header_value};
 
@@ -16,7 +16,7 @@ use acpi_base::{Code, Frame, Image, Question, sum};
 use std::marker::Model;
 
 /// A system description table of any kind (ACPI 6.5, 5.2.6): as many bytes as its Length says, from 36 to 2^32 - 1. A
-/// table that was read by `read`, or that is known to be valid (`sound`), sums to 0; one that was read by `whole` may
+/// table that was read by `read`, or that is known to be valid (`valid`), sums to 0; one that was read by `whole` may
 /// not. Contracts see the bytes.
 ///
 /// The signature, the revision and the bytes after the header are not checked.
@@ -60,7 +60,7 @@ impl<'a> Table<'a> {
     /// Refuses, in this order: `TableHeaderOut` if its header's 36 bytes are not all present; `TableLength` if its
     /// Length is below 36; `TableOut` if its Length bytes are not all present; `TableSum` if they do not sum to 0.
     pub fn read(image: &'a Image, address: u64) -> Result<Table<'a>, Code>
-        ensures ok { IsOk result ↔ IsSoundTable image.now address }
+        ensures ok { IsOk result ↔ IsValidTable image.now address }
         ensures value { IfOk result
             (λ bytes. (header : List ℕ) × IsTable image.now address header bytes) }
         ensures fault { IfErr result (TableFault image.now address) }
@@ -81,8 +81,8 @@ impl<'a> Table<'a> {
     }
 
     /// The table at an address at which there is known to be a valid one. Its bytes are not summed again.
-    pub fn sound(image: &'a Image, address: u64) -> Table<'a>
-        requires { IsSoundTable image.now address }
+    pub fn valid(image: &'a Image, address: u64) -> Table<'a>
+        requires { IsValidTable image.now address }
         ensures { (header : List ℕ) × IsTable image.now address header result }
     {
         let Ok(bytes) = bytes_of(image, address, Frame::TABLE, None) else {

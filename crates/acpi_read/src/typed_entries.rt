@@ -59,7 +59,7 @@ pub trait TableEntry<'a>: Sized {
     ghost IsFault: { PolicyValue → List ℕ → Code → ℕ → ℕ → ℕ → Type 0 };
 
     /// It holds for a table with these bytes.
-    ghost IsSound: { PolicyValue → List ℕ → Type 0 };
+    ghost IsValid: { PolicyValue → List ℕ → Type 0 };
 
     /// The contents of an entry with these bytes. One whose length is wrong for its type is opaque, like one of
     /// another type.
@@ -86,7 +86,7 @@ pub trait TableEntry<'a>: Sized {
         ensures err { IfErr result
             (λ code. (length table.entry < first) × (subject_of codes code ≡ Subject.Short)) }
         ensures faults { AreFaults stage codes
-            (λ q. entry_table first said_by (IsOwn q) IsSingle) IsFault IsSound };
+            (λ q. entry_table first said_by (IsOwn q) IsSingle) IsFault IsValid };
 
     /// Whether the entry has the fault with a code by itself.
     fn has_fault(&self, policy: &Policy, code: Code) -> bool

@@ -17,16 +17,16 @@ use Rattle.acpi_base.specs.Examples.Slits.{one_locality_bytes}
 use Rattle.acpi_base.specs.Examples.WholeSets.{xsdt_bytes, fadt_bytes, facs_bytes, madt_bytes, srat_bytes, whole_set, example_policy}
 use Rattle.acpi_base.specs.Examples.WholeSets as old
 use Rattle.acpi_base.proofs.Examples.CleanSet.{is_clean, names_facs, named_facs}
-use Rattle.acpi_base.proofs.Examples.WholeSets.{whole_has_root, root_of_held, root_table_of, tables}
+use Rattle.acpi_base.proofs.Examples.WholeSets.{whole_has_root, root_of_present, root_table_of, tables}
 use Rattle.acpi_base.proofs.Examples.WholeSets as whole
 use Rattle.acpi_base.proofs.Tables.Listed.{one_listed}
 use Rattle.acpi_write.specs.Encoded.{checksum_of, table_bytes}
-use Rattle.acpi_write.specs.Examples.{whole_tables, whole_value, new_base, new_blocks, new_image}
+use Rattle.acpi_write.specs.Examples.{complete_tables, whole_value, new_base, new_blocks, new_image}
 use Rattle.acpi_write.specs.FadtBody.{put_over, with_facs}
 use Rattle.acpi_write.specs.Placed.{block_ends, IsPlaced}
 use Rattle.acpi_write.specs.Rebuilding.{IsRebuilt}
 use Rattle.acpi_write.specs.Rebuilt.{aligned_address, blocks_from, block_places, rsdp_bytes, part_bytes, with_blocks, rebuilt_image}
-use Rattle.acpi_write.specs.SetValues.{table_value_behind, values_behind, values_of, IsWholeAt, IsFacsOf, IsSetValue}
+use Rattle.acpi_write.specs.SetValues.{table_value_behind, values_behind, values_of, IsCompleteAt, IsFacsOf, IsSetValue}
 
 -- ---- what the set says
 
@@ -35,12 +35,12 @@ abbrev table_list : List (List ℕ)
 table_list = fadt_bytes ∷ madt_bytes ∷ srat_bytes ∷ one_locality_bytes ∷ new_leaf_bytes ∷ []
 
 -- its root lists them
-each_whole : AllZip (IsWholeAt whole_set) (listed_addresses xsdt_bytes 8) table_list
+each_whole : AllZip (IsCompleteAt whole_set) (listed_addresses xsdt_bytes 8) table_list
 unfolding listed_addresses field
 each_whole = ((_, tables.fadt), ((_, tables.madt), ((_, tables.srat), ((_, tables.slit), ((_, tables.pptt), tt)))))
 
 -- they say this
-values_said : whole_tables ≡ values_of table_list
+values_said : complete_tables ≡ values_of table_list
 unfolding table_value_behind values_behind has_signature header_of field number_bytes put_over with_facs first_entry
     entries_from entries_of end_of_entries cut_of has_form madt_entry madt_contents srat_entry srat_contents
     slit_contents has_node_form has_cache_form pptt_entry pptt_contents
@@ -56,12 +56,12 @@ pub is_said : IsSetValue whole_set rsdp_at whole_value
 unfolding header_of field
 is_said = record {
   head = take 20 old.rsdp_bytes;
-  head_held = whole_has_root.head_held;
+  head_present = whole_has_root.head_present;
   oemid = refl;
   r = 0x1000;
   d = 8;
   root_bytes = xsdt_bytes;
-  root = root_of_held whole_has_root;
+  root = root_of_present whole_has_root;
   root_table = root_table_of whole_has_root;
   root_head = refl;
   tables = table_list;

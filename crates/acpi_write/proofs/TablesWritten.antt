@@ -5,4 +5,4 @@ pub mod KeptContents
 pub mod RewrittenEntries
 pub mod RsdpBytes
 pub mod Sums
-pub mod WholeTables
+pub mod CompleteTables

@@ -50,8 +50,8 @@ abbrev pub pptt_entries : List PpttEntry
 pptt_entries = Node (record { flags = 10; parent = 0; id = 7; resources = [] }) ∷ []
 
 -- the tables in the order of their slots; the FADT's body has 0 for the FACS's address
-abbrev pub whole_tables : List TableValue
-whole_tables =
+abbrev pub complete_tables : List TableValue
+complete_tables =
     Known (head_with 2) (Fadt (fadt_body (0 ∷ 0 ∷ 0 ∷ 0 ∷ [])))
     ∷ Known (head_with 1) (Madt 0xfee00000 1 madt_entries)
     ∷ Known (head_with 1) (Srat srat_entries)
@@ -61,7 +61,7 @@ whole_tables =
 
 -- the complete set
 abbrev pub whole_value : SetValue
-whole_value = record { oemid = replicate 6 0x41; root = head_with 1; tables = whole_tables; facs = Some facs_bytes }
+whole_value = record { oemid = replicate 6 0x41; root = head_with 1; tables = complete_tables; facs = Some facs_bytes }
 
 -- ---- its new image
 

@@ -2,7 +2,7 @@
 use Rattle.std.specs.Prelude.{◌≡◌, ℕ, ◌^◌, ◌<◌, List, length, drop, Some, true}
 use Rattle.acpi_base.specs.Signature.{has_signature}
 use Rattle.acpi_base.specs.Entries.{IsEntry}
-use Rattle.acpi_base.specs.Fadt.{IsSoundFadtTable, facs_address, is_reduced}
+use Rattle.acpi_base.specs.Fadt.{IsValidFadtTable, facs_address, is_reduced}
 use Rattle.acpi_base.specs.Header.{head_of}
 use Rattle.acpi_base.specs.Listed.{fadt_signature}
 use Rattle.acpi_base.specs.Madt.{madt_entry}
@@ -18,7 +18,7 @@ use Rattle.acpi_write.specs.Bodies.{contents_of, whole_value_in, IsFilledAs, IsR
 use Rattle.acpi_write.specs.Encoded.{encoded_bytes, table_bytes}
 use Rattle.acpi_write.specs.FadtBody.{with_facs}
 use Rattle.acpi_write.specs.SetValues.{table_value_as}
-use Rattle.acpi_write.specs.Spells.{Spells, SaysEntry, IsTableOf, IsWholeTable}
+use Rattle.acpi_write.specs.Spells.{Spells, SaysEntry, IsTableOf, IsCompleteTable}
 use Rattle.acpi_write.specs.Values.{Known, Other}
 
 -- a table's bytes encode the value that is read from them, if they can be read as those of its kind; those of a FADT
@@ -30,7 +30,7 @@ pub record IsSpelled (whole : List ℕ) : Type 0 where
 
 -- for complete tables
 abbrev pub WhatIsReadIsSpelled : Type 0
-WhatIsReadIsSpelled = (whole : List ℕ) → IsWholeTable whole → IsSpelled whole
+WhatIsReadIsSpelled = (whole : List ℕ) → IsCompleteTable whole → IsSpelled whole
 
 -- the bytes that are written for an entry have the same contents and length
 pub record WrittenAgain {E : Type 0} (read : List ℕ → E) (bytes_of : E → List ℕ) (e : List ℕ) : Type 0 where
@@ -56,7 +56,7 @@ pub record KeepsContents (kind : TableKind) (whole new : List ℕ) : Type 0 wher
 -- long enough and entries fill it if the kind has entries
 abbrev pub ContentsAreKept : Type 0
 ContentsAreKept =
-    (kind : TableKind) (whole : List ℕ) → IsWholeTable whole → AreByteValues whole → length whole < 2 ^ 32
+    (kind : TableKind) (whole : List ℕ) → IsCompleteTable whole → AreByteValues whole → length whole < 2 ^ 32
     → IsFilledAs kind whole
     → KeepsContents kind whole (encoded_bytes (table_value_as (Some kind) whole))
 
@@ -65,13 +65,13 @@ ContentsAreKept =
 -- reduced if it was before.
 pub record NamesFacs (whole : List ℕ) (facs : ℕ) : Type 0 where
   pub table : IsTableOf fadt_signature (head_of whole) (table_bytes fadt_signature (head_of whole) (with_facs (drop 36 whole) facs))
-  pub sound : IsSoundFadtTable (table_bytes fadt_signature (head_of whole) (with_facs (drop 36 whole) facs))
+  pub valid : IsValidFadtTable (table_bytes fadt_signature (head_of whole) (with_facs (drop 36 whole) facs))
   pub named : facs_address (table_bytes fadt_signature (head_of whole) (with_facs (drop 36 whole) facs)) ≡ facs
   pub reduced : is_reduced (table_bytes fadt_signature (head_of whole) (with_facs (drop 36 whole) facs)) ≡ is_reduced whole
 
 -- for valid FADTs, and for addresses that fit into their field: below 2^64, and below 2^32 for 4 bytes, at 36
 abbrev pub FadtsNameFacs : Type 0
 FadtsNameFacs =
-    (whole : List ℕ) (facs : ℕ) → IsWholeTable whole → AreByteValues whole → length whole < 2 ^ 32 → IsSoundFadtTable whole → facs < 2 ^ 64
+    (whole : List ℕ) (facs : ℕ) → IsCompleteTable whole → AreByteValues whole → length whole < 2 ^ 32 → IsValidFadtTable whole → facs < 2 ^ 64
     → (length whole < 140 → facs < 2 ^ 32)
     → NamesFacs whole facs

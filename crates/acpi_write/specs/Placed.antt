@@ -4,8 +4,8 @@ use Rattle.std.specs.List.{AllByRecursion, list_any}
 use Rattle.acpi_base.specs.Header.{head_of}
 use Rattle.acpi_base.specs.Listed.{listed_addresses}
 use Rattle.acpi_base.specs.Memory.{Memory, bytes_at}
-use Rattle.acpi_base.specs.Root.{IsRoot, IsSoundRootTable}
-use Rattle.acpi_base.specs.Rsdp.{IsSoundRsdp}
+use Rattle.acpi_base.specs.Root.{IsRoot, IsValidRootTable}
+use Rattle.acpi_base.specs.Rsdp.{IsValidRsdp}
 use Rattle.acpi_write.specs.Encoded.{FitsHead}
 use Rattle.acpi_write.specs.Rebuilt.{aligned_address, xsdt_length, part_lengths, facs_place, table_places, rebuilt_image}
 use Rattle.acpi_write.specs.Values.{TableValue, Known, Fadt, SetValue}
@@ -52,14 +52,14 @@ PlacedUnlessRefused = (v : SetValue) (base : ℕ) → IsPlaced v base ↔ ((base
 -- the image's RSDP at the base address is valid and has the set's OEMID, and it names an XSDT that is valid, has the
 -- root table's header and lists the addresses of the set's tables
 pub record LeadsToTables (v : SetValue) (base : ℕ) (m : Memory) : Type 0 where
-  pub rsdp : IsSoundRsdp m base
+  pub rsdp : IsValidRsdp m base
   pub head : List ℕ
-  pub head_held : bytes_at m base 20 ≡ Some head
+  pub head_present : bytes_at m base 20 ≡ Some head
   pub oemid : take 6 (drop 9 head) ≡ v.oemid
   pub r : ℕ
   pub root_bytes : List ℕ
   pub root : IsRoot m base r 8
-  pub sound : IsSoundRootTable m r 8 root_bytes
+  pub valid : IsValidRootTable m r 8 root_bytes
   pub root_head : head_of root_bytes ≡ v.root
   pub lists : listed_addresses root_bytes 8 ≡ table_places v base
 

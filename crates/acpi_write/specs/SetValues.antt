@@ -44,8 +44,8 @@ values_of tables = values_behind [] tables
 -- ---- the contents of a set
 
 -- there is a table at a, and these are all its bytes
-abbrev pub IsWholeAt : Memory → ℕ → List ℕ → Type 0
-IsWholeAt m a whole = (header : List ℕ) × IsTable m a header whole
+abbrev pub IsCompleteAt : Memory → ℕ → List ℕ → Type 0
+IsCompleteAt m a whole = (header : List ℕ) × IsTable m a header whole
 
 -- the FACS that a FADT names, or that it names none (5.2.10)
 abbrev pub IsFacsOf : Memory → List ℕ → Option (List ℕ) → Type 0
@@ -56,7 +56,7 @@ IsFacsOf m fadt (Some bytes) = (facs_address fadt ≢ 0) × IsFacs m (facs_addre
 -- listed tables in the order of their slots, and the bytes of its FACS
 pub record IsSetValue (m : Memory) (p : ℕ) (v : SetValue) : Type 0 where
   pub head : List ℕ
-  pub head_held : bytes_at m p 20 ≡ Some head
+  pub head_present : bytes_at m p 20 ≡ Some head
   pub oemid : v.oemid ≡ take 6 (drop 9 head)
   pub r : ℕ
   pub d : ℕ
@@ -65,7 +65,7 @@ pub record IsSetValue (m : Memory) (p : ℕ) (v : SetValue) : Type 0 where
   pub root_table : IsRootTable m r d root_bytes
   pub root_head : v.root ≡ head_of root_bytes
   pub tables : List (List ℕ)
-  pub each : AllZip (IsWholeAt m) (listed_addresses root_bytes d) tables
+  pub each : AllZip (IsCompleteAt m) (listed_addresses root_bytes d) tables
   pub values : v.tables ≡ values_of tables
   pub facs : (fadt : List ℕ) → IsFadt m p fadt → IsFacsOf m fadt v.facs
 

@@ -11,7 +11,7 @@ use Rattle.acpi_write.specs.Bodies.{SpellsBody}
 use Rattle.acpi_write.specs.Values.{TableValue, Known, Other, kind_of}
 
 -- all bytes of a table: there are at least the 36 of a header, whose Length is their number, and they sum to 0 (5.2.6)
-pub record IsWholeTable (bytes : List ℕ) : Type 0 where
+pub record IsCompleteTable (bytes : List ℕ) : Type 0 where
   pub least : 36 ≤ length bytes
   pub size : length_of bytes ≡ length bytes
   pub zero_sum : byte_sum bytes ≡ 0
@@ -36,7 +36,7 @@ DoEntriesSay read bytes_of value xs = All (λ x. SaysEntry read (bytes_of (value
 -- bytes
 abbrev pub Spells : TableValue → List ℕ → Type 0
 Spells (Known head v) bytes = IsTableOf (signature_of (kind_of v)) head bytes × SpellsBody v bytes
-Spells (Other all) bytes = IsWholeTable bytes × (bytes ≡ all)
+Spells (Other all) bytes = IsCompleteTable bytes × (bytes ≡ all)
 
 -- two values of one kind
 abbrev pub AreOneKind : TableValue → TableValue → Type 0

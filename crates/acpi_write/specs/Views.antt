@@ -26,7 +26,7 @@ use Rattle.acpi_check.specs.declared.refusal.Refusal.TheVariants.{Fault, OutOfMe
 use Rattle.acpi_write.specs.Values as value
 use Rattle.acpi_write.specs.Encoded.{encoded_length, FitsHead}
 use Rattle.acpi_write.specs.Spells.{DoEntriesSay}
-pub use Rattle.acpi_write.specs.Spells.{IsWholeTable}
+pub use Rattle.acpi_write.specs.Spells.{IsCompleteTable}
 use Rattle.acpi_write.specs.declared.encode.WriteFault.{WriteFault}
 use Rattle.acpi_write.specs.declared.encode.WriteFault.TheVariants as fault
 use Rattle.acpi_write.specs.declared.set_value.SetValue.{SetValue}
@@ -99,7 +99,7 @@ IsShaped (table.Srat head entries) = All IsShapedSrat entries.items
 IsShaped (table.Slit head count cells) = length cells.now ≡ count * count
 IsShaped (table.Pptt head entries) = All IsShapedPptt entries.items
 IsShaped (table.Fadt head body) = 80 ≤ length body.items
-IsShaped (table.Other bytes) = IsWholeTable bytes.now
+IsShaped (table.Other bytes) = IsCompleteTable bytes.now
 
 -- the table that is written has fewer than 2^32 bytes
 abbrev pub IsShort : TableValue → Type 0

@@ -11,7 +11,7 @@ ghost use Rattle.acpi_read.specs.Srats.{srat_value, srat_bytes};
 ghost use Rattle.acpi_read.specs.Pptts.{pptt_value, pptt_bytes};
 ghost use Rattle.acpi_write.specs.Spells.{Spells, DoEntriesSay};
 ghost use Rattle.std.specs.List.{All};
-ghost use Rattle.acpi_write.specs.Views.{head_value, table_value, IsShaped, IsShapedMadt, IsShapedSrat, IsShapedPptt, IsWholeTable, DoPartsSay, IsRefusal};
+ghost use Rattle.acpi_write.specs.Views.{head_value, table_value, IsShaped, IsShapedMadt, IsShapedSrat, IsShapedPptt, IsCompleteTable, DoPartsSay, IsRefusal};
 ghost use Rattle.acpi_write.specs.Bodies.{srat_reserved};
 
 use crate::entry_bytes::{append_all, sizes};
@@ -47,8 +47,8 @@ impl From<AllocError> for WriteFault {
 }
 
 /// Whether the bytes are exactly those of one table, and sum to 0.
-fn is_whole_table(bytes: &[u8]) -> bool
-    ensures { IsTrue result ↔ IsWholeTable bytes.now }
+fn is_complete_table(bytes: &[u8]) -> bool
+    ensures { IsTrue result ↔ IsCompleteTable bytes.now }
 {
     bytes.len() >= Header::LEN && u32_at(bytes, 4) as usize == bytes.len() && sum(bytes) == 0
 }
@@ -76,7 +76,7 @@ pub(crate) fn size_of(table: &TableValue<'_>) -> Option<u128>
             Some(Header::LEN as u128 + body.len() as u128)
         }
         TableValue::Other { bytes } => {
-            if !is_whole_table(bytes) {
+            if !is_complete_table(bytes) {
                 return None;
             }
             Some(bytes.len() as u128)

@@ -45,7 +45,7 @@ pub fn fadts_name_facs()
 {}
 
 /// The rebuilt image of a set has each of its parts, complete and at its address.
-#[tactic(auto, using(crate::proofs::NewSets::NewImage::parts_are_held))]
+#[tactic(auto, using(crate::proofs::NewSets::NewImage::parts_are_present))]
 pub fn rebuilt_holds_parts()
     ensures { RebuiltHoldsParts }
 {}

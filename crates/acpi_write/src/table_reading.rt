@@ -12,7 +12,7 @@ ghost use Rattle.acpi_read.specs.FilledTables.{IsFilledMadt, IsFilledSrat, IsFil
 ghost use Rattle.acpi_read.specs.Headers.{header_value};
 ghost use Rattle.acpi_write.specs.Bodies.{entries_in, IsReadableAs};
 ghost use Rattle.acpi_write.specs.Kinds.{AreReadable, table_of};
-ghost use Rattle.acpi_write.specs.SetValues.{table_value_as, values_of, IsWholeAt};
+ghost use Rattle.acpi_write.specs.SetValues.{table_value_as, values_of, IsCompleteAt};
 ghost use Rattle.acpi_write.specs.Views.{head_value, table_value, IsShaped, IsShort};
 
 use crate::fadt_body::with_facs;
@@ -49,7 +49,7 @@ pub(crate) fn listed_tables<'a>(
     set: &ListedSet<'a>,
 ) -> Result<Vec<Listed<'a>>, AllocError>
     requires { IsListedSet set.now }
-    ensures { IfOk result (λ found. AllZip (IsWholeAt set.now.image.now)
+    ensures { IfOk result (λ found. AllZip (IsCompleteAt set.now.image.now)
         (listed_addresses set.now.root.bytes set.now.root.width) (map table_of found.items)) }
 {
     let mut found = Vec::new(alloc);

@@ -14,7 +14,7 @@ use Rattle.acpi_base.specs.declared.code.Code.{Code}
 use Rattle.acpi_base.specs.declared.code.Code.TheVariants as code
 use Rattle.acpi_base.specs.declared.stage.Stage.TheVariants as stage
 use Rattle.acpi_base.proofs.Faults.Deciding.{Decided, decided_as, both, all3, same, below, differs, is_true, not_other}
-use Rattle.acpi_base.proofs.Images.HeldBytes.{field_below}
+use Rattle.acpi_base.proofs.Images.PresentBytes.{field_below}
 use Rattle.acpi_base.proofs.EntryOffsets.{AreOnes, one_said, said_inside, stands_with_decided, somewhere_decided, entries_bounded, said_with}
 
 -- ---- what an entry of the SRAT says
@@ -93,9 +93,9 @@ one_domain_without_fault p madt whole none i enabled o r d f one other =
 -- a fault excludes that each has one
 pub excludes : (p : Processors) (madt : MadtContents) (srat : SratContents) (fault : Code) (at other point : ℕ)
     → DomainFault p madt srat fault at other point → ¬ HaveOneDomain p madt srat
-excludes p madt srat code.TwoDomains at other point (enabled, d, f, one, two, _, differ) sound =
-    differ (sound point enabled at other d f one two)
-excludes p madt srat _ at other point fault sound = fault
+excludes p madt srat code.TwoDomains at other point (enabled, d, f, one, two, _, differ) valid =
+    differ (valid point enabled at other d f one two)
+excludes p madt srat _ at other point fault valid = fault
 
 -- ---- how far its numbers reach
 

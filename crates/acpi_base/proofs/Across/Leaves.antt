@@ -12,7 +12,7 @@ use Rattle.acpi_base.specs.declared.code.Code.{Code}
 use Rattle.acpi_base.specs.declared.code.Code.TheVariants as code
 use Rattle.acpi_base.specs.declared.stage.Stage.TheVariants as stage
 use Rattle.acpi_base.proofs.Faults.Deciding.{Decided, decided_as, all3, all5, same, at_most, negated, is_true, is_none}
-use Rattle.acpi_base.proofs.Images.HeldBytes.{field_below}
+use Rattle.acpi_base.proofs.Images.PresentBytes.{field_below}
 use Rattle.acpi_base.proofs.Pptt.Places.{inside}
 use Rattle.acpi_base.proofs.EntryOffsets.{stands_with_decided, somewhere_decided, entries_bounded, said_with}
 
@@ -70,9 +70,9 @@ leaves_known_without_fault madt pptt none recent typed o id leaf =
 -- a fault excludes that each is
 pub excludes : (madt : MadtContents) (pptt : PpttContents) (fault : Code) (at other point : ℕ)
     → LeafFault madt pptt fault at other point → ¬ AreLeavesKnown madt pptt
-excludes madt pptt code.LeafUnknown at other point (recent, typed, leaf, unknown, _) sound =
-    unknown (sound recent typed at point leaf)
-excludes madt pptt _ at other point fault sound = fault
+excludes madt pptt code.LeafUnknown at other point (recent, typed, leaf, unknown, _) valid =
+    unknown (valid recent typed at point leaf)
+excludes madt pptt _ at other point fault valid = fault
 
 -- ---- how far its numbers reach
 

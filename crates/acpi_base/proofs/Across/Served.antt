@@ -11,7 +11,7 @@ use Rattle.acpi_base.specs.declared.code.Code.{Code}
 use Rattle.acpi_base.specs.declared.code.Code.TheVariants as code
 use Rattle.acpi_base.specs.declared.stage.Stage.TheVariants as stage
 use Rattle.acpi_base.proofs.Faults.Deciding.{Decided, decided_as, all3, all4, same, below, at_most, negated}
-use Rattle.acpi_base.proofs.Images.HeldBytes.{field_below}
+use Rattle.acpi_base.proofs.Images.PresentBytes.{field_below}
 use Rattle.acpi_base.proofs.Madt.Faults.{inside}
 use Rattle.acpi_base.proofs.EntryOffsets.{stands_with_decided, somewhere_decided, entries_bounded, said_with}
 
@@ -60,8 +60,8 @@ named_served_without_fault q c none some o g names =
 -- a fault excludes that each is
 pub excludes : (q : PolicyValue) (c : MadtContents) (fault : Code) (at other point : ℕ)
     → ServedFault q c fault at other point → ¬ AreNamedServed q c
-excludes q c code.GsiNowhere at other point (some, names, nowhere, _) sound = nowhere (sound some at point names)
-excludes q c _ at other point fault sound = fault
+excludes q c code.GsiNowhere at other point (some, names, nowhere, _) valid = nowhere (valid some at point names)
+excludes q c _ at other point fault valid = fault
 
 -- ---- how far its numbers reach
 

@@ -19,7 +19,7 @@ use Rattle.acpi_base.specs.Examples.AdviceSlots.{twice_bytes, twice_set, dsdt_by
 use Rattle.acpi_base.specs.declared.table_kind.TableKind.{TableKind}
 use Rattle.acpi_base.specs.declared.table_kind.TableKind.TheVariants as kind
 use Rattle.acpi_base.proofs.Examples.Sets.{bytes_of_runs, root, root_table, slot_0, slot_1, madt_tables, leaf_tables}
-use Rattle.acpi_base.proofs.Images.HeldBytes.{same_value}
+use Rattle.acpi_base.proofs.Images.PresentBytes.{same_value}
 use Rattle.acpi_base.proofs.Images.RunBytes.{byte_of_memory_of}
 use Rattle.acpi_base.proofs.Root.Slots.{one_slot, root_slot, slot_of_root}
 
@@ -34,19 +34,19 @@ bytes_of_twice a n = λ i. run_of (λ x. byte_of_memory_of twice_runs x i) a n
 
 twice_root : IsRoot twice_set rsdp_at 0x1000 4
 unfolding run_of cons_both addresses_at chosen_root field
-twice_root = record { named = record { rsdt = 0x1000; xsdt = 0 }; read = rw held refl; chosen = refl }
+twice_root = record { named = record { rsdt = 0x1000; xsdt = 0 }; read = rw present refl; chosen = refl }
   where
-    held : bytes_at twice_set rsdp_at 20 ≡ Some rsdp_bytes
-    held = bytes_of_twice rsdp_at 20
+    present : bytes_at twice_set rsdp_at 20 ≡ Some rsdp_bytes
+    present = bytes_of_twice rsdp_at 20
 
 twice_table : IsRootTable twice_set 0x1000 4 twice_bytes
 unfolding run_of cons_both has_signature field
 twice_table = record {
   header = take 36 twice_bytes;
   table = record {
-    header_held = bytes_of_twice 0x1000 36;
+    header_present = bytes_of_twice 0x1000 36;
     least = omega arith;
-    held = bytes_of_twice 0x1000 48;
+    present = bytes_of_twice 0x1000 48;
   };
   signed = refl;
 }
@@ -81,19 +81,19 @@ leaf_slot k a slot =
 -- the signatures of its headers
 signed_as : {m : Memory} {signature : List ℕ} (a : ℕ) (header : List ℕ) → bytes_at m a 36 ≡ Some header
     → IsSigned m a signature → has_signature header signature ≡ true
-signed_as {signature = signature} a header held it =
-    subst (λ (h : List ℕ). has_signature h signature ≡ true) (same_value it.header header it.header_held held) it.signed
+signed_as {signature = signature} a header present it =
+    subst (λ (h : List ℕ). has_signature h signature ≡ true) (same_value it.header header it.header_present present) it.signed
 
 first_signed : (signature : List ℕ) (a : ℕ) → a ≡ 0x2000 → IsSigned leaf_set a signature
     → has_signature (take 36 uid_bytes) signature ≡ true
 first_signed signature a is it =
-    signed_as 0x2000 (take 36 uid_bytes) (leaf_tables 2 197).first.header_held
+    signed_as 0x2000 (take 36 uid_bytes) (leaf_tables 2 197).first.header_present
     (subst (λ (x : ℕ). IsSigned leaf_set x signature) is it)
 
 second_signed : (signature : List ℕ) (a : ℕ) → a ≡ 0x3000 → IsSigned leaf_set a signature
     → has_signature (take 36 new_leaf_bytes) signature ≡ true
 second_signed signature a is it =
-    signed_as 0x3000 (take 36 new_leaf_bytes) (leaf_tables 2 197).second.header_held
+    signed_as 0x3000 (take 36 new_leaf_bytes) (leaf_tables 2 197).second.header_present
     (subst (λ (x : ℕ). IsSigned leaf_set x signature) is it)
 
 -- they are of no one kind
@@ -145,12 +145,12 @@ slots_advised = record {
     kind = kind.Madt;
     here = (
       root_slot (root named_bytes two_io_apics_bytes) (root_table named_bytes two_io_apics_bytes) slot_1,
-      record { header = _; header_held = madt_tables.second.header_held; signed = refl },
+      record { header = _; header_present = madt_tables.second.header_present; signed = refl },
     );
     a = 0x2000;
     there = (
       root_slot (root named_bytes two_io_apics_bytes) (root_table named_bytes two_io_apics_bytes) slot_0,
-      record { header = _; header_held = madt_tables.first.header_held; signed = refl },
+      record { header = _; header_present = madt_tables.first.header_present; signed = refl },
     );
     first = λ k b _. omega arith;
     differs = λ same. omega arith;
@@ -159,14 +159,14 @@ slots_advised = record {
   dsdt = (
     inl (
       root_slot (root dsdt_bytes facs_bytes) (root_table dsdt_bytes facs_bytes) slot_0,
-      record { header = _; header_held = bytes_of_runs dsdt_bytes facs_bytes 0x2000 36; signed = refl },
+      record { header = _; header_present = bytes_of_runs dsdt_bytes facs_bytes 0x2000 36; signed = refl },
     ),
     refl,
   );
   facs = (
     inr (
       root_slot (root dsdt_bytes facs_bytes) (root_table dsdt_bytes facs_bytes) slot_1,
-      record { header = _; header_held = bytes_of_runs dsdt_bytes facs_bytes 0x3000 36; signed = refl },
+      record { header = _; header_present = bytes_of_runs dsdt_bytes facs_bytes 0x3000 36; signed = refl },
     ),
     refl,
   );

@@ -21,7 +21,7 @@ use Rattle.acpi_base.specs.declared.code.Code.{Code}
 use Rattle.acpi_base.specs.declared.code.Code.TheVariants as code
 use Rattle.acpi_base.specs.declared.stage.Stage.{Stage}
 use Rattle.acpi_base.specs.declared.stage.Stage.TheVariants as stage
-use Rattle.acpi_base.proofs.Examples.WholeSets.{byte_of_whole_set, HasRoot, whole_has_root, root_of, root_of_held, root_table_of, first_slot, each_slot, tables, not_signed}
+use Rattle.acpi_base.proofs.Examples.WholeSets.{byte_of_whole_set, HasRoot, whole_has_root, root_of, root_of_present, root_table_of, first_slot, each_slot, tables, not_signed}
 use Rattle.acpi_base.proofs.Faults.Least.{witness}
 use Rattle.acpi_base.proofs.Root.Slots.{root_slot}
 use Rattle.acpi_base.proofs.Tables.Listed.{listed_in_root, none_in_root}
@@ -72,28 +72,28 @@ of_stage {m} {fault} {at} {other} own holds =
 -- ---- the RSDP
 
 -- the bytes there
-held_rsdp : (a : ℕ) (byte : Option ℕ) (n : ℕ)
+present_rsdp : (a : ℕ) (byte : Option ℕ) (n : ℕ)
     → bytes_at (altered_set a byte) rsdp_at n ≡ run_of (with_one a byte) rsdp_at n
-held_rsdp a byte n = bytes_at_altered a byte rsdp_at n
+present_rsdp a byte n = bytes_at_altered a byte rsdp_at n
 
 -- it is of the extended form
 extended : (a : ℕ) (byte : Option ℕ) {head : List ℕ} → run_of (with_one a byte) rsdp_at 20 ≡ Some head
     → 2 ≤ revision_of head → IsExtended (altered_set a byte) rsdp_at
-extended a byte head revision = (_, held_rsdp a byte 20 ∙ head, revision)
+extended a byte head revision = (_, present_rsdp a byte 20 ∙ head, revision)
 
 pub rsdp_faults : AreRsdpFaults
 unfolding run_of cons_both has_signature byte_sum field
 rsdp_faults = record {
-  out = of_rsdp 0xe0013 None code.RsdpOut refl (held_rsdp 0xe0013 None 20);
-  signature = of_rsdp 0xe0000 (Some 0x72) code.RsdpSignature refl (_, held_rsdp 0xe0000 (Some 0x72) 20, refl);
-  sum = of_rsdp 0xe0000 (Some 0x72) code.RsdpSum refl (_, held_rsdp 0xe0000 (Some 0x72) 20, λ same. omega arith);
+  out = of_rsdp 0xe0013 None code.RsdpOut refl (present_rsdp 0xe0013 None 20);
+  signature = of_rsdp 0xe0000 (Some 0x72) code.RsdpSignature refl (_, present_rsdp 0xe0000 (Some 0x72) 20, refl);
+  sum = of_rsdp 0xe0000 (Some 0x72) code.RsdpSum refl (_, present_rsdp 0xe0000 (Some 0x72) 20, λ same. omega arith);
   tail_out = of_rsdp 0xe0023 None code.RsdpTailOut refl
-      (extended 0xe0023 None refl (omega arith), held_rsdp 0xe0023 None 36);
+      (extended 0xe0023 None refl (omega arith), present_rsdp 0xe0023 None 36);
   size = of_rsdp 0xe0014 (Some 35) code.RsdpLength refl
-      (extended 0xe0014 (Some 35) refl (omega arith), (_, held_rsdp 0xe0014 (Some 35) 36, omega arith));
+      (extended 0xe0014 (Some 35) refl (omega arith), (_, present_rsdp 0xe0014 (Some 35) 36, omega arith));
   long_out = of_rsdp 0xe0014 (Some 37) code.RsdpLongOut refl (
     extended 0xe0014 (Some 37) refl (omega arith),
-    (_, held_rsdp 0xe0014 (Some 37) 36, omega arith, held_rsdp 0xe0014 (Some 37) 37),
+    (_, present_rsdp 0xe0014 (Some 37) 36, omega arith, present_rsdp 0xe0014 (Some 37) 37),
   );
   extended_sum = of_rsdp 0xe0021 (Some 1) code.RsdpExtendedSum refl (
     extended 0xe0021 (Some 1) refl (omega arith),
@@ -101,9 +101,9 @@ rsdp_faults = record {
       _,
       _,
       record {
-        header_held = held_rsdp 0xe0021 (Some 1) 36;
+        header_present = present_rsdp 0xe0021 (Some 1) 36;
         least = omega arith;
-        held = held_rsdp 0xe0021 (Some 1) 36;
+        present = present_rsdp 0xe0021 (Some 1) 36;
       },
       λ same. omega arith,
     ),
@@ -119,8 +119,8 @@ rsdp_faults = record {
 -- with another byte in the XSDT the RSDP names it as before
 names_root : (a : ℕ) (byte : Option ℕ) → 0x1000 ≤ a → a < 0x104c → IsRoot (altered_set a byte) rsdp_at 0x1000 8
 names_root a byte from to =
-    root_of (kept a byte rsdp_at 20 (inl (omega arith)) ∙ whole_has_root.head_held)
-    (kept a byte rsdp_at 36 (inl (omega arith)) ∙ whole_has_root.rsdp_held)
+    root_of (kept a byte rsdp_at 20 (inl (omega arith)) ∙ whole_has_root.head_present)
+    (kept a byte rsdp_at 36 (inl (omega arith)) ∙ whole_has_root.rsdp_present)
 
 -- so that a fault of the XSDT is one of the set
 of_root : (a : ℕ) (byte : Option ℕ) (fault : Code) → 0x1000 ≤ a → a < 0x104c → stage_of fault ≡ stage.Root
@@ -132,7 +132,7 @@ no_root : HasNoRoot (altered_set 0xe0019 (Some 0)) rsdp_at
 unfolding run_of cons_both addresses_at chosen_root field
 no_root = record {
   named = record { rsdt = 0; xsdt = 0 };
-  read = rw (held_rsdp 0xe0019 (Some 0) 20) (rw (held_rsdp 0xe0019 (Some 0) 36) refl);
+  read = rw (present_rsdp 0xe0019 (Some 0) 20) (rw (present_rsdp 0xe0019 (Some 0) 36) refl);
   none = refl;
 }
 
@@ -140,61 +140,61 @@ pub root_faults : AreRootFaults
 unfolding run_of cons_both has_signature byte_sum field
 root_faults = record {
   none = record { own = refl; holds = (inl (no_root, refl, refl), refl, refl) };
-  header_out = of_root 0x1023 None code.RootHeaderOut (omega arith) (omega arith) refl (held 0x1023 None 36);
+  header_out = of_root 0x1023 None code.RootHeaderOut (omega arith) (omega arith) refl (present 0x1023 None 36);
   signature = of_root 0x1000 (Some 0x52) code.RootSignature (omega arith) (omega arith) refl
-      (_, held 0x1000 (Some 0x52) 36, refl);
+      (_, present 0x1000 (Some 0x52) 36, refl);
   size = of_root 0x1004 (Some 35) code.RootLength (omega arith) (omega arith) refl
-      (_, held 0x1004 (Some 35) 36, omega arith);
+      (_, present 0x1004 (Some 35) 36, omega arith);
   out = of_root 0x104b None code.RootOut (omega arith) (omega arith) refl
-      (_, held 0x104b None 36, omega arith, held 0x104b None 76);
+      (_, present 0x104b None 36, omega arith, present 0x104b None 76);
   ragged = of_root 0x1004 (Some 75) code.RootRagged (omega arith) (omega arith) refl
-      (_, held 0x1004 (Some 75) 36, omega arith, λ same. omega arith);
+      (_, present 0x1004 (Some 75) 36, omega arith, λ same. omega arith);
   sum = of_root 0x1008 (Some 2) code.RootSum (omega arith) (omega arith) refl (
     _,
     _,
-    record { header_held = held 0x1008 (Some 2) 36; least = omega arith; held = held 0x1008 (Some 2) 76 },
+    record { header_present = present 0x1008 (Some 2) 36; least = omega arith; present = present 0x1008 (Some 2) 76 },
     λ same. omega arith,
   );
 }
   where
-    held : (a : ℕ) (byte : Option ℕ) (n : ℕ)
+    present : (a : ℕ) (byte : Option ℕ) (n : ℕ)
         → bytes_at (altered_set a byte) 0x1000 n ≡ run_of (with_one a byte) 0x1000 n
-    held a byte n = bytes_at_altered a byte 0x1000 n
+    present a byte n = bytes_at_altered a byte 0x1000 n
 
 -- ---- the first table
 
 -- with another byte behind the XSDT the root is the whole set's
 keeps_root : (a : ℕ) (byte : Option ℕ) → 0x2000 ≤ a → a < 0xe0000 → HasRoot (altered_set a byte)
 keeps_root a byte from to = record {
-  head_held = kept a byte rsdp_at 20 (inl (omega arith)) ∙ whole_has_root.head_held;
-  rsdp_held = kept a byte rsdp_at 36 (inl (omega arith)) ∙ whole_has_root.rsdp_held;
-  header_held = kept a byte 0x1000 36 (inr (omega arith)) ∙ whole_has_root.header_held;
-  xsdt_held = kept a byte 0x1000 76 (inr (omega arith)) ∙ whole_has_root.xsdt_held;
+  head_present = kept a byte rsdp_at 20 (inl (omega arith)) ∙ whole_has_root.head_present;
+  rsdp_present = kept a byte rsdp_at 36 (inl (omega arith)) ∙ whole_has_root.rsdp_present;
+  header_present = kept a byte 0x1000 36 (inr (omega arith)) ∙ whole_has_root.header_present;
+  xsdt_present = kept a byte 0x1000 76 (inr (omega arith)) ∙ whole_has_root.xsdt_present;
 }
 
 -- the bytes at 2000h
-held_first : (a : ℕ) (byte : Option ℕ) (n : ℕ)
+present_first : (a : ℕ) (byte : Option ℕ) (n : ℕ)
     → bytes_at (altered_set a byte) 0x2000 n ≡ run_of (with_one a byte) 0x2000 n
-held_first a byte n = bytes_at_altered a byte 0x2000 n
+present_first a byte n = bytes_at_altered a byte 0x2000 n
 
 -- the table there, with one byte of it changed and with this Length
 changed : (a byte size : ℕ) {header whole : List ℕ} → run_of (with_one a (Some byte)) 0x2000 36 ≡ Some header
     → length_of header ≡ size → 36 ≤ size → run_of (with_one a (Some byte)) 0x2000 size ≡ Some whole
     → IsTable (altered_set a (Some byte)) 0x2000 header whole
-changed a byte size {header} header_held says least held = record {
-  header_held = held_first a (Some byte) 36 ∙ header_held;
+changed a byte size {header} header_present says least present = record {
+  header_present = present_first a (Some byte) 36 ∙ header_present;
   least = omega (arith, says);
-  held = held_first a (Some byte) (length_of header) ∙ rw says held;
+  present = present_first a (Some byte) (length_of header) ∙ rw says present;
 }
 
 pub table_faults : AreTableFaults
 unfolding run_of cons_both byte_sum field
 table_faults = record {
-  header_out = of_table 0x2023 None code.TableHeaderOut (omega arith) (omega arith) refl (held_first 0x2023 None 36);
+  header_out = of_table 0x2023 None code.TableHeaderOut (omega arith) (omega arith) refl (present_first 0x2023 None 36);
   size = of_table 0x2004 (Some 35) code.TableLength (omega arith) (omega arith) refl
-      (_, held_first 0x2004 (Some 35) 36, omega arith);
+      (_, present_first 0x2004 (Some 35) 36, omega arith);
   out = of_table 0x2080 None code.TableOut (omega arith) (omega arith) refl
-      (_, held_first 0x2080 None 36, omega arith, held_first 0x2080 None 129);
+      (_, present_first 0x2080 None 36, omega arith, present_first 0x2080 None 129);
   sum = of_table 0x2008 (Some 3) code.TableSum (omega arith) (omega arith) refl
       (_, _, changed 0x2008 3 129 refl refl (omega arith) refl, λ same. omega arith);
 }
@@ -203,7 +203,7 @@ table_faults = record {
         → TableFault (altered_set a byte) 0x2000 fault → HasFaultWith a byte fault 0 0x2000
     of_table a byte fault from to own wrong =
         let has = keeps_root a byte from to in
-        of_stage own (root_slot (root_of_held has) (root_table_of has) first_slot, wrong, refl)
+        of_stage own (root_slot (root_of_present has) (root_table_of has) first_slot, wrong, refl)
 
 -- ---- the FADT
 
@@ -214,8 +214,8 @@ is_fadt : (a : ℕ) (byte : Option ℕ) {header whole : List ℕ} → 0x2000 ≤
 is_fadt a byte {header} from to table signed =
     let has = keeps_root a byte from to in
     let found : IsSigned (altered_set a byte) 0x2000 fadt_signature =
-    record { header = header; header_held = table.header_held; signed = signed } in
-    listed_in_root (root_of_held has) (root_table_of has)
+    record { header = header; header_present = table.header_present; signed = signed } in
+    listed_in_root (root_of_present has) (root_table_of has)
     (record { k = 0; slot = first_slot; signed = found; none_before = λ j b less. absurd (omega arith) })
     table
 
@@ -224,16 +224,16 @@ no_fadt : ListsNone (altered_set 0x2000 (Some 0x47)) rsdp_at fadt_signature
 unfolding run_of cons_both has_signature
 no_fadt =
     let has = keeps_root 0x2000 (Some 0x47) (omega arith) (omega arith) in
-    none_in_root (root_of_held has) (root_table_of has)
+    none_in_root (root_of_present has) (root_table_of has)
     (each_slot (λ k a. ¬ IsSigned (altered_set 0x2000 (Some 0x47)) a fadt_signature)
-    (not_signed _ fadt_signature (held_first 0x2000 (Some 0x47) 36) refl)
+    (not_signed _ fadt_signature (present_first 0x2000 (Some 0x47) 36) refl)
     (other 0x4000 (omega arith) tables.madt refl) (other 0x5000 (omega arith) tables.srat refl)
     (other 0x6000 (omega arith) tables.slit refl) (other 0x7000 (omega arith) tables.pptt refl))
   where
     other : (a : ℕ) {header whole : List ℕ} → 0x2000 < a → IsTable whole_set a header whole
         → has_signature header fadt_signature ≡ false → ¬ IsSigned (altered_set 0x2000 (Some 0x47)) a fadt_signature
     other a {header} behind table differs =
-        not_signed header fadt_signature (kept 0x2000 (Some 0x47) a 36 (inl behind) ∙ table.header_held) differs
+        not_signed header fadt_signature (kept 0x2000 (Some 0x47) a 36 (inl behind) ∙ table.header_present) differs
 
 pub fadt_faults : AreFadtFaults
 unfolding run_of cons_both has_signature has_flag field
@@ -259,11 +259,11 @@ fadt_faults = record {
         → run_of (with_one a (Some byte)) 0x2000 36 ≡ Some header → length_of header ≡ size
         → has_signature header fadt_signature ≡ true → run_of (with_one a (Some byte)) 0x2000 size ≡ Some whole
         → stage_of fault ≡ stage.Fadt → FadtTableFault whole fault at → HasFaultWith a (Some byte) fault at 0
-    of_fadt a byte size fault at {whole = whole} (from, to, least) header says signed held own wrong =
+    of_fadt a byte size fault at {whole = whole} (from, to, least) header says signed present own wrong =
         of_stage own (
           inr (
             whole,
-            is_fadt a (Some byte) from to (changed a byte size header says least held) signed,
+            is_fadt a (Some byte) from to (changed a byte size header says least present) signed,
             wrong,
           ),
           refl,
@@ -285,9 +285,9 @@ keeps_fadt : (a : ℕ) (byte : Option ℕ) → 0x2081 ≤ a
     → IsTable (altered_set a byte) 0x2000 (take 36 fadt_bytes) fadt_bytes
 unfolding field
 keeps_fadt a byte behind = record {
-  header_held = kept a byte 0x2000 36 (inr (omega arith)) ∙ tables.fadt.header_held;
+  header_present = kept a byte 0x2000 36 (inr (omega arith)) ∙ tables.fadt.header_present;
   least = tables.fadt.least;
-  held = kept a byte 0x2000 (length_of (take 36 fadt_bytes)) (inr (omega arith)) ∙ tables.fadt.held;
+  present = kept a byte 0x2000 (length_of (take 36 fadt_bytes)) (inr (omega arith)) ∙ tables.fadt.present;
 }
 
 pub facs_faults : AreFacsFaults
@@ -298,18 +298,18 @@ facs_faults = record {
   align = of_facs 0x2024 (Some 0x20) code.FacsAlign 0x3020 (omega arith) (omega arith) refl
       (changed 0x2024 0x20 129 refl refl (omega arith) refl) refl (omega arith)
       ((λ same. omega arith), refl, λ same. omega arith);
-  header_out = named 0x3007 None code.FacsHeaderOut (omega arith) (omega arith) refl (there, refl, held 0x3007 None 8);
+  header_out = named 0x3007 None code.FacsHeaderOut (omega arith) (omega arith) refl (there, refl, present 0x3007 None 8);
   signature = named 0x3000 (Some 0x66) code.FacsSignature (omega arith) (omega arith) refl
-      (there, refl, (_, held 0x3000 (Some 0x66) 8, refl));
+      (there, refl, (_, present 0x3000 (Some 0x66) 8, refl));
   size = named 0x3004 (Some 63) code.FacsLength (omega arith) (omega arith) refl
-      (there, refl, (_, held 0x3004 (Some 63) 8, omega arith));
+      (there, refl, (_, present 0x3004 (Some 63) 8, omega arith));
   out = named 0x303f None code.FacsOut (omega arith) (omega arith) refl
-      (there, refl, (_, held 0x303f None 8, omega arith, held 0x303f None 64));
+      (there, refl, (_, present 0x303f None 8, omega arith, present 0x303f None 64));
 }
   where
-    held : (a : ℕ) (byte : Option ℕ) (n : ℕ)
+    present : (a : ℕ) (byte : Option ℕ) (n : ℕ)
         → bytes_at (altered_set a byte) 0x3000 n ≡ run_of (with_one a byte) 0x3000 n
-    held a byte n = bytes_at_altered a byte 0x3000 n
+    present a byte n = bytes_at_altered a byte 0x3000 n
 
     there : facs_address fadt_bytes ≢ 0
     there same = omega arith

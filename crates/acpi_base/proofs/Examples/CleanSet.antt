@@ -8,23 +8,23 @@ use Rattle.std.proofs.lemmas.Option.{none-some, same_Some}
 use Rattle.acpi_base.specs.Memory.{IsImage, run_of, cons_both}
 use Rattle.acpi_base.specs.Number.{field, byte_sum}
 use Rattle.acpi_base.specs.Policy.{IsPolicy, inputs_of}
-use Rattle.acpi_base.specs.Image.Runs.{run_at, IsWhole}
+use Rattle.acpi_base.specs.Image.Runs.{run_at, IsComplete}
 use Rattle.acpi_base.specs.Signature.{has_signature}
-use Rattle.acpi_base.specs.Rsdp.{IsSoundRsdp}
-use Rattle.acpi_base.specs.Root.{IsSoundRoot}
-use Rattle.acpi_base.specs.Tables.{IsSoundTable}
+use Rattle.acpi_base.specs.Rsdp.{IsValidRsdp}
+use Rattle.acpi_base.specs.Root.{IsValidRoot}
+use Rattle.acpi_base.specs.Tables.{IsValidTable}
 use Rattle.acpi_base.specs.Listed.{fadt_signature, IsListedTable}
-use Rattle.acpi_base.specs.Fadt.{IsSoundFadt, facs_address, has_flag, wide_address}
-use Rattle.acpi_base.specs.Facs.{IsFacs, HasSoundFacs, IsSoundFacs}
+use Rattle.acpi_base.specs.Fadt.{IsValidFadt, facs_address, has_flag, wide_address}
+use Rattle.acpi_base.specs.Facs.{IsFacs, HasValidFacs, IsValidFacs}
 use Rattle.acpi_base.specs.Entries.{StandsWith}
 use Rattle.acpi_base.specs.Contents.{ForMadt, ForSrat, ForSlit, ForPptt}
-use Rattle.acpi_base.specs.Madt.{MadtContents, madt_contents, IsSoundMadtEntry, IsAddressOverride, IsSoundMadt, ServesFrom, Serves, AreInterruptsApart, Overrides, DoOverridesAgree, NamesGsi}
-use Rattle.acpi_base.specs.Srat.{SratContents, srat_contents, IsSoundSratEntry, IsSoundSrat, IsAny, CoversFrom, Covers, AreRangesApart, PutsIn}
-use Rattle.acpi_base.specs.Slit.{SlitContents, slit_contents, IsSoundSlit}
+use Rattle.acpi_base.specs.Madt.{MadtContents, madt_contents, IsValidMadtEntry, IsAddressOverride, IsValidMadt, ServesFrom, Serves, AreInterruptsApart, Overrides, DoOverridesAgree, NamesGsi}
+use Rattle.acpi_base.specs.Srat.{SratContents, srat_contents, IsValidSratEntry, IsValidSrat, IsAny, CoversFrom, Covers, AreRangesApart, PutsIn}
+use Rattle.acpi_base.specs.Slit.{SlitContents, slit_contents, IsValidSlit}
 use Rattle.acpi_base.specs.Chains.{IsAt, Ends}
-use Rattle.acpi_base.specs.Pptt.{PpttContents, pptt_contents, HasOtherPpttLength, parent_of, resource_of, next_level_of, NamesParent, NamesNextLevel, IsResourceAt, IsCutPptt, AreReferencesSound, DoParentsEnd, DoCachesEnd}
+use Rattle.acpi_base.specs.Pptt.{PpttContents, pptt_contents, HasOtherPpttLength, parent_of, resource_of, next_level_of, NamesParent, NamesNextLevel, IsResourceAt, IsCutPptt, AreReferencesValid, DoParentsEnd, DoCachesEnd}
 use Rattle.acpi_base.specs.Across.{PutsAt, HaveOneDomain, IsServed, AreNamedServed, IsLeaf, IsUid, AreLeavesKnown}
-use Rattle.acpi_base.specs.Statements.{AreSoundTables, IsClean}
+use Rattle.acpi_base.specs.Statements.{AreValidTables, IsClean}
 use Rattle.acpi_base.specs.Examples.WholeSets.{rsdp_bytes, xsdt_bytes, fadt_bytes, facs_bytes, madt_bytes, srat_bytes, whole_runs, whole_set, example_policy}
 use Rattle.acpi_base.specs.Examples.Sets.{rsdp_at, new_leaf_bytes}
 use Rattle.acpi_base.specs.Examples.Slits.{one_locality_bytes}
@@ -35,8 +35,8 @@ use Rattle.acpi_base.proofs.Examples.{each_entry, none_stands, never, all_below}
 use Rattle.acpi_base.proofs.Examples.Sets.{inputs_are, leaf}
 use Rattle.acpi_base.proofs.Examples.Slits.{one}
 use Rattle.acpi_base.proofs.Examples.WholeSets as set
-use Rattle.acpi_base.proofs.Examples.WholeSets.{bytes_at_whole_set, whole_has_root, root_of_held, root_table_of, each_slot, tables, listed, said, madt, srat, slit}
-use Rattle.acpi_base.proofs.Images.HeldBytes.{none_and_some}
+use Rattle.acpi_base.proofs.Examples.WholeSets.{bytes_at_whole_set, whole_has_root, root_of_present, root_table_of, each_slot, tables, listed, said, madt, srat, slit}
+use Rattle.acpi_base.proofs.Images.PresentBytes.{none_and_some}
 use Rattle.acpi_base.proofs.Images.RunMemory.{image_of}
 use Rattle.acpi_base.proofs.Root.Slots.{slot_of_root}
 use Rattle.acpi_base.proofs.Tables.Listed.{one_listed}
@@ -44,7 +44,7 @@ use Rattle.acpi_base.proofs.Tables.Listed.{one_listed}
 -- ---- an image, and a policy
 
 whole_run : (a : ℕ) (bytes : List ℕ) → 0 < length bytes → a + length bytes ≤ 2 ^ 64
-    → list_all (λ b. nat_lt b 256) bytes ≡ true → IsWhole (run_at a bytes)
+    → list_all (λ b. nat_lt b 256) bytes ≡ true → IsComplete (run_at a bytes)
 whole_run a bytes filled fits below = record { filled = filled; fits = fits; bytes = all_below bytes below }
 
 pub is_image : IsImage whole_set
@@ -81,53 +81,53 @@ is_policy = record {
 
 -- ---- stages 1 to 5
 
-sound_rsdp : IsSoundRsdp whole_set rsdp_at
+valid_rsdp : IsValidRsdp whole_set rsdp_at
 unfolding has_signature byte_sum field
-sound_rsdp = record {
+valid_rsdp = record {
   head = take 20 rsdp_bytes;
-  head_held = whole_has_root.head_held;
+  head_present = whole_has_root.head_present;
   signed = refl;
   zero_sum = refl;
   extended = λ _. record {
     header = rsdp_bytes;
     whole = rsdp_bytes;
     frame = record {
-      header_held = whole_has_root.rsdp_held;
+      header_present = whole_has_root.rsdp_present;
       least = omega arith;
-      held = whole_has_root.rsdp_held;
+      present = whole_has_root.rsdp_present;
     };
     zero_sum = refl;
   };
 }
 
-sound_root : IsSoundRoot whole_set rsdp_at
+valid_root : IsValidRoot whole_set rsdp_at
 unfolding byte_sum
-sound_root = record {
+valid_root = record {
   r = 0x1000;
   d = 8;
   whole = xsdt_bytes;
-  root = root_of_held whole_has_root;
-  sound = record { table = root_table_of whole_has_root; slots = refl; zero_sum = refl };
+  root = root_of_present whole_has_root;
+  valid = record { table = root_table_of whole_has_root; slots = refl; zero_sum = refl };
 }
 
-sound_tables : AreSoundTables whole_set rsdp_at
+valid_tables : AreValidTables whole_set rsdp_at
 unfolding byte_sum
-sound_tables k a slot =
-    each_slot (λ k a. IsSoundTable whole_set a)
-    (sound fadt_bytes tables.fadt refl) (sound madt_bytes tables.madt refl) (sound srat_bytes tables.srat refl)
-    (sound one_locality_bytes tables.slit refl) (sound new_leaf_bytes tables.pptt refl) k a
-    (slot_of_root whole_set rsdp_at 0x1000 8 k a xsdt_bytes (root_of_held whole_has_root) (root_table_of whole_has_root)
+valid_tables k a slot =
+    each_slot (λ k a. IsValidTable whole_set a)
+    (valid fadt_bytes tables.fadt refl) (valid madt_bytes tables.madt refl) (valid srat_bytes tables.srat refl)
+    (valid one_locality_bytes tables.slit refl) (valid new_leaf_bytes tables.pptt refl) k a
+    (slot_of_root whole_set rsdp_at 0x1000 8 k a xsdt_bytes (root_of_present whole_has_root) (root_table_of whole_has_root)
     slot)
   where
-    sound : {a : ℕ} (whole : List ℕ) → set.IsAt a whole → byte_sum whole ≡ 0 → IsSoundTable whole_set a
-    sound whole stands zero_sum = record { header = take 36 whole; whole = whole; frame = stands; zero_sum = zero_sum }
+    valid : {a : ℕ} (whole : List ℕ) → set.IsAt a whole → byte_sum whole ≡ 0 → IsValidTable whole_set a
+    valid whole stands zero_sum = record { header = take 36 whole; whole = whole; frame = stands; zero_sum = zero_sum }
 
-sound_fadt : IsSoundFadt whole_set rsdp_at
+valid_fadt : IsValidFadt whole_set rsdp_at
 unfolding has_flag field
-sound_fadt = record {
+valid_fadt = record {
   whole = fadt_bytes;
   fadt = listed.fadt;
-  sound = record {
+  valid = record {
     long = omega arith;
     blocks = λ _. record { event = omega arith; control = omega arith; timer = inr refl; gpe0 = refl; gpe1 = refl };
     reset = λ _ _. record { space = omega arith; width = refl; offset = refl };
@@ -145,16 +145,16 @@ named_facs = record {
   aligned = refl;
   header = take 8 facs_bytes;
   frame = record {
-    header_held = bytes_at_whole_set 0x3000 8;
+    header_present = bytes_at_whole_set 0x3000 8;
     least = omega arith;
-    held = bytes_at_whole_set 0x3000 64;
+    present = bytes_at_whole_set 0x3000 64;
   };
   signed = refl;
 }
 
-sound_facs : IsSoundFacs whole_set rsdp_at
-sound_facs fadt is =
-    subst (HasSoundFacs whole_set) (one_listed whole_set rsdp_at fadt_signature fadt_bytes fadt listed.fadt is)
+valid_facs : IsValidFacs whole_set rsdp_at
+valid_facs fadt is =
+    subst (HasValidFacs whole_set) (one_listed whole_set rsdp_at fadt_signature fadt_bytes fadt listed.fadt is)
     (record { none = λ none. absurd (names_facs none); named = λ _. (facs_bytes, named_facs) })
 
 -- ---- the later stages
@@ -184,11 +184,11 @@ for_pptt P = for_listed pptt_contents P listed.pptt said.pptt
 inputs : inputs_of example_policy 0xfec00000 ≡ 24
 inputs = inputs_are 24
 
-sound_madt : IsSoundMadt example_policy madt
-sound_madt = record {
+valid_madt : IsValidMadt example_policy madt
+valid_madt = record {
   long = omega arith;
   filled = refl;
-  entries = each_entry madt.entries (λ o e. IsSoundMadtEntry example_policy e)
+  entries = each_entry madt.entries (λ o e. IsValidMadtEntry example_policy e)
       (never, (omega (arith, inputs), ((refl, λ is. omega arith), tt)));
   one_address = λ o p one two.
       absurd (none_stands madt.entries o (λ o e. IsAddressOverride e) (never, (never, (never, tt))) one);
@@ -210,11 +210,11 @@ overrides_agree o p source g h one other = sym (only o g one) ∙ only p h other
 
 -- ---- the SRAT and the PPTT
 
-sound_srat : IsSoundSrat srat
-sound_srat = record {
+valid_srat : IsValidSrat srat
+valid_srat = record {
   long = omega arith;
   filled = refl;
-  entries = each_entry srat.entries (λ o e. IsSoundSratEntry e) (tt, ((λ _. omega arith), tt));
+  entries = each_entry srat.entries (λ o e. IsValidSratEntry e) (tt, ((λ _. omega arith), tt));
 }
 
 ranges_apart : AreRangesApart Counted srat
@@ -224,15 +224,15 @@ ranges_apart o p x it = it.two (only o it.s it.one_holds ∙ sym (only p it.t it
     only o s here = each_entry srat.entries (λ o e. CoversFrom IsAny s x e → o ≡ 64)
         (never, ((λ _. refl), tt)) o here.0 here.1 here.2
 
-sound_entries : IsCutPptt leaf
-sound_entries = record { filled = refl; lengths = each_entry leaf.entries (λ o e. ¬ HasOtherPpttLength e) (never, tt) }
+valid_entries : IsCutPptt leaf
+valid_entries = record { filled = refl; lengths = each_entry leaf.entries (λ o e. ¬ HasOtherPpttLength e) (never, tt) }
 
 -- what names nothing names no p
 names_none : {A : Type 0} (p : ℕ) → None ≡ Some p → A
 names_none p is = absurd (none-some p is)
 
-sound_references : AreReferencesSound leaf
-sound_references = record {
+valid_references : AreReferencesValid leaf
+valid_references = record {
   parents = λ o p names. each_entry leaf.entries (λ o e. parent_of e ≡ Some p → (p ≡ 0) ⊎ IsAt (NamesParent leaf) p)
       ((λ is. inl (sym (same_Some 0 p is))), tt) o names.0 names.1 names.2;
   resources = λ o j r names. each_entry leaf.entries (λ o e. resource_of j e ≡ Some r → IsResourceAt leaf r)
@@ -281,19 +281,19 @@ leaves_known revision typed o id (e, stands, is) =
 -- ---- all stages
 
 pub is_clean : IsClean whole_set example_policy
-is_clean stage.Rsdp = sound_rsdp
-is_clean stage.Root = sound_root
-is_clean stage.Tables = sound_tables
-is_clean stage.Fadt = sound_fadt
-is_clean stage.Facs = sound_facs
-is_clean stage.Madt = for_madt (IsSoundMadt example_policy) sound_madt
+is_clean stage.Rsdp = valid_rsdp
+is_clean stage.Root = valid_root
+is_clean stage.Tables = valid_tables
+is_clean stage.Fadt = valid_fadt
+is_clean stage.Facs = valid_facs
+is_clean stage.Madt = for_madt (IsValidMadt example_policy) valid_madt
 is_clean stage.Interrupts = for_madt (AreInterruptsApart example_policy) interrupts_apart
 is_clean stage.Overrides = for_madt DoOverridesAgree overrides_agree
-is_clean stage.Srat = for_srat IsSoundSrat sound_srat
+is_clean stage.Srat = for_srat IsValidSrat valid_srat
 is_clean stage.Ranges = for_srat (AreRangesApart Counted) ranges_apart
-is_clean stage.Slit = for_slit IsSoundSlit one
-is_clean stage.Pptt = for_pptt IsCutPptt sound_entries
-is_clean stage.References = for_pptt AreReferencesSound sound_references
+is_clean stage.Slit = for_slit IsValidSlit one
+is_clean stage.Pptt = for_pptt IsCutPptt valid_entries
+is_clean stage.References = for_pptt AreReferencesValid valid_references
 is_clean stage.Parents = for_pptt DoParentsEnd parents_end
 is_clean stage.Caches = for_pptt DoCachesEnd caches_end
 is_clean stage.Domains =

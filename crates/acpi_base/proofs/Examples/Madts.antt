@@ -10,7 +10,7 @@ use Rattle.acpi_base.specs.Listed.{madt_signature}
 use Rattle.acpi_base.specs.Entries.{StandsWith, first_entry, entries_from, entries_of, end_of_entries, cut_of, has_form}
 use Rattle.acpi_base.specs.Madt.{MadtContents, madt_entry, madt_contents, MadtFault, MadtEntryFault, IsAddressOverride, ServesFrom, Serves, InterruptFault, OverrideFault}
 use Rattle.acpi_base.specs.Overlaps.{ComesBefore}
-use Rattle.acpi_base.specs.Examples.{table, IsSoundExample}
+use Rattle.acpi_base.specs.Examples.{table, IsValidExample}
 use Rattle.acpi_base.specs.Examples.Madts.{AreMadtContents, AreMadtFaults, IsFirstInterrupt, HasNoMadtFault, example_madts, faulty_madt_bytes, all_kinds, two_io_apics, faulty_madt}
 use Rattle.acpi_base.specs.declared.code.Code.{Code}
 use Rattle.acpi_base.specs.declared.code.Code.TheVariants as code
@@ -19,7 +19,7 @@ use Rattle.acpi_base.proofs.Examples.{each_entry, none_stands, never}
 pub madt_said : AreMadtContents
 unfolding first_entry entries_from entries_of end_of_entries cut_of has_form field byte_sum madt_entry madt_contents
 madt_said = record {
-  sound = All-from_recursion IsSoundExample example_madts
+  valid = All-from_recursion IsValidExample example_madts
       ((refl, refl), ((refl, refl), ((refl, refl), ((refl, refl), ((refl, refl), tt)))));
   kinds_say = refl;
   io_apics_say =

@@ -5,9 +5,9 @@ use Rattle.std.proofs.lemmas.Option.{none-some, same_Some}
 use Rattle.std.proofs.lemmas.List.Elements.{All-from_recursion}
 use Rattle.acpi_base.specs.Number.{field, byte_sum}
 use Rattle.acpi_base.specs.Entries.{first_entry, entries_from, entries_of, end_of_entries, cut_of, has_form}
-use Rattle.acpi_base.specs.Pptt.{PpttContents, HasOtherPpttLength, has_node_form, has_cache_form, pptt_entry, pptt_contents, parent_of, resource_of, next_level_of, pptt_type, IsResourceAt, NamesParent, NamesNextLevel, IsCutPptt, DoParentsEnd, DoCachesEnd, AreReferencesSound, PpttFaultAt, PpttFault, ReferenceFault, ParentFault, CacheFault}
+use Rattle.acpi_base.specs.Pptt.{PpttContents, HasOtherPpttLength, has_node_form, has_cache_form, pptt_entry, pptt_contents, parent_of, resource_of, next_level_of, pptt_type, IsResourceAt, NamesParent, NamesNextLevel, IsCutPptt, DoParentsEnd, DoCachesEnd, AreReferencesValid, PpttFaultAt, PpttFault, ReferenceFault, ParentFault, CacheFault}
 use Rattle.acpi_base.specs.Chains.{IsStep, IsAt, IsCycle, Ends}
-use Rattle.acpi_base.specs.Examples.{IsSoundExample}
+use Rattle.acpi_base.specs.Examples.{IsValidExample}
 use Rattle.acpi_base.specs.Examples.Pptts.{example_pptts, ArePpttContents, ArePpttFaults, AreCycleFaults, HasNoPpttFault, all_kinds_bytes, all_kinds, faulty_bytes, faulty_pptt, hidden_node, with_resource, own_parent_bytes, own_parent, five_nodes_bytes, five_nodes, own_next_level_bytes, with_next_level}
 use Rattle.acpi_base.specs.declared.code.Code.{Code}
 use Rattle.acpi_base.specs.declared.code.Code.TheVariants as code
@@ -19,7 +19,7 @@ pub pptt_said : ArePpttContents
 unfolding first_entry entries_from entries_of end_of_entries cut_of has_form field byte_sum has_node_form has_cache_form
     pptt_entry pptt_contents
 pptt_said = record {
-  sound = All-from_recursion IsSoundExample example_pptts (
+  valid = All-from_recursion IsValidExample example_pptts (
     (refl, refl),
     (
       (refl, refl),
@@ -221,8 +221,8 @@ cycle_faults = record {
 
 -- ---- a PPTT without a fault
 
-entries_sound : IsCutPptt all_kinds
-entries_sound =
+entries_valid : IsCutPptt all_kinds
+entries_valid =
     record {
       filled = refl;
       lengths = each_entry all_kinds.entries (λ o e. ¬ HasOtherPpttLength e)
@@ -253,8 +253,8 @@ of_second_node (suc zero) r is =
     subst (IsResourceAt all_kinds) (same_Some 112 r is) (_, (3, omega arith, refl), λ same. omega arith)
 of_second_node (suc (suc j)) r is = names_none r is
 
-references_sound : AreReferencesSound all_kinds
-references_sound = record {
+references_valid : AreReferencesValid all_kinds
+references_valid = record {
   parents = λ o p names. each_entry all_kinds.entries (λ o e. parent_of e ≡ Some p
       → (p ≡ 0) ⊎ IsAt (NamesParent all_kinds) p) (
         (λ is. inl (sym (same_Some 0 p is))),
@@ -318,9 +318,9 @@ caches_end o (p, names) =
 pub no_pptt_fault : HasNoPpttFault
 no_pptt_fault = record {
   entries = λ fault at other point wrong. cut_excludes (pptt_contents all_kinds_bytes) fault at other point wrong
-      (rw pptt_said.kinds_say entries_sound);
+      (rw pptt_said.kinds_say entries_valid);
   references = λ fault at other point wrong. references_excludes (pptt_contents all_kinds_bytes) fault at other point
-      wrong (rw pptt_said.kinds_say references_sound);
+      wrong (rw pptt_said.kinds_say references_valid);
   parents = λ fault at other point wrong. parents_excludes all_kinds_bytes fault at other point wrong
       (rw pptt_said.kinds_say parents_end);
   caches = λ fault at other point wrong. caches_excludes all_kinds_bytes fault at other point wrong

@@ -14,13 +14,13 @@ use Rattle.acpi_base.specs.Pptt.{Node, PpttContents, has_node_form, has_cache_fo
 use Rattle.acpi_base.specs.Across.{IsEnabled, DomainFault, IsServed, ServedFault, IsUid, LeafFault}
 use Rattle.acpi_base.specs.Memory.{Memory, IsImage, run_of, cons_both, bytes_at}
 use Rattle.acpi_base.specs.Number.{field, byte_sum, has_bit}
-use Rattle.acpi_base.specs.Image.Runs.{Run, run_at, lookup, IsWhole}
+use Rattle.acpi_base.specs.Image.Runs.{Run, run_at, lookup, IsComplete}
 use Rattle.acpi_base.specs.Signature.{has_signature}
 use Rattle.acpi_base.specs.Rsdp.{addresses_at}
 use Rattle.acpi_base.specs.Tables.{IsTable, IsSigned, length_of}
 use Rattle.acpi_base.specs.Root.{chosen_root, IsRoot, IsRootTable, HasSlot}
 use Rattle.acpi_base.specs.Listed.{madt_signature, srat_signature, pptt_signature, IsListedTable, HasListed}
-use Rattle.acpi_base.specs.Examples.{placed_entry, IsSoundExample}
+use Rattle.acpi_base.specs.Examples.{placed_entry, IsValidExample}
 use Rattle.acpi_base.specs.Examples.Sets.{rsdp_bytes, rsdt_bytes, rsdp_at, set_of, ListsBoth, processor_bytes, leaf_bytes, enabled_bytes, capable_bytes, disabled_bytes, named_bytes, uid_bytes, new_leaf_bytes, old_leaf_bytes, policy, AreListedTables, AreSetFaults, enabled_set, capable_set, disabled_set, two_madts, leaf_set, old_leaf_set}
 use Rattle.acpi_base.specs.Examples.Madts.{said_madt, two_io_apics_bytes}
 use Rattle.acpi_base.specs.Examples.Srats.{two_processors_bytes, two_processors}
@@ -30,7 +30,7 @@ use Rattle.acpi_base.specs.declared.policy.Processors.TheVariants.{Enabled, Usab
 use Rattle.acpi_base.specs.declared.code.Code.TheVariants as code
 use Rattle.acpi_base.proofs.Examples.{each_entry, none_stands, never, all_below}
 use Rattle.acpi_base.proofs.Examples.Srats.{srat_said}
-use Rattle.acpi_base.proofs.Images.HeldBytes.{same_value}
+use Rattle.acpi_base.proofs.Images.PresentBytes.{same_value}
 use Rattle.acpi_base.proofs.Images.RunBytes.{byte_of_memory_of}
 use Rattle.acpi_base.proofs.Images.RunMemory.{image_of}
 use Rattle.acpi_base.proofs.Tables.Listed.{one_listed, listed_in_root}
@@ -53,7 +53,7 @@ is_image : (one other : List ℕ) → (0 < length one) × (length one < 0x1000)
     → list_all (λ b. nat_lt b 256) one ≡ true → list_all (λ b. nat_lt b 256) other ≡ true → IsImage (set_of one other)
 is_image one other size other_size bytes other_bytes = image_of (runs one other) whole
   where
-    whole : AllByRecursion IsWhole (runs one other)
+    whole : AllByRecursion IsComplete (runs one other)
     whole = (
       record { filled = omega arith; fits = omega arith; bytes = all_below rsdp_bytes refl },
       (
@@ -68,10 +68,10 @@ is_image one other size other_size bytes other_bytes = image_of (runs one other)
 -- the RSDP names the RSDT
 pub root : (one other : List ℕ) → IsRoot (set_of one other) rsdp_at 0x1000 4
 unfolding run_of cons_both addresses_at chosen_root field
-root one other = record { named = record { rsdt = 0x1000; xsdt = 0 }; read = rw held refl; chosen = refl }
+root one other = record { named = record { rsdt = 0x1000; xsdt = 0 }; read = rw present refl; chosen = refl }
   where
-    held : bytes_at (set_of one other) rsdp_at 20 ≡ Some rsdp_bytes
-    held = bytes_of_runs one other rsdp_at 20
+    present : bytes_at (set_of one other) rsdp_at 20 ≡ Some rsdp_bytes
+    present = bytes_of_runs one other rsdp_at 20
 
 -- and the RSDT stands there
 pub root_table : (one other : List ℕ) → IsRootTable (set_of one other) 0x1000 4 rsdt_bytes
@@ -79,9 +79,9 @@ unfolding run_of cons_both has_signature field
 root_table one other = record {
   header = take 36 rsdt_bytes;
   table = record {
-    header_held = bytes_of_runs one other 0x1000 36;
+    header_present = bytes_of_runs one other 0x1000 36;
     least = omega arith;
-    held = bytes_of_runs one other 0x1000 44;
+    present = bytes_of_runs one other 0x1000 44;
   };
   signed = refl;
 }
@@ -108,14 +108,14 @@ tables_of : (one other : List ℕ) → run_of (lookup (runs one other)) 0x2000 3
     → 36 ≤ length_of (take 36 one) → 36 ≤ length_of (take 36 other) → AreTables one other
 tables_of one other header whole other_header other_whole least other_least = record {
   first = record {
-    header_held = bytes_of_runs one other 0x2000 36 ∙ header;
+    header_present = bytes_of_runs one other 0x2000 36 ∙ header;
     least = least;
-    held = bytes_of_runs one other 0x2000 (length_of (take 36 one)) ∙ whole;
+    present = bytes_of_runs one other 0x2000 (length_of (take 36 one)) ∙ whole;
   };
   second = record {
-    header_held = bytes_of_runs one other 0x3000 36 ∙ other_header;
+    header_present = bytes_of_runs one other 0x3000 36 ∙ other_header;
     least = other_least;
-    held = bytes_of_runs one other 0x3000 (length_of (take 36 other)) ∙ other_whole;
+    present = bytes_of_runs one other 0x3000 (length_of (take 36 other)) ∙ other_whole;
   };
 }
 
@@ -127,7 +127,7 @@ first_is_listed one other signature header table signed =
     (record {
       k = 0;
       slot = slot_0;
-      signed = record { header = header; header_held = table.header_held; signed = signed };
+      signed = record { header = header; header_present = table.header_present; signed = signed };
       none_before =
           λ j b less. absurd (omega arith);
     })
@@ -143,7 +143,7 @@ second_listed one other signature header header' first differs second signed =
     (record {
       k = 1;
       slot = slot_1;
-      signed = record { header = header'; header_held = second.header_held; signed = signed };
+      signed = record { header = header'; header_present = second.header_present; signed = signed };
       none_before =
           none_before;
     })
@@ -151,9 +151,9 @@ second_listed one other signature header header' first differs second signed =
   where
     none_before : (j b : ℕ) → j < 1 → HasSlot rsdt_bytes 4 j b → ¬ IsSigned (set_of one other) b signature
     none_before zero b less slot found =
-        let held = subst (λ (x : ℕ). bytes_at (set_of one other) x 36 ≡ Some found.header)
-        (sym slot.address ∙ slot_0.address) found.header_held in
-        grind (arith, same_value header found.header first.header_held held, differs, found.signed)
+        let present = subst (λ (x : ℕ). bytes_at (set_of one other) x 36 ≡ Some found.header)
+        (sym slot.address ∙ slot_0.address) found.header_present in
+        grind (arith, same_value header found.header first.header_present present, differs, found.signed)
     none_before (suc j) b less slot found = omega arith
 
 -- so both are listed where their signatures differ
@@ -209,7 +209,7 @@ listed = record {
         ),
       );
   rsdp_sum = refl;
-  sound = All-from_recursion IsSoundExample
+  valid = All-from_recursion IsValidExample
       (rsdt_bytes ∷ enabled_bytes ∷ capable_bytes ∷ disabled_bytes ∷ named_bytes ∷ uid_bytes ∷ new_leaf_bytes
       ∷ old_leaf_bytes ∷ []) (
         (refl, refl),

@@ -2,16 +2,16 @@
 use Rattle.std.proofs.Common.{◌≡◌, ℕ, zero, suc, ◌+◌, ◌<◌, ◌≤◌, List, [], ◌∷◌, refl, arith}
 use Rattle.std.proofs.lemmas.List.Elements.{All-from_recursion}
 use Rattle.acpi_base.specs.Number.{field, byte_sum}
-use Rattle.acpi_base.specs.Slit.{SlitContents, slit_contents, cell_place, distance, IsCell, IsSoundSlit, SlitFault}
-use Rattle.acpi_base.specs.Examples.{IsSoundExample}
-use Rattle.acpi_base.specs.Examples.Slits.{said_slit, empty_bytes, one_locality_bytes, two_localities_bytes, two_localities, high_diagonal, low_cell, low_diagonal, example_slits, AreSlitContents, AreSlitFaults, HasNoSlitFault, AreSoundSlits}
+use Rattle.acpi_base.specs.Slit.{SlitContents, slit_contents, cell_place, distance, IsCell, IsValidSlit, SlitFault}
+use Rattle.acpi_base.specs.Examples.{IsValidExample}
+use Rattle.acpi_base.specs.Examples.Slits.{said_slit, empty_bytes, one_locality_bytes, two_localities_bytes, two_localities, high_diagonal, low_cell, low_diagonal, example_slits, AreSlitContents, AreSlitFaults, HasNoSlitFault, AreValidSlits}
 use Rattle.acpi_base.specs.declared.code.Code.TheVariants as code
 use Rattle.acpi_base.proofs.Slit.{excludes}
 
 pub slit_said : AreSlitContents
 unfolding slit_contents field byte_sum
 slit_said = record {
-  sound = All-from_recursion IsSoundExample example_slits (
+  valid = All-from_recursion IsValidExample example_slits (
     (refl, refl),
     (
       (refl, refl),
@@ -68,14 +68,14 @@ slit_faults = record {
 
 -- ---- SLITs without a fault
 
--- a sound SLIT has none
-without_fault : (bytes : List ℕ) (c : SlitContents) → slit_contents bytes ≡ c → IsSoundSlit c → HasNoSlitFault bytes
-without_fault bytes c says sound fault at other point wrong = excludes c fault at other point (rw says at wrong) sound
+-- a valid SLIT has none
+without_fault : (bytes : List ℕ) (c : SlitContents) → slit_contents bytes ≡ c → IsValidSlit c → HasNoSlitFault bytes
+without_fault bytes c says valid fault at other point wrong = excludes c fault at other point (rw says at wrong) valid
 
-empty : IsSoundSlit (said_slit 44 0 [])
+empty : IsValidSlit (said_slit 44 0 [])
 empty = record { size = refl; least = λ i j row column. omega arith; diagonal = λ i row. omega arith }
 
-pub one : IsSoundSlit (said_slit 45 1 (10 ∷ []))
+pub one : IsValidSlit (said_slit 45 1 (10 ∷ []))
 one = record { size = refl; least = least; diagonal = diagonal }
   where
     least : (i j : ℕ) → i < 1 → j < 1 → 10 ≤ distance (said_slit 45 1 (10 ∷ [])) i j
@@ -87,7 +87,7 @@ one = record { size = refl; least = least; diagonal = diagonal }
     diagonal zero row = refl
     diagonal (suc i) row = omega arith
 
-two : IsSoundSlit two_localities
+two : IsValidSlit two_localities
 two = record { size = refl; least = least; diagonal = diagonal }
   where
     least : (i j : ℕ) → i < 2 → j < 2 → 10 ≤ distance two_localities i j
@@ -102,8 +102,8 @@ two = record { size = refl; least = least; diagonal = diagonal }
     diagonal (suc zero) row = refl
     diagonal (suc (suc i)) row = omega arith
 
-pub sound_slits : AreSoundSlits
-sound_slits =
+pub valid_slits : AreValidSlits
+valid_slits =
     All-from_recursion HasNoSlitFault (empty_bytes ∷ one_locality_bytes ∷ two_localities_bytes ∷ []) (
       without_fault empty_bytes _ slit_said.empty_says empty,
       (

@@ -9,7 +9,7 @@ use Rattle.acpi_base.specs.Listed.{srat_signature}
 use Rattle.acpi_base.specs.Entries.{first_entry, entries_from, entries_of, end_of_entries, cut_of, has_form}
 use Rattle.acpi_base.specs.Overlaps.{IsIntervalOverlap, ComesBefore}
 use Rattle.acpi_base.specs.Srat.{MemoryValue, CoversFrom, Covers, IsAny, IsHotPluggable, IsNotHotPluggable, SratContents, srat_entry, srat_contents, SratFault, SratEntryFault, RangeFault, IsFirstOverlap}
-use Rattle.acpi_base.specs.Examples.{table, IsSoundExample}
+use Rattle.acpi_base.specs.Examples.{table, IsValidExample}
 use Rattle.acpi_base.specs.Examples.Srats.{AreSratContents, AreSratFaults, AreFirstOverlaps, HasNoSratFault, example_srats, four_ranges_bytes, faulty_srat_bytes, two_processors, four_ranges, overlapping_ranges, hot_ranges, faulty_srat}
 use Rattle.acpi_base.specs.declared.policy.HotPlug.{HotPlug}
 use Rattle.acpi_base.specs.declared.policy.HotPlug.TheVariants.{Counted, Apart}
@@ -20,7 +20,7 @@ use Rattle.acpi_base.proofs.Examples.{each_entry, none_at, none_stands, never}
 pub srat_said : AreSratContents
 unfolding first_entry entries_from entries_of end_of_entries cut_of has_form field byte_sum srat_entry srat_contents
 srat_said = record {
-  sound = All-from_recursion IsSoundExample example_srats
+  valid = All-from_recursion IsValidExample example_srats
       ((refl, refl), ((refl, refl), ((refl, refl), ((refl, refl), ((refl, refl), tt)))));
   processors_say = refl;
   ranges_say = refl;

@@ -23,7 +23,7 @@ use Rattle.acpi_base.specs.Examples.Madts.{said_madt}
 use Rattle.acpi_base.specs.Examples.Srats.{said_srat}
 use Rattle.acpi_base.specs.Examples.Slits.{said_slit, one_locality_bytes}
 use Rattle.acpi_base.proofs.Examples.Sets.{leaf}
-use Rattle.acpi_base.proofs.Images.HeldBytes.{same_value}
+use Rattle.acpi_base.proofs.Images.PresentBytes.{same_value}
 use Rattle.acpi_base.proofs.Images.RunBytes.{byte_of_memory_of}
 use Rattle.acpi_base.proofs.Tables.Listed.{listed_in_root}
 
@@ -45,20 +45,20 @@ root_of head rsdp = record { named = record { rsdt = 0; xsdt = 0x1000 }; read = 
 
 -- the image holds the whole set's RSDP and its XSDT
 pub record HasRoot (m : Memory) : Type 0 where
-  pub head_held : bytes_at m rsdp_at 20 ≡ Some (take 20 rsdp_bytes)
-  pub rsdp_held : bytes_at m rsdp_at 36 ≡ Some rsdp_bytes
-  pub header_held : bytes_at m 0x1000 36 ≡ Some (take 36 xsdt_bytes)
-  pub xsdt_held : bytes_at m 0x1000 76 ≡ Some xsdt_bytes
+  pub head_present : bytes_at m rsdp_at 20 ≡ Some (take 20 rsdp_bytes)
+  pub rsdp_present : bytes_at m rsdp_at 36 ≡ Some rsdp_bytes
+  pub header_present : bytes_at m 0x1000 36 ≡ Some (take 36 xsdt_bytes)
+  pub xsdt_present : bytes_at m 0x1000 76 ≡ Some xsdt_bytes
 
 -- then this is its root
-pub root_of_held : {m : Memory} → HasRoot m → IsRoot m rsdp_at 0x1000 8
-root_of_held has = root_of has.head_held has.rsdp_held
+pub root_of_present : {m : Memory} → HasRoot m → IsRoot m rsdp_at 0x1000 8
+root_of_present has = root_of has.head_present has.rsdp_present
 
 pub root_table_of : {m : Memory} → HasRoot m → IsRootTable m 0x1000 8 xsdt_bytes
 unfolding has_signature field
 root_table_of has = record {
   header = take 36 xsdt_bytes;
-  table = record { header_held = has.header_held; least = omega arith; held = has.xsdt_held };
+  table = record { header_present = has.header_present; least = omega arith; present = has.xsdt_present };
   signed = refl;
 }
 
@@ -66,10 +66,10 @@ root_table_of has = record {
 pub whole_has_root : HasRoot whole_set
 unfolding run_of cons_both
 whole_has_root = record {
-  head_held = bytes_at_whole_set rsdp_at 20;
-  rsdp_held = bytes_at_whole_set rsdp_at 36;
-  header_held = bytes_at_whole_set 0x1000 36;
-  xsdt_held = bytes_at_whole_set 0x1000 76;
+  head_present = bytes_at_whole_set rsdp_at 20;
+  rsdp_present = bytes_at_whole_set rsdp_at 36;
+  header_present = bytes_at_whole_set 0x1000 36;
+  xsdt_present = bytes_at_whole_set 0x1000 76;
 }
 
 -- its first slot
@@ -106,37 +106,37 @@ pub tables : AreTables
 unfolding run_of cons_both field
 tables = record {
   fadt = record {
-    header_held = bytes_at_whole_set 0x2000 36;
+    header_present = bytes_at_whole_set 0x2000 36;
     least = omega arith;
-    held = bytes_at_whole_set 0x2000 129;
+    present = bytes_at_whole_set 0x2000 129;
   };
   madt = record {
-    header_held = bytes_at_whole_set 0x4000 36;
+    header_present = bytes_at_whole_set 0x4000 36;
     least = omega arith;
-    held = bytes_at_whole_set 0x4000 74;
+    present = bytes_at_whole_set 0x4000 74;
   };
   srat = record {
-    header_held = bytes_at_whole_set 0x5000 36;
+    header_present = bytes_at_whole_set 0x5000 36;
     least = omega arith;
-    held = bytes_at_whole_set 0x5000 104;
+    present = bytes_at_whole_set 0x5000 104;
   };
   slit = record {
-    header_held = bytes_at_whole_set 0x6000 36;
+    header_present = bytes_at_whole_set 0x6000 36;
     least = omega arith;
-    held = bytes_at_whole_set 0x6000 45;
+    present = bytes_at_whole_set 0x6000 45;
   };
   pptt = record {
-    header_held = bytes_at_whole_set 0x7000 36;
+    header_present = bytes_at_whole_set 0x7000 36;
     least = omega arith;
-    held = bytes_at_whole_set 0x7000 56;
+    present = bytes_at_whole_set 0x7000 56;
   };
 }
 
 -- a header without the signature is none that has it
 pub not_signed : {m : Memory} {a : ℕ} (header signature : List ℕ) → bytes_at m a 36 ≡ Some header
     → has_signature header signature ≡ false → ¬ IsSigned m a signature
-not_signed header signature held differs found =
-    let same = same_value found.header header found.header_held held in
+not_signed header signature present differs found =
+    let same = same_value found.header header found.header_present present in
     both_ways (has_signature header signature) differs
     (subst (λ (h : List ℕ). has_signature h signature ≡ true) same found.signed)
 
@@ -150,20 +150,20 @@ listed_at : (k a : ℕ) (whole signature : List ℕ) → HasSlot xsdt_bytes 8 k 
     → has_signature (take 36 new_leaf_bytes) signature ≡ (4 == k)
     → IsListedTable whole_set rsdp_at signature whole
 listed_at k a whole signature slot stands signed fadt madt srat slit pptt =
-    listed_in_root (root_of_held whole_has_root) (root_table_of whole_has_root)
+    listed_in_root (root_of_present whole_has_root) (root_table_of whole_has_root)
     (record {
       k = k;
       slot = slot;
-      signed = record { header = take 36 whole; header_held = stands.header_held; signed = signed };
+      signed = record { header = take 36 whole; header_present = stands.header_present; signed = signed };
       none_before = λ j b less here. before j b here less;
     })
     stands
   where
     at : (j : ℕ) {b : ℕ} (table : List ℕ) → IsAt b table → has_signature (take 36 table) signature ≡ (j == k) → j < k
         → ¬ IsSigned whole_set b signature
-    at j table held is less =
+    at j table present is less =
         let differs : (j == k) ≡ false = grind (arith, nat_tests) in
-        not_signed (take 36 table) signature held.header_held (is ∙ differs)
+        not_signed (take 36 table) signature present.header_present (is ∙ differs)
 
     before : (j b : ℕ) → HasSlot xsdt_bytes 8 j b → j < k → ¬ IsSigned whole_set b signature
     before =

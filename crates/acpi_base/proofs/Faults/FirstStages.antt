@@ -3,7 +3,7 @@ use Rattle.std.proofs.Common.{ℕ, ◌+◌, ◌*◌, ◌<◌, List, length, refl
 use Rattle.acpi_base.specs.Memory.{Memory}
 use Rattle.acpi_base.specs.Number.{field}
 use Rattle.acpi_base.specs.Policy.{PolicyValue}
-use Rattle.acpi_base.specs.Root.{HasSlot, IsSlot, IsSoundRoot}
+use Rattle.acpi_base.specs.Root.{HasSlot, IsSlot, IsValidRoot}
 use Rattle.acpi_base.specs.Listed.{fadt_signature}
 use Rattle.acpi_base.specs.Fadt.{facs_address}
 use Rattle.acpi_base.specs.Statements.{CleanBefore}
@@ -14,7 +14,7 @@ use Rattle.acpi_base.proofs.Faults.Deciding.{Decided, decided_as, all3, all4, sa
 use Rattle.acpi_base.proofs.Faults.Least.{bounded, witness}
 use Rattle.acpi_base.proofs.Faults.HoldsOrFault.{IsJudged}
 use Rattle.acpi_base.proofs.Rsdp.Faults as rsdp
-use Rattle.acpi_base.proofs.Rsdp.Naming.{sound_read}
+use Rattle.acpi_base.proofs.Rsdp.Naming.{valid_read}
 use Rattle.acpi_base.proofs.Root.Faults as root
 use Rattle.acpi_base.proofs.Root.Named.{root_width}
 use Rattle.acpi_base.proofs.Root.Slots.{one_slot, root_slot, slot_below, slot_of_root, slot_or_none}
@@ -29,13 +29,13 @@ rsdp_judged m q =
       bound = q.rsdp + 1;
       fit = λ c at other point fault. (omega (arith, fault.1), omega (arith, fault.2), omega (arith, fault.3));
       decided = λ c at other point. all4 (rsdp.decided m q.rsdp c) (same at q.rsdp) (same other 0) (same point 0);
-      holds = λ none. rsdp.sound_without_fault m q.rsdp
+      holds = λ none. rsdp.valid_without_fault m q.rsdp
           (λ c own fault. none c q.rsdp 0 0 own (fault, refl, refl, refl));
     }
 
 pub root_judged : (m : Memory) (q : PolicyValue) → CleanBefore stage.Root m q → IsJudged stage.Root m q
 root_judged m q clean =
-    let named = sound_read m q.rsdp (clean stage.Rsdp (omega arith)) in
+    let named = valid_read m q.rsdp (clean stage.Rsdp (omega arith)) in
     let place = root.bounded m q.rsdp named.0 named.1 in
     record {
       bound = place.0;
@@ -45,7 +45,7 @@ root_judged m q clean =
         omega (arith, place.1 c at fault.0, fault.2),
       );
       decided = λ c at other point. all3 (root.decided m q.rsdp named.0 named.1 c at) (same other 0) (same point 0);
-      holds = λ none. root.sound_without_fault m q.rsdp named.0 named.1
+      holds = λ none. root.valid_without_fault m q.rsdp named.0 named.1
           (λ c at own fault. none c at 0 0 own (fault, refl, refl));
     }
 
@@ -55,20 +55,20 @@ tables_judged m q clean =
       bound = length whole + addresses.0 + 1;
       fit = fit;
       decided = λ c at other point. all3 (slot_decided at other) (table.decided m other c) (same point 0);
-      holds = λ none k a slot. table.sound_without_fault m a (λ c own fault. none c k a 0 own (slot, fault, refl));
+      holds = λ none k a slot. table.valid_without_fault m a (λ c own fault. none c k a 0 own (slot, fault, refl));
     }
   where
-    sound : IsSoundRoot m q.rsdp
-    sound = clean stage.Root (omega arith)
+    valid : IsValidRoot m q.rsdp
+    valid = clean stage.Root (omega arith)
 
     whole : List ℕ
-    whole = sound.whole
+    whole = valid.whole
 
     d : ℕ
-    d = sound.d
+    d = valid.d
 
     of_root : (k a : ℕ) → IsSlot m q.rsdp k a → HasSlot whole d k a
-    of_root k a = slot_of_root m q.rsdp sound.r d k a whole sound.root sound.sound.table
+    of_root k a = slot_of_root m q.rsdp valid.r d k a whole valid.root valid.valid.table
 
     addresses : (most : ℕ) × ((k : ℕ) → k < length whole → field whole (36 + d * k) d < most)
     addresses = bounded (λ k. field whole (36 + d * k) d) (length whole)
@@ -78,7 +78,7 @@ tables_judged m q clean =
         × (point < length whole + addresses.0 + 1)
     fit c at other point (is_slot, fault, none) =
         let slot = of_root at other is_slot in
-        let below = slot_below whole d at other (root_width sound.root) slot in
+        let below = slot_below whole d at other (root_width valid.root) slot in
         let address = addresses.1 at below in
         (omega arith, omega (arith, slot.address), omega arith)
 
@@ -87,7 +87,7 @@ tables_judged m q clean =
         elim (slot_or_none whole d k) [
           | inr none ↦ inr (λ slot. none a (of_root k a slot))
           | inl (b, slot) ↦
-              decided_as (λ is. root_slot sound.root sound.sound.table (subst (λ (x : ℕ). HasSlot whole d k x) is slot))
+              decided_as (λ is. root_slot valid.root valid.valid.table (subst (λ (x : ℕ). HasSlot whole d k x) is slot))
               (λ here. one_slot whole d k b a slot (of_root k a here))
               (same b a)
         ]
@@ -104,20 +104,20 @@ fadt_judged m q clean =
         omega (arith, fault.2),
       );
       decided = λ c at other point. all3 (fadt.decided m q.rsdp listed c at) (same other 0) (same point 0);
-      holds = λ none. fadt.sound_without_fault m q.rsdp listed
+      holds = λ none. fadt.valid_without_fault m q.rsdp listed
           (λ c at own fault. none c at 0 0 own (fault, refl, refl));
     }
 
 pub facs_judged : (m : Memory) (q : PolicyValue) → CleanBefore stage.Facs m q → IsJudged stage.Facs m q
 facs_judged m q clean =
-    let sound = clean stage.Fadt (omega arith) in
+    let valid = clean stage.Fadt (omega arith) in
     record {
-      bound = facs_address sound.whole + 1;
+      bound = facs_address valid.whole + 1;
       fit = λ c at other point fault. (
-        omega (arith, facs.place m q.rsdp sound c at fault.0),
+        omega (arith, facs.place m q.rsdp valid c at fault.0),
         omega (arith, fault.1),
         omega (arith, fault.2),
       );
-      decided = λ c at other point. all3 (facs.decided m q.rsdp sound c at) (same other 0) (same point 0);
-      holds = λ none. facs.sound_without_fault m q.rsdp sound (λ c at own fault. none c at 0 0 own (fault, refl, refl));
+      decided = λ c at other point. all3 (facs.decided m q.rsdp valid c at) (same other 0) (same point 0);
+      holds = λ none. facs.valid_without_fault m q.rsdp valid (λ c at own fault. none c at 0 0 own (fault, refl, refl));
     }

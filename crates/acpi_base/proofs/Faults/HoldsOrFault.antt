@@ -15,12 +15,12 @@ use Rattle.acpi_base.proofs.Faults.Numbers.{same_stage}
 
 -- what is shown of a statement and of its faults, which have codes of the stage: their numbers are below a bound, each
 -- can be decided, and where there is none the statement is true
-pub record AreJudged (s : Stage) (Sound : Type 0) (IsFault : Code → ℕ → ℕ → ℕ → Type 0) : Type 0 where
+pub record AreJudged (s : Stage) (Valid : Type 0) (IsFault : Code → ℕ → ℕ → ℕ → Type 0) : Type 0 where
   pub bound : ℕ
   pub fit : (c : Code) (at other point : ℕ) → IsFault c at other point
       → (at < bound) × (other < bound) × (point < bound)
   pub decided : (c : Code) (at other point : ℕ) → Decided (IsFault c at other point)
-  pub holds : ((c : Code) (at other point : ℕ) → stage_of c ≡ s → ¬ IsFault c at other point) → Sound
+  pub holds : ((c : Code) (at other point : ℕ) → stage_of c ≡ s → ¬ IsFault c at other point) → Valid
 
 -- the same of a stage of a set
 abbrev pub IsJudged : Stage → Memory → PolicyValue → Type 0

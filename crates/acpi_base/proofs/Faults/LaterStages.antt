@@ -31,18 +31,18 @@ use Rattle.acpi_base.proofs.Across.Domains as domains
 use Rattle.acpi_base.proofs.Across.Served as served
 use Rattle.acpi_base.proofs.Across.Leaves as leaves
 
--- where the root and the tables are sound it is known what a set lists first with a signature
+-- where the root and the tables are valid it is known what a set lists first with a signature
 known : (s : Stage) (m : Memory) (q : PolicyValue) (signature : List ℕ) → CleanBefore s m q → 3 < stage_number s
     → IsListedOrNone m q.rsdp signature
 known s m q signature clean later =
     listed_or_none m q.rsdp signature (clean stage.Root (omega arith)) (clean stage.Tables (omega arith))
 
 -- a statement is judged whose faults' numbers are no greater than some number
-judged_to : {s : Stage} {Sound : Type 0} {IsFault : Code → ℕ → ℕ → ℕ → Type 0} (most : ℕ)
+judged_to : {s : Stage} {Valid : Type 0} {IsFault : Code → ℕ → ℕ → ℕ → Type 0} (most : ℕ)
     → ((c : Code) (at other point : ℕ) → IsFault c at other point → (at ≤ most) × (other ≤ most) × (point ≤ most))
     → ((c : Code) (at other point : ℕ) → Decided (IsFault c at other point))
-    → (((c : Code) (at other point : ℕ) → stage_of c ≡ s → ¬ IsFault c at other point) → Sound)
-    → AreJudged s Sound IsFault
+    → (((c : Code) (at other point : ℕ) → stage_of c ≡ s → ¬ IsFault c at other point) → Valid)
+    → AreJudged s Valid IsFault
 judged_to most place decided holds =
     record {
       bound = most + 1;
@@ -53,12 +53,12 @@ judged_to most place decided holds =
     }
 
 -- or below some number
-judged_below : {s : Stage} {Sound : Type 0} {IsFault : Code → ℕ → ℕ → ℕ → Type 0}
+judged_below : {s : Stage} {Valid : Type 0} {IsFault : Code → ℕ → ℕ → ℕ → Type 0}
     → ((most : ℕ) × ((c : Code) (at other point : ℕ) → IsFault c at other point
     → (at < most) × (other < most) × (point < most)))
     → ((c : Code) (at other point : ℕ) → Decided (IsFault c at other point))
-    → (((c : Code) (at other point : ℕ) → stage_of c ≡ s → ¬ IsFault c at other point) → Sound)
-    → AreJudged s Sound IsFault
+    → (((c : Code) (at other point : ℕ) → stage_of c ≡ s → ¬ IsFault c at other point) → Valid)
+    → AreJudged s Valid IsFault
 judged_below bound decided holds = record { bound = bound.0; fit = bound.1; decided = decided; holds = holds }
 
 -- ---- stages of one table
@@ -68,7 +68,7 @@ madt_judged m q clean =
     listed_judged stage.Madt m q.rsdp madt_signature _ (λ whole. MadtFault q (madt_contents whole))
     (known stage.Madt m q madt_signature clean (omega arith))
     (λ whole is. judged_to (length whole) (madt.place q whole) (madt.decided q whole)
-    (madt.sound_without_fault q whole))
+    (madt.valid_without_fault q whole))
 
 pub overrides_judged : (m : Memory) (q : PolicyValue) → CleanBefore stage.Overrides m q → IsJudged stage.Overrides m q
 overrides_judged m q clean =
@@ -80,14 +80,14 @@ pub srat_judged : (m : Memory) (q : PolicyValue) → CleanBefore stage.Srat m q 
 srat_judged m q clean =
     listed_judged stage.Srat m q.rsdp srat_signature _ (λ whole. SratFault (srat_contents whole))
     (known stage.Srat m q srat_signature clean (omega arith))
-    (λ whole is. judged_to (length whole) (srat.place whole) (srat.decided whole) (srat.sound_without_fault whole))
+    (λ whole is. judged_to (length whole) (srat.place whole) (srat.decided whole) (srat.valid_without_fault whole))
 
 pub slit_judged : (m : Memory) (q : PolicyValue) → CleanBefore stage.Slit m q → IsJudged stage.Slit m q
 slit_judged m q clean =
     listed_judged stage.Slit m q.rsdp slit_signature _ (λ whole. SlitFault (slit_contents whole))
     (known stage.Slit m q slit_signature clean (omega arith))
     (λ whole is. judged_to (slit_contents whole).size (slit.place (slit_contents whole))
-    (slit.decided (slit_contents whole)) (slit.sound_without_fault (slit_contents whole)))
+    (slit.decided (slit_contents whole)) (slit.valid_without_fault (slit_contents whole)))
 
 pub pptt_judged : (m : Memory) (q : PolicyValue) → CleanBefore stage.Pptt m q → IsJudged stage.Pptt m q
 pptt_judged m q clean =

@@ -12,7 +12,7 @@ use Rattle.acpi_base.specs.declared.rule.Rule.{Rule}
 use Rattle.acpi_base.specs.declared.rule.Rule.TheVariants as rule
 use Rattle.acpi_base.specs.declared.stage.Stage.{Stage}
 use Rattle.acpi_base.specs.declared.stage.Stage.TheVariants as stage
-use Rattle.acpi_base.proofs.Images.HeldBytes.{cases_Option, none_and_some}
+use Rattle.acpi_base.proofs.Images.PresentBytes.{cases_Option, none_and_some}
 
 -- the codes by their numbers; the first also stands at 0, which is no code's number
 abbrev pub codes_by_number : List Code

@@ -66,25 +66,25 @@ holds_or_first stage.Leaves m q clean = holds_or_has_first (λ w least. least) (
 pub excludes : (m : Memory) (q : PolicyValue) (w : Witness) (s : Stage) → FaultCondition s m q w → ¬ Holds s m q
 excludes m q w stage.Rsdp fault = rsdp.excludes m q.rsdp w.code fault.0
 excludes m q w stage.Root fault = root.excludes m q.rsdp w.at w.code fault.0
-excludes m q w stage.Tables fault = λ sound. table.excludes m w.other w.code fault.1 (sound w.at w.other fault.0)
+excludes m q w stage.Tables fault = λ valid. table.excludes m w.other w.code fault.1 (valid w.at w.other fault.0)
 excludes m q w stage.Fadt fault = fadt.excludes m q.rsdp w.code w.at fault.0
 excludes m q w stage.Facs fault = facs.excludes m q.rsdp w.code w.at fault.0
 excludes m q w stage.Madt (whole, is, fault) =
-    λ sound. madt.excludes q (madt_contents whole) w.code w.at w.other w.point fault (sound whole is)
+    λ valid. madt.excludes q (madt_contents whole) w.code w.at w.other w.point fault (valid whole is)
 excludes m q w stage.Interrupts (whole, is, fault) =
     λ apart. interrupts.excludes q (madt_contents whole) w.code w.at w.other w.point fault (apart whole is)
 excludes m q w stage.Overrides (whole, is, fault) =
     λ agree. overrides.excludes (madt_contents whole) w.code w.at w.other w.point fault (agree whole is)
 excludes m q w stage.Srat (whole, is, fault) =
-    λ sound. srat.excludes (srat_contents whole) w.code w.at w.other w.point fault (sound whole is)
+    λ valid. srat.excludes (srat_contents whole) w.code w.at w.other w.point fault (valid whole is)
 excludes m q w stage.Ranges (whole, is, fault) =
     λ apart. ranges.excludes q.hotplug (srat_contents whole) w.code w.at w.other w.point fault (apart whole is)
 excludes m q w stage.Slit (whole, is, fault) =
-    λ sound. slit.excludes (slit_contents whole) w.code w.at w.other w.point fault (sound whole is)
+    λ valid. slit.excludes (slit_contents whole) w.code w.at w.other w.point fault (valid whole is)
 excludes m q w stage.Pptt (whole, is, fault) =
-    λ sound. pptt.cut_excludes (pptt_contents whole) w.code w.at w.other w.point fault (sound whole is)
+    λ valid. pptt.cut_excludes (pptt_contents whole) w.code w.at w.other w.point fault (valid whole is)
 excludes m q w stage.References (whole, is, fault) =
-    λ sound. pptt.references_excludes (pptt_contents whole) w.code w.at w.other w.point fault (sound whole is)
+    λ valid. pptt.references_excludes (pptt_contents whole) w.code w.at w.other w.point fault (valid whole is)
 excludes m q w stage.Parents (whole, is, fault) =
     λ end. chains.parents_excludes whole w.code w.at w.other w.point fault (end whole is)
 excludes m q w stage.Caches (whole, is, fault) =

@@ -1,4 +1,4 @@
--- What `run_of` and `least_defined` find, and so `bytes_at` and `first_held`.
+-- What `run_of` and `least_defined` find, and so `bytes_at` and `first_present`.
 use Rattle.std.proofs.Common.{◌≡◌, ℕ, zero, suc, ◌+◌, ◌<◌, ◌≤◌, true, List, [], ◌∷◌, length, take, slice_index, Option, Some, None, IsSome, is_some, refl, ap, subst, ◌∙◌, arith, add-zero}
 use Rattle.acpi_base.specs.Memory.{Memory, byte_of, run_of, least_defined, cons_both, bytes_at, Has}
 
@@ -108,7 +108,7 @@ run_of-take f a n zero l e h = refl
 run_of-take f a zero (suc k) l e h = absurd (omega arith)
 run_of-take f a (suc n) (suc k) l e h = grind (arith, run_of-split f a n l e, run_of-take f (a + 1) n k)
 
--- where there are the bytes, each address is held
+-- where there are the bytes, each address is present
 pub Has-bytes_at : (m : Memory) (a n : ℕ) → IsSome (bytes_at m a n) → Has m a n
 Has-bytes_at m a n s k h =
     elim (bytes_at m a n) as (λ v. bytes_at m a n ≡ v → is_some v ≡ true → IsSome (byte_of m (a + k))) [

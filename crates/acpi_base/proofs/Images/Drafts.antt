@@ -7,7 +7,7 @@ use Rattle.std.specs.FinMap.{empty}
 use Rattle.std.proofs.lemmas.List.{take_all, drop-append-le}
 use Rattle.std.proofs.Math.Seq.{drop-append_seam}
 use Rattle.acpi_base.specs.declared.image.span.Span.{Span}
-use Rattle.acpi_base.specs.Memory.{Memory, byte_of, first_held, least_defined, with_bytes}
+use Rattle.acpi_base.specs.Memory.{Memory, byte_of, first_present, least_defined, with_bytes}
 use Rattle.acpi_base.specs.Image.Adding.{added}
 use Rattle.acpi_base.specs.Image.Draft.{AreContiguous, AreDrafted, EndsAt, all_added}
 use Rattle.acpi_base.specs.Image.Pieces.{Piece, LiesBefore, end_at, run_in, runs_in}
@@ -96,21 +96,21 @@ least_defined-same f g a (suc n) same =
 pub added-append : (m : Memory) (a : ℕ) (xs ys : List ℕ)
     → added m a (xs ++ ys) ≡ on_ok (added m a xs) (λ n. added n (a + length xs) ys)
 added-append m a xs ys =
-    ap (λ k. option_map_or (λ x. Err x) (first_held m a k) (Ok (with_bytes m a (xs ++ ys)))) (length-append xs ys)
+    ap (λ k. option_map_or (λ x. Err x) (first_present m a k) (Ok (with_bytes m a (xs ++ ys)))) (length-append xs ys)
     ∙ ap (λ o. option_map_or (λ x. Err x) o (Ok (with_bytes m a (xs ++ ys))))
     (least_defined-append (byte_of m) a (length xs) (length ys))
-    ∙ either (first_held m a (length xs))
+    ∙ either (first_present m a (length xs))
   where
-    behind : first_held m (a + length xs) (length ys) ≡ first_held (with_bytes m a xs) (a + length xs) (length ys)
+    behind : first_present m (a + length xs) (length ys) ≡ first_present (with_bytes m a xs) (a + length xs) (length ys)
     behind = least_defined-same _ _ _ _ (λ x l. sym (byte_of-with_bytes_outside m a xs x (inr l)))
 
-    either : (o : Option ℕ) → option_map_or (λ x. Err x) (option_or o (first_held m (a + length xs) (length ys)))
+    either : (o : Option ℕ) → option_map_or (λ x. Err x) (option_or o (first_present m (a + length xs) (length ys)))
         (Ok (with_bytes m a (xs ++ ys)))
         ≡ on_ok (option_map_or (λ x. Err x) o (Ok (with_bytes m a xs))) (λ n. added n (a + length xs) ys)
     either (Some x) = refl
     either None =
         ap (λ o. option_map_or (λ x. Err x) o (Ok (with_bytes m a (xs ++ ys)))) behind
-        ∙ ap (λ n. option_map_or (λ x. Err x) (first_held (with_bytes m a xs) (a + length xs) (length ys)) (Ok n))
+        ∙ ap (λ n. option_map_or (λ x. Err x) (first_present (with_bytes m a xs) (a + length xs) (length ys)) (Ok n))
         (with_bytes-append m a xs ys)
 
 -- ---- contiguous pieces

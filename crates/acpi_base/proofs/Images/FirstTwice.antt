@@ -16,7 +16,7 @@ use Rattle.acpi_base.specs.Image.Runs.{byte_in, lookup, memory_of}
 use Rattle.acpi_base.specs.Text.ImageText.{on_ok}
 use Rattle.acpi_base.proofs.Images.ByteRuns.{first_of_at, first_of_none}
 use Rattle.acpi_base.proofs.Images.Holders.{disjoint_permuted, has_or_not, has_within, lookup_none, memory_permuted, rising_sorted}
-use Rattle.acpi_base.proofs.Images.RunBytes.{byte_of-with_bytes, byte_of_memory_of, held_none, held_some}
+use Rattle.acpi_base.proofs.Images.RunBytes.{byte_of-with_bytes, byte_of_memory_of, present_none, present_some}
 use Rattle.acpi_base.proofs.Images.RunMemory.{same_memory}
 use Rattle.acpi_base.proofs.Images.Stores.{run_ends}
 use Rattle.acpi_base.proofs.Images.Twice.{count_all, none_cut, once_permuted, twice_permuted, whole_cut}
@@ -57,7 +57,7 @@ knows_more store n m c p l lies known few = record {
   some = λ y some. elim (has_or_not y p) [
     | inl here ↦ (let high = here.2 in
         subst IsSome (sym (byte_of-with_bytes m p.0 bytes y))
-        (or_left _ _ (held_some (run_in store p) y here.1 (let e = ends in omega arith))))
+        (or_left _ _ (present_some (run_in store p) y here.1 (let e = ends in omega arith))))
     | inr there ↦ (let zero_is = there.0 in
         subst IsSome (sym (byte_of-with_bytes m p.0 bytes y ∙ ap (λ o. option_or o (byte_of m y)) (outside y there.1)))
         (known.some y (omega arith)))
@@ -76,8 +76,8 @@ knows_more store n m c p l lies known few = record {
     ends = run_ends store p n l lies
 
     outside : (y : ℕ) → (y < p.0) ⊎ (end_at p ≤ y) → byte_in (run_in store p) y ≡ None
-    outside y (inl low) = held_none (run_in store p) y (inl low)
-    outside y (inr high) = held_none (run_in store p) y (inr (let e = ends in omega arith))
+    outside y (inl low) = present_none (run_in store p) y (inl low)
+    outside y (inr high) = present_none (run_in store p) y (inr (let e = ends in omega arith))
 
     or_left : (x y : Option ℕ) → IsSome x → IsSome (option_or x y)
     or_left x y some = grind arith
@@ -170,7 +170,7 @@ joined_from store n m c (p ∷ ps) l lies known once =
           ∙ last_first (lookup (runs_in store ps) y) (byte_in (run_in store p) y) (byte_of m y) (elim (has_or_not y p) [
             | inl here ↦ inl (let one = here.0 in let most = once y in
                 lookup_none store n ps y l lies.1 (omega arith))
-            | inr there ↦ inr (held_none (run_in store p) y
+            | inr there ↦ inr (present_none (run_in store p) y
                 (elim there.1 [ inl low ↦ inl low | inr high ↦ inr (omega arith) ]))
           ]);
     }
@@ -254,7 +254,7 @@ are_judged store ps qs drafted moved sorted once =
     }
 
 -- a refusal is passed on
-pub told_on : {U : Type 0} (P : U → Type 0) (r : Result U ImageFault) (e : ImageFault) (held : Result Memory ℕ)
-    → IsErrAnd r (λ f. f ≡ e) → IsLayoutRefusal held e → MatchResult r P (IsLayoutRefusal held)
-told_on P (Ok x) e held is told = absurd is
-told_on P (Err f) e held is told = subst (IsLayoutRefusal held) (sym is) told
+pub told_on : {U : Type 0} (P : U → Type 0) (r : Result U ImageFault) (e : ImageFault) (present : Result Memory ℕ)
+    → IsErrAnd r (λ f. f ≡ e) → IsLayoutRefusal present e → MatchResult r P (IsLayoutRefusal present)
+told_on P (Ok x) e present is told = absurd is
+told_on P (Err f) e present is told = subst (IsLayoutRefusal present) (sym is) told

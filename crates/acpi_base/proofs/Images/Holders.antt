@@ -11,7 +11,7 @@ use Rattle.std.proofs.lemmas.List.Sorted.{All-permutation, sum_by-IsPermutation}
 use Rattle.acpi_base.specs.Image.Runs.{byte_in, lookup, memory_of}
 use Rattle.acpi_base.specs.Image.Pieces.{Piece, AreSortedDisjoint, end_at, LiesBefore, run_in, runs_in}
 use Rattle.acpi_base.specs.Image.Draft.{AreDisjoint, holds_at, holder_count}
-use Rattle.acpi_base.proofs.Images.RunBytes.{held_none, byte_of_memory_of}
+use Rattle.acpi_base.proofs.Images.RunBytes.{present_none, byte_of_memory_of}
 use Rattle.acpi_base.proofs.Images.Stores.{all_from, of_all, run_ends}
 use Rattle.acpi_base.proofs.Images.RunMemory.{same_memory}
 
@@ -43,12 +43,12 @@ holds_none store n p x l lies none =
     let ends = run_ends store p n l lies in
     elim (has_or_not x p) [
       | inl y ↦ absurd (let one = y.0 in omega arith)
-      | inr y ↦ held_none (run_in store p) x (elim y.1 [ inl low ↦ inl low | inr high ↦ inr (omega arith) ])
+      | inr y ↦ present_none (run_in store p) x (elim y.1 [ inl low ↦ inl low | inr high ↦ inr (omega arith) ])
     ]
 
 -- ---- many pieces
 
--- an address that no piece has is not held
+-- an address that no piece has is not present
 pub lookup_none : (store : List ℕ) (n : ℕ) (ps : List Piece) (x : ℕ) → n ≤ length store
     → AllByRecursion (LiesBefore n) ps → holder_count ps x ≡ 0 → lookup (runs_in store ps) x ≡ None
 lookup_none store n [] x l lies none = refl
@@ -68,7 +68,7 @@ all_push P (p ∷ ps) q all here = (all.0, all_push P ps q all.1 here)
 
 -- ---- the same pieces in another order
 
--- a number for what is held
+-- a number for what is present
 abbrev code : Option ℕ → ℕ
 code None = 0
 code (Some b) = suc b
@@ -84,7 +84,7 @@ holder_count-sum : (ps : List Piece) (x : ℕ) → holder_count ps x ≡ sum_by 
 holder_count-sum [] x = refl
 holder_count-sum (p ∷ ps) x = ap (λ n. holds_at x p + n) (holder_count-sum ps x) ∙ sym (sum_by-cons (holds_at x) p ps)
 
--- what is held, as a sum
+-- what is present, as a sum
 lookup-sum : (store : List ℕ) (n : ℕ) (ps : List Piece) (x : ℕ) → n ≤ length store → AllByRecursion (LiesBefore n) ps
     → holder_count ps x ≤ 1
     → sum_by (λ p. code (byte_in (run_in store p) x)) ps ≡ code (lookup (runs_in store ps) x)

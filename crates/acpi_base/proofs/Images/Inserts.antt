@@ -9,9 +9,9 @@ use Rattle.acpi_base.specs.declared.image.segments.Segments.{Segments}
 use Rattle.acpi_base.specs.Memory.{Memory, byte_of, with_bytes}
 use Rattle.acpi_base.specs.Image.Runs.{run_at, byte_in, lookup}
 use Rattle.acpi_base.specs.Image.Pieces.{Piece, AreSortedDisjoint, end_at, LiesBefore, runs_in}
-use Rattle.acpi_base.specs.Image.Segments.{AreSegmentsApart, IsSound, IsPartitionPoint, IsGap, memory_in, runs_of}
-use Rattle.acpi_base.proofs.Images.RunBytes.{held_some, held_inside, byte_of_memory_of, byte_of-with_bytes}
-use Rattle.acpi_base.proofs.Images.Stores.{all_from, all_weaker, base_held}
+use Rattle.acpi_base.specs.Image.Segments.{AreSegmentsApart, IsValid, IsPartitionPoint, IsGap, memory_in, runs_of}
+use Rattle.acpi_base.proofs.Images.RunBytes.{present_some, present_inside, byte_of_memory_of, byte_of-with_bytes}
+use Rattle.acpi_base.proofs.Images.Stores.{all_from, all_weaker, base_present}
 use Rattle.acpi_base.proofs.Images.Searches.{ended_at, filled}
 use Rattle.acpi_base.proofs.Images.RunMemory.{same_memory, no_bytes}
 
@@ -62,41 +62,41 @@ pub record Parts (s : Segments) (a n i : ℕ) : Type 0 where
   pub high_end : AllByRecursion (λ p. end_at p ≤ s.base) (drop i s.ended.items)
   pub last_begin : s.start < length s.store → a + n ≤ s.base
 
--- where the bytes find nothing held, the ended segments hold nothing there
+-- where the bytes find nothing present, the ended segments hold nothing there
 gap_in_ended : (s : Segments) (a b x : ℕ) → IsGap (runs_of s) a b → a ≤ x → x < b
     → lookup (runs_in s.store s.ended.items) x ≡ None
 gap_in_ended s a b x gap l h = (let none = gap x l h in grind arith)
 
-pub parts_at : (s : Segments) (a n i : ℕ) → IsSound s → a < s.base → 0 < n → IsGap (runs_of s) a (a + n)
+pub parts_at : (s : Segments) (a n i : ℕ) → IsValid s → a < s.base → 0 < n → IsGap (runs_of s) a (a + n)
     → i ≤ length s.ended.items → IsPartitionPoint s.ended.items a i → Parts s a n i
-parts_at s a n i sound low some gap within place =
+parts_at s a n i valid low some gap within place =
     let store = s.store in
     let ps = s.ended.items in
-    let inside = sound.within in
+    let inside = valid.within in
     let lies = all_weaker (LiesBefore s.start) (LiesBefore (length store)) ps (λ p h. (let l = h.0 in omega arith, h.1))
-    sound.lies in
+    valid.lies in
     record {
-      low_rising = rising_taken ps i sound.apart;
+      low_rising = rising_taken ps i valid.apart;
       low_lies = all_taken _ ps i lies;
       low_end = all_from _ (take i ps) (λ k d h.
           let short : length (take i ps) ≡ i = length-take-le i ps within in
           let k_low : k < i = omega arith in
           rw (get_or-take i ps k d k_low)
-          (ended_at store s.start ps k a d inside sound.lies
+          (ended_at store s.start ps k a d inside valid.lies
           (gap_in_ended s a (a + n) a gap (omega arith) (omega arith)) (omega arith)
           (place.0 k d (omega arith) k_low)));
       low_begin = all_from _ (take i ps) (λ k d h. omega arith);
-      high_rising = rising_dropped ps i sound.apart;
+      high_rising = rising_dropped ps i valid.apart;
       high_lies = all_dropped _ ps i lies;
       high_begin = all_from _ (drop i ps) (λ k d h.
           let long = length-drop i ps in
           rw (get_or-drop i ps k d) (behind (i + k) d (omega arith) (omega arith)));
-      high_end = all_dropped _ ps i (all_weaker _ (λ p. end_at p ≤ s.base) ps (λ p h. omega arith) sound.below);
+      high_end = all_dropped _ ps i (all_weaker _ (λ p. end_at p ≤ s.base) ps (λ p h. omega arith) valid.below);
       last_begin = λ open_some.
           let long = length-drop s.start store in
           elim (cases_lt s.base (a + n)) [
             | inl l ↦ absurd (let none = gap s.base (omega arith) l in
-                let here = held_some (run_at s.base (drop s.start store)) s.base (omega arith) (omega arith) in
+                let here = present_some (run_at s.base (drop s.start store)) s.base (omega arith) (omega arith) in
                 grind arith)
             | inr l ↦ l
           ];
@@ -107,15 +107,15 @@ parts_at s a n i sound low some gap within place =
       | inl m ↦ absurd (
           let above = place.1 k d l h in
           let none = gap_in_ended s a (a + n) (get_or s.ended.items k d).0 gap (omega arith) m in
-          let here = base_held s.store s.start s.ended.items k d sound.within sound.lies h
-          (filled s.ended.items k d sound.apart h) in
+          let here = base_present s.store s.start s.ended.items k d valid.within valid.lies h
+          (filled s.ended.items k d valid.apart h) in
           grind arith)
       | inr m ↦ m
     ]
 
 -- ---- what all hold together
 
--- the bytes are put in where nothing was held
+-- the bytes are put in where nothing was present
 pub put_among : (s : Segments) (a i : ℕ) (bs : List ℕ) (m0 m1 m2 m3 : Memory) → IsGap (runs_of s) a (a + length bs)
     → m0 ≡ empty
     → ((x : ℕ) → byte_of m1 x ≡ option_or (byte_of m0 x) (lookup (runs_in s.store (take i s.ended.items)) x))
@@ -123,7 +123,7 @@ pub put_among : (s : Segments) (a i : ℕ) (bs : List ℕ) (m0 m1 m2 m3 : Memory
     → ((x : ℕ) → byte_of m3 x ≡ option_or (byte_of m2 x) (lookup (runs_in s.store (drop i s.ended.items)) x))
     → with_bytes m3 s.base (drop s.start s.store) ≡ with_bytes (memory_in s) a bs
 put_among s a i bs m0 m1 m2 m3 gap e0 e1 e2 e3 = same_memory _ _ (λ x.
-    let here = held_inside (run_at a bs) x in
+    let here = present_inside (run_at a bs) x in
     let free = gap x in
     let nothing : byte_of m0 x ≡ None = ap (λ m. byte_of m x) e0 ∙ byte_of_memory_of [] x in
     let second : byte_of m2 x ≡ option_or (byte_in (run_at a bs) x) (byte_of m1 x) =

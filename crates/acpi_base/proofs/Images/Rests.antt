@@ -1,4 +1,4 @@
--- The bytes from an address on, up to the first one that is not held, and the first run from there on.
+-- The bytes from an address on, up to the first one that is not present, and the first run from there on.
 use Rattle.std.proofs.Common.{◌≡◌, ℕ, ◌+◌, ◌-◌, ◌<◌, ◌≤◌, inl, inr, cond, List, [], ◌∷◌, length, get_or, take, drop, Some, None, IsSome, is_some, refl, sym, ap, ◌∙◌, arith, length-drop, slice_get}
 use Rattle.std.specs.Prelude.{nat_lt, min}
 use Rattle.std.proofs.lemmas.Bool.{cases_lt}
@@ -8,7 +8,7 @@ use Rattle.acpi_base.specs.Image.Segments.{IsGap, IsRest, IsRunAt}
 use Rattle.acpi_base.specs.Memory.{run_of}
 use Rattle.acpi_base.specs.Image.Runs.{Run, end_of, lookup, memory_of}
 use Rattle.acpi_base.specs.Text.WrittenText.{IsNextRun}
-use Rattle.acpi_base.proofs.Images.RunBytes.{held_none, held_at, byte_of_memory_of}
+use Rattle.acpi_base.proofs.Images.RunBytes.{present_none, present_at, byte_of_memory_of}
 use Rattle.acpi_base.proofs.Images.ByteRuns.{run_of-from_each, run_of-split, run_of-take, run_of_none}
 
 -- ---- the rest of a segment
@@ -20,26 +20,26 @@ rest_of_run rs a r bytes reached is =
     let from = reached.begins in
     let count : length bytes ≡ end_of r - a = ap length is ∙ omega (arith, from, length-drop (a - r.base) r.bytes) in
     record {
-      held = run_of-from_each (lookup rs) a (length bytes) bytes refl (λ k l.
+      present = run_of-from_each (lookup rs) a (length bytes) bytes refl (λ k l.
           let place : a + k - r.base ≡ (a - r.base) + k = omega (arith, from) in
           reached.further (a + k) (omega arith) (omega (arith, count, l))
-          ∙ held_at r (a + k) (omega (arith, from)) (omega (arith, count, l))
+          ∙ present_at r (a + k) (omega (arith, from)) (omega (arith, count, l))
           ∙ ap Some (ap (λ (j : ℕ). get_or r.bytes j 0) place ∙ sym (get_or-drop (a - r.base) r.bytes k 0)
           ∙ ap (λ (bs : List ℕ). get_or bs k 0) (sym is)));
       none_behind = elim (cases_lt a (end_of r)) [
         | inl within ↦ reached.further (a + length bytes) (omega arith) (omega (arith, count, within))
-            ∙ held_none r (a + length bytes) (inr (omega (arith, count, within)))
+            ∙ present_none r (a + length bytes) (inr (omega (arith, count, within)))
         | inr past ↦
             let here : a + length bytes ≡ a = omega (arith, count, past) in
-            ap (lookup rs) here ∙ reached.here ∙ held_none r a (inr past)
+            ap (lookup rs) here ∙ reached.here ∙ present_none r a (inr past)
       ];
     }
 
--- where the address is not held, there are none
+-- where the address is not present, there are none
 pub no_rest : (rs : List Run) (a : ℕ) → lookup rs a ≡ None → IsRest rs a []
 unfolding run_of
 no_rest rs a none = record {
-  held = refl;
+  present = refl;
   none_behind = (let here : a + 0 ≡ a = omega arith in ap (lookup rs) here ∙ none);
 }
 
@@ -66,7 +66,7 @@ rest_in store start len far k fits is =
 -- the first of the bytes is the one at the address
 pub rest_first : (rs : List Run) (a : ℕ) (bytes : List ℕ) → IsRest rs a bytes → slice_get bytes 0 ≡ lookup rs a
 rest_first rs a [] rest = (let here : a + 0 ≡ a = omega arith in sym (sym (ap (lookup rs) here) ∙ rest.none_behind))
-rest_first rs a (b ∷ bs) rest = grind (arith, run_of-split (lookup rs) a (length bs) (b ∷ bs) rest.held)
+rest_first rs a (b ∷ bs) rest = grind (arith, run_of-split (lookup rs) a (length bs) (b ∷ bs) rest.present)
 
 -- they begin with all that can be had from the address on
 pub windows_of_rest : (rs : List Run) (a : ℕ) (bytes : List ℕ) → IsRest rs a bytes → (n : ℕ)
@@ -74,7 +74,7 @@ pub windows_of_rest : (rs : List Run) (a : ℕ) (bytes : List ℕ) → IsRest rs
 windows_of_rest rs a bytes rest n =
     elim (cases_lt (length bytes) n) [
       | inl short ↦ grind (arith, nat_tests, run_of_none (lookup rs) a n (length bytes) short rest.none_behind)
-      | inr within ↦ grind (arith, nat_tests, run_of-take (lookup rs) a (length bytes) n bytes rest.held within)
+      | inr within ↦ grind (arith, nat_tests, run_of-take (lookup rs) a (length bytes) n bytes rest.present within)
     ]
 
 module _ (rs : List Run) (a : ℕ) (store : List ℕ) (start len : ℕ) (fits : start + len ≤ length store)
@@ -88,9 +88,9 @@ module _ (rs : List Run) (a : ℕ) (store : List ℕ) (start len : ℕ) (fits : 
       sym (run_of_none (lookup rs) a n (length (take len (drop start store))) (omega (arith, count)) rest.none_behind)
 
   -- fewer lie in the store where they do
-  pub part_held : (n : ℕ) → n ≤ len → Some (take n (drop start store)) ≡ run_of (lookup rs) a n
-  part_held n within =
-      sym (run_of-take (lookup rs) a (length (take len (drop start store))) n (take len (drop start store)) rest.held
+  pub part_present : (n : ℕ) → n ≤ len → Some (take n (drop start store)) ≡ run_of (lookup rs) a n
+  part_present n within =
+      sym (run_of-take (lookup rs) a (length (take len (drop start store))) n (take len (drop start store)) rest.present
       (omega (arith, count)) ∙ ap Some (take-take n len (drop start store) within))
 
 -- ---- the run that begins there
@@ -101,8 +101,8 @@ next_of rs a base bytes first rest = record {
   first = record {
     from_there = first.0;
     none_before = λ x l m. byte_of_memory_of rs x ∙ first.2 x l m;
-    held = ap is_some (byte_of_memory_of rs base) ∙ first.1;
+    present = ap is_some (byte_of_memory_of rs base) ∙ first.1;
   };
-  held = (λ i. run_of (λ x. byte_of_memory_of rs x i) base (length bytes)) ∙ rest.held;
+  present = (λ i. run_of (λ x. byte_of_memory_of rs x i) base (length bytes)) ∙ rest.present;
   none_behind = byte_of_memory_of rs (base + length bytes) ∙ rest.none_behind;
 }

@@ -13,24 +13,24 @@ use Rattle.acpi_base.specs.Memory.{Memory, byte_of, run_of, with_bytes, cons_bot
 use Rattle.acpi_base.specs.Image.Runs.{Run, byte_in, end_of, lookup, memory_of, run_at}
 
 -- from its base on, a run holds its bytes
-pub held_from : (r : Run) (a : ℕ) → r.base ≤ a → byte_in r a ≡ slice_get r.bytes (a - r.base)
-held_from r a h = grind (arith, nat_tests)
+pub present_from : (r : Run) (a : ℕ) → r.base ≤ a → byte_in r a ≡ slice_get r.bytes (a - r.base)
+present_from r a h = grind (arith, nat_tests)
 
 -- below its base and from its end on, a run holds nothing
-pub held_none : (r : Run) (a : ℕ) → (a < r.base) ⊎ (end_of r ≤ a) → byte_in r a ≡ None
-held_none r a h = grind (arith, cases_lt, nat_tests, slice_get_past)
+pub present_none : (r : Run) (a : ℕ) → (a < r.base) ⊎ (end_of r ≤ a) → byte_in r a ≡ None
+present_none r a h = grind (arith, cases_lt, nat_tests, slice_get_past)
 
 -- between these it holds a byte
-pub held_at : (r : Run) (a : ℕ) → r.base ≤ a → a < end_of r → byte_in r a ≡ Some (get_or r.bytes (a - r.base) 0)
-held_at r a l h = held_from r a l ∙ slice_get-get_or r.bytes (a - r.base) 0 (omega arith)
+pub present_at : (r : Run) (a : ℕ) → r.base ≤ a → a < end_of r → byte_in r a ≡ Some (get_or r.bytes (a - r.base) 0)
+present_at r a l h = present_from r a l ∙ slice_get-get_or r.bytes (a - r.base) 0 (omega arith)
 
 -- and so something
-pub held_some : (r : Run) (a : ℕ) → r.base ≤ a → a < end_of r → IsSome (byte_in r a)
-held_some r a l h = ap is_some (held_at r a l h)
+pub present_some : (r : Run) (a : ℕ) → r.base ≤ a → a < end_of r → IsSome (byte_in r a)
+present_some r a l h = ap is_some (present_at r a l h)
 
 -- where a run holds something, the address is in it
-pub held_inside : (r : Run) (a : ℕ) → IsSome (byte_in r a) → (r.base ≤ a) × (a < end_of r)
-held_inside r a s = grind (arith, cases_lt, held_none)
+pub present_inside : (r : Run) (a : ℕ) → IsSome (byte_in r a) → (r.base ≤ a) × (a < end_of r)
+present_inside r a s = grind (arith, cases_lt, present_none)
 
 -- a run that starts with b is b, and then the rest
 pub byte_in-cons : (a b : ℕ) (bs : List ℕ) (x : ℕ)
@@ -68,21 +68,21 @@ byte_of_memory_of (r ∷ rs) x =
     byte_of-with_bytes (memory_of rs) r.base r.bytes x ∙ ap (option_or (byte_in r x)) (byte_of_memory_of rs x)
 
 -- the bytes of a run from an address on
-pub run_of_held : (r : Run) (a n : ℕ) → r.base ≤ a → a + n ≤ end_of r
+pub run_of_present : (r : Run) (a n : ℕ) → r.base ≤ a → a + n ≤ end_of r
     → run_of (byte_in r) a n ≡ Some (take n (drop (a - r.base) r.bytes))
 unfolding run_of cons_both
-run_of_held r a zero l h = refl
-run_of_held r a (suc n) l h =
-    grind (arith, common_steps, held_at, drop-cons, run_of_held r (a + 1) n (omega arith) (omega arith))
+run_of_present r a zero l h = refl
+run_of_present r a (suc n) l h =
+    grind (arith, common_steps, present_at, drop-cons, run_of_present r (a + 1) n (omega arith) (omega arith))
 
 -- ---- after bytes were put in
 
 -- at their addresses, the bytes that were put in
 pub byte_of-with_bytes_within : (m : Memory) (a : ℕ) (bs : List ℕ) (x : ℕ) → a ≤ x → x < a + length bs
     → byte_of (with_bytes m a bs) x ≡ Some (slice_index bs (x - a))
-byte_of-with_bytes_within m a bs x l h = byte_of-with_bytes m a bs x ∙ rw (held_at (run_at a bs) x l h) refl
+byte_of-with_bytes_within m a bs x l h = byte_of-with_bytes m a bs x ∙ rw (present_at (run_at a bs) x l h) refl
 
 -- at all others, what was there
 pub byte_of-with_bytes_outside : (m : Memory) (a : ℕ) (bs : List ℕ) (x : ℕ) → (x < a) ⊎ (a + length bs ≤ x)
     → byte_of (with_bytes m a bs) x ≡ byte_of m x
-byte_of-with_bytes_outside m a bs x h = byte_of-with_bytes m a bs x ∙ rw (held_none (run_at a bs) x h) refl
+byte_of-with_bytes_outside m a bs x h = byte_of-with_bytes m a bs x ∙ rw (present_none (run_at a bs) x h) refl

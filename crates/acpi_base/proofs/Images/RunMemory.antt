@@ -6,12 +6,12 @@ use Rattle.std.specs.List.{AllByRecursion}
 use Rattle.std.specs.FinMap.{same_map, nat_cmp-IsAntisymmetric}
 use Rattle.std.specs.Cmp.{nat_cmp_total}
 use Rattle.std.proofs.lemmas.Bool.{le-ltb}
-use Rattle.acpi_base.specs.Memory.{Memory, byte_of, least_defined, run_of, bytes_at, first_held, with_bytes, IsImage}
+use Rattle.acpi_base.specs.Memory.{Memory, byte_of, least_defined, run_of, bytes_at, first_present, with_bytes, IsImage}
 use Rattle.acpi_base.specs.declared.image.ImageFault.TheVariants.{PastEnd, Twice}
-use Rattle.acpi_base.specs.Image.Runs.{Run, lookup, run_at, memory_of, IsWhole}
+use Rattle.acpi_base.specs.Image.Runs.{Run, lookup, run_at, memory_of, IsComplete}
 use Rattle.acpi_base.specs.Image.Pieces.{Piece, all_runs, memory_in_store}
-use Rattle.acpi_base.proofs.Images.RunBytes.{held_inside, held_from, held_at, byte_of_memory_of, byte_of-with_bytes}
-use Rattle.acpi_base.proofs.Images.Searches.{nothing_held}
+use Rattle.acpi_base.proofs.Images.RunBytes.{present_inside, present_from, present_at, byte_of_memory_of, byte_of-with_bytes}
+use Rattle.acpi_base.proofs.Images.Searches.{nothing_present}
 use Rattle.std.proofs.lemmas.Bool.Decides.{nat_tests}
 
 -- each of the bytes is below 256
@@ -21,47 +21,47 @@ each_byte (x ∷ xs) zero b h e = grind (arith, h.0)
 each_byte (x ∷ xs) (suc i) b h e = each_byte xs i b h.1 e
 
 -- what whole runs hold is a byte, at an address of 64 bits
-lookup_byte : (rs : List Run) (a b : ℕ) → AllByRecursion IsWhole rs → lookup rs a ≡ Some b → (a < 2 ^ 64) × (b < 256)
+lookup_byte : (rs : List Run) (a b : ℕ) → AllByRecursion IsComplete rs → lookup rs a ≡ Some b → (a < 2 ^ 64) × (b < 256)
 lookup_byte [] a b w e = absurd (cc)
 lookup_byte (r ∷ rs) a b w e =
     grind (
       arith,
       w.0.fits,
-      held_inside r a,
-      held_from r a,
+      present_inside r a,
+      present_from r a,
       each_byte r.bytes (a - r.base) b w.0.bytes,
       lookup_byte rs a b w.1,
     )
 
 -- whole runs make an image
-pub image_of : (rs : List Run) → AllByRecursion IsWhole rs → IsImage (memory_of rs)
+pub image_of : (rs : List Run) → AllByRecursion IsComplete rs → IsImage (memory_of rs)
 image_of rs t = grind (arith, lookup_byte, byte_of_memory_of)
 
 -- what pieces in a store hold is what their runs do
-pub byte_of_held_by : (store : List ℕ) (ps : List Piece) (base begin x : ℕ)
+pub byte_of_present_by : (store : List ℕ) (ps : List Piece) (base begin x : ℕ)
     → byte_of (memory_in_store store ps base begin) x ≡ lookup (all_runs store ps base begin) x
-byte_of_held_by store ps base begin x = byte_of_memory_of (all_runs store ps base begin) x
+byte_of_present_by store ps base begin x = byte_of_memory_of (all_runs store ps base begin) x
 
 -- a window on an image is one on its runs
-pub bytes_at_held_by : (store : List ℕ) (ps : List Piece) (base begin a n : ℕ)
+pub bytes_at_present_by : (store : List ℕ) (ps : List Piece) (base begin a n : ℕ)
     → bytes_at (memory_in_store store ps base begin) a n ≡ run_of (lookup (all_runs store ps base begin)) a n
-bytes_at_held_by store ps base begin a n = λ i. run_of (λ x. byte_of_held_by store ps base begin x i) a n
+bytes_at_present_by store ps base begin a n = λ i. run_of (λ x. byte_of_present_by store ps base begin x i) a n
 
--- the least held address of an image is that of its runs
-pub first_held_by : (store : List ℕ) (ps : List Piece) (base begin a n : ℕ)
-    → first_held (memory_in_store store ps base begin) a n ≡ least_defined (lookup (all_runs store ps base begin)) a n
-first_held_by store ps base begin a n = λ i. least_defined (λ x. byte_of_held_by store ps base begin x i) a n
+-- the least present address of an image is that of its runs
+pub first_present_by : (store : List ℕ) (ps : List Piece) (base begin a n : ℕ)
+    → first_present (memory_in_store store ps base begin) a n ≡ least_defined (lookup (all_runs store ps base begin)) a n
+first_present_by store ps base begin a n = λ i. least_defined (λ x. byte_of_present_by store ps base begin x i) a n
 
 -- an image stays one with bytes put in that fit
 pub image_with : (m : Memory) (a : ℕ) (bs : List ℕ) → IsImage m → a + length bs ≤ 2 ^ 64
     → ((k : ℕ) → get_or bs k 0 < 256) → IsImage (with_bytes m a bs)
 image_with m a bs image fits bytes = record {
-  addresses = λ x b e. grind (arith, byte_of-with_bytes m a bs x, held_inside (run_at a bs) x, image.addresses x b);
+  addresses = λ x b e. grind (arith, byte_of-with_bytes m a bs x, present_inside (run_at a bs) x, image.addresses x b);
   bytes = λ x b e. grind (
     arith,
     byte_of-with_bytes m a bs x,
-    held_inside (run_at a bs) x,
-    held_at (run_at a bs) x,
+    present_inside (run_at a bs) x,
+    present_at (run_at a bs) x,
     bytes (x - a),
     image.bytes x b,
   );
@@ -84,10 +84,10 @@ unfolding with_bytes
 no_bytes m a [] e = refl
 no_bytes m a (b ∷ bs) e = absurd (omega arith)
 
--- what is not refused fits, and finds nothing held
+-- what is not refused fits, and finds nothing present
 pub fits_unless : (t : Bool) (o : Option ℕ) → cond t (Some PastEnd) (option_map (λ x. Twice x) o) ≡ None
     → (t ≡ false) × (o ≡ None)
 fits_unless t o e = grind arith
 
 -- what adding bytes to an image needs
-pub ruleset adding = (first_held_by, fits_unless, nothing_held, nat_tests, no_refusal, no_bytes)
+pub ruleset adding = (first_present_by, fits_unless, nothing_present, nat_tests, no_refusal, no_bytes)

@@ -7,15 +7,15 @@ use Rattle.acpi_base.specs.Memory.{least_defined}
 use Rattle.acpi_base.specs.Image.Runs.{byte_in, run_at, lookup, end_of}
 use Rattle.acpi_base.specs.Image.Pieces.{Piece, end_at, LiesBefore, run_in, runs_in, all_runs}
 use Rattle.acpi_base.specs.Image.Segments.{AreSegmentsApart, AreSegments, IsPartitionPoint, IsRunAt, IsGap}
-use Rattle.acpi_base.proofs.Images.RunBytes.{held_none, held_some}
+use Rattle.acpi_base.proofs.Images.RunBytes.{present_none, present_some}
 use Rattle.acpi_base.proofs.Images.ByteRuns.{first_of_at, first_of_none}
-use Rattle.acpi_base.proofs.Images.Stores.{all_from, of_all, all_weaker, run_ends, none_held, base_held}
+use Rattle.acpi_base.proofs.Images.Stores.{all_from, of_all, all_weaker, run_ends, none_present, base_present}
 
 -- where nothing is first, there is nothing
-pub nothing_held : (f : ℕ → Option ℕ) (a n x : ℕ) → least_defined f a n ≡ None → a ≤ x → x < a + n → f x ≡ None
+pub nothing_present : (f : ℕ → Option ℕ) (a n x : ℕ) → least_defined f a n ≡ None → a ≤ x → x < a + n → f x ≡ None
 unfolding least_defined
-nothing_held f a zero x e l h = absurd (omega arith)
-nothing_held f a (suc n) x e l h = grind (arith, cases_lt a x, nothing_held f (a + 1) n x)
+nothing_present f a zero x e l h = absurd (omega arith)
+nothing_present f a (suc n) x e l h = grind (arith, cases_lt a x, nothing_present f (a + 1) n x)
 
 -- the first is the one behind a gap
 pub first_next : (f : ℕ → Option ℕ) (a n b : ℕ) → a ≤ b → b < a + n → IsSome (f b)
@@ -29,7 +29,7 @@ first_next f a n b l m some gap =
 pub first_never : (f : ℕ → Option ℕ) (a n : ℕ) → ((x : ℕ) → a ≤ x → x < a + n → f x ≡ None) → None ≡ least_defined f a n
 first_never f a n gap = sym (first_of_none f a n (λ k h. gap (a + k) (omega arith) (omega arith)))
 
--- the first address that is held
+-- the first address that is present
 pub ruleset first_in_gap = (first_next, first_never)
 
 -- ---- the order of the segments
@@ -61,14 +61,14 @@ reached_ended store n (p ∷ ps) zero a x d l lies apart h place from to =
     let later : AllByRecursion (λ q. (end_at q ≤ x) ⊎ (x < q.0)) ps = all_from _ ps (λ k e m.
     inr (let behind = of_all _ ps k e apart.1 m in let above = place.1 (suc k) e (omega arith) (omega arith) in
     grind arith)) in
-    grind (arith, none_held store n ps x l lies.1 later)
+    grind (arith, none_present store n ps x l lies.1 later)
 reached_ended store n (p ∷ ps) (suc i) a x d l lies apart h place from to =
     let before = of_all _ ps i d apart.1 (omega arith) in
     let begins = place.0 (suc i) d (omega arith) (omega arith) in
     let rest = reached_ended store n ps i a x d l lies.1 apart.2 (omega arith)
     (λ k e m o. place.0 (suc k) e (omega arith) (omega arith), λ k e m o. place.1 (suc k) e (omega arith) (omega arith))
     from to in
-    grind (arith, run_ends store p n l lies.0, held_none (run_in store p) x, rest)
+    grind (arith, run_ends store p n l lies.0, present_none (run_in store p) x, rest)
 
 -- the open segment is empty, or begins behind the address
 abbrev pub IsBehind : List ℕ → ℕ → ℕ → ℕ → Type 0
@@ -78,9 +78,9 @@ IsBehind store base begin a = (length store ≤ begin) ⊎ (a < base)
 behind_none : (store : List ℕ) (base begin x : ℕ) → IsBehind store base begin x
     → byte_in (run_at base (drop begin store)) x ≡ None
 behind_none store base begin x behind =
-    grind (arith, behind, length-drop begin store, cases_lt x base, held_none (run_at base (drop begin store)) x)
+    grind (arith, behind, length-drop begin store, cases_lt x base, present_none (run_at base (drop begin store)) x)
 
--- from the base of the open segment on, nothing else is held
+-- from the base of the open segment on, nothing else is present
 pub reached_open : (store : List ℕ) (ps : List Piece) (base begin a : ℕ) → AreSegments store ps base begin → base ≤ a
     → IsRunAt (all_runs store ps base begin) a (run_at base (drop begin store))
 reached_open store ps base begin a laid low =
@@ -88,7 +88,7 @@ reached_open store ps base begin a laid low =
   where
     all : (x : ℕ) → a ≤ x → lookup (all_runs store ps base begin) x ≡ byte_in (run_at base (drop begin store)) x
     all x l =
-        let none : lookup (runs_in store ps) x ≡ None = none_held store begin ps x laid.within laid.lies
+        let none : lookup (runs_in store ps) x ≡ None = none_present store begin ps x laid.within laid.lies
         (all_weaker _ _ ps (λ p below. inl (omega arith)) laid.below) in
         grind (arith, none)
 
@@ -130,9 +130,9 @@ pub none_reached : (store : List ℕ) (ps : List Piece) (base begin a : ℕ) →
     → lookup (all_runs store ps base begin) a ≡ None
 none_reached store ps base begin a laid behind place =
     rw (behind_none store base begin a behind)
-    (none_held store begin ps a laid.within laid.lies (all_from _ ps (λ k d l. inr (place.1 k d (omega arith) l))))
+    (none_present store begin ps a laid.within laid.lies (all_from _ ps (λ k d l. inr (place.1 k d (omega arith) l))))
 
--- ---- the next segment behind an address that is not held
+-- ---- the next segment behind an address that is not present
 
 -- what begins at the address or before it has ended there
 pub ended_at : (store : List ℕ) (n : ℕ) (ps : List Piece) (k a : ℕ) (d : Piece) → n ≤ length store
@@ -140,18 +140,18 @@ pub ended_at : (store : List ℕ) (n : ℕ) (ps : List Piece) (k a : ℕ) (d : P
     → lookup (runs_in store ps) a ≡ None → k < length ps → (get_or ps k d).0 ≤ a → end_at (get_or ps k d) ≤ a
 ended_at store n [] k a d l lies none h begins = absurd (omega arith)
 ended_at store n (p ∷ ps) zero a d l lies none h begins =
-    grind (arith, cases_lt a (end_at p), run_ends store p n l lies.0, held_some (run_in store p) a)
+    grind (arith, cases_lt a (end_at p), run_ends store p n l lies.0, present_some (run_in store p) a)
 ended_at store n (p ∷ ps) (suc k) a d l lies none h begins =
     let rest : lookup (runs_in store ps) a ≡ None = grind arith in
     ended_at store n ps k a d l lies.1 rest (omega arith) begins
 
--- nothing is held up to the base of the segment at the place
+-- nothing is present up to the base of the segment at the place
 gap_ended : (store : List ℕ) (n : ℕ) (ps : List Piece) (a b i x : ℕ) → n ≤ length store
     → AllByRecursion (LiesBefore n) ps → lookup (runs_in store ps) a ≡ None
     → IsPartitionPoint ps a i → ((k : ℕ) (d : Piece) → i ≤ k → k < length ps → b ≤ (get_or ps k d).0) → a ≤ x → x < b
     → lookup (runs_in store ps) x ≡ None
 gap_ended store n ps a b i x l lies none place above from to =
-    none_held store n ps x l lies (all_from _ ps (λ k d h. elim (cases_lt k i) [
+    none_present store n ps x l lies (all_from _ ps (λ k d h. elim (cases_lt k i) [
       | inl m ↦ inl (let ended = ended_at store n ps k a d l lies none h (place.0 k d (omega arith) m) in omega arith)
       | inr m ↦ inr (let low = above k d m h in omega arith)
     ]))
@@ -165,7 +165,7 @@ pub next_ended : (store : List ℕ) (ps : List Piece) (base begin a i : ℕ) (d 
 next_ended store ps base begin a i d laid none place h =
     let rest : lookup (runs_in store ps) a ≡ None = grind arith in
     let below = of_all _ ps i d laid.below h in
-    let some = base_held store begin ps i d laid.within laid.lies h (filled ps i d laid.apart h) in (
+    let some = base_present store begin ps i d laid.within laid.lies h (filled ps i d laid.apart h) in (
       place.1 i d (omega arith) h,
       grind (arith, some),
       λ x from to.
@@ -186,7 +186,7 @@ pub next_open : (store : List ℕ) (ps : List Piece) (base begin a : ℕ) → Ar
 next_open store ps base begin a laid none place low some =
     let rest : lookup (runs_in store ps) a ≡ None = grind arith in
     let long = length-drop begin store in
-    let first = held_some (run_at base (drop begin store)) base (omega arith) (omega arith) in (
+    let first = present_some (run_at base (drop begin store)) base (omega arith) (omega arith) in (
       low,
       grind (arith, first),
       λ x from to.
@@ -206,8 +206,8 @@ no_next store ps base begin a laid none place past x from =
     grind (
       arith,
       length-drop begin store,
-      held_none (run_at base (drop begin store)) x,
-      held_some (run_at base (drop begin store)) a,
+      present_none (run_at base (drop begin store)) x,
+      present_some (run_at base (drop begin store)) a,
       cases_lt a (end_of (run_at base (drop begin store))),
     ) in
     rw past_end (gap_ended store begin ps a (x + 1) (length ps) x laid.within laid.lies rest place

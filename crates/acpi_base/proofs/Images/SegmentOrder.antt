@@ -10,9 +10,9 @@ use Rattle.acpi_base.specs.Memory.{Memory, byte_of, with_bytes, IsImage}
 use Rattle.acpi_base.specs.Image.Runs.{Run, run_at, byte_in, lookup, end_of, memory_of}
 use Rattle.acpi_base.specs.Image.Pieces.{Piece, AreSortedDisjoint, end_at, LiesBefore, run_in, runs_in, all_runs, memory_in_store}
 use Rattle.acpi_base.specs.declared.image.segments.Segments.{Segments}
-use Rattle.acpi_base.specs.Image.Segments.{AreSegmentsApart, AreSegments, IsSound, end_in, memory_in}
-use Rattle.acpi_base.proofs.Images.RunBytes.{held_none, byte_in-cons, byte_in-nil, byte_of_memory_of, byte_of-with_bytes}
-use Rattle.acpi_base.proofs.Images.Stores.{all_weaker, run_ends, runs_in_more, none_held}
+use Rattle.acpi_base.specs.Image.Segments.{AreSegmentsApart, AreSegments, IsValid, end_in, memory_in}
+use Rattle.acpi_base.proofs.Images.RunBytes.{present_none, byte_in-cons, byte_in-nil, byte_of_memory_of, byte_of-with_bytes}
+use Rattle.acpi_base.proofs.Images.Stores.{all_weaker, run_ends, runs_in_more, none_present}
 use Rattle.acpi_base.proofs.Images.RunMemory.{same_memory, no_bytes, image_with}
 
 -- ---- more bytes behind those of the open piece
@@ -26,7 +26,7 @@ byte_in-append a (b ∷ xs) ys x = grind (arith, byte_in-cons, byte_in-append (a
 -- two runs that do not overlap never hold the same address
 pub never_both : (r s : Run) (x : ℕ) → (end_of r ≤ s.base) ⊎ (end_of s ≤ r.base)
     → (byte_in r x ≡ None) ⊎ (byte_in s x ≡ None)
-never_both r s x e = grind (arith, cases_lt, held_none)
+never_both r s x e = grind (arith, cases_lt, present_none)
 
 -- bytes that are put in are put in one part after the other
 pub with_bytes-append : (m : Memory) (a : ℕ) (xs ys : List ℕ)
@@ -42,11 +42,11 @@ with_bytes-append m a xs ys = same_memory _ _ (λ x.
     ))
 
 -- the open piece takes more bytes
-pub more_held : (store new more : List ℕ) (ps : List Piece) (base begin : ℕ) → new ≡ store ++ more
+pub more_present : (store new more : List ℕ) (ps : List Piece) (base begin : ℕ) → new ≡ store ++ more
     → begin ≤ length store → AllByRecursion (LiesBefore begin) ps
     → memory_in_store new ps base begin ≡ with_bytes (memory_in_store store ps base begin)
     (base + (length store - begin)) more
-more_held store new more ps base begin e within lies =
+more_present store new more ps base begin e within lies =
     ap (λ n. memory_in_store n ps base begin) e
     ∙ ap (λ d. with_bytes (memory_of (runs_in (store ++ more) ps)) base d) (drop-append-le begin store more within)
     ∙ ap (λ rs. with_bytes (memory_of rs) base (drop begin store ++ more))
@@ -66,7 +66,7 @@ more_laid store new more ps base begin e fits bytes s =
       lies = s.lies;
       within = omega arith;
       fits = omega arith;
-      image = subst IsImage (sym (more_held store new more ps base begin e within s.lies))
+      image = subst IsImage (sym (more_present store new more ps base begin e within s.lies))
           (image_with _ _ more s.image fits bytes);
     }
 
@@ -99,11 +99,11 @@ lookup_pushed store n (p ∷ ps) q x l lies below =
     )
 
 -- the open segment has ended
-pub pushed_held : (store : List ℕ) (ps qs : List Piece) (old base begin : ℕ) (end : ℕ) (v : Span)
+pub pushed_present : (store : List ℕ) (ps qs : List Piece) (old base begin : ℕ) (end : ℕ) (v : Span)
     → qs ≡ ps ++ (old, v) ∷ [] → AreSegments store ps old begin
     → v.start ≡ begin → v.len ≡ length store - begin → end ≡ length store
     → memory_in_store store qs base end ≡ memory_in_store store ps old begin
-pushed_held store ps qs old base begin end v e s b n l =
+pushed_present store ps qs old base begin end v e s b n l =
     let within = s.within in
     let long = length-drop begin store in
     let lies = all_weaker (LiesBefore begin) (LiesBefore (length store)) ps (λ p low. (omega arith, low.1)) s.lies in
@@ -132,15 +132,15 @@ pushed_laid store ps qs old base begin end v e s b n l some gap fits =
           (omega arith, omega arith);
       within = omega arith;
       fits = omega arith;
-      image = subst IsImage (sym (pushed_held store ps (ps ++ (old, v) ∷ []) old base begin end v refl s b n l))
+      image = subst IsImage (sym (pushed_present store ps (ps ++ (old, v) ∷ []) old base begin end v refl s b n l))
           s.image;
     })
 
 -- ---- nothing is open
 
-pub moved_held : (store : List ℕ) (ps : List Piece) (old base begin : ℕ) → length store ≤ begin
+pub moved_present : (store : List ℕ) (ps : List Piece) (old base begin : ℕ) → length store ≤ begin
     → memory_in_store store ps base begin ≡ memory_in_store store ps old begin
-moved_held store ps old base begin none =
+moved_present store ps old base begin none =
     let empty_rest = ap length (drop_all begin store none) in
     sym (no_bytes (memory_of (runs_in store ps)) base (drop begin store) empty_rest)
     ∙ no_bytes (memory_of (runs_in store ps)) old (drop begin store) empty_rest
@@ -154,7 +154,7 @@ moved_laid store ps old base begin none later fits s = record {
   lies = s.lies;
   within = s.within;
   fits = omega arith;
-  image = subst IsImage (sym (moved_held store ps old base begin none)) s.image;
+  image = subst IsImage (sym (moved_present store ps old base begin none)) s.image;
 }
 
 -- no segments hold nothing
@@ -175,51 +175,51 @@ nothing_laid store ps e f = rw (e, f) (record {
           bytes = λ a b e. absurd (grind (arith, byte_of_memory_of [] a));
         }
 
-pub nothing_held_by : (store : List ℕ) (ps : List Piece) → store ≡ [] → ps ≡ [] → memory_in_store store ps 0 0 ≡ empty
-nothing_held_by store ps e f = rw (e, f) (sym (no_bytes empty 0 [] refl))
+pub nothing_present_by : (store : List ℕ) (ps : List Piece) → store ≡ [] → ps ≡ [] → memory_in_store store ps 0 0 ≡ empty
+nothing_present_by store ps e f = rw (e, f) (sym (no_bytes empty 0 [] refl))
 
 -- ---- piece by piece
 
--- the rest of the pieces of a store is still to come, and f is what is held once all have
+-- the rest of the pieces of a store is still to come, and f is what is present once all have
 pub record IsLeft (store : List ℕ) (f : ℕ → Option ℕ) (s : Segments) (rest : List Piece) : Type 0 where
-  pub sound : IsSound s
+  pub valid : IsValid s
   pub rising : AreSortedDisjoint rest
   pub lies : AllByRecursion (LiesBefore (length store)) rest
   pub behind : AllByRecursion (λ p. end_in s ≤ p.0) rest
   pub whole : (x : ℕ) → option_or (byte_of (memory_in s) x) (lookup (runs_in store rest) x) ≡ f x
 
 -- behind its end, segments hold nothing
-past_end : (s : Segments) (x : ℕ) → IsSound s → end_in s ≤ x → byte_of (memory_in s) x ≡ None
-past_end s x sound past =
+past_end : (s : Segments) (x : ℕ) → IsValid s → end_in s ≤ x → byte_of (memory_in s) x ≡ None
+past_end s x valid past =
     let store = s.store in
     let long = length-drop s.start store in
-    let within = sound.within in
+    let within = valid.within in
     let none : lookup (runs_in store s.ended.items) x ≡ None =
-    none_held store s.start s.ended.items x within sound.lies
-    (all_weaker _ _ s.ended.items (λ p below. inl (omega arith)) sound.below) in
+    none_present store s.start s.ended.items x within valid.lies
+    (all_weaker _ _ s.ended.items (λ p below. inl (omega arith)) valid.below) in
     byte_of_memory_of (all_runs store s.ended.items s.base s.start) x
-    ∙ rw (held_none (run_at s.base (drop s.start store)) x (inr (omega arith))) none
+    ∙ rw (present_none (run_at s.base (drop s.start store)) x (inr (omega arith))) none
 
 -- the next of the pieces has come
 pub left_more : (store : List ℕ) (f : ℕ → Option ℕ) (s t : Segments) (p : Piece) (rest : List Piece) (bytes : List ℕ)
     → IsLeft store f s (p ∷ rest)
-    → bytes ≡ take p.1.len (drop p.1.start store) → IsSound t → memory_in t ≡ with_bytes (memory_in s) p.0 bytes
+    → bytes ≡ take p.1.len (drop p.1.start store) → IsValid t → memory_in t ≡ with_bytes (memory_in s) p.0 bytes
     → end_in t ≡ p.0 + length bytes → IsLeft store f t rest
-left_more store f s t p rest bytes left same sound held_is end_is =
+left_more store f s t p rest bytes left same valid present_is end_is =
     let ends : end_in t ≡ end_at p = end_is ∙ ap (λ (b : List ℕ). p.0 + length b) same
     ∙ run_ends store p (length store) (omega arith) left.lies.0 in
     record {
-      sound = sound;
+      valid = valid;
       rising = left.rising.2;
       lies = left.lies.1;
       behind = subst (λ n. AllByRecursion (λ q. n ≤ q.0) rest) (sym ends) left.rising.1;
       whole = λ x.
           let clear : (byte_in (run_in store p) x ≡ None) ⊎ (byte_of (memory_in s) x ≡ None) = elim (cases_lt x p.0) [
-            | inl l ↦ inl (held_none (run_in store p) x (inl l))
-            | inr l ↦ inr (let behind = left.behind.0 in past_end s x left.sound (omega arith))
+            | inl l ↦ inl (present_none (run_in store p) x (inl l))
+            | inr l ↦ inr (let behind = left.behind.0 in past_end s x left.valid (omega arith))
           ] in
           let here : byte_of (memory_in t) x ≡ option_or (byte_in (run_in store p) x) (byte_of (memory_in s) x) =
-          ap (λ m. byte_of m x) held_is ∙ byte_of-with_bytes (memory_in s) p.0 bytes x
+          ap (λ m. byte_of m x) present_is ∙ byte_of-with_bytes (memory_in s) p.0 bytes x
           ∙ ap (λ b. option_or (byte_in (run_at p.0 b) x) (byte_of (memory_in s) x)) same in
           swapped (byte_of (memory_in t) x) (byte_in (run_in store p) x) (byte_of (memory_in s) x)
           (lookup (runs_in store rest) x) here clear ∙ left.whole x;
@@ -236,12 +236,12 @@ drop_read ps i p h is = drop_more ps i p h ∙ ap (λ q. q ∷ drop (i + 1) ps) 
 -- the same in a list
 pub left_next : (store : List ℕ) (f : ℕ → Option ℕ) (s t : Segments) (ps : List Piece) (i : ℕ) (p : Piece)
     (bytes : List ℕ) → IsLeft store f s (drop i ps)
-    → i < length ps → p ≡ get_or ps i p → bytes ≡ take p.1.len (drop p.1.start store) → IsSound t
+    → i < length ps → p ≡ get_or ps i p → bytes ≡ take p.1.len (drop p.1.start store) → IsValid t
     → memory_in t ≡ with_bytes (memory_in s) p.0 bytes
     → end_in t ≡ p.0 + length bytes → IsLeft store f t (drop (i + 1) ps)
-left_next store f s t ps i p bytes left h is same sound held_is end_is =
-    left_more store f s t p (drop (i + 1) ps) bytes (subst (IsLeft store f s) (drop_read ps i p h is) left) same sound
-    held_is end_is
+left_next store f s t ps i p bytes left h is same valid present_is end_is =
+    left_more store f s t p (drop (i + 1) ps) bytes (subst (IsLeft store f s) (drop_read ps i p h is) left) same valid
+    present_is end_is
 
 -- what taking the next one needs
 pub record IsNext (store : List ℕ) (s : Segments) (p : Piece) : Type 0 where

@@ -4,7 +4,7 @@ use Rattle.std.specs.List.{AllByRecursion}
 use Rattle.std.proofs.lemmas.List.{take-append-le, drop-append-le, length-take-le}
 use Rattle.acpi_base.specs.Image.Runs.{end_of, lookup}
 use Rattle.acpi_base.specs.Image.Pieces.{Piece, end_at, LiesBefore, run_in, runs_in}
-use Rattle.acpi_base.proofs.Images.RunBytes.{held_none, held_some}
+use Rattle.acpi_base.proofs.Images.RunBytes.{present_none, present_some}
 
 -- ---- all pieces of a list
 
@@ -50,24 +50,24 @@ runs_in_more store more n (p ∷ ps) l lies =
       runs_in_more store more n ps l lies.1,
     ) refl
 
--- where each piece has ended, or begins later, nothing is held
-pub none_held : (store : List ℕ) (n : ℕ) (ps : List Piece) (x : ℕ) → n ≤ length store → AllByRecursion (LiesBefore n) ps
+-- where each piece has ended, or begins later, nothing is present
+pub none_present : (store : List ℕ) (n : ℕ) (ps : List Piece) (x : ℕ) → n ≤ length store → AllByRecursion (LiesBefore n) ps
     → AllByRecursion (λ p. (end_at p ≤ x) ⊎ (x < p.0)) ps → lookup (runs_in store ps) x ≡ None
-none_held store n [] x l lies clear = refl
-none_held store n (p ∷ ps) x l lies clear =
+none_present store n [] x l lies clear = refl
+none_present store n (p ∷ ps) x l lies clear =
     grind (
       arith,
       clear.0,
       run_ends store p n l lies.0,
-      held_none (run_in store p) x,
-      none_held store n ps x l lies.1 clear.1,
+      present_none (run_in store p) x,
+      none_present store n ps x l lies.1 clear.1,
     )
 
 -- a piece with something in it holds its base
-pub base_held : (store : List ℕ) (n : ℕ) (ps : List Piece) (k : ℕ) (d : Piece) → n ≤ length store
+pub base_present : (store : List ℕ) (n : ℕ) (ps : List Piece) (k : ℕ) (d : Piece) → n ≤ length store
     → AllByRecursion (LiesBefore n) ps
     → k < length ps → 0 < (get_or ps k d).1.len → IsSome (lookup (runs_in store ps) (get_or ps k d).0)
-base_held store n [] k d l lies h some = absurd (omega arith)
-base_held store n (p ∷ ps) zero d l lies h some =
-    grind (arith, run_ends store p n l lies.0, held_some (run_in store p) p.0)
-base_held store n (p ∷ ps) (suc k) d l lies h some = grind (arith, base_held store n ps k d l lies.1 (omega arith) some)
+base_present store n [] k d l lies h some = absurd (omega arith)
+base_present store n (p ∷ ps) zero d l lies h some =
+    grind (arith, run_ends store p n l lies.0, present_some (run_in store p) p.0)
+base_present store n (p ∷ ps) (suc k) d l lies h some = grind (arith, base_present store n ps k d l lies.1 (omega arith) some)

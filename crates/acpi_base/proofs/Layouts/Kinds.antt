@@ -3,7 +3,7 @@ use Rattle.std.proofs.Common.{◌≡◌, ℕ, ◌+◌, true, List, [], ◌∷◌
 use Rattle.std.specs.Prelude.{slice_index}
 use Rattle.std.proofs.lemmas.List.{get_or-drop, length-replicate}
 use Rattle.acpi_base.specs.Number.{field, number_bytes}
-use Rattle.acpi_base.proofs.Images.HeldBytes.{field_below}
+use Rattle.acpi_base.proofs.Images.PresentBytes.{field_below}
 use Rattle.acpi_base.proofs.Layouts.RoundTrip.{length-number_bytes, HasValues-layout_bytes}
 use Rattle.acpi_base.specs.Layouts.{Part, NumberOf, BytesOf, Fixed, Reserved, PartValue, Number, Bytes, layout_size, values_at, HasFixedAt, layout_bytes, FitLayout, IsOfLayout, HasValues}
 use Rattle.acpi_base.specs.Entries.{kind_as, IsEntryOf}

@@ -1,17 +1,17 @@
--- The faults of a MADT's entries by themselves: each can be decided, excludes that it is sound, and where there is none
--- it is sound.
+-- The faults of a MADT's entries by themselves: each can be decided, excludes that it is valid, and where there is none
+-- it is valid.
 use Rattle.std.proofs.Common.{◌≡◌, ℕ, ◌+◌, ◌^◌, ◌<◌, ◌≤◌, List, length, refl, inl, inr, arith}
 use Rattle.std.specs.Prelude.{Option, Some, None, slice_index, MatchOption}
 use Rattle.std.proofs.lemmas.Bool.{cases_order}
 use Rattle.acpi_base.specs.Policy.{PolicyValue, inputs_of}
 use Rattle.acpi_base.specs.Codes.{stage_of}
 use Rattle.acpi_base.specs.Entries.{Stands, StandsWith}
-use Rattle.acpi_base.specs.Madt.{MadtEntry, IoApic, Override, AddressOverride, Opaque, madt_kinds, MadtContents, madt_entry, madt_contents, inti_flags, IsReservedInti, HasReservedInti, IsSoundMadtEntry, IsAddressOverride, IsSoundMadt, MadtEntryFault, MadtFault}
+use Rattle.acpi_base.specs.Madt.{MadtEntry, IoApic, Override, AddressOverride, Opaque, madt_kinds, MadtContents, madt_entry, madt_contents, inti_flags, IsReservedInti, HasReservedInti, IsValidMadtEntry, IsAddressOverride, IsValidMadt, MadtEntryFault, MadtFault}
 use Rattle.acpi_base.specs.declared.code.Code.{Code}
 use Rattle.acpi_base.specs.declared.code.Code.TheVariants as code
 use Rattle.acpi_base.specs.declared.stage.Stage.TheVariants as stage
 use Rattle.acpi_base.proofs.Faults.Deciding.{Decided, both, all3, all4, either, same, below, differs, is_some_number, not_below, not_other}
-use Rattle.acpi_base.proofs.Images.HeldBytes.{cases_Option, none_and_some}
+use Rattle.acpi_base.proofs.Images.PresentBytes.{cases_Option, none_and_some}
 use Rattle.acpi_base.proofs.EntryOffsets.{AreOnes, cut_inside, one_said, said_inside, stands_with_decided, type_decided, unused_decided}
 
 -- ---- where entries stand
@@ -46,29 +46,29 @@ entry_fault_decided q code.ReservedInti e = flags_decided (inti_flags e)
 entry_fault_decided q code.GsiPastEnd (IoApic v) = below (2 ^ 32) (v.gsi_base + inputs_of q v.address)
 entry_fault_decided q _ _ = inr (λ h. h)
 
--- an entry without a fault is sound
-sound_entry : (q : PolicyValue) (e : MadtEntry) → ¬ MadtEntryFault q code.MadtEntryLength e
+-- an entry without a fault is valid
+valid_entry : (q : PolicyValue) (e : MadtEntry) → ¬ MadtEntryFault q code.MadtEntryLength e
     → ¬ MadtEntryFault q code.OverrideBus e → ¬ MadtEntryFault q code.ReservedInti e
-    → ¬ MadtEntryFault q code.GsiPastEnd e → IsSoundMadtEntry q e
-sound_entry q (IoApic v) size bus inti past = not_below (2 ^ 32) (v.gsi_base + inputs_of q v.address) past
-sound_entry q (Override v) size bus inti past = (not_other v.bus 0 bus, inti)
-sound_entry q (Opaque e) size bus inti past = size
-sound_entry q _ size bus inti past = inti
+    → ¬ MadtEntryFault q code.GsiPastEnd e → IsValidMadtEntry q e
+valid_entry q (IoApic v) size bus inti past = not_below (2 ^ 32) (v.gsi_base + inputs_of q v.address) past
+valid_entry q (Override v) size bus inti past = (not_other v.bus 0 bus, inti)
+valid_entry q (Opaque e) size bus inti past = size
+valid_entry q _ size bus inti past = inti
 
-inti_excludes : (q : PolicyValue) (e : MadtEntry) → HasReservedInti e → ¬ IsSoundMadtEntry q e
-inti_excludes q (Override v) wrong sound = sound.1 wrong
-inti_excludes q (IoApic v) wrong sound = wrong
-inti_excludes q (Opaque e) wrong sound = wrong
-inti_excludes q _ wrong sound = sound wrong
+inti_excludes : (q : PolicyValue) (e : MadtEntry) → HasReservedInti e → ¬ IsValidMadtEntry q e
+inti_excludes q (Override v) wrong valid = valid.1 wrong
+inti_excludes q (IoApic v) wrong valid = wrong
+inti_excludes q (Opaque e) wrong valid = wrong
+inti_excludes q _ wrong valid = valid wrong
 
--- a fault excludes that an entry is sound
+-- a fault excludes that an entry is valid
 pub entry_excludes : (q : PolicyValue) (fault : Code) (e : MadtEntry) → MadtEntryFault q fault e
-    → ¬ IsSoundMadtEntry q e
-entry_excludes q code.MadtEntryLength (Opaque e) wrong sound = sound wrong
-entry_excludes q code.OverrideBus (Override v) wrong sound = wrong sound.0
-entry_excludes q code.ReservedInti e wrong sound = inti_excludes q e wrong sound
-entry_excludes q code.GsiPastEnd (IoApic v) wrong sound = omega (arith, wrong, sound)
-entry_excludes q _ _ wrong sound = wrong
+    → ¬ IsValidMadtEntry q e
+entry_excludes q code.MadtEntryLength (Opaque e) wrong valid = valid wrong
+entry_excludes q code.OverrideBus (Override v) wrong valid = wrong valid.0
+entry_excludes q code.ReservedInti e wrong valid = inti_excludes q e wrong valid
+entry_excludes q code.GsiPastEnd (IoApic v) wrong valid = omega (arith, wrong, valid)
+entry_excludes q _ _ wrong valid = wrong
 
 -- ---- the table
 
@@ -86,11 +86,11 @@ decided q whole fault at other point =
     both (stands_with_decided (madt_contents whole).entries at (MadtEntryFault q fault) (entry_fault_decided q fault))
     (unused_decided other point)
 
--- a MADT without a fault is sound
-pub sound_without_fault : (q : PolicyValue) (whole : List ℕ)
+-- a MADT without a fault is valid
+pub valid_without_fault : (q : PolicyValue) (whole : List ℕ)
     → ((fault : Code) (at other point : ℕ) → stage_of fault ≡ stage.Madt
-    → ¬ MadtFault q (madt_contents whole) fault at other point) → IsSoundMadt q (madt_contents whole)
-sound_without_fault q whole none =
+    → ¬ MadtFault q (madt_contents whole) fault at other point) → IsValidMadt q (madt_contents whole)
+valid_without_fault q whole none =
     record {
       long = not_below c.size 44 (λ short. none code.MadtShort 0 0 0 refl (short, refl, (refl, refl)));
       filled = elim (cases_Option c.cut) [
@@ -98,7 +98,7 @@ sound_without_fault q whole none =
         | inr nothing ↦ nothing
       ];
       entries = λ o e stands.
-          sound_entry q e (λ wrong. none code.MadtEntryLength o 0 0 refl ((e, stands, wrong), (refl, refl)))
+          valid_entry q e (λ wrong. none code.MadtEntryLength o 0 0 refl ((e, stands, wrong), (refl, refl)))
           (λ wrong. none code.OverrideBus o 0 0 refl ((e, stands, wrong), (refl, refl)))
           (λ wrong. none code.ReservedInti o 0 0 refl ((e, stands, wrong), (refl, refl)))
           (λ wrong. none code.GsiPastEnd o 0 0 refl ((e, stands, wrong), (refl, refl)));
@@ -117,15 +117,15 @@ sound_without_fault q whole none =
           | inr (inr more) ↦ absurd (none code.SecondAddressOverride o p 0 refl (one, other, more, refl))
         ]
 
--- a fault excludes that a MADT is sound
+-- a fault excludes that a MADT is valid
 pub excludes : (q : PolicyValue) (c : MadtContents) (fault : Code) (at other point : ℕ)
-    → MadtFault q c fault at other point → ¬ IsSoundMadt q c
-excludes q c code.MadtShort at other point (short, is, _) sound = omega (arith, short, sound.long)
-excludes q c code.MadtEntryCut at other point (is, _) sound = none_and_some sound.filled is
-excludes q c code.SecondAddressOverride at other point (one, earlier, before, _) sound =
-    omega (arith, before, sound.one_address at other one earlier)
-excludes q c fault at other point here sound =
-    (let (e, stands, wrong) = here.0 in entry_excludes q fault e wrong (sound.entries at e stands))
+    → MadtFault q c fault at other point → ¬ IsValidMadt q c
+excludes q c code.MadtShort at other point (short, is, _) valid = omega (arith, short, valid.long)
+excludes q c code.MadtEntryCut at other point (is, _) valid = none_and_some valid.filled is
+excludes q c code.SecondAddressOverride at other point (one, earlier, before, _) valid =
+    omega (arith, before, valid.one_address at other one earlier)
+excludes q c fault at other point here valid =
+    (let (e, stands, wrong) = here.0 in entry_excludes q fault e wrong (valid.entries at e stands))
 
 -- its numbers are no greater than the table's length
 pub place : (q : PolicyValue) (whole : List ℕ) (fault : Code) (at other point : ℕ)

@@ -10,7 +10,7 @@ use Rattle.acpi_base.specs.declared.code.Code.{Code}
 use Rattle.acpi_base.specs.declared.code.Code.TheVariants as code
 use Rattle.acpi_base.specs.declared.stage.Stage.TheVariants as stage
 use Rattle.acpi_base.proofs.Faults.Deciding.{Decided, decided_as, both, all3, same, below, differs, not_other}
-use Rattle.acpi_base.proofs.Images.HeldBytes.{field_below}
+use Rattle.acpi_base.proofs.Images.PresentBytes.{field_below}
 use Rattle.acpi_base.proofs.Madt.Faults.{ones, inside}
 use Rattle.acpi_base.proofs.EntryOffsets.{entries_bounded, said_with, stands_with_decided}
 

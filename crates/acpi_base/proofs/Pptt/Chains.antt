@@ -2,7 +2,7 @@
 -- there is none all end.
 use Rattle.std.proofs.Common.{◌≡◌, ℕ, ◌≤◌, List, length, refl, inr, arith}
 use Rattle.acpi_base.specs.Codes.{stage_of}
-use Rattle.acpi_base.specs.Pptt.{parent_of, next_level_of, pptt_contents, NamesParent, NamesNextLevel, AreReferencesSound, DoParentsEnd, DoCachesEnd, ParentFault, CacheFault, most_nodes, most_caches, ParentsEndOrGoRound, CachesEndOrGoRound}
+use Rattle.acpi_base.specs.Pptt.{parent_of, next_level_of, pptt_contents, NamesParent, NamesNextLevel, AreReferencesValid, DoParentsEnd, DoCachesEnd, ParentFault, CacheFault, most_nodes, most_caches, ParentsEndOrGoRound, CachesEndOrGoRound}
 use Rattle.acpi_base.specs.declared.code.Code.{Code}
 use Rattle.acpi_base.specs.declared.code.Code.TheVariants as code
 use Rattle.acpi_base.specs.declared.stage.Stage.TheVariants as stage
@@ -13,11 +13,11 @@ use Rattle.acpi_base.proofs.Pptt.Places.{size_is, inside, naming, nodes_numbered
 -- ---- ends or goes round
 
 pub parents_end_or_go_round : ParentsEndOrGoRound
-parents_end_or_go_round whole sound = ends_or_round _ _ (naming whole parent_of) (nodes_numbered whole) sound.parents
+parents_end_or_go_round whole valid = ends_or_round _ _ (naming whole parent_of) (nodes_numbered whole) valid.parents
 
 pub caches_end_or_go_round : CachesEndOrGoRound
-caches_end_or_go_round whole sound =
-    ends_or_round _ _ (naming whole next_level_of) (caches_numbered whole) sound.next_levels
+caches_end_or_go_round whole valid =
+    ends_or_round _ _ (naming whole next_level_of) (caches_numbered whole) valid.next_levels
 
 -- what the law `chains_end_or_go_round` says
 pub ruleset chain_laws = (parents_end_or_go_round, caches_end_or_go_round)
@@ -30,11 +30,11 @@ parents_decided whole code.ParentCycle at other point = cycle_decided _ (naming 
 parents_decided whole _ at other point = inr (λ fault. fault)
 
 -- where none goes round, all end
-pub parents_without_fault : (whole : List ℕ) → AreReferencesSound (pptt_contents whole)
+pub parents_without_fault : (whole : List ℕ) → AreReferencesValid (pptt_contents whole)
     → ((fault : Code) (at other point : ℕ) → stage_of fault ≡ stage.Parents
     → ¬ ParentFault (pptt_contents whole) fault at other point) → DoParentsEnd (pptt_contents whole)
-parents_without_fault whole sound none =
-    end_without_cycle _ _ (naming whole parent_of) (nodes_numbered whole) sound.parents
+parents_without_fault whole valid none =
+    end_without_cycle _ _ (naming whole parent_of) (nodes_numbered whole) valid.parents
     (λ o lead round. none code.ParentCycle o lead round refl)
 
 -- a fault excludes that all end
@@ -63,11 +63,11 @@ caches_decided whole code.CacheCycle at other point = cycle_decided _ (naming wh
 caches_decided whole _ at other point = inr (λ fault. fault)
 
 -- where none goes round, all end
-pub caches_without_fault : (whole : List ℕ) → AreReferencesSound (pptt_contents whole)
+pub caches_without_fault : (whole : List ℕ) → AreReferencesValid (pptt_contents whole)
     → ((fault : Code) (at other point : ℕ) → stage_of fault ≡ stage.Caches
     → ¬ CacheFault (pptt_contents whole) fault at other point) → DoCachesEnd (pptt_contents whole)
-caches_without_fault whole sound none =
-    end_without_cycle _ _ (naming whole next_level_of) (caches_numbered whole) sound.next_levels
+caches_without_fault whole valid none =
+    end_without_cycle _ _ (naming whole next_level_of) (caches_numbered whole) valid.next_levels
     (λ o lead round. none code.CacheCycle o lead round refl)
 
 -- a fault excludes that all end

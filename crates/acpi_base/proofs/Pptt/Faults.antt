@@ -1,5 +1,5 @@
--- The faults of a PPTT's entries and of what they name: each can be decided, excludes that they are sound, and where
--- there is none they are sound.
+-- The faults of a PPTT's entries and of what they name: each can be decided, excludes that they are valid, and where
+-- there is none they are valid.
 use Rattle.std.proofs.Common.{◌≡◌, ℕ, ◌+◌, ◌<◌, ◌≤◌, List, [], ◌∷◌, zero, suc, length, Some, refl, inl, inr, arith}
 use Rattle.std.specs.Prelude.{slice_index, slice_get}
 use Rattle.std.proofs.lemmas.Bool.{cases_eq}
@@ -7,13 +7,13 @@ use Rattle.std.proofs.lemmas.Option.{slice_get_within, same_Some}
 use Rattle.acpi_base.specs.Entries.{Stands}
 use Rattle.acpi_base.specs.Chains.{Dangles, NoneDangles}
 use Rattle.acpi_base.specs.Codes.{stage_of}
-use Rattle.acpi_base.specs.Pptt.{PpttEntry, Node, Cache, Opaque, PpttContents, pptt_contents, HasOtherPpttLength, parent_of, resource_of, next_level_of, NamesParent, NamesNextLevel, IsCutPptt, AreReferencesSound, PpttFaultAt, PpttFault, ReferenceFault}
+use Rattle.acpi_base.specs.Pptt.{PpttEntry, Node, Cache, Opaque, PpttContents, pptt_contents, HasOtherPpttLength, parent_of, resource_of, next_level_of, NamesParent, NamesNextLevel, IsCutPptt, AreReferencesValid, PpttFaultAt, PpttFault, ReferenceFault}
 use Rattle.acpi_base.specs.declared.code.Code.{Code}
 use Rattle.acpi_base.specs.declared.code.Code.TheVariants as code
 use Rattle.acpi_base.specs.declared.stage.Stage.TheVariants as stage
 use Rattle.acpi_base.proofs.Chains.{IsNaming, names_decided}
 use Rattle.acpi_base.proofs.Faults.Deciding.{Decided, decided_as, both, all3, same, differs, at_most, negated, is_some_number}
-use Rattle.acpi_base.proofs.Images.HeldBytes.{cases_Option, none_and_some}
+use Rattle.acpi_base.proofs.Images.PresentBytes.{cases_Option, none_and_some}
 use Rattle.acpi_base.proofs.Pptt.Places.{inside, resource_decided, naming}
 use Rattle.acpi_base.proofs.EntryOffsets.{cut_inside, entries_bounded, stands_with_decided}
 
@@ -49,9 +49,9 @@ cut_without_fault c none =
 -- a fault excludes that it is cut
 pub cut_excludes : (c : PpttContents) (fault : Code) (at other point : ℕ) → PpttFault c fault at other point
     → ¬ IsCutPptt c
-cut_excludes c code.PpttEntryCut at other point (is, _, _) sound = none_and_some sound.filled is
-cut_excludes c code.PpttEntryLength at other point ((e, stands, wrong), _, _) sound = sound.lengths at e stands wrong
-cut_excludes c _ at other point fault sound = fault.0
+cut_excludes c code.PpttEntryCut at other point (is, _, _) valid = none_and_some valid.filled is
+cut_excludes c code.PpttEntryLength at other point ((e, stands, wrong), _, _) valid = valid.lengths at e stands wrong
+cut_excludes c _ at other point fault valid = fault.0
 
 cut_place_at : (whole : List ℕ) (fault : Code) (at : ℕ) → PpttFaultAt (pptt_contents whole) fault at → at < length whole
 unfolding pptt_contents
@@ -85,8 +85,8 @@ none_dangles Names naming none o p names =
     ]
 
 dangles_excludes : (Names : ℕ → ℕ → Type 0) (o p : ℕ) → Dangles Names o p → ¬ NoneDangles Names
-dangles_excludes Names o p dangles sound =
-    elim (sound o p dangles.names) [ inl none ↦ dangles.some none | inr there ↦ dangles.nowhere there ]
+dangles_excludes Names o p dangles valid =
+    elim (valid o p dangles.names) [ inl none ↦ dangles.some none | inr there ↦ dangles.nowhere there ]
 
 pub references_decided : (whole : List ℕ) (fault : Code) (at other point : ℕ)
     → Decided (ReferenceFault (pptt_contents whole) fault at other point)
@@ -98,11 +98,11 @@ references_decided whole code.DanglingCache at other point =
     both (dangles_decided (NamesNextLevel (pptt_contents whole)) (naming whole next_level_of) at other) (same point 0)
 references_decided whole _ at other point = inr (λ fault. fault)
 
--- where no reference dangles they are sound
+-- where no reference dangles they are valid
 pub references_without_fault : (whole : List ℕ)
     → ((fault : Code) (at other point : ℕ) → stage_of fault ≡ stage.References
     → ¬ ReferenceFault (pptt_contents whole) fault at other point)
-    → AreReferencesSound (pptt_contents whole)
+    → AreReferencesValid (pptt_contents whole)
 references_without_fault whole none =
     let c = pptt_contents whole in
     record {
@@ -118,16 +118,16 @@ references_without_fault whole none =
           (λ o p dangles. none code.DanglingCache o p 0 refl (dangles, refl));
     }
 
--- a fault excludes that they are sound
+-- a fault excludes that they are valid
 pub references_excludes : (c : PpttContents) (fault : Code) (at other point : ℕ) → ReferenceFault c fault at other point
-    → ¬ AreReferencesSound c
-references_excludes c code.DanglingParent at other point (dangles, _) sound =
-    dangles_excludes (NamesParent c) at other dangles sound.parents
-references_excludes c code.DanglingResource at other point (names, nowhere) sound =
-    nowhere (sound.resources at other point names)
-references_excludes c code.DanglingCache at other point (dangles, _) sound =
-    dangles_excludes (NamesNextLevel c) at other dangles sound.next_levels
-references_excludes c _ at other point fault sound = fault
+    → ¬ AreReferencesValid c
+references_excludes c code.DanglingParent at other point (dangles, _) valid =
+    dangles_excludes (NamesParent c) at other dangles valid.parents
+references_excludes c code.DanglingResource at other point (names, nowhere) valid =
+    nowhere (valid.resources at other point names)
+references_excludes c code.DanglingCache at other point (dangles, _) valid =
+    dangles_excludes (NamesNextLevel c) at other dangles valid.next_levels
+references_excludes c _ at other point fault valid = fault
 
 -- ---- how far their numbers reach
 

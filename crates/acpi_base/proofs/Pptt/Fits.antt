@@ -9,7 +9,7 @@ use Rattle.acpi_base.specs.Entries.{Stands}
 use Rattle.acpi_base.specs.Pptt.{PpttEntry, resource_count, resources_of, has_node_form, has_cache_form, pptt_entry, parent_of, resource_of, next_level_of, pptt_contents, ReferenceFault}
 use Rattle.acpi_base.specs.declared.code.Code.{Code}
 use Rattle.acpi_base.specs.declared.code.Code.TheVariants as code
-use Rattle.acpi_base.proofs.Images.HeldBytes.{field_below}
+use Rattle.acpi_base.proofs.Images.PresentBytes.{field_below}
 use Rattle.acpi_base.proofs.Pptt.Places.{inside}
 use Rattle.acpi_base.proofs.EntryOffsets.{said_with}
 

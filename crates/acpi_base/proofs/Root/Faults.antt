@@ -1,18 +1,18 @@
--- The faults of the root: each can be decided, excludes that it is sound, and where there is none it is sound.
+-- The faults of the root: each can be decided, excludes that it is valid, and where there is none it is valid.
 use Rattle.std.proofs.Common.{◌≡◌, ◌<◌, ◌^◌, ◌+◌, ℕ, List, Some, refl, sym, ap, subst, inl, inr, arith}
 use Rattle.std.specs.Prelude.{◌-◌, ◌%◌}
 use Rattle.std.proofs.lemmas.Bool.{both_ways}
 use Rattle.acpi_base.specs.Memory.{Memory, IsImage, bytes_at}
 use Rattle.acpi_base.specs.Signature.{has_signature}
 use Rattle.acpi_base.specs.Rsdp.{Addresses, addresses_at}
-use Rattle.acpi_base.specs.Root.{IsRoot, root_signature, IsSoundRootTable, IsSoundRoot, RootTableFault, RootFault}
+use Rattle.acpi_base.specs.Root.{IsRoot, root_signature, IsValidRootTable, IsValidRoot, RootTableFault, RootFault}
 use Rattle.acpi_base.specs.Tables.{length_of, table_frame}
 use Rattle.acpi_base.specs.Codes.{code_number, stage_of}
 use Rattle.acpi_base.specs.declared.code.Code.{Code}
 use Rattle.acpi_base.specs.declared.code.Code.TheVariants as code
 use Rattle.acpi_base.specs.declared.frame.Question.TheVariants as question
 use Rattle.acpi_base.specs.declared.stage.Stage.TheVariants as stage
-use Rattle.acpi_base.proofs.Images.HeldBytes.{same_value}
+use Rattle.acpi_base.proofs.Images.PresentBytes.{same_value}
 use Rattle.acpi_base.proofs.Faults.Deciding.{Decided, decided_as, both, same, at_most, differs, is_some_with, not_other, not_false}
 use Rattle.acpi_base.proofs.Faults.Numbers.{same_code}
 use Rattle.acpi_base.proofs.Root.Named.{one_root, root_or_none, no_root_and_root, root_fits}
@@ -33,39 +33,39 @@ table_decided m r d code.RootRagged =
 table_decided m r d code.RootSum = frame.decided table_frame m r question.Sum
 table_decided m r d _ = inr (λ fault. fault)
 
--- a root table without a fault is sound
+-- a root table without a fault is valid
 table_without_fault : (m : Memory) (r d : ℕ) → ((c : Code) → stage_of c ≡ stage.Root → ¬ RootTableFault m r d c)
-    → (whole : List ℕ) × IsSoundRootTable m r d whole
+    → (whole : List ℕ) × IsValidRootTable m r d whole
 table_without_fault m r d none =
-    let sound = frame.sound_without_fault table_frame m r (none code.RootHeaderOut refl) (none code.RootLength refl)
+    let valid = frame.valid_without_fault table_frame m r (none code.RootHeaderOut refl) (none code.RootLength refl)
     (none code.RootOut refl) (none code.RootSum refl) in
-    let header = sound.header in
-    let held = sound.frame.header_held in
+    let header = valid.header in
+    let present = valid.frame.header_present in
     let signed = not_false (has_signature header (root_signature d))
-    (λ unsigned. none code.RootSignature refl (header, held, unsigned)) in
+    (λ unsigned. none code.RootSignature refl (header, present, unsigned)) in
     let slots = not_other ((length_of header - 36) % d) 0
-    (λ ragged. none code.RootRagged refl (header, held, sound.frame.least, ragged)) in (
-      sound.whole,
+    (λ ragged. none code.RootRagged refl (header, present, valid.frame.least, ragged)) in (
+      valid.whole,
       record {
-        table = record { header = header; table = sound.frame; signed = signed };
-        slots = rw (length_frame sound.frame) slots;
-        zero_sum = sound.zero_sum;
+        table = record { header = header; table = valid.frame; signed = signed };
+        slots = rw (length_frame valid.frame) slots;
+        zero_sum = valid.zero_sum;
       },
     )
 
--- a fault excludes that the root table is sound
+-- a fault excludes that the root table is valid
 table_excludes : (m : Memory) (r d : ℕ) (whole : List ℕ) (c : Code) → RootTableFault m r d c
-    → ¬ IsSoundRootTable m r d whole
-table_excludes m r d whole code.RootHeaderOut fault sound = stands_wrong question.Header fault sound.table.table
-table_excludes m r d whole code.RootSignature fault sound =
-    both_ways _ (stands_wrong (question.Signature (root_signature d)) fault sound.table.table) sound.table.signed
-table_excludes m r d whole code.RootLength fault sound = stands_wrong question.Length fault sound.table.table
-table_excludes m r d whole code.RootOut fault sound = stands_wrong question.Bytes fault sound.table.table
-table_excludes m r d whole code.RootRagged (header, held, least, ragged) sound =
-    let same = same_value header sound.table.header held sound.table.table.header_held in
-    grind (arith, same, length_frame sound.table.table, sound.slots)
-table_excludes m r d whole code.RootSum fault sound = stands_wrong question.Sum fault sound.table.table sound.zero_sum
-table_excludes m r d whole _ fault sound = absurd fault
+    → ¬ IsValidRootTable m r d whole
+table_excludes m r d whole code.RootHeaderOut fault valid = stands_wrong question.Header fault valid.table.table
+table_excludes m r d whole code.RootSignature fault valid =
+    both_ways _ (stands_wrong (question.Signature (root_signature d)) fault valid.table.table) valid.table.signed
+table_excludes m r d whole code.RootLength fault valid = stands_wrong question.Length fault valid.table.table
+table_excludes m r d whole code.RootOut fault valid = stands_wrong question.Bytes fault valid.table.table
+table_excludes m r d whole code.RootRagged (header, present, least, ragged) valid =
+    let same = same_value header valid.table.header present valid.table.table.header_present in
+    grind (arith, same, length_frame valid.table.table, valid.slots)
+table_excludes m r d whole code.RootSum fault valid = stands_wrong question.Sum fault valid.table.table valid.zero_sum
+table_excludes m r d whole _ fault valid = absurd fault
 
 -- ---- of the root that an RSDP names
 
@@ -116,23 +116,23 @@ bounded m p named read =
       )
     ]
 
--- a readable RSDP's root without a fault is sound
-pub sound_without_fault : (m : Memory) (p : ℕ) (named : Addresses) → addresses_at m p ≡ Some named
-    → ((c : Code) (at : ℕ) → stage_of c ≡ stage.Root → ¬ RootFault m p c at) → IsSoundRoot m p
-sound_without_fault m p named read none =
+-- a readable RSDP's root without a fault is valid
+pub valid_without_fault : (m : Memory) (p : ℕ) (named : Addresses) → addresses_at m p ≡ Some named
+    → ((c : Code) (at : ℕ) → stage_of c ≡ stage.Root → ¬ RootFault m p c at) → IsValidRoot m p
+valid_without_fault m p named read none =
     elim (root_or_none m p named read) [
       | inl no_root ↦ absurd (none code.NoRoot p refl (inl (no_root, refl, refl)))
       | inr (r, d, root) ↦
-          let sound = table_without_fault m r d (λ c own fault. none c r own (inr (d, root, fault))) in
-          record { r = r; d = d; whole = sound.0; root = root; sound = sound.1 }
+          let valid = table_without_fault m r d (λ c own fault. none c r own (inr (d, root, fault))) in
+          record { r = r; d = d; whole = valid.0; root = root; valid = valid.1 }
     ]
 
--- a fault excludes that the root is sound
-pub excludes : (m : Memory) (p at : ℕ) (c : Code) → RootFault m p c at → ¬ IsSoundRoot m p
-excludes m p at c (inl (none, is, place)) sound = no_root_and_root none sound.root
-excludes m p at c (inr (d, root, fault)) sound =
-    let same = one_root m p at d sound.r sound.d root sound.root in
-    table_excludes m sound.r sound.d sound.whole c (rw (same.0, same.1) at fault) sound.sound
+-- a fault excludes that the root is valid
+pub excludes : (m : Memory) (p at : ℕ) (c : Code) → RootFault m p c at → ¬ IsValidRoot m p
+excludes m p at c (inl (none, is, place)) valid = no_root_and_root none valid.root
+excludes m p at c (inr (d, root, fault)) valid =
+    let same = one_root m p at d valid.r valid.d root valid.root in
+    table_excludes m valid.r valid.d valid.whole c (rw (same.0, same.1) at fault) valid.valid
 
 -- the address that a fault of the root is at fits
 pub place_fits : {m : Memory} {p at : ℕ} {c : Code} → p < 2 ^ 64 → IsImage m → RootFault m p c at → at < 2 ^ 64

@@ -6,7 +6,7 @@ use Rattle.acpi_base.specs.Memory.{Memory, IsImage}
 use Rattle.acpi_base.specs.Number.{field}
 use Rattle.acpi_base.specs.Root.{IsSlotWidth, IsRoot, IsRootTable, HasSlot, IsSlot}
 use Rattle.acpi_base.specs.Tables.{length_of}
-use Rattle.acpi_base.proofs.Images.HeldBytes.{held_field_below}
+use Rattle.acpi_base.proofs.Images.PresentBytes.{present_field_below}
 use Rattle.acpi_base.proofs.Root.Named.{of_root, root_width}
 use Rattle.acpi_base.proofs.Frames.{length_frame}
 
@@ -24,9 +24,9 @@ address_fits whole d k a number_below width slot =
 pub slot_fits : {m : Memory} {p k a : ℕ} → IsImage m → IsSlot m p k a → (k < 2 ^ 64) × (a < 2 ^ 64)
 slot_fits {m = m} {k = k} {a = a} image slot =
     let table = slot.table.table in
-    let length_fits = held_field_below m image slot.r 36 slot.table.header table.header_held 4 4 in
+    let length_fits = present_field_below m image slot.r 36 slot.table.header table.header_present 4 4 in
     let below = slot_below slot.whole slot.d k a (root_width slot.root) slot.slot in
-    let number_below = held_field_below m image slot.r (length_of slot.table.header) slot.whole table.held in (
+    let number_below = present_field_below m image slot.r (length_of slot.table.header) slot.whole table.present in (
       grind (arith, length_fits, length_frame table, below),
       address_fits slot.whole slot.d k a number_below (root_width slot.root) slot.slot,
     )

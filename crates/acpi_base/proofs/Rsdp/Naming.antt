@@ -4,10 +4,10 @@ use Rattle.std.specs.Prelude.{◌⊎◌}
 use Rattle.std.proofs.lemmas.Bool.{cases_lt}
 use Rattle.std.proofs.lemmas.Option.{same_Some}
 use Rattle.acpi_base.specs.Memory.{Memory, IsImage, bytes_at}
-use Rattle.acpi_base.specs.Rsdp.{Addresses, addresses_at, revision_of, short_addresses, extended_addresses, extended_frame, IsSoundRsdp}
+use Rattle.acpi_base.specs.Rsdp.{Addresses, addresses_at, revision_of, short_addresses, extended_addresses, extended_frame, IsValidRsdp}
 use Rattle.acpi_base.specs.Frames.{IsFrame}
 use Rattle.acpi_base.proofs.Frames.{header_field}
-use Rattle.acpi_base.proofs.Images.HeldBytes.{cases_Option, held_field_below}
+use Rattle.acpi_base.proofs.Images.PresentBytes.{cases_Option, present_field_below}
 
 -- an RSDP is read in the short form or in the extended one
 pub how_read : (m : Memory) (p : ℕ) (named : Addresses) → addresses_at m p ≡ Some named
@@ -16,29 +16,29 @@ pub how_read : (m : Memory) (p : ℕ) (named : Addresses) → addresses_at m p �
 unfolding addresses_at
 how_read m p named read = grind (arith, cases_Option (bytes_at m p 20), cases_Option (bytes_at m p 36), same_Some)
 
--- a sound RSDP is readable
-pub sound_read : (m : Memory) (p : ℕ) → IsSoundRsdp m p → (named : Addresses) × (addresses_at m p ≡ Some named)
+-- a valid RSDP is readable
+pub valid_read : (m : Memory) (p : ℕ) → IsValidRsdp m p → (named : Addresses) × (addresses_at m p ≡ Some named)
 unfolding addresses_at
-sound_read m p sound =
-    elim (cases_lt (revision_of sound.head) 2) [
-      | inl short ↦ (short_addresses sound.head, grind (arith, sound.head_held))
+valid_read m p valid =
+    elim (cases_lt (revision_of valid.head) 2) [
+      | inl short ↦ (short_addresses valid.head, grind (arith, valid.head_present))
       | inr more ↦ (
-        extended_addresses (sound.extended more).header,
-        grind (arith, sound.head_held, (sound.extended more).frame.header_held),
+        extended_addresses (valid.extended more).header,
+        grind (arith, valid.head_present, (valid.extended more).frame.header_present),
       )
     ]
 
--- an RSDP of the extended form names what its bytes say, if they are all held
+-- an RSDP of the extended form names what its bytes say, if they are all present
 pub extended_named : {m : Memory} {p : ℕ} {header whole : List ℕ} (head : List ℕ) → bytes_at m p 20 ≡ Some head
     → 2 ≤ revision_of head → IsFrame extended_frame m p header whole
     → addresses_at m p ≡ Some (extended_addresses whole)
 unfolding addresses_at
-extended_named head held more is =
+extended_named head present more is =
     let same = header_field is (omega arith) in
-    grind (arith, held, is.header_held, same 16 4 (omega arith), same 24 8 (omega arith))
+    grind (arith, present, is.header_present, same 16 4 (omega arith), same 24 8 (omega arith))
 
 -- the addresses that an RSDP of an image names fit their fields
 pub named_fit : (m : Memory) → IsImage m → (p : ℕ) (named : Addresses) → addresses_at m p ≡ Some named
     → (named.rsdt < 2 ^ 32) × (named.xsdt < 2 ^ 64)
 named_fit m image p named read =
-    grind (arith, how_read m p named read, held_field_below m image p 20, held_field_below m image p 36)
+    grind (arith, how_read m p named read, present_field_below m image p 20, present_field_below m image p 36)

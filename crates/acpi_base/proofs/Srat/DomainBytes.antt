@@ -3,7 +3,7 @@ use Rattle.std.proofs.Common.{rules, ◌≡◌, ℕ, ◌+◌, ◌*◌, ◌<◌, 
 use Rattle.std.specs.Prelude.{◌/◌, ◌%◌, slice_index}
 use Rattle.std.proofs.lemmas.List.{get_or-drop}
 use Rattle.acpi_base.specs.Number.{field}
-use Rattle.acpi_base.proofs.Images.HeldBytes.{field_below}
+use Rattle.acpi_base.proofs.Images.PresentBytes.{field_below}
 use Rattle.acpi_base.specs.Layouts.{PartValue, Number}
 use Rattle.acpi_base.specs.Srat.{ApicDomainValue, apic_domain}
 

@@ -1,14 +1,14 @@
--- The faults of an SRAT's entries by themselves: each can be decided, excludes that it is sound, and where none is
--- there it is sound.
+-- The faults of an SRAT's entries by themselves: each can be decided, excludes that it is valid, and where none is
+-- there it is valid.
 use Rattle.std.proofs.Common.{◌≡◌, ℕ, ◌+◌, ◌^◌, ◌≤◌, List, length, refl, inl, inr, arith}
 use Rattle.std.specs.Prelude.{slice_index}
 use Rattle.acpi_base.specs.Codes.{stage_of}
-use Rattle.acpi_base.specs.Srat.{SratEntry, MemoryRange, Opaque, srat_kinds, SratContents, srat_entry, srat_contents, is_enabled, IsSoundSratEntry, IsSoundSrat, SratEntryFault, SratFault}
+use Rattle.acpi_base.specs.Srat.{SratEntry, MemoryRange, Opaque, srat_kinds, SratContents, srat_entry, srat_contents, is_enabled, IsValidSratEntry, IsValidSrat, SratEntryFault, SratFault}
 use Rattle.acpi_base.specs.declared.code.Code.{Code}
 use Rattle.acpi_base.specs.declared.code.Code.TheVariants as code
 use Rattle.acpi_base.specs.declared.stage.Stage.TheVariants as stage
 use Rattle.acpi_base.proofs.Faults.Deciding.{Decided, both, all3, same, below, is_true, is_some_number, not_below}
-use Rattle.acpi_base.proofs.Images.HeldBytes.{cases_Option, none_and_some}
+use Rattle.acpi_base.proofs.Images.PresentBytes.{cases_Option, none_and_some}
 use Rattle.acpi_base.proofs.EntryOffsets.{cut_inside, said_inside, stands_with_decided, type_decided, unused_decided}
 
 -- ---- an entry by itself
@@ -19,18 +19,18 @@ entry_fault_decided code.RangePastEnd (MemoryRange v) =
     both (is_true (is_enabled v.flags)) (below (2 ^ 64) (v.base + v.size))
 entry_fault_decided _ _ = inr (λ h. h)
 
--- an entry without a fault is sound
-sound_entry : (e : SratEntry) → ¬ SratEntryFault code.SratEntryLength e → ¬ SratEntryFault code.RangePastEnd e
-    → IsSoundSratEntry e
-sound_entry (MemoryRange v) size past = λ enabled. not_below (2 ^ 64) (v.base + v.size) (λ more. past (enabled, more))
-sound_entry (Opaque e) size past = size
-sound_entry _ size past = tt
+-- an entry without a fault is valid
+valid_entry : (e : SratEntry) → ¬ SratEntryFault code.SratEntryLength e → ¬ SratEntryFault code.RangePastEnd e
+    → IsValidSratEntry e
+valid_entry (MemoryRange v) size past = λ enabled. not_below (2 ^ 64) (v.base + v.size) (λ more. past (enabled, more))
+valid_entry (Opaque e) size past = size
+valid_entry _ size past = tt
 
--- a fault excludes that an entry is sound
-pub entry_excludes : (fault : Code) (e : SratEntry) → SratEntryFault fault e → ¬ IsSoundSratEntry e
-entry_excludes code.SratEntryLength (Opaque e) wrong sound = sound wrong
-entry_excludes code.RangePastEnd (MemoryRange v) (enabled, past) sound = omega (arith, past, sound enabled)
-entry_excludes _ _ wrong sound = wrong
+-- a fault excludes that an entry is valid
+pub entry_excludes : (fault : Code) (e : SratEntry) → SratEntryFault fault e → ¬ IsValidSratEntry e
+entry_excludes code.SratEntryLength (Opaque e) wrong valid = valid wrong
+entry_excludes code.RangePastEnd (MemoryRange v) (enabled, past) valid = omega (arith, past, valid enabled)
+entry_excludes _ _ wrong valid = wrong
 
 -- ---- the table
 
@@ -44,12 +44,12 @@ decided whole fault at other point =
     both (stands_with_decided (srat_contents whole).entries at (SratEntryFault fault) (entry_fault_decided fault))
     (unused_decided other point)
 
--- an SRAT without a fault is sound
-pub sound_without_fault : (whole : List ℕ)
+-- an SRAT without a fault is valid
+pub valid_without_fault : (whole : List ℕ)
     → ((fault : Code) (at other point : ℕ) → stage_of fault ≡ stage.Srat
     → ¬ SratFault (srat_contents whole) fault at other point)
-    → IsSoundSrat (srat_contents whole)
-sound_without_fault whole none =
+    → IsValidSrat (srat_contents whole)
+valid_without_fault whole none =
     let c = srat_contents whole in
     record {
       long = not_below c.size 48 (λ short. none code.SratShort 0 0 0 refl (short, refl, (refl, refl)));
@@ -58,17 +58,17 @@ sound_without_fault whole none =
         | inr nothing ↦ nothing
       ];
       entries = λ o e stands.
-          sound_entry e (λ wrong. none code.SratEntryLength o 0 0 refl ((e, stands, wrong), (refl, refl)))
+          valid_entry e (λ wrong. none code.SratEntryLength o 0 0 refl ((e, stands, wrong), (refl, refl)))
           (λ wrong. none code.RangePastEnd o 0 0 refl ((e, stands, wrong), (refl, refl)));
     }
 
--- a fault excludes that an SRAT is sound
+-- a fault excludes that an SRAT is valid
 pub excludes : (c : SratContents) (fault : Code) (at other point : ℕ) → SratFault c fault at other point
-    → ¬ IsSoundSrat c
-excludes c code.SratShort at other point (short, is, _) sound = omega (arith, short, sound.long)
-excludes c code.SratEntryCut at other point (is, _) sound = none_and_some sound.filled is
-excludes c fault at other point here sound =
-    (let (e, stands, wrong) = here.0 in entry_excludes fault e wrong (sound.entries at e stands))
+    → ¬ IsValidSrat c
+excludes c code.SratShort at other point (short, is, _) valid = omega (arith, short, valid.long)
+excludes c code.SratEntryCut at other point (is, _) valid = none_and_some valid.filled is
+excludes c fault at other point here valid =
+    (let (e, stands, wrong) = here.0 in entry_excludes fault e wrong (valid.entries at e stands))
 
 -- its numbers are no greater than the table's length
 pub place : (whole : List ℕ) (fault : Code) (at other point : ℕ) → SratFault (srat_contents whole) fault at other point

@@ -4,7 +4,7 @@ use Rattle.std.proofs.Common.{◌≡◌, ◌⊎◌, ℕ, ◌+◌, ◌^◌, ◌<�
 use Rattle.std.proofs.lemmas.Bool.{cases_lt}
 use Rattle.acpi_base.specs.Overlaps.{IsIntervalOverlap, AreApart, IsFirstIntervalOverlap}
 use Rattle.acpi_base.specs.Entries.{Stands}
-use Rattle.acpi_base.specs.Srat.{SratEntry, MemoryRange, MemoryValue, SratContents, srat_entry, srat_contents, is_enabled, is_hot_pluggable, IsAny, IsHotPluggable, IsNotHotPluggable, CoversFrom, Covers, IsSoundSrat, IsSoundSratEntry, IsOverlap, AreRangesApart, RangeFault, IsFirstOverlap}
+use Rattle.acpi_base.specs.Srat.{SratEntry, MemoryRange, MemoryValue, SratContents, srat_entry, srat_contents, is_enabled, is_hot_pluggable, IsAny, IsHotPluggable, IsNotHotPluggable, CoversFrom, Covers, IsValidSrat, IsValidSratEntry, IsOverlap, AreRangesApart, RangeFault, IsFirstOverlap}
 use Rattle.acpi_base.specs.declared.policy.HotPlug.{HotPlug}
 use Rattle.acpi_base.specs.declared.policy.HotPlug.TheVariants.{Counted, Apart}
 use Rattle.acpi_base.specs.declared.code.Code.{Code}
@@ -61,18 +61,18 @@ hot_ranges whole = ranges IsHotPluggable (λ v. is_true (is_hot_pluggable v.flag
 other_ranges : (whole : List ℕ) → AreFiniteRanges (Covers IsNotHotPluggable (srat_contents whole))
 other_ranges whole = ranges IsNotHotPluggable (λ v. is_false (is_hot_pluggable v.flags)) whole
 
--- in a sound SRAT an address that is covered is below 2^64
-covered_below : (P : MemoryValue → Type 0) (s x : ℕ) (e : SratEntry) → IsSoundSratEntry e → CoversFrom P s x e
+-- in a valid SRAT an address that is covered is below 2^64
+covered_below : (P : MemoryValue → Type 0) (s x : ℕ) (e : SratEntry) → IsValidSratEntry e → CoversFrom P s x e
     → x < 2 ^ 64
-covered_below P s x (MemoryRange v) sound h = omega (arith, sound h.0, h.2, h.4)
-covered_below P s x _ sound h = absurd h
+covered_below P s x (MemoryRange v) valid h = omega (arith, valid h.0, h.2, h.4)
+covered_below P s x _ valid h = absurd h
 
 -- and so is one that two ranges cover
-clash_below : (P : MemoryValue → Type 0) (c : SratContents) → IsSoundSrat c → (at other point : ℕ)
+clash_below : (P : MemoryValue → Type 0) (c : SratContents) → IsValidSrat c → (at other point : ℕ)
     → IsIntervalOverlap (Covers P c) at other point → point < 2 ^ 64
-clash_below P c sound at other point overlap =
+clash_below P c valid at other point overlap =
     let (e, stands, h) = overlap.one_holds in
-    covered_below P overlap.s point e (sound.entries at e stands) h
+    covered_below P overlap.s point e (valid.entries at e stands) h
 
 -- an entry begins within the table
 inside : (whole : List ℕ) (o : ℕ) (e : SratEntry) → Stands (srat_contents whole).entries o e → o < length whole
@@ -126,23 +126,23 @@ of_kind Counted c at other point overlap from = from IsAny overlap
 of_kind Apart c at other point (inl overlap) from = from IsNotHotPluggable overlap
 of_kind Apart c at other point (inr overlap) from = from IsHotPluggable overlap
 
--- the overlap that is reported of a sound SRAT is a fault
-pub is_fault : (h : HotPlug) (c : SratContents) → IsSoundSrat c → (at other point : ℕ)
+-- the overlap that is reported of a valid SRAT is a fault
+pub is_fault : (h : HotPlug) (c : SratContents) → IsValidSrat c → (at other point : ℕ)
     → IsFirstOverlap h c at other point → RangeFault h c code.Overlap at other point
-is_fault h c sound at other point first =
+is_fault h c valid at other point first =
     let overlap = is_overlap h c at other point first in
-    (of_kind h c at other point overlap (λ P overlap. clash_below P c sound at other point overlap), overlap)
+    (of_kind h c at other point overlap (λ P overlap. clash_below P c valid at other point overlap), overlap)
 
--- no address of a sound SRAT is covered by two ranges that must be apart, or there is a fault that is reported
-pub settled : (h : HotPlug) (whole : List ℕ) → IsSoundSrat (srat_contents whole)
+-- no address of a valid SRAT is covered by two ranges that must be apart, or there is a fault that is reported
+pub settled : (h : HotPlug) (whole : List ℕ) → IsValidSrat (srat_contents whole)
     → AreRangesApart h (srat_contents whole)
     ⊎ ((at other point : ℕ) × IsFirstOverlap h (srat_contents whole) at other point
     × RangeFault h (srat_contents whole) code.Overlap at other point)
-settled h whole sound =
+settled h whole valid =
     elim (apart_or_overlap h whole) [
       | inl apart ↦ inl apart
       | inr (at, other, point, first) ↦
-          inr (at, other, point, first, is_fault h (srat_contents whole) sound at other point first)
+          inr (at, other, point, first, is_fault h (srat_contents whole) valid at other point first)
     ]
 
 -- only one fault is reported

@@ -1,7 +1,7 @@
--- The faults of a listed table: each can be decided, excludes that it is sound, and where there is none it is sound.
+-- The faults of a listed table: each can be decided, excludes that it is valid, and where there is none it is valid.
 use Rattle.std.proofs.Common.{refl, ◌≡◌, ℕ, inr}
 use Rattle.acpi_base.specs.Memory.{Memory}
-use Rattle.acpi_base.specs.Tables.{table_frame, IsSoundTable, TableFault}
+use Rattle.acpi_base.specs.Tables.{table_frame, IsValidTable, TableFault}
 use Rattle.acpi_base.specs.Codes.{stage_of}
 use Rattle.acpi_base.specs.declared.code.Code.{Code}
 use Rattle.acpi_base.specs.declared.code.Code.TheVariants as code
@@ -18,17 +18,17 @@ decided m a code.TableOut = frame.decided table_frame m a question.Bytes
 decided m a code.TableSum = frame.decided table_frame m a question.Sum
 decided m a _ = inr (λ fault. fault)
 
--- a table without a fault is sound
-pub sound_without_fault : (m : Memory) (a : ℕ) → ((c : Code) → stage_of c ≡ stage.Tables → ¬ TableFault m a c)
-    → IsSoundTable m a
-sound_without_fault m a none =
-    frame.sound_without_fault table_frame m a (none code.TableHeaderOut refl) (none code.TableLength refl)
+-- a table without a fault is valid
+pub valid_without_fault : (m : Memory) (a : ℕ) → ((c : Code) → stage_of c ≡ stage.Tables → ¬ TableFault m a c)
+    → IsValidTable m a
+valid_without_fault m a none =
+    frame.valid_without_fault table_frame m a (none code.TableHeaderOut refl) (none code.TableLength refl)
     (none code.TableOut refl) (none code.TableSum refl)
 
--- a fault excludes that the table is sound
-pub excludes : (m : Memory) (a : ℕ) (c : Code) → TableFault m a c → ¬ IsSoundTable m a
-excludes m a code.TableHeaderOut fault sound = stands_wrong question.Header fault sound.frame
-excludes m a code.TableLength fault sound = stands_wrong question.Length fault sound.frame
-excludes m a code.TableOut fault sound = stands_wrong question.Bytes fault sound.frame
-excludes m a code.TableSum fault sound = stands_wrong question.Sum fault sound.frame sound.zero_sum
-excludes m a _ fault sound = absurd fault
+-- a fault excludes that the table is valid
+pub excludes : (m : Memory) (a : ℕ) (c : Code) → TableFault m a c → ¬ IsValidTable m a
+excludes m a code.TableHeaderOut fault valid = stands_wrong question.Header fault valid.frame
+excludes m a code.TableLength fault valid = stands_wrong question.Length fault valid.frame
+excludes m a code.TableOut fault valid = stands_wrong question.Bytes fault valid.frame
+excludes m a code.TableSum fault valid = stands_wrong question.Sum fault valid.frame valid.zero_sum
+excludes m a _ fault valid = absurd fault

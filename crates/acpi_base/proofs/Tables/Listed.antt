@@ -5,9 +5,9 @@ use Rattle.std.proofs.lemmas.Bool.{cases_order}
 use Rattle.acpi_base.specs.Memory.{Memory, bytes_at}
 use Rattle.acpi_base.specs.Signature.{has_signature}
 use Rattle.acpi_base.specs.Tables.{IsTable, IsSigned}
-use Rattle.acpi_base.specs.Root.{IsSlotWidth, IsRoot, IsRootTable, IsSoundRoot, HasSlot}
+use Rattle.acpi_base.specs.Root.{IsSlotWidth, IsRoot, IsRootTable, IsValidRoot, HasSlot}
 use Rattle.acpi_base.specs.Listed.{IsFirstListed, IsNoneListed, IsFirstTable, IsListedTable, ListsNone, IsListed}
-use Rattle.acpi_base.specs.Statements.{AreSoundTables}
+use Rattle.acpi_base.specs.Statements.{AreValidTables}
 use Rattle.acpi_base.proofs.Faults.Deciding.{Decided, decided_as, is_some_with, is_true}
 use Rattle.acpi_base.proofs.Faults.Least.{least_below}
 use Rattle.acpi_base.proofs.Root.Named.{of_root, root_width}
@@ -16,11 +16,11 @@ use Rattle.acpi_base.proofs.Frames.{one_frame}
 
 -- ---- in the slots of a root's bytes
 
--- a header is held at an address with the signature, or is not
+-- a header is present at an address with the signature, or is not
 signed_or_not : (m : Memory) (a : ℕ) (signature : List ℕ) → Decided (IsSigned m a signature)
 signed_or_not m a signature =
-    decided_as (λ h. record { header = h.0; header_held = h.1; signed = h.2 })
-    (λ h. (h.header, h.header_held, h.signed))
+    decided_as (λ h. record { header = h.0; header_present = h.1; signed = h.2 })
+    (λ h. (h.header, h.header_present, h.signed))
     (is_some_with (bytes_at m a 36) _ (λ header. is_true (has_signature header signature)))
 
 -- slot k holds the address of a header with the signature
@@ -120,13 +120,13 @@ none_in_root {r = r} {d = d} {bytes = bytes} root table none =
 abbrev pub IsListedOrNone : Memory → ℕ → List ℕ → Type 0
 IsListedOrNone m p signature = (listed : Option (List ℕ)) × IsListed m p signature listed
 
--- a set whose root and tables are sound lists a first table with a signature or none
-pub listed_or_none : (m : Memory) (p : ℕ) (signature : List ℕ) → IsSoundRoot m p → AreSoundTables m p
+-- a set whose root and tables are valid lists a first table with a signature or none
+pub listed_or_none : (m : Memory) (p : ℕ) (signature : List ℕ) → IsValidRoot m p → AreValidTables m p
     → IsListedOrNone m p signature
 listed_or_none m p signature root tables =
     elim (first_listed_or_none m root.whole root.d signature (root_width root.root)) [
-      | inl none ↦ (None, none_in_root root.root root.sound.table none)
+      | inl none ↦ (None, none_in_root root.root root.valid.table none)
       | inr (a, first) ↦
-          let sound = tables first.k a (root_slot root.root root.sound.table first.slot) in
-          (Some sound.whole, listed_in_root root.root root.sound.table first sound.frame)
+          let valid = tables first.k a (root_slot root.root root.valid.table first.slot) in
+          (Some valid.whole, listed_in_root root.root root.valid.table first valid.frame)
     ]

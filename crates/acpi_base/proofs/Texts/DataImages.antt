@@ -5,10 +5,10 @@ use Rattle.std.proofs.lemmas.Bool.Decides.{nat_tests}
 use Rattle.std.specs.Prelude.{Option, None, Some, IsSome, nat_lt, ◌↔◌}
 use Rattle.std.specs.List.{slice_get}
 use Rattle.std.specs.FinMap.{insert}
-use Rattle.acpi_base.specs.Memory.{Memory, byte_of, first_held, with_bytes}
+use Rattle.acpi_base.specs.Memory.{Memory, byte_of, first_present, with_bytes}
 use Rattle.acpi_base.specs.Image.Adding.{add_refusal}
 use Rattle.acpi_base.proofs.Images.RunMemory.{same_memory, fits_unless}
-use Rattle.acpi_base.proofs.Images.Searches.{nothing_held}
+use Rattle.acpi_base.proofs.Images.Searches.{nothing_present}
 use Rattle.acpi_base.proofs.Images.ByteRuns.{first_of_none}
 use Rattle.acpi_base.proofs.Images.RunBytes.{byte_of-insert, byte_of-with_bytes, byte_of-with_bytes_outside}
 use Rattle.acpi_base.proofs.Texts.DataPlaces.{first_then, first_here}
@@ -180,9 +180,9 @@ pub taken : (m : Memory) (a : ℕ) (bytes : List ℕ) → add_refusal m a bytes 
 taken m a bytes e k h =
     grind (
       arith,
-      fits_unless (nat_lt (2 ^ 64) (a + length bytes)) (first_held m a (length bytes)) e,
+      fits_unless (nat_lt (2 ^ 64) (a + length bytes)) (first_present m a (length bytes)) e,
       ltb-false (2 ^ 64) (a + length bytes),
-      nothing_held (byte_of m) a (length bytes) (a + k),
+      nothing_present (byte_of m) a (length bytes) (a + k),
     )
 
 pub not_refused : (m : Memory) (a : ℕ) (bytes : List ℕ) → 0 < length bytes → IsRoom m a bytes

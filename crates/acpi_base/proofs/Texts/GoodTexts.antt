@@ -75,30 +75,30 @@ goes_none_bad (Some a) m (Data bytes ∷ rest) f g (suc k, h, e) =
 goes_none_bad next m (Blank ∷ rest) f g (suc k, h, e) = goes_none_bad next m rest f g (k, omega arith, e)
 
 -- a line that is not bad, and a data line has a byte
-abbrev IsSound : Line → Type 0
-IsSound (Data bytes) = 0 < length bytes
-IsSound Bad = ⊥
-IsSound line = Unit {0}
+abbrev IsValid : Line → Type 0
+IsValid (Data bytes) = 0 < length bytes
+IsValid Bad = ⊥
+IsValid line = Unit {0}
 
-makes_goes : (next : Option ℕ) (m : Memory) (lines : List Line) (f : Memory) → AllByRecursion IsSound lines
+makes_goes : (next : Option ℕ) (m : Memory) (lines : List Line) (f : Memory) → AllByRecursion IsValid lines
     → LinesMake next lines m f → Goes next m lines f
-makes_goes next m [] f sound made = made_of_nothing m f made
-makes_goes next m (Blank ∷ rest) f sound made = makes_goes next m rest f sound.1 made
-makes_goes next m (Address address ∷ rest) f sound made = makes_goes (Some address) m rest f sound.1 made
-makes_goes None m (Data bytes ∷ rest) f sound made =
+makes_goes next m [] f valid made = made_of_nothing m f made
+makes_goes next m (Blank ∷ rest) f valid made = makes_goes next m rest f valid.1 made
+makes_goes next m (Address address ∷ rest) f valid made = makes_goes (Some address) m rest f valid.1 made
+makes_goes None m (Data bytes ∷ rest) f valid made =
     absurd (grind (
       arith,
-      sound.0,
-      made.stands 0 (omega (arith, sound.0, length-append bytes (all_data rest))),
-      first_here None (length bytes) (place_of None rest) 0 sound.0,
+      valid.0,
+      made.stands 0 (omega (arith, valid.0, length-append bytes (all_data rest))),
+      first_here None (length bytes) (place_of None rest) 0 valid.0,
     ))
-makes_goes (Some a) m (Data bytes ∷ rest) f sound made =
+makes_goes (Some a) m (Data bytes ∷ rest) f valid made =
     let both = data_less a bytes (place_of (Some (a + length bytes)) rest) (all_data rest) m f made in (
-      not_refused m a bytes sound.0 both.0,
-      makes_goes (Some (a + length bytes)) (with_bytes m a bytes) rest f sound.1
+      not_refused m a bytes valid.0 both.0,
+      makes_goes (Some (a + length bytes)) (with_bytes m a bytes) rest f valid.1
           both.1,
     )
-makes_goes next m (Bad ∷ rest) f sound made = absurd sound.0
+makes_goes next m (Bad ∷ rest) f valid made = absurd valid.0
 
 -- ---- reading takes the lines in turn
 
@@ -191,16 +191,16 @@ unfolding ended_lines_from last_line_from
 total_length line [] = omega arith
 total_length line (b ∷ rest) = grind (arith, length-append, total_length [] rest, total_length (line ++ b ∷ []) rest)
 
-sound_line : (line : List ℕ) (parsed : Line) → line_of line ≡ parsed → parsed ≢ Bad → IsSound parsed
-sound_line line (Data bytes) e good = data_some line bytes e
-sound_line line Bad e good = good refl
-sound_line line parsed e good = tt
+valid_line : (line : List ℕ) (parsed : Line) → line_of line ≡ parsed → parsed ≢ Bad → IsValid parsed
+valid_line line (Data bytes) e good = data_some line bytes e
+valid_line line Bad e good = good refl
+valid_line line parsed e good = tt
 
-sound_lines : (lines : List (List ℕ)) → ¬ Contains (map line_of lines) Bad → AllByRecursion IsSound (map line_of lines)
-sound_lines [] good = tt
-sound_lines (line ∷ lines) good = (
-  sound_line line (line_of line) refl (λ e. good (0, omega arith, e)),
-  sound_lines lines (λ c. good (suc c.0, omega (arith, c.1), c.2)),
+valid_lines : (lines : List (List ℕ)) → ¬ Contains (map line_of lines) Bad → AllByRecursion IsValid (map line_of lines)
+valid_lines [] good = tt
+valid_lines (line ∷ lines) good = (
+  valid_line line (line_of line) refl (λ e. good (0, omega arith, e)),
+  valid_lines lines (λ c. good (suc c.0, omega (arith, c.1), c.2)),
 )
 
 -- ---- and so the text means what it means
@@ -254,7 +254,7 @@ good_is_text bytes m good =
             (good.image a b).1 (h.0, (stands_is_place lines h.0 a).1 h.1, h.2)),
       );
     } in
-    let goes = makes_goes None nothing lines m (sound_lines (text_lines bytes) good.none_bad) made in
+    let goes = makes_goes None nothing lines m (valid_lines (text_lines bytes) good.none_bad) made in
     rest_from start (ended_lines bytes) (last_line bytes) m good.lines_fit
     (let fits = good.text_fits in omega (arith, total_length [] bytes)) goes
 

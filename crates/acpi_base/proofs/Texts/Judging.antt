@@ -82,8 +82,8 @@ more_brought before middle left old new count more all piece b consumed long is 
 -- no more has come than a text may have
 pub brought_fits : (buffer : LineBuffer) (count : ℕ) → IsLineBuffer buffer → byte_count buffer ≡ count
     → count ≤ max_text
-brought_fits buffer count sound counted =
-    let bounds = short_bounds (length buffer.line.items) (byte_count buffer) sound.short in
+brought_fits buffer count valid counted =
+    let bounds = short_bounds (length buffer.line.items) (byte_count buffer) valid.short in
     let fits = bounds.1 in
     omega arith
 

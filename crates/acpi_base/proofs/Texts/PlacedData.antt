@@ -84,8 +84,8 @@ data_has next line count spelled room = record {
 -- memory runs out for the image only if no address came twice
 pub laid_out : (p : LineParser) (d : Result Memory ℕ) (n : ℕ) (fault : ImageFault) → IsLayoutRefusal d fault
     → data_fault n fault ≡ refusal.Memory → (r : Reading) × (judged_by p d ≡ Ok r)
-laid_out p d n fault (inl held) memory = (reading_with p held.0, ap (judged_by p) held.2)
-laid_out p d n fault (inr held) memory = (let twice = ap (data_fault n) held.1 in absurd (cc))
+laid_out p d n fault (inl present) memory = (reading_with p present.0, ap (judged_by p) present.2)
+laid_out p d n fault (inr present) memory = (let twice = ap (data_fault n) present.1 in absurd (cc))
 
 -- or at the last line
 pub ended_there : {A : Type 0} (P : Type 0) (x y : Result Reading TextFault) (result : Result A TextFault) → x ≡ y

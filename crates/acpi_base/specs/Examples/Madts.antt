@@ -4,7 +4,7 @@ use Rattle.acpi_base.specs.Policy.{PolicyValue, inputs_of}
 use Rattle.acpi_base.specs.Listed.{madt_signature}
 use Rattle.acpi_base.specs.Entries.{PlacedEntry}
 use Rattle.acpi_base.specs.Madt.{MadtEntry, LocalApic, IoApic, Override, NmiSource, LocalNmi, AddressOverride, X2apic, X2apicNmi, Opaque, MadtContents, madt_contents, MadtFault, InterruptFault, IsFirstGsiClash, OverrideFault}
-use Rattle.acpi_base.specs.Examples.{table, placed_entry, IsSoundExample}
+use Rattle.acpi_base.specs.Examples.{table, placed_entry, IsValidExample}
 use Rattle.acpi_base.specs.declared.code.Code.{Code}
 use Rattle.acpi_base.specs.declared.code.Code.TheVariants as code
 
@@ -124,7 +124,7 @@ example_madts = all_kinds_bytes ∷ two_io_apics_bytes ∷ cut_bytes ∷ two_ove
 
 -- what the MADTs say
 pub record AreMadtContents : Type 0 where
-  pub sound : All IsSoundExample example_madts
+  pub valid : All IsValidExample example_madts
   pub kinds_say : madt_contents all_kinds_bytes ≡ all_kinds
   pub io_apics_say : madt_contents two_io_apics_bytes ≡ two_io_apics
   pub cut_says : madt_contents cut_bytes ≡ cut_madt

@@ -3,7 +3,7 @@ use Rattle.std.specs.Prelude.{◌≡◌, ℕ, List, [], ◌∷◌, ◌++◌, rep
 use Rattle.acpi_base.specs.Listed.{pptt_signature}
 use Rattle.acpi_base.specs.Entries.{PlacedEntry}
 use Rattle.acpi_base.specs.Pptt.{PpttEntry, Node, Cache, Opaque, PpttContents, pptt_contents, PpttFault, ReferenceFault, ParentFault, CacheFault}
-use Rattle.acpi_base.specs.Examples.{table, placed_entry, IsSoundExample}
+use Rattle.acpi_base.specs.Examples.{table, placed_entry, IsValidExample}
 use Rattle.acpi_base.specs.declared.code.Code.{Code}
 use Rattle.acpi_base.specs.declared.code.Code.TheVariants as code
 
@@ -178,7 +178,7 @@ example_pptts =
 
 -- what the PPTTs say
 pub record ArePpttContents : Type 0 where
-  pub sound : All IsSoundExample example_pptts
+  pub valid : All IsValidExample example_pptts
   pub kinds_say : pptt_contents all_kinds_bytes ≡ all_kinds
   pub faulty_says : pptt_contents faulty_bytes ≡ faulty_pptt
   pub hidden_says : pptt_contents hidden_node_bytes ≡ hidden_node

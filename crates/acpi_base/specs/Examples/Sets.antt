@@ -10,7 +10,7 @@ use Rattle.acpi_base.specs.Tables.{IsTable}
 use Rattle.acpi_base.specs.Root.{IsSlot}
 use Rattle.acpi_base.specs.Listed.{madt_signature, srat_signature, pptt_signature, IsListedTable}
 use Rattle.acpi_base.specs.Faults.{Fault}
-use Rattle.acpi_base.specs.Examples.{table, IsSoundExample}
+use Rattle.acpi_base.specs.Examples.{table, IsValidExample}
 use Rattle.acpi_base.specs.Examples.Madts.{madt_table, two_io_apics_bytes}
 use Rattle.acpi_base.specs.Examples.Srats.{two_processors_bytes}
 use Rattle.acpi_base.specs.declared.policy.HotPlug.TheVariants.{Counted}
@@ -115,7 +115,7 @@ ListsBoth m signature one other_signature other =
 pub record AreListedTables : Type 0 where
   pub images : All IsImage (enabled_set ∷ capable_set ∷ disabled_set ∷ two_madts ∷ leaf_set ∷ old_leaf_set ∷ [])
   pub rsdp_sum : byte_sum rsdp_bytes ≡ 0
-  pub sound : All IsSoundExample (rsdt_bytes ∷ enabled_bytes ∷ capable_bytes ∷ disabled_bytes ∷ named_bytes ∷ uid_bytes ∷ new_leaf_bytes ∷ old_leaf_bytes ∷ [])
+  pub valid : All IsValidExample (rsdt_bytes ∷ enabled_bytes ∷ capable_bytes ∷ disabled_bytes ∷ named_bytes ∷ uid_bytes ∷ new_leaf_bytes ∷ old_leaf_bytes ∷ [])
   pub enabled_lists : ListsBoth enabled_set madt_signature enabled_bytes srat_signature two_processors_bytes
   pub capable_lists : ListsBoth capable_set madt_signature capable_bytes srat_signature two_processors_bytes
   pub disabled_lists : ListsBoth disabled_set madt_signature disabled_bytes srat_signature two_processors_bytes

@@ -2,7 +2,7 @@
 use Rattle.std.specs.Prelude.{◌≡◌, ℕ, ◌^◌, List, [], ◌∷◌, All}
 use Rattle.acpi_base.specs.Listed.{slit_signature}
 use Rattle.acpi_base.specs.Slit.{SlitContents, slit_contents, distance, SlitFault}
-use Rattle.acpi_base.specs.Examples.{table, IsSoundExample}
+use Rattle.acpi_base.specs.Examples.{table, IsValidExample}
 use Rattle.acpi_base.specs.declared.code.Code.{Code}
 use Rattle.acpi_base.specs.declared.code.Code.TheVariants as code
 
@@ -67,7 +67,7 @@ example_slits =
 
 -- what the SLITs say; cells stand row after row
 pub record AreSlitContents : Type 0 where
-  pub sound : All IsSoundExample example_slits
+  pub valid : All IsValidExample example_slits
   pub empty_says : slit_contents empty_bytes ≡ said_slit 44 0 []
   pub one_says : slit_contents one_locality_bytes ≡ said_slit 45 1 (10 ∷ [])
   pub two_say : slit_contents two_localities_bytes ≡ two_localities
@@ -93,5 +93,5 @@ abbrev pub HasNoSlitFault : List ℕ → Type 0
 HasNoSlitFault bytes = (fault : Code) (at other point : ℕ) → ¬ SlitFault (slit_contents bytes) fault at other point
 
 -- the SLITs of no locality, of one and of two have none
-abbrev pub AreSoundSlits : Type 0
-AreSoundSlits = All HasNoSlitFault (empty_bytes ∷ one_locality_bytes ∷ two_localities_bytes ∷ [])
+abbrev pub AreValidSlits : Type 0
+AreValidSlits = All HasNoSlitFault (empty_bytes ∷ one_locality_bytes ∷ two_localities_bytes ∷ [])

@@ -3,7 +3,7 @@ use Rattle.std.specs.Prelude.{◌≡◌, ℕ, List, [], ◌∷◌, All, Some, No
 use Rattle.acpi_base.specs.Listed.{srat_signature}
 use Rattle.acpi_base.specs.Entries.{PlacedEntry}
 use Rattle.acpi_base.specs.Srat.{SratEntry, ApicDomain, MemoryRange, X2apicDomain, Opaque, SratContents, srat_contents, SratFault, RangeFault, IsFirstOverlap}
-use Rattle.acpi_base.specs.Examples.{table, placed_entry, IsSoundExample}
+use Rattle.acpi_base.specs.Examples.{table, placed_entry, IsValidExample}
 use Rattle.acpi_base.specs.declared.policy.HotPlug.{HotPlug}
 use Rattle.acpi_base.specs.declared.policy.HotPlug.TheVariants.{Counted, Apart}
 use Rattle.acpi_base.specs.declared.code.Code.{Code}
@@ -120,7 +120,7 @@ example_srats = two_processors_bytes ∷ four_ranges_bytes ∷ overlapping_bytes
 
 -- what the SRATs say
 pub record AreSratContents : Type 0 where
-  pub sound : All IsSoundExample example_srats
+  pub valid : All IsValidExample example_srats
   pub processors_say : srat_contents two_processors_bytes ≡ two_processors
   pub ranges_say : srat_contents four_ranges_bytes ≡ four_ranges
   pub overlapping_say : srat_contents overlapping_bytes ≡ overlapping_ranges

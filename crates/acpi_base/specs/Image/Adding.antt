@@ -4,21 +4,21 @@ use Rattle.std.specs.Option.{option_map, option_map_or}
 use Rattle.acpi_base.specs.declared.image.ImageFault.{ImageFault}
 use Rattle.acpi_base.specs.declared.image.ImageFault.TheVariants.{PastEnd, Twice}
 use Rattle.acpi_base.specs.declared.image.ImageFault.TheVariants as fault
-use Rattle.acpi_base.specs.Memory.{Memory, first_held, with_bytes}
+use Rattle.acpi_base.specs.Memory.{Memory, first_present, with_bytes}
 
--- the bytes would pass the address 2^64 - 1, or the least of their addresses that is held already
+-- the bytes would pass the address 2^64 - 1, or the least of their addresses that is present already
 abbrev pub add_refusal : Memory → ℕ → List ℕ → Option ImageFault
 add_refusal m base bytes =
     if nat_lt (2 ^ 64) (base + length bytes)
     then Some PastEnd
-    else option_map (λ address. Twice address) (first_held m base (length bytes))
+    else option_map (λ address. Twice address) (first_present m base (length bytes))
 
 -- the memory with these bytes put in, or the least of their addresses that it holds already
 abbrev pub added : Memory → ℕ → List ℕ → Result Memory ℕ
-added m base bytes = option_map_or (λ address. Err address) (first_held m base (length bytes)) (Ok (with_bytes m base bytes))
+added m base bytes = option_map_or (λ address. Err address) (first_present m base (length bytes)) (Ok (with_bytes m base bytes))
 
 -- why runs that come to this give no image: an address comes twice, or none does and memory ran out
 abbrev pub IsLayoutRefusal : Result Memory ℕ → ImageFault → Type 0
-IsLayoutRefusal held refusal =
-    ((m : Memory) × (refusal ≡ fault.Memory) × (held ≡ Ok m))
-    ⊎ ((address : ℕ) × (refusal ≡ Twice address) × (held ≡ Err address))
+IsLayoutRefusal present refusal =
+    ((m : Memory) × (refusal ≡ fault.Memory) × (present ≡ Ok m))
+    ⊎ ((address : ℕ) × (refusal ≡ Twice address) × (present ≡ Err address))

@@ -32,7 +32,7 @@ memory_of [] = empty
 memory_of (r ∷ rs) = with_bytes (memory_of rs) r.base r.bytes
 
 -- a run with something in it, of bytes, below the address 2^64
-pub record IsWhole (r : Run) : Type 0 where
+pub record IsComplete (r : Run) : Type 0 where
   pub filled : 0 < length r.bytes
   pub fits : end_of r ≤ 2 ^ 64
   pub bytes : AllByRecursion (λ b. b < 256) r.bytes

@@ -6,7 +6,7 @@ use Rattle.acpi_base.specs.Memory.{Memory, IsImage, run_of}
 use Rattle.acpi_base.specs.Image.Runs.{Run, byte_in, lookup, end_of}
 use Rattle.acpi_base.specs.Image.Pieces.{Piece, end_at, LiesBefore, all_runs, memory_in_store}
 
--- an address that is not held lies between each segment and all later ones
+-- an address that is not present lies between each segment and all later ones
 abbrev pub AreSegmentsApart : List Piece → Type 0
 AreSegmentsApart [] = Unit {0}
 AreSegmentsApart (p ∷ ps) = (0 < p.1.len) × AllByRecursion (λ q. end_at p < q.0) ps × AreSegmentsApart ps
@@ -26,8 +26,8 @@ runs_of s = all_runs s.store s.ended.items s.base s.start
 abbrev pub memory_in : Segments → Memory
 memory_in s = memory_in_store s.store s.ended.items s.base s.start
 
-abbrev pub IsSound : Segments → Type 0
-IsSound s = AreSegments s.store s.ended.items s.base s.start
+abbrev pub IsValid : Segments → Type 0
+IsValid s = AreSegments s.store s.ended.items s.base s.start
 
 -- the address behind the open segment
 abbrev pub end_in : Segments → ℕ
@@ -47,7 +47,7 @@ pub record IsRunAt (rs : List Run) (a : ℕ) (r : Run) : Type 0 where
 abbrev pub IsGap : List Run → ℕ → ℕ → Type 0
 IsGap rs a b = (x : ℕ) → a ≤ x → x < b → lookup rs x ≡ None
 
--- these are the bytes from a on, up to the first address that is not held
+-- these are the bytes from a on, up to the first address that is not present
 pub record IsRest (rs : List Run) (a : ℕ) (bytes : List ℕ) : Type 0 where
-  pub held : run_of (lookup rs) a (length bytes) ≡ Some bytes
+  pub present : run_of (lookup rs) a (length bytes) ≡ Some bytes
   pub none_behind : lookup rs (a + length bytes) ≡ None

@@ -1,6 +1,7 @@
 -- The first finding of each rule of advice.
-use Rattle.std.specs.Prelude.{◌≡◌, ◌<◌, ◌≤◌, ◌⊎◌}
+use Rattle.std.specs.Prelude.{◌≡◌, ℕ, List, [], ◌∷◌}
 use Rattle.acpi_base.specs.Memory.{Memory}
+use Rattle.acpi_base.specs.Order.{AreNotAfter}
 use Rattle.acpi_base.specs.Policy.{PolicyValue}
 use Rattle.acpi_base.specs.Lint.Rules.{IsBroken}
 use Rattle.acpi_base.specs.declared.rule.Advice.{Advice}
@@ -9,9 +10,13 @@ use Rattle.acpi_base.specs.declared.rule.Advice.{Advice}
 abbrev pub IsAdvice : Memory → PolicyValue → Advice → Type 0
 IsAdvice m q a = IsBroken a.rule m q a.at a.other a.point
 
--- a stands before b in the order by at, other and point, or is like it
+-- the numbers by which the findings of a rule are ordered
+abbrev pub order_of : Advice → List ℕ
+order_of a = a.at ∷ a.other ∷ a.point ∷ []
+
+-- a comes before b in that order, or is equal to it
 abbrev pub NotAfter : Advice → Advice → Type 0
-NotAfter a b = (a.at < b.at) ⊎ ((a.at ≡ b.at) × ((a.other < b.other) ⊎ ((a.other ≡ b.other) × (a.point ≤ b.point))))
+NotAfter a b = AreNotAfter (order_of a) (order_of b)
 
 -- the first advice of its rule: its rule is broken there, and at no numbers before
 pub record IsFirstAdvice (m : Memory) (q : PolicyValue) (a : Advice) : Type 0 where

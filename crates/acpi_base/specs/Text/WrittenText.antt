@@ -1,4 +1,4 @@
--- The written form of an image: for each run of held addresses, in rising order, `@` and its first address, and then its
+-- The written form of an image: for each run of present addresses, in rising order, `@` and its first address, and then its
 -- bytes, 16 a line. Digits are in lower case, addresses without leading zeros, and each line ends with LF.
 use Rattle.std.specs.Prelude.{◌≡◌, ℕ, zero, suc, ◌+◌, ◌/◌, ◌%◌, ◌<◌, ◌≤◌, List, [], ◌∷◌, ◌++◌, length, take, drop, Some, None, IsSome, false}
 use Rattle.std.specs.List.{flat_map}
@@ -6,14 +6,14 @@ use Rattle.std.specs.FinMap.{empty}
 use Rattle.std.specs.Fmt.{digits, digit_glyph}
 use Rattle.acpi_base.specs.Text.ImageText.{max_text, IsText}
 use Rattle.acpi_base.specs.Memory.{Memory, byte_of, bytes_at, with_bytes}
-use Rattle.acpi_base.specs.Image.Runs.{Run, end_of, IsWhole}
+use Rattle.acpi_base.specs.Image.Runs.{Run, end_of, IsComplete}
 
 -- ---- the runs of an image
 
 -- runs in rising order, from an address on, with at least one address between each two
 abbrev pub AreSortedRuns : ℕ → List Run → Type 0
 AreSortedRuns from [] = Unit {0}
-AreSortedRuns from (r ∷ rs) = (from ≤ r.base) × IsWhole r × AreSortedRuns (end_of r + 1) rs
+AreSortedRuns from (r ∷ rs) = (from ≤ r.base) × IsComplete r × AreSortedRuns (end_of r + 1) rs
 
 -- an image with what the runs hold put in
 unfoldable pub with_runs : Memory → List Run → Memory
@@ -28,12 +28,12 @@ IsEmptyFrom m from = (x : ℕ) → from ≤ x → byte_of m x ≡ None
 pub record IsFirstFrom (m : Memory) (from first : ℕ) : Type 0 where
   pub from_there : from ≤ first
   pub none_before : (x : ℕ) → from ≤ x → x < first → byte_of m x ≡ None
-  pub held : IsSome (byte_of m first)
+  pub present : IsSome (byte_of m first)
 
--- these bytes are the first that an image holds from an address on, up to the next address that is not held
+-- these bytes are the first that an image holds from an address on, up to the next address that is not present
 pub record IsNextRun (m : Memory) (from base : ℕ) (bytes : List ℕ) : Type 0 where
   pub first : IsFirstFrom m from base
-  pub held : bytes_at m base (length bytes) ≡ Some bytes
+  pub present : bytes_at m base (length bytes) ≡ Some bytes
   pub none_behind : byte_of m (base + length bytes) ≡ None
 
 -- ---- their text

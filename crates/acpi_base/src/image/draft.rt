@@ -11,7 +11,7 @@ ghost use Rattle.acpi_base.specs.Memory.{Memory, IsImage};
 ghost use Rattle.acpi_base.specs.Image.Adding.{IsLayoutRefusal, added};
 ghost use Rattle.acpi_base.specs.Image.Draft.{AreDrafted, ComesTwice, EndsAt, IsFirstTwice, IsOnceBefore, all_added, holder_count};
 ghost use Rattle.acpi_base.specs.Image.Pieces.{runs_in};
-ghost use Rattle.acpi_base.specs.Image.Segments.{AreSegmentsApart, IsSound, memory_in};
+ghost use Rattle.acpi_base.specs.Image.Segments.{AreSegmentsApart, IsValid, memory_in};
 ghost use Rattle.acpi_base.specs.Text.ImageText.{on_ok};
 
 use super::segments::Segments;
@@ -21,7 +21,7 @@ use std::alloc::{AllocError, Global};
 use std::marker::Model;
 
 /// How many of the piece's bytes are among the first `count` of the store.
-fn held_before(span: Span, count: usize) -> usize
+fn present_before(span: Span, count: usize) -> usize
     ensures { result ≡ min span.len (count - span.start) }
 {
     span.len.min(count.saturating_sub(span.start))
@@ -37,14 +37,14 @@ fn twice_before(pieces: &[(u64, Span)], count: usize) -> Option<u64>
     let mut end: u128 = 0;
     for i in 0..pieces.len() {
         let (first, span) = pieces[i];
-        let held = held_before(span, count);
-        if held == 0 {
+        let present = present_before(span, count);
+        if present == 0 {
             continue;
         }
         if u128::from(first) < end {
             return Some(first);
         }
-        end = u128::from(first) + held as u128;
+        end = u128::from(first) + present as u128;
     }
     None
 }
@@ -120,7 +120,7 @@ fn adopt(
 ) -> Result<Segments, AllocError>
     requires draft { AreDrafted store.items pieces.items }
     requires apart { AreSegmentsApart pieces.items }
-    ensures sound { IfOk result IsSound }
+    ensures valid { IfOk result IsValid }
     ensures same { IfOk result
         (λ segments. all_added empty (runs_in store.items pieces.items) ≡ Ok (memory_in segments)) }
 {
@@ -140,7 +140,7 @@ fn lay_out(
     ensures same { MatchResult result
         (λ segments. all_added empty (runs_in store.now pieces.items) ≡ Ok (memory_in segments))
         (IsLayoutRefusal (all_added empty (runs_in store.now pieces.items))) }
-    ensures sound { IfOk result IsSound }
+    ensures valid { IfOk result IsValid }
 {
     if let Some(address) = judge(store, &mut pieces) {
         return Err(ImageFault::Twice { address });

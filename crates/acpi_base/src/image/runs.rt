@@ -1,7 +1,7 @@
 //! The runs of an image, in rising order of addresses.
 
 ghost use Rattle.std.specs.Prelude.{MatchOption};
-ghost use Rattle.acpi_base.specs.Image.Segments.{IsSound, memory_in};
+ghost use Rattle.acpi_base.specs.Image.Segments.{IsValid, memory_in};
 ghost use Rattle.acpi_base.specs.Image.Windows.{AreBytesFrom};
 ghost use Rattle.acpi_base.specs.Text.WrittenText.{IsEmptyFrom, IsNextRun};
 
@@ -10,7 +10,7 @@ use crate::image::segments::Segments;
 
 /// The first run from an address on.
 fn next_run(segments: &Segments, address: u64) -> Option<(u64, &[u8])>
-    requires { IsSound segments.now }
+    requires { IsValid segments.now }
     ensures { MatchOption result (IsEmptyFrom (memory_in segments.now) address)
         (λ found. IsNextRun (memory_in segments.now) address found.0 found.1.now) }
 {

@@ -11,7 +11,7 @@ ghost use Rattle.acpi_base.specs.Memory.{run_of, least_defined, with_bytes, byte
 ghost use Rattle.acpi_base.specs.Number.{byte_sum};
 ghost use Rattle.acpi_base.specs.Image.Runs.{lookup};
 ghost use Rattle.acpi_base.specs.Image.Pieces.{LiesBefore, AreSortedDisjoint, end_at, memory_in_store, run_in, runs_in};
-ghost use Rattle.acpi_base.specs.Image.Segments.{AreSegments, IsGap, IsPartitionPoint, IsRest, IsRunAt, IsSound, end_in, memory_in, runs_of};
+ghost use Rattle.acpi_base.specs.Image.Segments.{AreSegments, IsGap, IsPartitionPoint, IsRest, IsRunAt, IsValid, end_in, memory_in, runs_of};
 
 use super::prefix_sums::PrefixSums;
 use super::span::Span;
@@ -29,7 +29,7 @@ pub struct Segments {
 impl Segments {
     /// No bytes. Takes no memory.
     pub fn new(alloc: Global) -> Segments
-        ensures sound { IsSound result }
+        ensures valid { IsValid result }
         ensures nothing { memory_in result ≡ empty }
     {
         Segments {
@@ -42,7 +42,7 @@ impl Segments {
 
     /// No bytes, and memory for this many.
     pub fn with_capacity(alloc: Global, count: usize) -> Result<Segments, AllocError>
-        ensures sound { IfOk result IsSound }
+        ensures valid { IfOk result IsValid }
         ensures nothing { IfOk result (λ segments. memory_in segments ≡ empty) }
         ensures end { IfOk result (λ segments. end_in segments ≡ 0) }
     {
@@ -63,7 +63,7 @@ impl Segments {
         start: usize,
     ) -> Result<Segments, AllocError>
         requires { AreSegments store.items ended.items base start }
-        ensures sound { IfOk result IsSound }
+        ensures valid { IfOk result IsValid }
         ensures same { IfOk result
             (λ segments. memory_in segments ≡ memory_in_store store.items ended.items base start) }
     {
@@ -77,7 +77,7 @@ impl Segments {
 
     /// How many of the ended segments begin at the address or before it.
     fn place(&self, address: u64) -> usize
-        requires { IsSound self.now }
+        requires { IsValid self.now }
         ensures within { result ≤ length self.now.ended.items }
         ensures place { IsPartitionPoint self.now.ended.items address result }
     {
@@ -85,7 +85,7 @@ impl Segments {
     }
 
     fn open(&self) -> &[u8]
-        requires { IsSound self.now }
+        requires { IsValid self.now }
         ensures { result.now ≡ drop self.now.start self.now.store }
     {
         &self.store.bytes()[self.start..]
@@ -93,7 +93,7 @@ impl Segments {
 
     /// The last segment that begins at an address or before it: its base, and the span of its bytes.
     fn piece_reaching(&self, address: u64) -> Option<(u64, Span)>
-        requires { IsSound self.now }
+        requires { IsValid self.now }
         ensures reached { MatchOption result (lookup (runs_of self.now) address ≡ None)
             (λ piece. IsRunAt (runs_of self.now) address (run_in self.now.store piece)) }
         ensures lies { IfSome result
@@ -117,7 +117,7 @@ impl Segments {
 
     /// Where the bytes from an address on are, up to the next address without a byte. None if that is the address itself.
     fn span_from(&self, address: u64) -> Span
-        requires { IsSound self.now }
+        requires { IsValid self.now }
         ensures lies { result.start + result.len ≤ length self.now.store }
         ensures rest { IsRest (runs_of self.now) address
             (take result.len (drop result.start self.now.store)) }
@@ -134,7 +134,7 @@ impl Segments {
 
     /// The bytes from an address on, up to the next address without a byte. None if that is the address itself.
     pub fn rest_from(&self, address: u64) -> &[u8]
-        requires { IsSound self.now }
+        requires { IsValid self.now }
         ensures { IsRest (runs_of self.now) address result.now }
     {
         self.span_from(address).bytes(self.store.bytes())
@@ -142,7 +142,7 @@ impl Segments {
 
     /// The byte at an address.
     pub fn byte_at(&self, address: u64) -> Option<u8>
-        requires { IsSound self.now }
+        requires { IsValid self.now }
         ensures { result ≡ lookup (runs_of self.now) address }
     {
         self.rest_from(address).first().copied()
@@ -150,7 +150,7 @@ impl Segments {
 
     /// The span of the bytes at this many addresses, if one segment has them all.
     fn window_span(&self, address: u64, count: u64) -> Option<Span>
-        requires { IsSound self.now }
+        requires { IsValid self.now }
         ensures bytes { option_map (λ span. take span.len (drop span.start self.now.store))
             result ≡ run_of (lookup (runs_of self.now)) address count }
         ensures count { IfSome result (λ span. span.len ≡ count) }
@@ -168,7 +168,7 @@ impl Segments {
 
     /// The bytes at this many addresses, if one segment has them all.
     pub fn window(&self, address: u64, count: u64) -> Option<&[u8]>
-        requires { IsSound self.now }
+        requires { IsValid self.now }
         ensures bytes { option_map (λ bytes. bytes.now) result ≡ run_of (lookup (runs_of self.now))
             address count }
         ensures count { IfSome result (λ bytes. length bytes.now ≡ count) }
@@ -179,7 +179,7 @@ impl Segments {
 
     /// The sum of the bytes at this many addresses, if one segment has them all.
     pub fn window_sum(&self, address: u64, count: u64) -> Option<u8>
-        requires { IsSound self.now }
+        requires { IsValid self.now }
         ensures { result ≡ option_map byte_sum (run_of (lookup (runs_of self.now)) address count) }
     {
         let span = self.window_span(address, count)?;
@@ -188,7 +188,7 @@ impl Segments {
 
     /// The lowest base of a segment after an address without a byte.
     fn next_base(&self, address: u64) -> Option<u64>
-        requires sound { IsSound self.now }
+        requires valid { IsValid self.now }
         requires free { lookup (runs_of self.now) address ≡ None }
         ensures none { result ≡ None → (x : ℕ) → address ≤ x → lookup (runs_of self.now) x ≡ None }
         ensures some { IfSome result
@@ -207,7 +207,7 @@ impl Segments {
 
     /// The lowest address with a byte, from an address on.
     pub fn first_from(&self, address: u64) -> Option<u64>
-        requires { IsSound self.now }
+        requires { IsValid self.now }
         ensures none { result ≡ None → (x : ℕ) → address ≤ x → lookup (runs_of self.now) x ≡ None }
         ensures some { IfSome result
             (λ first. (address ≤ first) × IsSome (lookup (runs_of self.now) first)
@@ -221,8 +221,8 @@ impl Segments {
 
     /// The lowest of this many addresses that has a byte.
     #[tactic(auto, using(crate::proofs::Images::Searches::first_in_gap))]
-    pub fn first_held(&self, base: u64, count: u64) -> Option<u64>
-        requires sound { IsSound self.now }
+    pub fn first_present(&self, base: u64, count: u64) -> Option<u64>
+        requires valid { IsValid self.now }
         requires some { 0 < count }
         ensures { result ≡ least_defined (lookup (runs_of self.now)) base count }
     {
@@ -236,9 +236,9 @@ impl Segments {
 
     /// Ends the open segment, unless bytes from `base` on follow it.
     fn begin(&mut self, base: u64) -> Result<(), AllocError>
-        requires sound { IsSound self.old }
+        requires valid { IsValid self.old }
         requires behind { end_in self.old ≤ base }
-        ensures sound { IsSound self.new }
+        ensures valid { IsValid self.new }
         ensures same { memory_in self.new ≡ memory_in self.old }
         ensures at { OnOk result (base ≡ end_in self.new) }
     {
@@ -262,10 +262,10 @@ impl Segments {
 
     /// Appends bytes at addresses after all others.
     pub fn take(&mut self, base: u64, bytes: &[u8]) -> Result<(), AllocError>
-        requires sound { IsSound self.old }
+        requires valid { IsValid self.old }
         requires behind { end_in self.old ≤ base }
         requires fits { base + length bytes.now ≤ 2 ^ 64 }
-        ensures sound { IsSound self.new }
+        ensures valid { IsValid self.new }
         ensures ok { OnOk result
             (memory_in self.new ≡ with_bytes (memory_in self.old) base bytes.now) }
         ensures err { OnErr result (memory_in self.new ≡ memory_in self.old) }
@@ -278,11 +278,11 @@ impl Segments {
 
     /// Appends the bytes of pieces in another store, which are sorted by address.
     pub fn take_all(&mut self, store: &[u8], pieces: &[(u64, Span)]) -> Result<(), AllocError>
-        requires sound { IsSound self.old }
+        requires valid { IsValid self.old }
         requires rising { AreSortedDisjoint pieces.now }
         requires lies { AllByRecursion (LiesBefore (length store.now)) pieces.now }
         requires behind { AllByRecursion (λ p. end_in self.old ≤ p.0) pieces.now }
-        ensures sound { OnOk result (IsSound self.new) }
+        ensures valid { OnOk result (IsValid self.new) }
         ensures whole { OnOk result
             ((x : ℕ) → byte_of (memory_in self.new) x ≡ option_or (byte_of (memory_in self.old) x)
             (lookup (runs_in store.now pieces.now) x)) }
@@ -297,12 +297,12 @@ impl Segments {
 
     /// These bytes and more, which come before the open segment and overlap nothing.
     fn with(&self, alloc: Global, base: u64, bytes: &[u8]) -> Result<Segments, AllocError>
-        requires sound { IsSound self.now }
+        requires valid { IsValid self.now }
         requires before { base < self.now.base }
         requires some { 0 < length bytes.now }
         requires fits { base + length bytes.now ≤ 2 ^ 64 }
         requires free { IsGap (runs_of self.now) base (base + length bytes.now) }
-        ensures sound { IfOk result IsSound }
+        ensures valid { IfOk result IsValid }
         ensures ok { IfOk result
             (λ all. memory_in all ≡ with_bytes (memory_in self.now) base bytes.now) }
     {
@@ -321,11 +321,11 @@ impl Segments {
     /// Adds bytes at free addresses. After all others they are appended; otherwise the segments are laid out anew, which
     /// copies all bytes.
     pub fn put(&mut self, alloc: Global, base: u64, bytes: &[u8]) -> Result<(), AllocError>
-        requires sound { IsSound self.old }
+        requires valid { IsValid self.old }
         requires some { 0 < length bytes.now }
         requires fits { base + length bytes.now ≤ 2 ^ 64 }
         requires free { IsGap (runs_of self.old) base (base + length bytes.now) }
-        ensures sound { IsSound self.new }
+        ensures valid { IsValid self.new }
         ensures ok { OnOk result
             (memory_in self.new ≡ with_bytes (memory_in self.old) base bytes.now) }
         ensures err { OnErr result (memory_in self.new ≡ memory_in self.old) }

@@ -1,4 +1,4 @@
--- Tables whose entries are sound are filled by them, each of a length of its type.
+-- Tables whose entries are valid are filled by them, each of a length of its type.
 use Rattle.std.proofs.Common.{ℕ, List}
 use Rattle.acpi_base.specs.Madt as madt
 use Rattle.acpi_base.specs.Srat as srat
@@ -8,25 +8,25 @@ use Rattle.acpi_read.specs.FilledTables.{IsFilledMadt, IsFilledSrat, IsFilledPpt
 use Rattle.acpi_read.specs.Madts as madts
 use Rattle.acpi_read.specs.Srats as srats
 
-own_madt : (q : PolicyValue) (e : madt.MadtEntry) → madt.IsSoundMadtEntry q e → madts.IsOfOwnLength e
-own_madt q (madt.Opaque e) sound = sound
-own_madt q _ sound = tt
+own_madt : (q : PolicyValue) (e : madt.MadtEntry) → madt.IsValidMadtEntry q e → madts.IsOfOwnLength e
+own_madt q (madt.Opaque e) valid = valid
+own_madt q _ valid = tt
 
-own_srat : (e : srat.SratEntry) → srat.IsSoundSratEntry e → srats.IsOfOwnLength e
-own_srat (srat.Opaque e) sound = sound
-own_srat _ sound = tt
+own_srat : (e : srat.SratEntry) → srat.IsValidSratEntry e → srats.IsOfOwnLength e
+own_srat (srat.Opaque e) valid = valid
+own_srat _ valid = tt
 
-pub filled_madt : (q : PolicyValue) (whole : List ℕ) → madt.IsSoundMadt q (madt.madt_contents whole)
+pub filled_madt : (q : PolicyValue) (whole : List ℕ) → madt.IsValidMadt q (madt.madt_contents whole)
     → IsFilledMadt whole
 unfolding madt.madt_contents
-filled_madt q whole sound =
-    record { long = sound.long; filled = sound.filled; lengths = λ o e stands. own_madt q e (sound.entries o e stands) }
+filled_madt q whole valid =
+    record { long = valid.long; filled = valid.filled; lengths = λ o e stands. own_madt q e (valid.entries o e stands) }
 
-pub filled_srat : (whole : List ℕ) → srat.IsSoundSrat (srat.srat_contents whole) → IsFilledSrat whole
+pub filled_srat : (whole : List ℕ) → srat.IsValidSrat (srat.srat_contents whole) → IsFilledSrat whole
 unfolding srat.srat_contents
-filled_srat whole sound =
-    record { long = sound.long; filled = sound.filled; lengths = λ o e stands. own_srat e (sound.entries o e stands) }
+filled_srat whole valid =
+    record { long = valid.long; filled = valid.filled; lengths = λ o e stands. own_srat e (valid.entries o e stands) }
 
 pub filled_pptt : (whole : List ℕ) → pptt.IsCutPptt (pptt.pptt_contents whole) → IsFilledPptt whole
 unfolding pptt.pptt_contents
-filled_pptt whole sound = record { filled = sound.filled; lengths = sound.lengths }
+filled_pptt whole valid = record { filled = valid.filled; lengths = valid.lengths }

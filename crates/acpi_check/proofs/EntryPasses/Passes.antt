@@ -140,15 +140,15 @@ none_said read first whole short o e stands =
     (none_in_short first whole short).1 o bytes here
 
 -- a result that is this fault says what the fault does
-pub reported : (s : Stage) (Sound : Type 0) (IsFault : Code → ℕ → ℕ → ℕ → Type 0) (w : Witness) (r : Result ⊤ Refusal)
-    → IsErr r → IsErrAnd r (λ v. v ≡ Fault w) → IsFirstOfTable s IsFault w → FindsFirst s Sound IsFault r
-reported s Sound IsFault w (Ok _) err is first = absurd cc
-reported s Sound IsFault w (Err v) err is first = rw is first
+pub reported : (s : Stage) (Valid : Type 0) (IsFault : Code → ℕ → ℕ → ℕ → Type 0) (w : Witness) (r : Result ⊤ Refusal)
+    → IsErr r → IsErrAnd r (λ v. v ≡ Fault w) → IsFirstOfTable s IsFault w → FindsFirst s Valid IsFault r
+reported s Valid IsFault w (Ok _) err is first = absurd cc
+reported s Valid IsFault w (Err v) err is first = rw is first
 
 -- a refusal for the fault that was found, where one was, says what this says
-pub refused : (s : Stage) (Sound : Type 0) (IsFault : Code → ℕ → ℕ → ℕ → Type 0) (found : Option Witness)
+pub refused : (s : Stage) (Valid : Type 0) (IsFault : Code → ℕ → ℕ → ℕ → Type 0) (found : Option Witness)
     (r : Result ⊤ Refusal)
-    → MatchOption found (r ≡ Ok tt) (λ w. r ≡ Err (Fault w)) → FindsFault s Sound IsFault found
-    → FindsFirst s Sound IsFault r
-refused s Sound IsFault None r is sound = rw is sound
-refused s Sound IsFault (Some w) r is first = rw is first
+    → MatchOption found (r ≡ Ok tt) (λ w. r ≡ Err (Fault w)) → FindsFault s Valid IsFault found
+    → FindsFirst s Valid IsFault r
+refused s Valid IsFault None r is valid = rw is valid
+refused s Valid IsFault (Some w) r is first = rw is first

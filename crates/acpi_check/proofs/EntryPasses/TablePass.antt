@@ -14,7 +14,7 @@ use Rattle.acpi_base.proofs.Elements.{first_element, later_element}
 use Rattle.acpi_base.proofs.Entries.{none_in_short}
 use Rattle.acpi_base.proofs.Faults.Numbers.{same_code}
 use Rattle.acpi_base.proofs.Faults.Order.{not_after}
-use Rattle.acpi_base.proofs.Images.HeldBytes.{none_and_some, same_value}
+use Rattle.acpi_base.proofs.Images.PresentBytes.{none_and_some, same_value}
 use Rattle.acpi_read.specs.EntryTables.{EntryTable, entries_in, IsAbout, AreFaults, is_code, subject_of}
 use Rattle.acpi_read.specs.declared.entry_codes.EntryCodes.{EntryCodes}
 use Rattle.acpi_read.specs.declared.entry_codes.Subject.{Subject}
@@ -114,19 +114,19 @@ at_first t whole long =
 pub at_next : {E : Type 0} (t : EntryTable E) (codes : EntryCodes) (whole : List ℕ) (s : PlacedEntry (List ℕ))
     (left : List (PlacedEntry (List ℕ))) (earlier now : Option ℕ) → IsAt t whole (s ∷ left) earlier
     → PassesEntry t codes s.offset (t.read s.entry) earlier (Ok now) → IsAt t whole left now
-at_next t codes whole s left earlier now here (sound, inl (is, none, first)) =
+at_next t codes whole s left earlier now here (valid, inl (is, none, first)) =
     record {
       long = here.long;
-      pass = one_more here.pass (sound, λ _. first)
+      pass = one_more here.pass (valid, λ _. first)
           (λ o e before passed. (passed.0, λ other. absurd (none_and_some none (passed.1 other))));
       first = λ o at. subst (λ k. StandsWith (entries_in t whole) k t.IsSingle) (same_value s.offset o first at)
           (t.read s.entry, next_stands here.pass, is);
       before = λ o p e at stands. omega (arith, same_value s.offset o first at, left_behind here.pass p e stands);
     }
-at_next t codes whole s left earlier now here (sound, inr (is_not, same)) =
+at_next t codes whole s left earlier now here (valid, inr (is_not, same)) =
     record {
       long = here.long;
-      pass = one_more here.pass (sound, λ is. absurd (is_not is))
+      pass = one_more here.pass (valid, λ is. absurd (is_not is))
           (λ o e before passed. (passed.0, λ is. same ∙ passed.1 is));
       first = λ o at. here.first o (sym same ∙ at);
       before = λ o p e at stands. here.before o p e (sym same ∙ at)
@@ -136,15 +136,15 @@ at_next t codes whole s left earlier now here (sound, inr (is_not, same)) =
 -- ---- where it stops
 
 -- an entry of which a table has at most one has no fault by itself
-abbrev pub AreSoundSingles : {E : Type 0} → EntryTable E → Type 0
-AreSoundSingles {E} t = (c : Code) (e : E) → t.IsSingle e → ¬ t.IsOwn c e
+abbrev pub AreValidSingles : {E : Type 0} → EntryTable E → Type 0
+AreValidSingles {E} t = (c : Code) (e : E) → t.IsSingle e → ¬ t.IsOwn c e
 
 -- what is found of an entry
 abbrev IsFound : {E : Type 0} → EntryTable E → EntryCodes → E → Option ℕ → Witness → Type 0
 IsFound t codes e earlier w = IsOwnFault (λ c. t.IsOwn c e) w ⊎ IsSecondFault (t.IsSingle e) codes earlier w
 
 -- a second entry where there is at most one comes with the least fault of the next entry or behind it
-second_after : {E : Type 0} (t : EntryTable E) (codes : EntryCodes) → AreSoundSingles t → (whole : List ℕ)
+second_after : {E : Type 0} (t : EntryTable E) (codes : EntryCodes) → AreValidSingles t → (whole : List ℕ)
     (s : PlacedEntry (List ℕ)) (left : List (PlacedEntry (List ℕ))) (earlier : Option ℕ) (w : Witness)
     → IsAt t whole (s ∷ left) earlier → w.at ≡ s.offset → IsFound t codes (t.read s.entry) earlier w
     → (c : Code) → subject_of codes c ≡ Second → (at other point : ℕ) → IsAbout t whole Second c at other point
@@ -179,7 +179,7 @@ second_after t codes singles whole s left earlier w here place fault c about at 
     ]
 
 -- no fault of the table stands before the least fault of the next entry
-none_before : {E : Type 0} (t : EntryTable E) (codes : EntryCodes) → AreSoundSingles t → (whole : List ℕ)
+none_before : {E : Type 0} (t : EntryTable E) (codes : EntryCodes) → AreValidSingles t → (whole : List ℕ)
     (s : PlacedEntry (List ℕ)) (left : List (PlacedEntry (List ℕ))) (earlier : Option ℕ) (w : Witness)
     → IsAt t whole (s ∷ left) earlier → w.at ≡ s.offset → IsFound t codes (t.read s.entry) earlier w
     → (about : Subject) (c : Code) → subject_of codes c ≡ about → (at other point : ℕ)
@@ -199,7 +199,7 @@ none_before t codes singles whole s left earlier w here place fault Own c is at 
     ]) c at other point wrong unused
 
 -- the pass stops at the first fault
-pub stops : {E : Type 0} (t : EntryTable E) (codes : EntryCodes) → AreSoundSingles t
+pub stops : {E : Type 0} (t : EntryTable E) (codes : EntryCodes) → AreValidSingles t
     → ((c : Code) (e : E) → t.IsOwn c e → subject_of codes c ≡ Own) → (whole : List ℕ)
     (s : PlacedEntry (List ℕ)) (left : List (PlacedEntry (List ℕ))) (earlier : Option ℕ) (w : Witness)
     → IsAt t whole (s ∷ left) earlier → PassesEntry t codes s.offset (t.read s.entry) earlier (Err w)
@@ -236,10 +236,10 @@ only_cut t whole earlier here Own c at other point ((e, stands, wrong), _) =
     absurd ((all_passed here.pass at e stands).0 c wrong)
 
 -- there is none where the entries that were passed fill the table
-pub ends_sound : {E : Type 0} (t : EntryTable E) (whole : List ℕ) (earlier : Option ℕ) → IsAt t whole [] earlier
+pub ends_valid : {E : Type 0} (t : EntryTable E) (whole : List ℕ) (earlier : Option ℕ) → IsAt t whole [] earlier
     → cut_of t.first whole ≡ None → (about : Subject) (c : Code) (at other point : ℕ)
     → ¬ IsAbout t whole about c at other point
-ends_sound t whole earlier here filled about c at other point wrong =
+ends_valid t whole earlier here filled about c at other point wrong =
     none_and_some filled (only_cut t whole earlier here about c at other point wrong).1
 
 -- and such bytes are the first fault
@@ -282,8 +282,8 @@ short_first t codes whole code short is =
 
 pub first_of_stage : {E : Type 0} {s : Stage} {codes : EntryCodes} {table : PolicyValue → EntryTable E}
     {IsFault : PolicyValue → List ℕ → Code → ℕ → ℕ → ℕ → Type 0}
-    {IsSound : PolicyValue → List ℕ → Type 0} (q : PolicyValue) (whole : List ℕ) (w : Witness)
-    → AreFaults s codes table IsFault IsSound → IsFirst (table q) codes whole w
+    {IsValid : PolicyValue → List ℕ → Type 0} (q : PolicyValue) (whole : List ℕ) (w : Witness)
+    → AreFaults s codes table IsFault IsValid → IsFirst (table q) codes whole w
     → IsFirstOfTable s (IsFault q whole) w
 first_of_stage q whole w are first =
     let fault = are.fault q whole w.code w.at w.other w.point first.fault in

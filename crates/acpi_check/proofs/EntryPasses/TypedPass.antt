@@ -5,21 +5,21 @@ use Rattle.std.specs.Option.{is_some}
 use Rattle.std.proofs.lemmas.Option.{none-some}
 use Rattle.acpi_base.specs.Entries.{PlacedEntry, Stands}
 use Rattle.acpi_base.specs.Madt.{MadtEntry, MadtContents, Opaque, madt_contents, IsWhollyTyped}
-use Rattle.acpi_check.specs.Leaves.{is_typed}
+use Rattle.acpi_check.specs.Leaves.{has_known_type}
 use Rattle.acpi_check.proofs.EntryPasses.Passes.{HasPassed, next_stands, all_passed}
 
 -- the pass has these entries left, and those before them are typed
 abbrev pub IsAt : MadtContents → List (PlacedEntry MadtEntry) → Type 0
-IsAt madt left = HasPassed madt.entries left (λ o e. is_typed e ≡ true)
+IsAt madt left = HasPassed madt.entries left (λ o e. has_known_type e ≡ true)
 
 -- an entry that is not typed
-opaque : (e : MadtEntry) → is_typed e ≡ false → (bytes : List ℕ) × (e ≡ Opaque bytes)
+opaque : (e : MadtEntry) → has_known_type e ≡ false → (bytes : List ℕ) × (e ≡ Opaque bytes)
 opaque (Opaque bytes) is = (bytes, refl)
 opaque _ is = absurd (true≢false is)
 
 -- where the next one is not typed, not all are
 pub stops : (madt : MadtContents) (s : PlacedEntry MadtEntry) (left : List (PlacedEntry MadtEntry))
-    → IsAt madt (s ∷ left) → is_typed s.entry ≡ false → ¬ IsWhollyTyped madt
+    → IsAt madt (s ∷ left) → has_known_type s.entry ≡ false → ¬ IsWhollyTyped madt
 stops madt s left here untyped typed =
     let (bytes, is) = opaque s.entry untyped in
     typed.typed s.offset bytes (subst (Stands madt.entries s.offset) is (next_stands here))

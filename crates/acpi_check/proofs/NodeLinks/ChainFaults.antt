@@ -1,9 +1,9 @@
--- From the cycle that is found of the chains of a PPTT to its first fault, where its references are sound.
+-- From the cycle that is found of the chains of a PPTT to its first fault, where its references are valid.
 use Rattle.std.proofs.Common.{◌≡◌, ℕ, List, Option, Some, None, refl, sym, subst, inl, inr}
 use Rattle.acpi_base.specs.Chains.{AllEnd, IsCycle, EndOrGoRound}
 use Rattle.acpi_base.specs.Codes.{stage_of}
 use Rattle.acpi_base.specs.Faults.{NotAfter}
-use Rattle.acpi_base.specs.Pptt.{PpttContents, pptt_contents, NamesParent, NamesNextLevel, AreReferencesSound, DoParentsEnd, DoCachesEnd, ParentFault, CacheFault, most_nodes, most_caches}
+use Rattle.acpi_base.specs.Pptt.{PpttContents, pptt_contents, NamesParent, NamesNextLevel, AreReferencesValid, DoParentsEnd, DoCachesEnd, ParentFault, CacheFault, most_nodes, most_caches}
 use Rattle.acpi_base.specs.declared.code.Code.{Code}
 use Rattle.acpi_base.specs.declared.code.Code.TheVariants as code
 use Rattle.acpi_base.specs.declared.stage.Stage.{Stage}
@@ -52,11 +52,11 @@ parent_cycle : (c : PpttContents) (fault : Code) (at other point : ℕ) → Pare
 parent_cycle c code.ParentCycle at other point cycle = (refl, cycle)
 parent_cycle c _ at other point wrong = absurd wrong
 
-pub parents_found : (whole : List ℕ) → AreReferencesSound (pptt_contents whole) → (found : Option Witness)
+pub parents_found : (whole : List ℕ) → AreReferencesValid (pptt_contents whole) → (found : Option Witness)
     → FindsCycle chain.Parents (pptt_contents whole) found
     → FindsFault stage.Parents (DoParentsEnd (pptt_contents whole)) (ParentFault (pptt_contents whole)) found
-parents_found whole sound None none = all_end (parents_end_or_go_round whole sound) none
-parents_found whole sound (Some w) (is, first) =
+parents_found whole valid None none = all_end (parents_end_or_go_round whole valid) none
+parents_found whole valid (Some w) (is, first) =
     first_fault stage.Parents code.ParentCycle (ParentFault (pptt_contents whole)) refl (λ at other point cycle. cycle)
     (parent_cycle (pptt_contents whole)) w is first
 
@@ -67,10 +67,10 @@ cache_cycle : (c : PpttContents) (fault : Code) (at other point : ℕ) → Cache
 cache_cycle c code.CacheCycle at other point cycle = (refl, cycle)
 cache_cycle c _ at other point wrong = absurd wrong
 
-pub caches_found : (whole : List ℕ) → AreReferencesSound (pptt_contents whole) → (found : Option Witness)
+pub caches_found : (whole : List ℕ) → AreReferencesValid (pptt_contents whole) → (found : Option Witness)
     → FindsCycle chain.NextLevels (pptt_contents whole) found
     → FindsFault stage.Caches (DoCachesEnd (pptt_contents whole)) (CacheFault (pptt_contents whole)) found
-caches_found whole sound None none = all_end (caches_end_or_go_round whole sound) none
-caches_found whole sound (Some w) (is, first) =
+caches_found whole valid None none = all_end (caches_end_or_go_round whole valid) none
+caches_found whole valid (Some w) (is, first) =
     first_fault stage.Caches code.CacheCycle (CacheFault (pptt_contents whole)) refl (λ at other point cycle. cycle)
     (cache_cycle (pptt_contents whole)) w is first

@@ -8,7 +8,7 @@ use Rattle.std.proofs.lemmas.Option.{same_Some, slice_get-get_or}
 use Rattle.acpi_base.specs.Chains.{IsAt, IsStep, LeadsTo, IsCycle}
 use Rattle.acpi_base.proofs.Chains.{IsNumbered, pigeonhole, cycle_begins}
 use Rattle.acpi_base.proofs.Faults.Least.{witness}
-use Rattle.acpi_base.proofs.Images.HeldBytes.{cases_Option}
+use Rattle.acpi_base.proofs.Images.PresentBytes.{cases_Option}
 use Rattle.acpi_base.specs.Faults.{NotAfter}
 use Rattle.acpi_base.specs.declared.code.Code.{Code}
 use Rattle.acpi_graph.specs.Parents as graph

@@ -7,7 +7,7 @@ use Rattle.acpi_base.specs.Entries.{PlacedEntry, Stands, StandsWith}
 use Rattle.acpi_base.specs.Pptt.{PpttEntry, Node, Cache, Opaque, pptt_type, pptt_contents, parent_of, next_level_of, HasOtherPpttLength, IsCutPptt}
 use Rattle.acpi_base.proofs.Elements.{first_element, later_element, first_or_later, no_element}
 use Rattle.acpi_check.specs.EntryPlaces.{ArePlaces, kind_of, is_node, is_cache, is_resource, kind_offsets}
-use Rattle.acpi_check.specs.declared.places.Kind.{Kind}
+use Rattle.acpi_check.specs.declared.places.PlaceKind.{PlaceKind}
 use Rattle.acpi_check.specs.declared.places.Places.{Places}
 use Rattle.acpi_check.specs.OffsetSets.{IsIn, Adds}
 use Rattle.acpi_check.specs.declared.offset_set.OffsetSet.{OffsetSet}
@@ -16,15 +16,15 @@ use Rattle.acpi_check.proofs.EntryPasses.Kept.{kept_has, kept_from}
 -- ---- entries of some kinds
 
 -- the offset of an entry of the kinds
-abbrev kept : (Kind → Bool) → PlacedEntry PpttEntry → Option ℕ
+abbrev kept : (PlaceKind → Bool) → PlacedEntry PpttEntry → Option ℕ
 kept kinds s = if kinds (kind_of s.entry) then Some s.offset else None
 
-kept_is : (kinds : Kind → Bool) (s : PlacedEntry PpttEntry) (o : ℕ) → kept kinds s ≡ Some o
+kept_is : (kinds : PlaceKind → Bool) (s : PlacedEntry PpttEntry) (o : ℕ) → kept kinds s ≡ Some o
     → (kinds (kind_of s.entry) ≡ true) × (o ≡ s.offset)
 kept_is kinds s o is = (let parts = cond_some (kinds (kind_of s.entry)) s.offset o is in (parts.0, sym parts.1))
 
 -- the offsets are those at which entries of the kinds stand
-stand : (kinds : Kind → Bool) (entries : List (PlacedEntry PpttEntry)) (o : ℕ)
+stand : (kinds : PlaceKind → Bool) (entries : List (PlacedEntry PpttEntry)) (o : ℕ)
     → Contains (kind_offsets kinds entries) o ↔ StandsWith entries o (λ e. kinds (kind_of e) ≡ true)
 stand kinds entries o =
     (from, λ (e, stands, is). kept_has (kept kinds) entries (record { offset = o; entry = e }) o stands (rw is refl))
@@ -38,11 +38,11 @@ stand kinds entries o =
 -- ---- while the entries are gone over
 
 -- with those of the entries left the offsets so far are those of all entries of the kinds
-pub record IsGathering (kinds : Kind → Bool) (all left : List (PlacedEntry PpttEntry)) (offsets : OffsetSet) : Type 0
+pub record IsGathering (kinds : PlaceKind → Bool) (all left : List (PlacedEntry PpttEntry)) (offsets : OffsetSet) : Type 0
   where
     pub each : (o : ℕ) → (IsIn offsets o ⊎ Contains (kind_offsets kinds left) o) ↔ Contains (kind_offsets kinds all) o
 
-pub none_gathered : (kinds : Kind → Bool) (all : List (PlacedEntry PpttEntry)) (offsets : OffsetSet)
+pub none_gathered : (kinds : PlaceKind → Bool) (all : List (PlacedEntry PpttEntry)) (offsets : OffsetSet)
     → ((o : ℕ) → ¬ IsIn offsets o) → IsGathering kinds all all offsets
 none_gathered kinds all offsets none =
     record {
@@ -50,7 +50,7 @@ none_gathered kinds all offsets none =
     }
 
 -- over one more, which is added where it is of the kinds
-pub one_gathered : (kinds : Kind → Bool) (all left : List (PlacedEntry PpttEntry)) (s : PlacedEntry PpttEntry)
+pub one_gathered : (kinds : PlaceKind → Bool) (all left : List (PlacedEntry PpttEntry)) (s : PlacedEntry PpttEntry)
     (old new : OffsetSet) → IsGathering kinds all (s ∷ left) old → Adds (kinds (kind_of s.entry)) s.offset old new
     → IsGathering kinds all left new
 one_gathered kinds all left s old new before adds =
@@ -91,7 +91,7 @@ one_gathered kinds all left s old new before adds =
         )
 
 -- at the end
-all_gathered : (kinds : Kind → Bool) (all : List (PlacedEntry PpttEntry)) (offsets : OffsetSet)
+all_gathered : (kinds : PlaceKind → Bool) (all : List (PlacedEntry PpttEntry)) (offsets : OffsetSet)
     → IsGathering kinds all [] offsets → (o : ℕ) → IsIn offsets o ↔ StandsWith all o (λ e. kinds (kind_of e) ≡ true)
 all_gathered kinds all offsets here o = (
   λ is. (stand kinds all o).0 ((here.each o).0 (inl is)),
@@ -114,9 +114,9 @@ names_next_level (Cache v) = (λ is. (v.next_level, refl), λ names. refl)
 names_next_level (Opaque e) = (λ is. absurd cc, λ (p, is). absurd (none-some p is))
 
 of_other_type : (e : PpttEntry) → ¬ HasOtherPpttLength e → (is_resource (kind_of e) ≡ true) ↔ (pptt_type e ≢ 0)
-of_other_type (Node v) sound = (λ is. absurd cc, λ other. absurd (other refl))
-of_other_type (Cache v) sound = (λ is same. absurd cc, λ other. refl)
-of_other_type (Opaque e) sound = (λ is same. sound (omega (arith, same)), λ other. refl)
+of_other_type (Node v) valid = (λ is. absurd cc, λ other. absurd (other refl))
+of_other_type (Cache v) valid = (λ is same. absurd cc, λ other. refl)
+of_other_type (Opaque e) valid = (λ is same. valid (omega (arith, same)), λ other. refl)
 
 -- ---- of a PPTT
 

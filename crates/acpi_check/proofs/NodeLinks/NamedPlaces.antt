@@ -44,11 +44,11 @@ is_number references count j below =
 
 -- ---- nodes
 
--- a node is sound whose Parent and private resources are
-pub node_sound : (places : Places) (v : NodeValue) (references : List ℕ) (count : ℕ)
+-- a node is valid whose Parent and private resources are
+pub node_valid : (places : Places) (v : NodeValue) (references : List ℕ) (count : ℕ)
     → v.resources ≡ numbers_in references count → (v.parent ≡ 0) ⊎ IsIn places.nodes v.parent
     → ((j : ℕ) → j < count → IsIn places.resources (field references (4 * j) 4)) → NamesPlaces places (Node v)
-node_sound places v references count are parent resources =
+node_valid places v references count are parent resources =
     record {
       parent = λ p is. subst (λ (x : ℕ). (x ≡ 0) ⊎ IsIn places.nodes x) (same_Some v.parent p is) parent;
       resource = λ j r is. let (below, number) = number_is references count j r (rw are at is) in
@@ -112,9 +112,9 @@ resource_first places v references count at j r are parent below number nowhere 
 
 -- ---- caches
 
-pub cache_sound : (places : Places) (v : CacheValue) → (v.next_level ≡ 0) ⊎ IsIn places.caches v.next_level
+pub cache_valid : (places : Places) (v : CacheValue) → (v.next_level ≡ 0) ⊎ IsIn places.caches v.next_level
     → NamesPlaces places (Cache v)
-cache_sound places v next =
+cache_valid places v next =
     record {
       parent = λ p is. absurd cc;
       resource = λ j r is. absurd cc;
@@ -150,5 +150,5 @@ pub cache_link : (places : Places) (v : CacheValue) (at : ℕ) (o : Option Witne
     (λ w. (w ≡ record { code = code.DanglingCache; at = at; other = v.next_level; point = 0 }) × (v.next_level ≢ 0)
     × ¬ IsIn places.caches v.next_level)
     → MatchOption o (NamesPlaces places (Cache v)) (λ w. (w.at ≡ at) × IsFirstReference places (Cache v) w)
-cache_link places v at None sound = cache_sound places v sound
+cache_link places v at None valid = cache_valid places v valid
 cache_link places v at (Some w) (is, some, nowhere) = rw is (refl, cache_first places v at some nowhere)

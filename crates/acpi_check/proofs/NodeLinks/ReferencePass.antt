@@ -3,7 +3,7 @@
 use Rattle.std.proofs.Common.{◌≡◌, ℕ, List, [], ◌∷◌, subst, inl, inr, arith}
 use Rattle.acpi_base.specs.Entries.{PlacedEntry, Stands}
 use Rattle.acpi_base.specs.Faults.{NotAfter}
-use Rattle.acpi_base.specs.Pptt.{PpttEntry, PpttContents, AreReferencesSound, ReferenceFault}
+use Rattle.acpi_base.specs.Pptt.{PpttEntry, PpttContents, AreReferencesValid, ReferenceFault}
 use Rattle.acpi_base.specs.declared.code.Code.{Code}
 use Rattle.acpi_base.specs.declared.code.Code.TheVariants as code
 use Rattle.acpi_base.specs.declared.stage.Stage.TheVariants as stage
@@ -44,12 +44,12 @@ entry_of c places are _ at other point wrong = absurd wrong
 -- an entry whose offsets are all there has none
 excludes : (places : Places) (e : PpttEntry) (fault : Code) (other point : ℕ)
     → EntryReferenceFault places e fault other point → ¬ NamesPlaces places e
-excludes places e code.DanglingParent other point (is, some, nowhere, _) sound =
-    elim (sound.parent other is) [ inl zero ↦ some zero | inr there ↦ nowhere there ]
-excludes places e code.DanglingResource other point (is, nowhere) sound = nowhere (sound.resource other point is)
-excludes places e code.DanglingCache other point (is, some, nowhere, _) sound =
-    elim (sound.next_level other is) [ inl zero ↦ some zero | inr there ↦ nowhere there ]
-excludes places e _ other point wrong sound = wrong
+excludes places e code.DanglingParent other point (is, some, nowhere, _) valid =
+    elim (valid.parent other is) [ inl zero ↦ some zero | inr there ↦ nowhere there ]
+excludes places e code.DanglingResource other point (is, nowhere) valid = nowhere (valid.resource other point is)
+excludes places e code.DanglingCache other point (is, some, nowhere, _) valid =
+    elim (valid.next_level other is) [ inl zero ↦ some zero | inr there ↦ nowhere there ]
+excludes places e _ other point wrong valid = wrong
 
 -- ---- the pass
 
@@ -73,16 +73,16 @@ stops places pptt are s left here w place first =
     least v wrong =
         let (e, stands, own) = entry_of pptt places are v.code v.at v.other v.point wrong in
         elim (before_or_behind here v.at e stands) [
-          | inl (_, sound) ↦ absurd (excludes places e v.code v.other v.point own sound)
+          | inl (_, valid) ↦ absurd (excludes places e v.code v.other v.point own valid)
           | inr (inl (same, entry)) ↦ first.least v (omega arith)
               (subst (λ (x : PpttEntry). EntryReferenceFault places x v.code v.other v.point) entry own)
           | inr (inr behind) ↦ inl (omega arith)
         ]
 
--- where no entry is left the references are sound
-pub ends_sound : (places : Places) (pptt : PpttContents) → ArePlaces pptt places → IsAt places pptt []
-    → AreReferencesSound pptt
-ends_sound places pptt are here =
+-- where no entry is left the references are valid
+pub ends_valid : (places : Places) (pptt : PpttContents) → ArePlaces pptt places → IsAt places pptt []
+    → AreReferencesValid pptt
+ends_valid places pptt are here =
     record {
       parents = λ o p (e, stands, is). elim ((all_passed here o e stands).parent p is) [
         | inl zero ↦

@@ -7,10 +7,10 @@ use Rattle.acpi_base.specs.Policy.{PolicyValue}
 use Rattle.acpi_base.specs.Codes.{code_number, stage_of}
 use Rattle.acpi_base.specs.Rsdp.{Addresses, addresses_at, RsdpValue, RsdpFault, IsRsdp}
 use Rattle.acpi_base.specs.Root.{HasSlot, IsSlot, RootFault, RootTableFault, NamedRootFault, chosen_root}
-use Rattle.acpi_base.specs.Tables.{IsSoundTable, TableFault}
+use Rattle.acpi_base.specs.Tables.{IsValidTable, TableFault}
 use Rattle.acpi_base.specs.Listed.{fadt_signature, ListsNone}
-use Rattle.acpi_base.specs.Fadt.{facs_address, IsFadt, IsSoundFadt, FadtTableFault, FadtFault}
-use Rattle.acpi_base.specs.Facs.{IsFacs, HasSoundFacs, IsSoundFacs, NamedFacsFault}
+use Rattle.acpi_base.specs.Fadt.{facs_address, IsFadt, IsValidFadt, FadtTableFault, FadtFault}
+use Rattle.acpi_base.specs.Facs.{IsFacs, HasValidFacs, IsValidFacs, NamedFacsFault}
 use Rattle.acpi_base.specs.Statements.{CleanBefore}
 use Rattle.acpi_base.specs.Faults.{NotAfter, IsFirstFault}
 use Rattle.acpi_base.specs.declared.code.Code.{Code}
@@ -20,7 +20,7 @@ use Rattle.acpi_base.specs.declared.witness.Witness.{Witness}
 use Rattle.acpi_base.proofs.Faults.Numbers.{stage_from_1}
 use Rattle.acpi_base.proofs.Faults.Order.{not_after}
 use Rattle.acpi_base.proofs.Faults.HoldsOrFault.{IsFirstOfStage, first_of_set}
-use Rattle.acpi_base.proofs.Images.HeldBytes.{same_value}
+use Rattle.acpi_base.proofs.Images.PresentBytes.{same_value}
 use Rattle.acpi_base.proofs.Root.Named.{no_root_and_root, one_root}
 use Rattle.acpi_base.proofs.Root.Slots.{one_slot, root_slot, slot_of_root}
 use Rattle.acpi_base.proofs.Tables.Faults.{excludes}
@@ -102,12 +102,12 @@ pub first_table_fault : (m : Memory) (q : PolicyValue) (root : RootValue) (c : C
     → CleanBefore stage.Tables m q → IsRootOf m q.rsdp root → HasSlot root.bytes root.width k a
     → stage_of c ≡ stage.Tables
     → TableFault m a c → ((d : Code) → TableFault m a d → code_number c ≤ code_number d)
-    → ((j b : ℕ) → j < k → HasSlot root.bytes root.width j b → IsSoundTable m b)
+    → ((j b : ℕ) → j < k → HasSlot root.bytes root.width j b → IsValidTable m b)
     → IsFirstFault m q (record { code = c; at = k; other = a; point = 0 })
 first_table_fault m q root c k a clean is slot own fault least before =
     first_of_set clean
     (record {
-      holds = record { own = own; holds = (root_slot is.named is.sound.table slot, fault, refl) };
+      holds = record { own = own; holds = (root_slot is.named is.valid.table slot, fault, refl) };
       least = λ v here. after v here.holds.0 here.holds.1 here.holds.2;
     })
   where
@@ -116,7 +116,7 @@ first_table_fault m q root c k a clean is slot own fault least before =
 
     after : (v : Witness) → IsSlot m q.rsdp v.at v.other → TableFault m v.other v.code → v.point ≡ 0 → NotAfter w v
     after v listed stands zero =
-        let there = slot_of_root m q.rsdp root.address root.width v.at v.other root.bytes is.named is.sound.table
+        let there = slot_of_root m q.rsdp root.address root.width v.at v.other root.bytes is.named is.valid.table
         listed in
         elim (cases_order k v.at) [
           | inl same ↦
@@ -162,14 +162,14 @@ fadt_first m q whole w clean fadt own fault other point least =
         least v.code v.at (rw (one_listed m q.rsdp fadt_signature bytes whole is fadt) at stands)
 
 -- the first fault of the FACS that the FADT names
-pub facs_first : (m : Memory) (q : PolicyValue) (fadt : IsSoundFadt m q.rsdp) (c : Code) → CleanBefore stage.Facs m q
+pub facs_first : (m : Memory) (q : PolicyValue) (fadt : IsValidFadt m q.rsdp) (c : Code) → CleanBefore stage.Facs m q
     → stage_of c ≡ stage.Facs
     → NamedFacsFault m fadt.whole c (facs_address fadt.whole)
     → ((d : Code) (at : ℕ) → NamedFacsFault m fadt.whole d at → code_number c ≤ code_number d)
     → IsFirstFault m q (record { code = c; at = facs_address fadt.whole; other = 0; point = 0 })
 facs_first m q fadt c clean own fault least =
     first_of_set clean (record {
-      holds = record { own = own; holds = ((fadt.whole, fadt.fadt, fadt.sound.long, fault), refl, refl) };
+      holds = record { own = own; holds = ((fadt.whole, fadt.fadt, fadt.valid.long, fault), refl, refl) };
       least = λ v here. let f =
           here.holds.0 in not_after w v
           (inr (
@@ -183,9 +183,9 @@ facs_first m q fadt c clean own fault least =
     w : Witness
     w = record { code = c; at = facs_address fadt.whole; other = 0; point = 0 }
 
--- a FACS that is sound for the set's FADT is sound
-pub facs_sound : (m : Memory) (p : ℕ) (fadt : List ℕ) → IsFadt m p fadt → HasSoundFacs m fadt → IsSoundFacs m p
-facs_sound m p fadt is sound = λ whole also. rw (one_listed m p fadt_signature whole fadt also is) sound
+-- a FACS that is valid for the set's FADT is valid
+pub facs_valid : (m : Memory) (p : ℕ) (fadt : List ℕ) → IsFadt m p fadt → HasValidFacs m fadt → IsValidFacs m p
+facs_valid m p fadt is valid = λ whole also. rw (one_listed m p fadt_signature whole fadt also is) valid
 
 -- what is read is the FACS that the FADT names
 pub facs_named : (m : Memory) (fadt : List ℕ) (found : Option FacsValue) → (found ≡ None → facs_address fadt ≡ 0)

@@ -5,15 +5,15 @@ use Rattle.std.proofs.lemmas.Bool.{cases_lt, cases_Bool, both_ways}
 use Rattle.acpi_base.specs.Memory.{Memory}
 use Rattle.acpi_base.specs.Signature.{has_signature}
 use Rattle.acpi_base.specs.Root.{HasSlot, IsRoot, IsRootTable, IsSlot}
-use Rattle.acpi_base.specs.Tables.{IsSigned, IsTable, IsSoundTable}
+use Rattle.acpi_base.specs.Tables.{IsSigned, IsTable, IsValidTable}
 use Rattle.acpi_base.specs.Listed.{IsListed}
 use Rattle.acpi_base.specs.TableKinds.{signature_of}
 use Rattle.acpi_base.specs.declared.table_kind.TableKind.{TableKind}
-use Rattle.acpi_base.proofs.Images.HeldBytes.{same_value}
+use Rattle.acpi_base.proofs.Images.PresentBytes.{same_value}
 use Rattle.acpi_base.proofs.Root.Slots.{one_slot, slot_of_root}
 use Rattle.acpi_base.proofs.Tables.Kinds.{length-signature_of}
 use Rattle.acpi_base.proofs.Tables.Listed.{listed_in_root, none_in_root}
-use Rattle.acpi_base.proofs.Tables.Whole.{signed_table}
+use Rattle.acpi_base.proofs.Tables.Complete.{signed_table}
 use Rattle.acpi_read.specs.FirstTables.{first_listed, first_table, first_signed, first_signed_table}
 use Rattle.acpi_read.specs.Roots.{RootValue}
 use Rattle.acpi_read.specs.declared.first_tables.FirstTables.{FirstTables}
@@ -55,7 +55,7 @@ below_more m bytes d k a header whole signature None four slot table none =
           let signed : IsSigned m a signature =
           record {
             header = header;
-            header_held = table.header_held;
+            header_present = table.header_present;
             signed = sym (signed_table m a header whole signature table four) ∙ is;
           } in
           rw is (a, header, record { k = k; slot = slot; signed = signed; none_before = none }, table)
@@ -66,7 +66,7 @@ below_more m bytes d k a header whole signature None four slot table none =
     unsigned not_signed signed =
         both_ways (has_signature whole signature) not_signed
         (signed_table m a header whole signature table four
-        ∙ ap (λ h. has_signature h signature) (same_value header signed.header table.header_held signed.header_held)
+        ∙ ap (λ h. has_signature h signature) (same_value header signed.header table.header_present signed.header_present)
         ∙ signed.signed)
 
     earlier : has_signature whole signature ≡ false → (j b : ℕ) → j < k + 1 → HasSlot bytes d j b
@@ -93,7 +93,7 @@ below_all k signature (Some whole) root table all (a, header, first, stands) = l
 pub none_below : (m : Memory) (root : RootValue) (firsts : FirstTables)
     → ((kind : TableKind) → first_table firsts kind ≡ None) → AreFirstBelow m root 0 firsts
 none_below m root firsts none = record {
-  sound = λ j a below slot. absurd (omega arith);
+  valid = λ j a below slot. absurd (omega arith);
   first = λ kind. rw (none kind) (below_none m root.bytes root.width (signature_of kind));
 }
 
@@ -102,26 +102,26 @@ pub firsts_skip : (m : Memory) (root : RootValue) (k : ℕ) (firsts : FirstTable
     → ((a : ℕ) → ¬ HasSlot root.bytes root.width k a) → AreFirstBelow m root k firsts
     → AreFirstBelow m root (k + 1) firsts
 firsts_skip m root k firsts empty below = record {
-  sound = λ j a less slot. elim (cases_lt j k) [
-    | inl before ↦ below.sound j a before slot
+  valid = λ j a less slot. elim (cases_lt j k) [
+    | inl before ↦ below.valid j a before slot
     | inr last ↦ absurd (empty a (subst (λ (i : ℕ). HasSlot root.bytes root.width i a) (omega arith) slot))
   ];
   first = λ kind. below_skip m root.bytes root.width k (signature_of kind) (first_table firsts kind) empty
       (below.first kind);
 }
 
--- a slot that lists a sound table
+-- a slot that lists a valid table
 pub firsts_more : (m : Memory) (root : RootValue) (k a : ℕ) (header : List ℕ) (next : Listed) (old new : FirstTables)
-    → HasSlot root.bytes root.width k a → IsSoundTable m a → IsTable m a header next.table
+    → HasSlot root.bytes root.width k a → IsValidTable m a → IsTable m a header next.table
     → ((kind : TableKind) → first_listed new kind ≡ first_signed (signature_of kind) (first_listed old kind) next)
     → AreFirstBelow m root k old → AreFirstBelow m root (k + 1) new
-firsts_more m root k a header next old new slot sound table added below = record {
-  sound = λ j b less there. elim (cases_lt j k) [
-    | inl before ↦ below.sound j b before there
+firsts_more m root k a header next old new slot valid table added below = record {
+  valid = λ j b less there. elim (cases_lt j k) [
+    | inl before ↦ below.valid j b before there
     | inr last ↦
         let here : HasSlot root.bytes root.width k b = subst (λ (i : ℕ). HasSlot root.bytes root.width i b)
         (omega arith) there in
-        subst (λ (x : ℕ). IsSoundTable m x) (one_slot root.bytes root.width k a b slot here) sound
+        subst (λ (x : ℕ). IsValidTable m x) (one_slot root.bytes root.width k a b slot here) valid
   ];
   first = λ kind.
       rw (bytes_of_first (signature_of kind) (first_listed old kind) next (added kind))
@@ -134,7 +134,7 @@ pub firsts_all : (m : Memory) (p k : ℕ) (root : RootValue) (firsts : FirstTabl
     → ((j a : ℕ) → HasSlot root.bytes root.width j a → j < k) → AreFirstBelow m root k firsts
     → AreFirstTables m p firsts
 firsts_all m p k root firsts is all below = record {
-  each = λ kind. below_all k (signature_of kind) (first_table firsts kind) is.named is.sound.table all
+  each = λ kind. below_all k (signature_of kind) (first_table firsts kind) is.named is.valid.table all
       (below.first kind);
 }
 
@@ -143,13 +143,13 @@ slots_end : (root : RootValue) (n j a : ℕ) → ((k : ℕ) → 36 + root.width 
     → HasSlot root.bytes root.width j a → j < n
 slots_end root n j a below slot = below j slot.inside
 
--- where the tables of all slots are sound, so are the set's, and what all slots list first are the set's tables
-pub sound_and_first : (m : Memory) (p n : ℕ) (root : RootValue) (firsts : FirstTables) → IsRootOf m p root
+-- where the tables of all slots are valid, so are the set's, and what all slots list first are the set's tables
+pub valid_and_first : (m : Memory) (p n : ℕ) (root : RootValue) (firsts : FirstTables) → IsRootOf m p root
     → ((k : ℕ) → 36 + root.width * (k + 1) ≤ length root.bytes → k < n) → AreFirstBelow m root n firsts
-    → ((k a : ℕ) → IsSlot m p k a → IsSoundTable m a) × AreFirstTables m p firsts
-sound_and_first m p n root firsts is below all = (
+    → ((k a : ℕ) → IsSlot m p k a → IsValidTable m a) × AreFirstTables m p firsts
+valid_and_first m p n root firsts is below all = (
   λ k a listed.
-      let slot = slot_of_root m p root.address root.width k a root.bytes is.named is.sound.table listed in
-      all.sound k a (slots_end root n k a below slot) slot,
+      let slot = slot_of_root m p root.address root.width k a root.bytes is.named is.valid.table listed in
+      all.valid k a (slots_end root n k a below slot) slot,
   firsts_all m p n root firsts is (λ j a. slots_end root n j a below) all,
 )

@@ -46,17 +46,17 @@ of_none P none whole is = absurd (none_and_listed none is)
 
 -- what is found of the table that it lists first is so of the set, where the stage states this of the table, and the
 -- first fault of the table is the set's
-pub of_one : (s : Stage) {m : Memory} {q : PolicyValue} {signature : List ℕ} (Sound : List ℕ → Type 0)
+pub of_one : (s : Stage) {m : Memory} {q : PolicyValue} {signature : List ℕ} (Valid : List ℕ → Type 0)
     (IsFirst : List ℕ → Witness → Type 0)
-    → (ForListed m q.rsdp signature Sound → Holds s m q)
+    → (ForListed m q.rsdp signature Valid → Holds s m q)
     → ((whole : List ℕ) → IsListedTable m q.rsdp signature whole → (w : Witness) → IsFirst whole w
     → IsFirstFault m q w × (stage_of w.code ≡ s))
     → {whole : List ℕ} → IsListedTable m q.rsdp signature whole → (result : Result ⊤ Refusal)
-    → Finds s (Sound whole) (IsFirst whole) result
+    → Finds s (Valid whole) (IsFirst whole) result
     → IsStageResult s m q (λ _. ⊤) result
-of_one s Sound IsFirst holds first is (Ok _) found = (holds (for_listed Sound is found), tt)
-of_one s Sound IsFirst holds first {whole} is (Err (Fault w)) found = first whole is w found
-of_one s Sound IsFirst holds first is (Err OutOfMemory) found = found
+of_one s Valid IsFirst holds first is (Ok _) found = (holds (for_listed Valid is found), tt)
+of_one s Valid IsFirst holds first {whole} is (Err (Fault w)) found = first whole is w found
+of_one s Valid IsFirst holds first is (Err OutOfMemory) found = found
 
 -- the first fault of a table is the set's, where the stage's faults are those of this table
 pub table_first : {s : Stage} {m : Memory} {q : PolicyValue} {signature : List ℕ}
@@ -77,16 +77,16 @@ table_first IsFault condition order clean whole is w first = (
 )
 
 -- so it is where the stage's faults are those of the table
-pub of_faults : (s : Stage) {m : Memory} {q : PolicyValue} {signature : List ℕ} (Sound : List ℕ → Type 0)
+pub of_faults : (s : Stage) {m : Memory} {q : PolicyValue} {signature : List ℕ} (Valid : List ℕ → Type 0)
     (IsFault : List ℕ → Code → ℕ → ℕ → ℕ → Type 0)
-    → (ForListed m q.rsdp signature Sound → Holds s m q)
+    → (ForListed m q.rsdp signature Valid → Holds s m q)
     → ((v : Witness) → FaultCondition s m q v ↔ HasListed m q.rsdp signature
     (λ bytes. IsFault bytes v.code v.at v.other v.point))
     → ((w : Witness) → ((v : Witness) → FaultOfStage s m q v → NotAfter w v) → IsLeastOfStage s m q w)
     → CleanBefore s m q → {whole : List ℕ} → IsListedTable m q.rsdp signature whole → (result : Result ⊤ Refusal)
-    → FindsFirst s (Sound whole) (IsFault whole) result → IsStageResult s m q (λ _. ⊤) result
-of_faults s Sound IsFault holds condition order clean is result found =
-    of_one s Sound (λ whole. IsFirstOfTable s (IsFault whole)) holds (table_first IsFault condition order clean) is
+    → FindsFirst s (Valid whole) (IsFault whole) result → IsStageResult s m q (λ _. ⊤) result
+of_faults s Valid IsFault holds condition order clean is result found =
+    of_one s Valid (λ whole. IsFirstOfTable s (IsFault whole)) holds (table_first IsFault condition order clean) is
     result found
 
 -- ---- two tables
@@ -109,20 +109,20 @@ both_first {m = m} {q = q} {other = other} IsFault condition order clean x y is 
     order clean y also w first
 
 -- so it is of two tables
-pub of_two : (s : Stage) {m : Memory} {q : PolicyValue} {one other : List ℕ} (Sound : List ℕ → List ℕ → Type 0)
+pub of_two : (s : Stage) {m : Memory} {q : PolicyValue} {one other : List ℕ} (Valid : List ℕ → List ℕ → Type 0)
     (IsFault : List ℕ → List ℕ → Code → ℕ → ℕ → ℕ → Type 0)
-    → (ForListed m q.rsdp one (λ x. ForListed m q.rsdp other (Sound x)) → Holds s m q)
+    → (ForListed m q.rsdp one (λ x. ForListed m q.rsdp other (Valid x)) → Holds s m q)
     → ((v : Witness) → FaultCondition s m q v ↔ HasListed m q.rsdp one
     (λ x. HasListed m q.rsdp other (λ y. IsFault x y v.code v.at v.other v.point)))
     → ((w : Witness) → ((v : Witness) → FaultOfStage s m q v → NotAfter w v) → IsLeastOfStage s m q w)
     → CleanBefore s m q → {x y : List ℕ} → IsListedTable m q.rsdp one x → IsListedTable m q.rsdp other y
     → (result : Result ⊤ Refusal)
-    → FindsFirst s (Sound x y) (IsFault x y) result → IsStageResult s m q (λ _. ⊤) result
-of_two s {m} {q} {one} {other} Sound IsFault holds condition order clean {x} {y} is also (Ok _) found =
-    (holds (for_listed (λ z. ForListed m q.rsdp other (Sound z)) is (for_listed (Sound x) also found)), tt)
-of_two s Sound IsFault holds condition order clean {x} {y} is also (Err (Fault w)) found =
+    → FindsFirst s (Valid x y) (IsFault x y) result → IsStageResult s m q (λ _. ⊤) result
+of_two s {m} {q} {one} {other} Valid IsFault holds condition order clean {x} {y} is also (Ok _) found =
+    (holds (for_listed (λ z. ForListed m q.rsdp other (Valid z)) is (for_listed (Valid x) also found)), tt)
+of_two s Valid IsFault holds condition order clean {x} {y} is also (Err (Fault w)) found =
     both_first IsFault condition order clean x y is also w found
-of_two s Sound IsFault holds condition order clean is also (Err OutOfMemory) found = found
+of_two s Valid IsFault holds condition order clean is also (Err OutOfMemory) found = found
 
 -- ---- a stage
 
@@ -144,15 +144,15 @@ unlisted ready is kind same none silent holds =
 -- where it does, what is found of the table is so of the set
 pub settled : {s t : Stage} {set : Set} {first : Option (List ℕ)} {whole : List ℕ} → IsReady s set → s ≡ t
     → (kind : TableKind) → first ≡ first_table set.listed.tables kind → first ≡ Some whole
-    → (Sound : List ℕ → Type 0) (IsFault : List ℕ → Code → ℕ → ℕ → ℕ → Type 0)
-    → (ForListed set.listed.image.now set.policy.now.rsdp (signature_of kind) Sound
+    → (Valid : List ℕ → Type 0) (IsFault : List ℕ → Code → ℕ → ℕ → ℕ → Type 0)
+    → (ForListed set.listed.image.now set.policy.now.rsdp (signature_of kind) Valid
     → Holds t set.listed.image.now set.policy.now)
     → ((v : Witness) → FaultCondition t set.listed.image.now set.policy.now v
     ↔ HasListed set.listed.image.now set.policy.now.rsdp (signature_of kind)
     (λ bytes. IsFault bytes v.code v.at v.other v.point))
     → ((w : Witness) → ((v : Witness) → FaultOfStage t set.listed.image.now set.policy.now v → NotAfter w v)
     → IsLeastOfStage t set.listed.image.now set.policy.now w)
-    → (result : Result ⊤ Refusal) → FindsFirst t (Sound whole) (IsFault whole) result → IsSetResult s set result
-settled {t = t} ready is kind same some Sound IsFault holds condition order result found =
-    rw is (of_faults t Sound IsFault holds condition order (rw is at ready.clean)
+    → (result : Result ⊤ Refusal) → FindsFirst t (Valid whole) (IsFault whole) result → IsSetResult s set result
+settled {t = t} ready is kind same some Valid IsFault holds condition order result found =
+    rw is (of_faults t Valid IsFault holds condition order (rw is at ready.clean)
     (listed_of_first ready.tables.listed.tables kind same some) result found)

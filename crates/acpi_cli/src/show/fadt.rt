@@ -1,6 +1,6 @@
 //! The lines of the FADT, of its register blocks, and of the FACS.
 
-use crate::show::listed::{Unread, add_unread};
+use crate::show::unread::{Unread, add_unread};
 use acpi_base::Image;
 use acpi_base::field::{u8_at, u16_at, u32_at};
 use acpi_read::{Block, Facs, Fadt, Gas, Listed};

@@ -2,7 +2,7 @@
 
 use crate::show::entries::{Owner, add_entries, add_other};
 use crate::show::fields::{add_decimal, add_hex};
-use crate::show::listed::{Unread, add_unread};
+use crate::show::unread::{Unread, add_unread};
 use acpi_base::field::u32_at;
 use acpi_read::{
     Entries, Entry, IoApic, Listed, LocalApic, LocalNmi, MADT_FLAGS, MADT_LOCAL_APIC_ADDRESS,

@@ -3,7 +3,7 @@
 ghost use Rattle.std.specs.Prelude.{◌<◌};
 
 use crate::show::fields::add_decimal;
-use crate::show::listed::{Unread, add_unread};
+use crate::show::unread::{Unread, add_unread};
 use acpi_base::Code;
 use acpi_read::{Listed, Slit};
 use std::alloc::AllocError;

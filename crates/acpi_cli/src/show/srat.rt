@@ -2,7 +2,7 @@
 
 use crate::show::entries::{Owner, add_entries, add_other};
 use crate::show::fields::{add_decimal, add_hex};
-use crate::show::listed::{Unread, add_unread};
+use crate::show::unread::{Unread, add_unread};
 use acpi_read::{Entries, Entry, Listed, MemoryRange, SratEntry, TableEntry};
 use std::alloc::AllocError;
 use std::fmt::Write;

@@ -8,13 +8,13 @@ ghost use Rattle.acpi_confirm.specs.Starts.{AreStarts};
 ghost use Rattle.acpi_confirm.specs.Walks.{IsOnly};
 
 use super::starts::{Starts, entry_noted, note_starts};
-use super::{Link, named};
+use super::{Chain, named};
 use acpi_base::{Code, Witness};
 
 /// How many starts are noted. In a table of 32 MiB, about as much as an image text can hold, a block has 512 bytes.
 const NOTES: usize = 65_536;
 
-/// A node or a cache: its offset, and the offset that it refers to by the link.
+/// A node or a cache: its offset, and the offset that it refers to by the chain.
 #[derive(Clone, Copy)]
 struct Linked {
     at: u64,
@@ -22,26 +22,26 @@ struct Linked {
 }
 
 /// The offset that the node or cache at an offset refers to, looked up by the noted starts.
-fn named_by(pptt: &[u8], link: Link, starts: &Starts<'_>, at: u64) -> Option<u64>
+fn named_by(pptt: &[u8], chain: Chain, starts: &Starts<'_>, at: u64) -> Option<u64>
     requires { AreStarts starts.now.size starts.now.notes.now pptt.now }
-    ensures { IsOnly (Names link (pptt_contents pptt.now) at) result }
+    ensures { IsOnly (Names chain (pptt_contents pptt.now) at) result }
 {
-    entry_noted(pptt, starts, at).and_then(|entry| named(entry, link))
+    entry_noted(pptt, starts, at).and_then(|entry| named(entry, chain))
 }
 
 /// One step: from a node to its Parent, or from a cache to its Next Level.
 #[tactic(auto, using(crate::proofs::Chains::steps))]
-fn step(pptt: &[u8], link: Link, starts: &Starts<'_>, here: Linked) -> Option<Linked>
+fn step(pptt: &[u8], chain: Chain, starts: &Starts<'_>, here: Linked) -> Option<Linked>
     requires starts { AreStarts starts.now.size starts.now.notes.now pptt.now }
-    requires here { IsOnly (Names link (pptt_contents pptt.now) here.at) (Some here.names) }
+    requires here { IsOnly (Names chain (pptt_contents pptt.now) here.at) (Some here.names) }
     ensures { MatchOption result
-        ((p : ℕ) → ¬ IsStep (Names link (pptt_contents pptt.now)) here.at p)
-        (λ next. IsStepTo (Names link (pptt_contents pptt.now)) here.at next) }
+        ((p : ℕ) → ¬ IsStep (Names chain (pptt_contents pptt.now)) here.at p)
+        (λ next. IsStepTo (Names chain (pptt_contents pptt.now)) here.at next) }
 {
     if here.names == 0 {
         return None;
     }
-    let names = named_by(pptt, link, starts, here.names)?;
+    let names = named_by(pptt, chain, starts, here.names)?;
     Some(Linked {
         at: here.names,
         names,
@@ -50,20 +50,20 @@ fn step(pptt: &[u8], link: Link, starts: &Starts<'_>, here: Linked) -> Option<Li
 
 /// Where this many steps lead from an offset.
 #[tactic(auto, using(crate::proofs::Chains::led))]
-fn follow(pptt: &[u8], link: Link, starts: &Starts<'_>, from: u64, steps: u64) -> Option<u64>
+fn follow(pptt: &[u8], chain: Chain, starts: &Starts<'_>, from: u64, steps: u64) -> Option<u64>
     requires { AreStarts starts.now.size starts.now.notes.now pptt.now }
-    ensures { IsOnly (LeadsTo (Names link (pptt_contents pptt.now)) steps from) result }
+    ensures { IsOnly (LeadsTo (Names chain (pptt_contents pptt.now)) steps from) result }
 {
     if steps == 0 {
         return Some(from);
     }
     let mut here = Linked {
         at: from,
-        names: named_by(pptt, link, starts, from)?,
+        names: named_by(pptt, chain, starts, from)?,
     };
     let mut left = steps;
     while left > 0 {
-        here = step(pptt, link, starts, here)?;
+        here = step(pptt, chain, starts, here)?;
         left -= 1;
     }
     Some(here.at)
@@ -80,8 +80,8 @@ fn steps_fit(most: u64, lead: u64, round: u64) -> bool
 /// all, with which they are compared before the first is taken. It is not inlined, so that no other call takes the
 /// stack for the notes.
 #[inline(never)]
-fn is_cycle(pptt: &[u8], link: Link, most: u64, witness: &Witness) -> bool
-    ensures { IsTrue result ↔ IsCycle (Names link (pptt_contents pptt.now)) most witness.now.at
+fn is_cycle(pptt: &[u8], chain: Chain, most: u64, witness: &Witness) -> bool
+    ensures { IsTrue result ↔ IsCycle (Names chain (pptt_contents pptt.now)) most witness.now.at
         witness.now.other witness.now.point }
 {
     let (from, lead, round) = (witness.at, witness.other, witness.point);
@@ -90,10 +90,10 @@ fn is_cycle(pptt: &[u8], link: Link, most: u64, witness: &Witness) -> bool
     }
     let mut notes = [0; NOTES];
     let starts = note_starts(pptt, &mut notes);
-    let Some(there) = follow(pptt, link, &starts, from, lead) else {
+    let Some(there) = follow(pptt, chain, &starts, from, lead) else {
         return false;
     };
-    follow(pptt, link, &starts, there, round) == Some(there)
+    follow(pptt, chain, &starts, there, round) == Some(there)
 }
 
 /// Code 55: a cycle of parents. No more than one node fits into 20 bytes.
@@ -103,7 +103,7 @@ pub(super) fn has_parent_fault(pptt: &[u8], witness: &Witness) -> bool
         witness.now.other witness.now.point }
 {
     matches!(witness.code, Code::ParentCycle)
-        && is_cycle(pptt, Link::Parent, pptt.len() as u64 / 20, witness)
+        && is_cycle(pptt, Chain::Parents, pptt.len() as u64 / 20, witness)
 }
 
 /// Code 56: a cycle of next levels. No more than one cache fits into 24 bytes.
@@ -113,5 +113,5 @@ pub(super) fn has_cache_fault(pptt: &[u8], witness: &Witness) -> bool
         witness.now.other witness.now.point }
 {
     matches!(witness.code, Code::CacheCycle)
-        && is_cycle(pptt, Link::NextLevel, pptt.len() as u64 / 24, witness)
+        && is_cycle(pptt, Chain::NextLevels, pptt.len() as u64 / 24, witness)
 }

@@ -9,7 +9,7 @@ fn numbers_are_little_endian(rt: HostRuntime) {
     assert!(rt; u32_at(&bytes, 1) == 0x8765_4321);
     assert!(rt; u64_at(&bytes, 1) == 0x0fed_cba9_8765_4321);
     assert!(rt; number_at(&bytes, 1, 3) == 0x65_4321);
-    assert!(rt; bytes_at(&bytes, 1) == [0x21, 0x43]);
+    assert!(rt; array_at(&bytes, 1) == [0x21, 0x43]);
 }
 
 #[test]

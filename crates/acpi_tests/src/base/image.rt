@@ -75,7 +75,7 @@ const IMAGES: [Case; 5] = [
         ],
         (0x40, Some(7)),
     ),
-    // The least address that would be held twice, and a hole between pieces.
+    // The least address that would be present twice, and a hole between pieces.
     (
         &[
             (0x30, &[1], Ok(())),

@@ -12,7 +12,7 @@ fn first_of(image: &Image, signature: [u8; 4]) -> Result<Option<u64>, Code> {
 
 // Of the first table that the RSDT lists the image has no byte.
 #[test]
-fn first_is_listed_and_held(rt: HostRuntime) -> Result<(), Fail> {
+fn first_is_listed_and_present(rt: HostRuntime) -> Result<(), Fail> {
     let waet = table(rt.alloc(), &Q35, *b"WAET", &[2, 0, 0, 0])?;
     let image = set(rt.alloc(), &Q35, &[(0x2000, &[]), (0x3000, &waet)])?;
     assert!(rt; first_of(&image, *b"WAET") == Ok(Some(0x3000)));

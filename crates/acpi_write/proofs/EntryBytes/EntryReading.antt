@@ -64,15 +64,15 @@ all_found {Said = Said} value P found entries same each k d below =
     subst P (sym here) (each (get_or entries k none).offset (get_or entries k none).entry
     (Contains-get_or entries k none (omega (arith, below, within, count, ap length same))))
 
-pub madt_shaped : (v : MadtEntry) → madts.IsWholeEntry v → madts.IsOfOwnLength (madts.madt_value v) → IsShapedMadt v
+pub madt_shaped : (v : MadtEntry) → madts.IsCompleteEntry v → madts.IsOfOwnLength (madts.madt_value v) → IsShapedMadt v
 madt_shaped (madt_entry.Opaque bytes) whole own = (whole, own)
 madt_shaped _ whole own = tt
 
-pub srat_shaped : (v : SratEntry) → srats.IsWholeEntry v → srats.IsOfOwnLength (srats.srat_value v) → IsShapedSrat v
+pub srat_shaped : (v : SratEntry) → srats.IsCompleteEntry v → srats.IsOfOwnLength (srats.srat_value v) → IsShapedSrat v
 srat_shaped (srat_entry.Opaque bytes) whole own = (whole, own)
 srat_shaped _ whole own = tt
 
-pub pptt_shaped : (v : PpttEntry) → pptts.HasReferences v × pptts.IsWholeEntry v
+pub pptt_shaped : (v : PpttEntry) → pptts.HasReferences v × pptts.IsCompleteEntry v
     → ¬ pptt.HasOtherPpttLength (pptts.pptt_value v) → IsShapedPptt v
 pptt_shaped (pptt_entry.Opaque bytes) whole own = (whole.1, omega (arith, own))
 pptt_shaped (pptt_entry.Node head references) whole own = whole.0

@@ -13,7 +13,7 @@ use Rattle.acpi_base.specs.Srat.{srat_kinds, srat_entry}
 use Rattle.acpi_base.specs.Srat as srat
 use Rattle.acpi_base.specs.Pptt.{pptt_entry}
 use Rattle.acpi_base.specs.Pptt as pptt
-use Rattle.acpi_base.proofs.Images.HeldBytes.{field_below}
+use Rattle.acpi_base.proofs.Images.PresentBytes.{field_below}
 use Rattle.acpi_base.proofs.Layouts.RoundTrip.{HasValues-layout_bytes}
 use Rattle.acpi_base.specs.KindLayouts.{bytes_of}
 use Rattle.acpi_base.proofs.Layouts.Kinds.{written_again}

@@ -1,8 +1,8 @@
 -- The rebuilt image of a clean set holds a clean set that says the same.
 use Rattle.std.proofs.Common.{◌≡◌, ℕ, List, sym, ap, ◌∙◌, subst}
 use Rattle.acpi_base.specs.Memory.{Memory}
-use Rattle.acpi_base.specs.Fadt.{IsFadt, IsSoundFadt}
-use Rattle.acpi_base.specs.Facs.{HasSoundFacs, IsSoundFacs}
+use Rattle.acpi_base.specs.Fadt.{IsFadt, IsValidFadt}
+use Rattle.acpi_base.specs.Facs.{HasValidFacs, IsValidFacs}
 use Rattle.acpi_base.specs.Listed.{fadt_signature}
 use Rattle.acpi_base.specs.Policy.{PolicyValue, with_rsdp}
 use Rattle.acpi_base.specs.Statements.{IsClean}
@@ -17,7 +17,7 @@ use Rattle.acpi_write.specs.SetValues.{IsFacsOf, IsSetValue}
 use Rattle.acpi_write.specs.Values.{SetValue}
 use Rattle.acpi_write.proofs.OldSets.FirstListed.{listed_first, first_of_listed}
 use Rattle.acpi_write.proofs.OldSets.FirstTables.{new_tables}
-use Rattle.acpi_write.proofs.NewSets.NewSet.{facs_again, facs_sound_again, IsNewSet, new_set, new_listed, new_sound_tables, named_fadt, HasNewFadt, new_fadt}
+use Rattle.acpi_write.proofs.NewSets.NewSet.{facs_again, facs_valid_again, IsNewSet, new_set, new_listed, new_valid_tables, named_fadt, HasNewFadt, new_fadt}
 use Rattle.acpi_write.proofs.NewSets.NewTables.{values_again, contents_again}
 use Rattle.acpi_write.proofs.OldSets.OldTables.{listed_of, value_is_one}
 use Rattle.acpi_write.proofs.NewSets.SameStages.{AreSameListed, clean_again}
@@ -40,9 +40,9 @@ are_same m q v base said new kind other is =
 
 -- what is said of the old set's FADT is known of the new one's
 record IsFadtKept (v : SetValue) (base : ℕ) : Type 0 where
-  sound : IsSoundFadt (rebuilt_image v base) base
+  valid : IsValidFadt (rebuilt_image v base) base
   facs : (fadt : List ℕ) → IsFadt (rebuilt_image v base) base fadt → IsFacsOf (rebuilt_image v base) fadt v.facs
-  facs_sound : IsSoundFacs (rebuilt_image v base) base
+  facs_valid : IsValidFacs (rebuilt_image v base) base
 
 fadt_kept : (m : Memory) (q : PolicyValue) (v : SetValue) (base : ℕ) → IsClean m q → (said : IsSetValue m q.rsdp v)
     → IsPlaced v base → IsNewSet v base said.tables → IsFadtKept v base
@@ -54,13 +54,13 @@ fadt_kept m q v base clean said placed new =
     let fadt : HasNewFadt m q.rsdp v base old = new_fadt m q v base old said placed new is in
     let named = named_fadt old place in
     let facs = facs_again m n old named v.facs place fadt.facs new.facs fadt.names.named in
-    let sound = facs_sound_again m n old named v.facs (clean stage.Facs old is) fadt.names.reduced fadt.facs facs in
+    let valid = facs_valid_again m n old named v.facs (clean stage.Facs old is) fadt.names.reduced fadt.facs facs in
     let one = λ (other : List ℕ) (listed : IsFadt n base other). one_listed n base fadt_signature named other
     fadt.listed listed in
     record {
-      sound = record { whole = named; fadt = fadt.listed; sound = fadt.names.sound };
+      valid = record { whole = named; fadt = fadt.listed; valid = fadt.names.valid };
       facs = λ other listed. subst (λ (x : List ℕ). IsFacsOf n x v.facs) (one other listed) facs;
-      facs_sound = λ other listed. subst (HasSoundFacs n) (one other listed) sound;
+      facs_valid = λ other listed. subst (HasValidFacs n) (one other listed) valid;
     }
 
 -- ---- the whole
@@ -72,10 +72,10 @@ kept_clean m q v base clean said new fadt =
     clean_again m (rebuilt_image v base) q base clean (are_same m q v base said new)
     (record {
       rsdp = leads.rsdp;
-      root = record { r = leads.r; d = 8; whole = leads.root_bytes; root = leads.root; sound = leads.sound };
-      tables = new_sound_tables v base said.tables new;
-      fadt = fadt.sound;
-      facs = fadt.facs_sound;
+      root = record { r = leads.r; d = 8; whole = leads.root_bytes; root = leads.root; valid = leads.valid };
+      tables = new_valid_tables v base said.tables new;
+      fadt = fadt.valid;
+      facs = fadt.facs_valid;
     })
 
 kept_value : (m : Memory) (p : ℕ) (v : SetValue) (base : ℕ) → (said : IsSetValue m p v) → IsNewSet v base said.tables
@@ -85,13 +85,13 @@ kept_value m p v base said new fadt =
     let place = facs_place v base in
     record {
       head = leads.head;
-      head_held = leads.head_held;
+      head_present = leads.head_present;
       oemid = sym leads.oemid;
       r = leads.r;
       d = 8;
       root_bytes = leads.root_bytes;
       root = leads.root;
-      root_table = leads.sound.table;
+      root_table = leads.valid.table;
       root_head = sym leads.root_head;
       tables = new_tables place said.tables;
       each = new.each;

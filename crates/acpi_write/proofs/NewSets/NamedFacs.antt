@@ -5,15 +5,15 @@ use Rattle.std.proofs.lemmas.Bool.{cases_lt, cases_eq, le-leb, lt-leb, eq-eqb, n
 use Rattle.std.proofs.lemmas.List.{drop-drop, take_at, drop_at, length-take-le}
 use Rattle.acpi_base.specs.Number.{field, number_bytes}
 use Rattle.acpi_base.specs.Header.{head_of}
-use Rattle.acpi_base.specs.Fadt.{IsSoundFadtTable, IsResetRegister, gas_at, has_flag, wide_address, facs_address}
+use Rattle.acpi_base.specs.Fadt.{IsValidFadtTable, IsResetRegister, gas_at, has_flag, wide_address, facs_address}
 use Rattle.acpi_base.specs.Listed.{fadt_signature}
-use Rattle.acpi_base.proofs.Images.HeldBytes.{field-take}
+use Rattle.acpi_base.proofs.Images.PresentBytes.{field-take}
 use Rattle.acpi_base.proofs.Layouts.RoundTrip.{length-number_bytes, number_there}
 use Rattle.acpi_write.specs.Encoded.{table_bytes}
 use Rattle.acpi_write.specs.FadtBody.{put_over, with_facs}
 use Rattle.acpi_write.specs.Laws.{FadtsNameFacs}
 use Rattle.acpi_write.proofs.TablesWritten.FadtBodies.{length-put_over, with_facs-wide, with_facs-narrow, length-with_facs}
-use Rattle.acpi_write.proofs.TablesWritten.WholeTables.{whole_table, length_of_parts, fits_head}
+use Rattle.acpi_write.proofs.TablesWritten.CompleteTables.{complete_table, length_of_parts, fits_head}
 
 -- ---- bytes put over others
 
@@ -102,8 +102,8 @@ alike_flag : (one other : List ℕ) (bit : ℕ) → AreAlike one other → has_f
 unfolding has_flag
 alike_flag one other bit alike = rw (alike.fields 112 4 (omega arith) (omega arith)) refl
 
-alike_sound : (one other : List ℕ) → AreAlike one other → IsSoundFadtTable one → IsSoundFadtTable other
-alike_sound one other alike sound =
+alike_valid : (one other : List ℕ) → AreAlike one other → IsValidFadtTable one → IsValidFadtTable other
+alike_valid one other alike valid =
     let count = alike.count in
     let a = alike.fields 116 1 (omega arith) (omega arith) in
     let b = alike.fields 117 1 (omega arith) (omega arith) in
@@ -113,9 +113,9 @@ alike_sound one other alike sound =
     let gas : gas_at one 116 ≡ gas_at other 116 = λ i. record
     { space = sym a i; bit_width = sym b i; bit_offset = sym c i; access_size = sym d i; address = sym e i } in
     record {
-      long = omega (arith, count, sound.long);
+      long = omega (arith, count, valid.long);
       blocks = λ full.
-          let lengths = sound.blocks (sym (alike_flag one other 20 alike) ∙ full) in
+          let lengths = valid.blocks (sym (alike_flag one other 20 alike) ∙ full) in
           record {
             event = subst (λ (x : ℕ). 4 ≤ x) (sym (alike.fields 88 1 (omega arith) (omega arith))) lengths.event;
             control = subst (λ (x : ℕ). 2 ≤ x) (sym (alike.fields 89 1 (omega arith) (omega arith))) lengths.control;
@@ -125,7 +125,7 @@ alike_sound one other alike sound =
             gpe1 = subst (λ (x : ℕ). x % 2 ≡ 0) (sym (alike.fields 93 1 (omega arith) (omega arith))) lengths.gpe1;
           };
       reset = λ has long. subst IsResetRegister gas
-          (sound.reset (sym (alike_flag one other 10 alike) ∙ has) (omega (arith, count, long)));
+          (valid.reset (sym (alike_flag one other 10 alike) ∙ has) (omega (arith, count, long)));
     }
 
 -- ---- the address that is named
@@ -144,12 +144,12 @@ unfolding wide_address
 named_narrow whole facs short narrow = rw (lt-leb 140 (length whole) short) narrow
 
 pub fadts_name_facs : FadtsNameFacs
-fadts_name_facs whole facs is low small sound fits narrow =
+fadts_name_facs whole facs is low small valid fits narrow =
     let body = drop 36 whole in
     let behind = length-drop 36 whole in
-    let least = sound.long in
+    let least = valid.long in
     let n = length-with_facs body facs (omega (arith, behind, least)) in
-    let table = whole_table fadt_signature (head_of whole) (with_facs body facs) refl (fits_head whole low is.least)
+    let table = complete_table fadt_signature (head_of whole) (with_facs body facs) refl (fits_head whole low is.least)
     (omega (arith, n, behind, small, least)) in
     let new = table_bytes fadt_signature (head_of whole) (with_facs body facs) in
     let count = length_of_parts new (with_facs body facs) table.0.least table.1 in
@@ -176,7 +176,7 @@ fadts_name_facs whole facs is low small sound fits narrow =
     ] in
     record {
       table = table.0;
-      sound = alike_sound whole new alike sound;
+      valid = alike_valid whole new alike valid;
       named = named;
       reduced = alike_flag whole new 20 alike;
     }

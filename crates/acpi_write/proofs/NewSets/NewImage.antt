@@ -7,16 +7,16 @@ use Rattle.std.specs.Option.{option_or}
 use Rattle.std.specs.FinMap.{empty}
 use Rattle.acpi_base.specs.Memory.{Memory, byte_of, bytes_at, with_bytes}
 use Rattle.acpi_base.specs.Header.{HeadValue}
-use Rattle.acpi_base.specs.Rsdp.{addresses_at, extended_addresses, extended_frame, IsSoundRsdp}
-use Rattle.acpi_base.specs.Root.{chosen_root, IsRoot, IsSoundRootTable}
+use Rattle.acpi_base.specs.Rsdp.{addresses_at, extended_addresses, extended_frame, IsValidRsdp}
+use Rattle.acpi_base.specs.Root.{chosen_root, IsRoot, IsValidRootTable}
 use Rattle.acpi_base.specs.Signature.{has_signature, xsdt_signature}
 use Rattle.acpi_base.specs.Frames.{IsFrame, frame_length}
 use Rattle.acpi_base.specs.Tables.{table_frame}
 use Rattle.acpi_base.specs.declared.frame.Frame.{Frame}
-use Rattle.acpi_base.proofs.Images.HeldBytes.{field-take}
+use Rattle.acpi_base.proofs.Images.PresentBytes.{field-take}
 use Rattle.acpi_base.proofs.Images.ByteRuns.{run_of-take, run_of-from_each}
 use Rattle.acpi_base.specs.Image.Runs.{run_at}
-use Rattle.acpi_base.proofs.Images.RunBytes.{held_none, held_at, byte_of-with_bytes}
+use Rattle.acpi_base.proofs.Images.RunBytes.{present_none, present_at, byte_of-with_bytes}
 use Rattle.acpi_write.specs.Encoded.{encoded_length}
 use Rattle.acpi_write.specs.Placed.{block_ends, DoEndInside, IsPlaced, RebuiltLeadsToTables}
 use Rattle.acpi_write.specs.Rebuilt.{aligned_address, blocks_from, block_places, option_list, part_places, rsdp_bytes, table_places, xsdt_length, rebuilt_image, HoldsBlock, PlacedBlock, with_blocks, part_bytes, RebuiltHoldsParts}
@@ -38,7 +38,7 @@ below_stays m bound (p ∷ ps) x r l =
     below_stays (with_bytes m p.address p.bytes) (p.address + length p.bytes) ps x r.1 (omega (arith, r.0))
     ∙ byte_of-with_bytes m p.address p.bytes x
     ∙ ap (λ (o : Option ℕ). option_or o (byte_of m x))
-    (held_none (run_at p.address p.bytes) x (inl (omega (arith, r.0))))
+    (present_none (run_at p.address p.bytes) x (inl (omega (arith, r.0))))
 
 -- bytes that were just put in stand, whatever comes behind them
 first_stands : (m : Memory) (a : ℕ) (bytes : List ℕ) (ps : List PlacedBlock) → Rising (a + length bytes) ps
@@ -49,7 +49,7 @@ first_stands m a bytes ps r =
     below_stays (with_bytes m a bytes) (a + length bytes) ps (a + k) r (omega arith)
     ∙ byte_of-with_bytes m a bytes (a + k)
     ∙ ap (λ (o : Option ℕ). option_or o (byte_of m (a + k)))
-    (held_at (run_at a bytes) (a + k) (omega arith) (omega arith))
+    (present_at (run_at a bytes) (a + k) (omega arith) (omega arith))
     ∙ ap (λ (i : ℕ). Some (get_or bytes i 0)) back)
 
 all_stand : (m : Memory) (bound : ℕ) (ps : List PlacedBlock) → Rising bound ps
@@ -72,9 +72,9 @@ laid_rising bound a [] h = tt
 laid_rising bound a (b ∷ bs) h =
     (h, laid_rising (a + length b) (aligned_address (a + length b)) bs (aligned_from (a + length b)))
 
-pub parts_are_held : RebuiltHoldsParts
+pub parts_are_present : RebuiltHoldsParts
 unfolding rebuilt_image
-parts_are_held v base =
+parts_are_present v base =
     all_stand empty base (blocks_from base (part_bytes v base))
     (laid_rising base base (part_bytes v base) (omega arith))
 
@@ -155,9 +155,9 @@ tables_are v base placed =
 abbrev pub Holds : Memory → ℕ → List ℕ → Type 0
 Holds m a bytes = bytes_at m a (length bytes) ≡ Some bytes
 
-pub front_held : (m : Memory) (a k : ℕ) (bytes : List ℕ) → Holds m a bytes → k ≤ length bytes
+pub front_present : (m : Memory) (a k : ℕ) (bytes : List ℕ) → Holds m a bytes → k ≤ length bytes
     → bytes_at m a k ≡ Some (take k bytes)
-front_held m a k bytes held h = run_of-take (byte_of m) a (length bytes) k bytes held h
+front_present m a k bytes present h = run_of-take (byte_of m) a (length bytes) k bytes present h
 
 pub signed_front : (bytes signature : List ℕ) (k : ℕ) → length signature ≤ k
     → has_signature (take k bytes) signature ≡ has_signature bytes signature
@@ -165,27 +165,27 @@ unfolding has_signature
 signed_front bytes signature k h = rw (take-take (length signature) k bytes h) refl
 
 -- a structure that says how long it is
-pub frame_held : (f : Frame) {m : Memory} {a : ℕ} {bytes : List ℕ} → f.header ≤ f.least → f.length_at + 4 ≤ f.header
+pub frame_present : (f : Frame) {m : Memory} {a : ℕ} {bytes : List ℕ} → f.header ≤ f.least → f.length_at + 4 ≤ f.header
     → Holds m a bytes → f.least ≤ length bytes → frame_length f bytes ≡ length bytes
     → IsFrame f m a (take f.header bytes) bytes
-frame_held f {m} {a} {bytes} fits inside held least count =
+frame_present f {m} {a} {bytes} fits inside present least count =
     let size : frame_length f (take f.header bytes) ≡ length bytes =
     field-take bytes f.header f.length_at 4 inside ∙ count in
     record {
-      header_held = front_held m a f.header bytes held (omega (arith, fits, least));
+      header_present = front_present m a f.header bytes present (omega (arith, fits, least));
       least = omega (arith, size, least);
-      held = ap (λ (k : ℕ). bytes_at m a k) size ∙ held;
+      present = ap (λ (k : ℕ). bytes_at m a k) size ∙ present;
     }
 
 -- an XSDT
-xsdt_held : (m : Memory) (a : ℕ) (head : HeadValue) (xs bytes : List ℕ) → Holds m a bytes → IsWrittenXsdt head xs bytes
-    → IsSoundRootTable m a 8 bytes
-xsdt_held m a head xs bytes held xsdt =
+xsdt_present : (m : Memory) (a : ℕ) (head : HeadValue) (xs bytes : List ℕ) → Holds m a bytes → IsWrittenXsdt head xs bytes
+    → IsValidRootTable m a 8 bytes
+xsdt_present m a head xs bytes present xsdt =
     let count = xsdt.count in
     record {
       table = record {
         header = take 36 bytes;
-        table = frame_held table_frame (omega arith) (omega arith) held xsdt.table.least xsdt.table.size;
+        table = frame_present table_frame (omega arith) (omega arith) present xsdt.table.least xsdt.table.size;
         signed = signed_front bytes xsdt_signature 36 (omega arith) ∙ xsdt.table.signed;
       };
       slots = omega (arith, count);
@@ -193,20 +193,20 @@ xsdt_held m a head xs bytes held xsdt =
     }
 
 -- an RSDP
-rsdp_held : (m : Memory) (a xsdt : ℕ) (oemid bytes : List ℕ) → Holds m a bytes → IsWrittenRsdp oemid xsdt bytes
-    → IsSoundRsdp m a
-rsdp_held m a xsdt oemid bytes held rsdp =
+rsdp_present : (m : Memory) (a xsdt : ℕ) (oemid bytes : List ℕ) → Holds m a bytes → IsWrittenRsdp oemid xsdt bytes
+    → IsValidRsdp m a
+rsdp_present m a xsdt oemid bytes present rsdp =
     let count = rsdp.count in
     let size = rsdp.size in
     record {
       head = take 20 bytes;
-      head_held = front_held m a 20 bytes held (omega (arith, count));
+      head_present = front_present m a 20 bytes present (omega (arith, count));
       signed = rsdp.signed;
       zero_sum = rsdp.head_sum;
       extended = λ _. record {
         header = take 36 bytes;
         whole = bytes;
-        frame = frame_held extended_frame (omega arith) (omega arith) held (omega (arith, count)) (size ∙ sym count);
+        frame = frame_present extended_frame (omega arith) (omega arith) present (omega (arith, count)) (size ∙ sym count);
         zero_sum = rsdp.zero_sum;
       };
     }
@@ -214,12 +214,12 @@ rsdp_held m a xsdt oemid bytes held rsdp =
 rsdp_names : (m : Memory) (a xsdt : ℕ) (oemid bytes : List ℕ) → Holds m a bytes → IsWrittenRsdp oemid xsdt bytes
     → addresses_at m a ≡ Some (record { rsdt = 0; xsdt = xsdt })
 unfolding addresses_at
-rsdp_names m a xsdt oemid bytes held rsdp =
+rsdp_names m a xsdt oemid bytes present rsdp =
     let count = rsdp.count in
     let named : extended_addresses bytes ≡ record { rsdt = 0; xsdt = xsdt } =
     λ i. record { rsdt = rsdp.rsdt_is i; xsdt = rsdp.xsdt_is i } in
-    let head = front_held m a 20 bytes held (omega (arith, count)) in
-    let prefix : bytes_at m a 36 ≡ Some bytes = ap (λ (k : ℕ). bytes_at m a k) (sym count) ∙ held in
+    let head = front_present m a 20 bytes present (omega (arith, count)) in
+    let prefix : bytes_at m a 36 ≡ Some bytes = ap (λ (k : ℕ). bytes_at m a k) (sym count) ∙ present in
     rw (head, rsdp.revision, prefix, named) refl
 
 names_root : (m : Memory) (a xsdt : ℕ) → addresses_at m a ≡ Some (record { rsdt = 0; xsdt = xsdt }) → 0 < xsdt
@@ -237,8 +237,8 @@ first_parts : (v : SetValue) (base : ℕ) (oemid_bytes xsdt_bytes : List ℕ) (r
     → AllByRecursion (HoldsBlock m) (blocks_from base (oemid_bytes ∷ xsdt_bytes ∷ rest))
     → Holds m base oemid_bytes × Holds m (aligned_address (base + 36)) xsdt_bytes
 unfolding blocks_from
-first_parts v base oemid_bytes xsdt_bytes rest m count held =
-    (held.0, subst (λ (n : ℕ). Holds m (aligned_address (base + n)) xsdt_bytes) count held.1.0)
+first_parts v base oemid_bytes xsdt_bytes rest m count present =
+    (present.0, subst (λ (n : ℕ). Holds m (aligned_address (base + n)) xsdt_bytes) count present.1.0)
 
 pub leads_to_tables : RebuiltLeadsToTables
 unfolding block_places block_ends
@@ -250,16 +250,16 @@ leads_to_tables v base oemid head placed =
     let tables = tables_are v base placed in
     let rsdp = rsdp_written v.oemid xsdt oemid (omega (arith, end)) in
     let root = xsdt_written v.root (table_places v base) head (omega (arith, tables.0, placed.size)) tables.1 in
-    let held = first_parts v base _ _ _ m rsdp.count (parts_are_held v base) in
+    let present = first_parts v base _ _ _ m rsdp.count (parts_are_present v base) in
     record {
-      rsdp = rsdp_held m base xsdt v.oemid _ held.0 rsdp;
+      rsdp = rsdp_present m base xsdt v.oemid _ present.0 rsdp;
       head = take 20 (rsdp_bytes v.oemid xsdt);
-      head_held = front_held m base 20 _ held.0 (omega (arith, rsdp.count));
+      head_present = front_present m base 20 _ present.0 (omega (arith, rsdp.count));
       oemid = rsdp.oemid_is;
       r = xsdt;
       root_bytes = _;
-      root = names_root m base xsdt (rsdp_names m base xsdt v.oemid _ held.0 rsdp) (omega (arith, from));
-      sound = xsdt_held m xsdt v.root (table_places v base) _ held.1 root;
+      root = names_root m base xsdt (rsdp_names m base xsdt v.oemid _ present.0 rsdp) (omega (arith, from));
+      valid = xsdt_present m xsdt v.root (table_places v base) _ present.1 root;
       root_head = root.table.head_is;
       lists = root.lists;
     }

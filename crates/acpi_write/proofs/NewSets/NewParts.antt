@@ -6,7 +6,7 @@ use Rattle.acpi_write.specs.Encoded.{encoded_length, encoded_bytes_with}
 use Rattle.acpi_write.specs.Placed.{block_ends, DoEndInside, IsPlaced}
 use Rattle.acpi_write.specs.Rebuilt.{aligned_address, blocks_from, block_places, option_list, place_of_facs, part_lengths, part_places, part_bytes, facs_place, table_places, xsdt_length, rebuilt_image, HoldsBlock}
 use Rattle.acpi_write.specs.Values.{SetValue}
-use Rattle.acpi_write.proofs.NewSets.NewImage.{Holds, aligned_from, parts_are_held}
+use Rattle.acpi_write.proofs.NewSets.NewImage.{Holds, aligned_from, parts_are_present}
 
 -- ---- blocks at their places
 
@@ -14,8 +14,8 @@ use Rattle.acpi_write.proofs.NewSets.NewImage.{Holds, aligned_from, parts_are_he
 laid_stand : (m : Memory) (a : ℕ) (blocks : List (List ℕ)) → AllByRecursion (HoldsBlock m) (blocks_from a blocks)
     → AllZip (Holds m) (block_places a (map length blocks)) blocks
 unfolding blocks_from block_places
-laid_stand m a [] held = tt
-laid_stand m a (b ∷ bs) held = (held.0, laid_stand m (aligned_address (a + length b)) bs held.1)
+laid_stand m a [] present = tt
+laid_stand m a (b ∷ bs) present = (present.0, laid_stand m (aligned_address (a + length b)) bs present.1)
 
 -- those behind others
 zip_behind : (R : ℕ → List ℕ → Type 0) (xs : List ℕ) (front back : List (List ℕ)) → AllZip R xs (front ++ back)
@@ -29,7 +29,7 @@ pub parts_stand : (v : SetValue) (base : ℕ) → map length (part_bytes v base)
     → AllZip (Holds (rebuilt_image v base)) (part_places v base) (part_bytes v base)
 parts_stand v base lengths =
     subst (λ (ns : List ℕ). AllZip (Holds (rebuilt_image v base)) (block_places base ns) (part_bytes v base)) lengths
-    (laid_stand (rebuilt_image v base) base (part_bytes v base) (parts_are_held v base))
+    (laid_stand (rebuilt_image v base) base (part_bytes v base) (parts_are_present v base))
 
 -- ---- the tables
 

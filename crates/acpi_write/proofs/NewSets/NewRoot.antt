@@ -10,7 +10,7 @@ use Rattle.acpi_write.specs.Encoded.{FitsHead, table_bytes}
 use Rattle.acpi_write.specs.Spells.{IsTableOf}
 use Rattle.acpi_write.proofs.OldSets.Listing.{listed_from, listed_is, listed_take}
 use Rattle.acpi_write.proofs.NewSets.NamedFacs.{field_behind}
-use Rattle.acpi_write.proofs.TablesWritten.WholeTables.{whole_table, length_of_parts}
+use Rattle.acpi_write.proofs.TablesWritten.CompleteTables.{complete_table, length_of_parts}
 
 -- addresses that a slot can list
 pub record AreAddresses (xs : List ℕ) : Type 0 where
@@ -64,7 +64,7 @@ xsdt_written head xs fits size are =
     let slots = flat_map (number_bytes 8) xs in
     let whole = table_bytes xsdt_signature head slots in
     let behind = length-slots xs in
-    let table = whole_table xsdt_signature head slots refl fits (omega (arith, behind, size)) in
+    let table = complete_table xsdt_signature head slots refl fits (omega (arith, behind, size)) in
     let count : length whole ≡ 36 + 8 * length xs = omega
     (arith, behind, length_of_parts whole slots table.0.least table.1) in
     let n : (length whole - 36) / 8 ≡ length xs = omega (arith, count) in

@@ -6,22 +6,22 @@ use Rattle.acpi_base.specs.Tables.{table_frame}
 use Rattle.acpi_base.specs.Header.{head_of}
 use Rattle.acpi_base.specs.Listed.{listed_addresses, fadt_signature, IsListedTable}
 use Rattle.acpi_base.specs.Policy.{PolicyValue}
-use Rattle.acpi_base.specs.Statements.{IsClean, AreSoundTables}
+use Rattle.acpi_base.specs.Statements.{IsClean, AreValidTables}
 use Rattle.acpi_base.proofs.Root.Slots.{slot_of_root}
 use Rattle.acpi_base.specs.Fadt.{facs_address, is_reduced}
-use Rattle.acpi_base.specs.Facs.{facs_signature, facs_frame, IsFacs, HasSoundFacs}
+use Rattle.acpi_base.specs.Facs.{facs_signature, facs_frame, IsFacs, HasValidFacs}
 use Rattle.acpi_write.specs.Encoded.{table_bytes, encoded_bytes_with}
 use Rattle.acpi_write.specs.FadtBody.{with_facs}
 use Rattle.acpi_write.specs.Laws.{NamesFacs}
 use Rattle.acpi_write.specs.Placed.{is_narrow, IsPlaced, LeadsToTables}
 use Rattle.acpi_write.specs.Rebuilt.{table_places, facs_place, rebuilt_image}
-use Rattle.acpi_write.specs.SetValues.{IsWholeAt, IsFacsOf, IsSetValue}
+use Rattle.acpi_write.specs.SetValues.{IsCompleteAt, IsFacsOf, IsSetValue}
 use Rattle.acpi_write.specs.Values.{TableValue, SetValue}
-use Rattle.acpi_write.specs.Views.{IsWholeTable}
+use Rattle.acpi_write.specs.Views.{IsCompleteTable}
 use Rattle.acpi_write.proofs.OldSets.FirstListed.{AreListed, slot_table, listed_first, first_of_listed}
 use Rattle.acpi_write.proofs.OldSets.FirstTables.{AreCleanTables, new_tables, clean_first}
 use Rattle.acpi_write.proofs.NewSets.NamedFacs.{fadts_name_facs}
-use Rattle.acpi_write.proofs.NewSets.NewImage.{Holds, frame_held, leads_to_tables, signed_front}
+use Rattle.acpi_write.proofs.NewSets.NewImage.{Holds, frame_present, leads_to_tables, signed_front}
 use Rattle.acpi_write.proofs.NewSets.NewParts.{HasFacsPlace, parts_stand, tables_stand, facs_stands, IsFacsPlace}
 use Rattle.acpi_write.proofs.NewSets.NewTables.{new_whole, fadt_again, narrow_first}
 use Rattle.acpi_write.proofs.SetParts.PartPlaces.{clean_parts_are_laid}
@@ -41,7 +41,7 @@ stands_again n bytes f are place =
     record {
       aligned = place.aligned;
       header = take 8 bytes;
-      frame = frame_held facs_frame (omega arith) (omega arith) place.stands are.least are.size;
+      frame = frame_present facs_frame (omega arith) (omega arith) place.stands are.least are.size;
       signed = signed_front bytes facs_signature 8 (omega arith) ∙ are.signed;
     }
 
@@ -56,31 +56,31 @@ facs_again m n old new (Some bytes) f is place named =
           (stands_again n bytes f (facs_bytes m (facs_address old) bytes is.1) place),
     )
 
--- and it is sound
-pub facs_sound_again : (m n : Memory) (old new : List ℕ) (facs : Option (List ℕ)) → HasSoundFacs m old
-    → is_reduced new ≡ is_reduced old → IsFacsOf m old facs → IsFacsOf n new facs → HasSoundFacs n new
-facs_sound_again m n old new None sound same is again =
-    record { none = λ nil. same ∙ sound.none is; named = λ some. absurd (some again) }
-facs_sound_again m n old new (Some bytes) sound same is again =
+-- and it is valid
+pub facs_valid_again : (m n : Memory) (old new : List ℕ) (facs : Option (List ℕ)) → HasValidFacs m old
+    → is_reduced new ≡ is_reduced old → IsFacsOf m old facs → IsFacsOf n new facs → HasValidFacs n new
+facs_valid_again m n old new None valid same is again =
+    record { none = λ nil. same ∙ valid.none is; named = λ some. absurd (some again) }
+facs_valid_again m n old new (Some bytes) valid same is again =
     record { none = λ nil. absurd (again.0 nil); named = λ some. (bytes, again.1) }
 
 -- ---- what stands
 
-all_held : (n : Memory) (xs : List ℕ) (blocks : List (List ℕ)) → AllZip (Holds n) xs blocks
-    → AllByRecursion IsWholeTable blocks → AllZip (IsWholeAt n) xs blocks
-all_held n [] [] held whole = tt
-all_held n [] (b ∷ bs) held whole = absurd held
-all_held n (x ∷ xs) [] held whole = absurd held
-all_held n (x ∷ xs) (b ∷ bs) held whole = (
-  (take 36 b, frame_held table_frame (omega arith) (omega arith) held.0 whole.0.least whole.0.size),
-  all_held n xs bs held.1 whole.1,
+all_present : (n : Memory) (xs : List ℕ) (blocks : List (List ℕ)) → AllZip (Holds n) xs blocks
+    → AllByRecursion IsCompleteTable blocks → AllZip (IsCompleteAt n) xs blocks
+all_present n [] [] present whole = tt
+all_present n [] (b ∷ bs) present whole = absurd present
+all_present n (x ∷ xs) [] present whole = absurd present
+all_present n (x ∷ xs) (b ∷ bs) present whole = (
+  (take 36 b, frame_present table_frame (omega arith) (omega arith) present.0 whole.0.least whole.0.size),
+  all_present n xs bs present.1 whole.1,
 )
 
 -- the rebuilt image of a set that lists these tables
 pub record IsNewSet (v : SetValue) (base : ℕ) (ts : List (List ℕ)) : Type 0 where
   pub clean : AreCleanTables ts
   pub leads : LeadsToTables v base (rebuilt_image v base)
-  pub each : AllZip (IsWholeAt (rebuilt_image v base)) (listed_addresses leads.root_bytes 8)
+  pub each : AllZip (IsCompleteAt (rebuilt_image v base)) (listed_addresses leads.root_bytes 8)
       (new_tables (facs_place v base) ts)
   pub facs : HasFacsPlace (rebuilt_image v base) v.facs (facs_place v base)
 
@@ -101,8 +101,8 @@ new_set m q v base image clean said placed =
     record {
       clean = tables;
       leads = leads;
-      each = subst (λ (xs : List ℕ). AllZip (IsWholeAt n) xs (new_tables facs ts)) (sym leads.lists)
-          (all_held n (table_places v base) (new_tables facs ts) stand (new_whole facs ts tables));
+      each = subst (λ (xs : List ℕ). AllZip (IsCompleteAt n) xs (new_tables facs ts)) (sym leads.lists)
+          (all_present n (table_places v base) (new_tables facs ts) stand (new_whole facs ts tables));
       facs = facs_stands v base placed parts;
     }
 
@@ -114,20 +114,20 @@ new_listed v base ts new =
       d = 8;
       root_bytes = new.leads.root_bytes;
       root = new.leads.root;
-      table = new.leads.sound.table;
+      table = new.leads.valid.table;
       each = new.each;
     }
 
 -- ---- stage 3
 
-pub new_sound_tables : (v : SetValue) (base : ℕ) (ts : List (List ℕ)) → IsNewSet v base ts
-    → AreSoundTables (rebuilt_image v base) base
-new_sound_tables v base ts new k a slot =
+pub new_valid_tables : (v : SetValue) (base : ℕ) (ts : List (List ℕ)) → IsNewSet v base ts
+    → AreValidTables (rebuilt_image v base) base
+new_valid_tables v base ts new k a slot =
     let n = rebuilt_image v base in
     let facs = facs_place v base in
     let leads = new.leads in
-    let there = slot_of_root n base leads.r 8 k a leads.root_bytes leads.root leads.sound.table slot in
-    let its = slot_table n IsWholeTable leads.root_bytes 8 (new_tables facs ts) k a (inr refl) new.each
+    let there = slot_of_root n base leads.r 8 k a leads.root_bytes leads.root leads.valid.table slot in
+    let its = slot_table n IsCompleteTable leads.root_bytes 8 (new_tables facs ts) k a (inr refl) new.each
     (new_whole facs ts new.clean) there in
     record { header = its.stands.0; whole = its.t; frame = its.stands.1; zero_sum = its.holds.zero_sum }
 
@@ -152,11 +152,11 @@ new_fadt m q v base old said placed new is =
     let ts = said.tables in
     let first = first_of_listed m q.rsdp ts fadt_signature old (listed_of m q.rsdp v said) refl is in
     let one = clean_first fadt_signature ts old new.clean first in
-    let long = (new.clean.sound old first).long in
+    let long = (new.clean.valid old first).long in
     let facs = said.facs old is in
     record {
       facs = facs;
-      names = fadts_name_facs old place one.table one.bytes one.small (new.clean.sound old first)
+      names = fadts_name_facs old place one.table one.bytes one.small (new.clean.valid old first)
           (place_fits m n old v.facs place facs new.facs) (λ short.
           placed.low (ap (λ (vs : List TableValue). list_any is_narrow vs) said.values
           ∙ narrow_first ts old first (omega (arith, long)) short));

@@ -12,7 +12,7 @@ use Rattle.acpi_base.specs.Listed.{fadt_signature}
 use Rattle.acpi_base.specs.TableKinds.{signature_of}
 use Rattle.acpi_base.specs.declared.table_kind.TableKind.{TableKind}
 use Rattle.acpi_base.specs.declared.table_kind.TableKind.TheVariants as kind
-use Rattle.acpi_base.proofs.Images.HeldBytes.{same_value}
+use Rattle.acpi_base.proofs.Images.PresentBytes.{same_value}
 use Rattle.acpi_base.proofs.Tables.Kinds.{length-signature_of}
 use Rattle.acpi_write.specs.Bodies.{contents_of}
 use Rattle.acpi_write.specs.Encoded.{table_bytes, encoded_bytes_with}
@@ -20,7 +20,7 @@ use Rattle.acpi_write.specs.FadtBody.{with_facs}
 use Rattle.acpi_write.specs.Placed.{is_narrow}
 use Rattle.acpi_write.specs.Kinds.{is_among}
 use Rattle.acpi_write.specs.SetValues.{is_first, table_value_behind, values_behind, values_of}
-use Rattle.acpi_write.specs.Views.{IsWholeTable}
+use Rattle.acpi_write.specs.Views.{IsCompleteTable}
 use Rattle.acpi_write.proofs.TablesWritten.FadtBodies.{length-with_facs}
 use Rattle.acpi_write.proofs.TablesWritten.KeptContents.{IsCleanTable}
 use Rattle.acpi_write.proofs.OldSets.FirstTables.{first_table_with, AreCleanTables, new_tables, first_is, is_behind, none_more}
@@ -42,7 +42,7 @@ clean_behind all before (t ∷ ts) clean is each =
       record {
         clean = each.0;
         readable = λ kind here. clean.readable kind t (first (signature_of kind) here);
-        sound = λ here. clean.sound t (first fadt_signature here);
+        valid = λ here. clean.valid t (first fadt_signature here);
       },
       clean_behind all (before ++ t ∷ []) ts clean (is ∙ sym (append_assoc before (t ∷ []) ts)) each.1,
     )
@@ -83,13 +83,13 @@ values_again facs ts clean = says_again facs [] [] ts (λ s four. refl) (of_clea
 -- ---- each is whole
 
 whole_behind : (facs : ℕ) (before ts : List (List ℕ)) → AreCleanBehind before ts
-    → AllByRecursion IsWholeTable (new_behind facs before ts)
+    → AllByRecursion IsCompleteTable (new_behind facs before ts)
 unfolding values_behind
 whole_behind facs before [] clean = tt
 whole_behind facs before (t ∷ ts) clean =
     ((rewritten facs before t clean.0).table, whole_behind facs (before ++ t ∷ []) ts clean.1)
 
-pub new_whole : (facs : ℕ) (ts : List (List ℕ)) → AreCleanTables ts → AllByRecursion IsWholeTable (new_tables facs ts)
+pub new_whole : (facs : ℕ) (ts : List (List ℕ)) → AreCleanTables ts → AllByRecursion IsCompleteTable (new_tables facs ts)
 new_whole facs ts clean = whole_behind facs [] ts (of_clean ts clean)
 
 -- ---- the first with a signature

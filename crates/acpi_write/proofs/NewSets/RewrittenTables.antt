@@ -1,7 +1,7 @@
 -- The table that is written for what a table of a clean set says: it has the same contents, and says the same.
 use Rattle.std.proofs.Common.{◌≡◌, ℕ, true, List, drop, Option, Some, None, sym, ap, ◌∙◌, subst, arith, length-drop}
 use Rattle.acpi_base.specs.Header.{head_of}
-use Rattle.acpi_base.specs.Fadt.{IsSoundFadtTable}
+use Rattle.acpi_base.specs.Fadt.{IsValidFadtTable}
 use Rattle.acpi_base.specs.Listed.{fadt_signature}
 use Rattle.acpi_base.specs.TableKinds.{signature_of}
 use Rattle.acpi_base.specs.declared.table_kind.TableKind.{TableKind}
@@ -22,7 +22,7 @@ use Rattle.acpi_write.proofs.TablesWritten.KeptContents.{IsCleanTable, kept}
 pub record IsCleanBehind (before : List (List ℕ)) (whole : List ℕ) : Type 0 where
   pub clean : IsCleanTable whole
   pub readable : (kind : TableKind) → is_first before whole (signature_of kind) ≡ true → IsReadableAs (Some kind) whole
-  pub sound : is_first before whole fadt_signature ≡ true → IsSoundFadtTable whole
+  pub valid : is_first before whole fadt_signature ≡ true → IsValidFadtTable whole
 
 -- the table that is written for what one says
 abbrev pub new_of : ℕ → List (List ℕ) → List ℕ → List ℕ
@@ -39,7 +39,7 @@ pub new_fadt : (facs : ℕ) (before : List (List ℕ)) (old : List ℕ) → IsCl
     → is_first before old fadt_signature ≡ true
     → new_of facs before old ≡ table_bytes fadt_signature (head_of old) (with_facs (drop 36 old) facs)
 new_fadt facs before old is first =
-    let long = (is.sound first).long in
+    let long = (is.valid first).long in
     ap (encoded_bytes_with facs) (says before old (Some kind.Fadt) first)
     ∙ ap (table_bytes fadt_signature (head_of old))
     (with_facs-with_facs (drop 36 old) 0 facs (omega (arith, length-drop 36 old, long)))

@@ -2,18 +2,18 @@
 use Rattle.std.proofs.Common.{◌≡◌, ℕ, List, sym, subst}
 use Rattle.acpi_base.specs.Memory.{Memory}
 use Rattle.acpi_base.specs.Policy.{PolicyValue, with_rsdp, inputs_of}
-use Rattle.acpi_base.specs.Rsdp.{IsSoundRsdp}
-use Rattle.acpi_base.specs.Root.{IsSoundRoot}
-use Rattle.acpi_base.specs.Fadt.{IsSoundFadt}
-use Rattle.acpi_base.specs.Facs.{IsSoundFacs}
+use Rattle.acpi_base.specs.Rsdp.{IsValidRsdp}
+use Rattle.acpi_base.specs.Root.{IsValidRoot}
+use Rattle.acpi_base.specs.Fadt.{IsValidFadt}
+use Rattle.acpi_base.specs.Facs.{IsValidFacs}
 use Rattle.acpi_base.specs.Listed.{srat_signature, pptt_signature, IsListedTable, ForListed}
 use Rattle.acpi_base.specs.Madt as madt
-use Rattle.acpi_base.specs.Madt.{MadtContents, Serves, IsSoundMadt, AreInterruptsApart, DoOverridesAgree}
-use Rattle.acpi_base.specs.Srat.{srat_contents, IsSoundSrat, AreRangesApart}
-use Rattle.acpi_base.specs.Slit.{IsSoundSlit}
-use Rattle.acpi_base.specs.Pptt.{pptt_contents, IsCutPptt, AreReferencesSound, DoParentsEnd, DoCachesEnd}
+use Rattle.acpi_base.specs.Madt.{MadtContents, Serves, IsValidMadt, AreInterruptsApart, DoOverridesAgree}
+use Rattle.acpi_base.specs.Srat.{srat_contents, IsValidSrat, AreRangesApart}
+use Rattle.acpi_base.specs.Slit.{IsValidSlit}
+use Rattle.acpi_base.specs.Pptt.{pptt_contents, IsCutPptt, AreReferencesValid, DoParentsEnd, DoCachesEnd}
 use Rattle.acpi_base.specs.Across.{HaveOneDomain, AreNamedServed, AreLeavesKnown}
-use Rattle.acpi_base.specs.Statements.{AreSoundTables, Holds, IsClean}
+use Rattle.acpi_base.specs.Statements.{AreValidTables, Holds, IsClean}
 use Rattle.acpi_base.specs.declared.stage.Stage.{Stage}
 use Rattle.acpi_base.specs.declared.stage.Stage.TheVariants as stage
 use Rattle.acpi_base.specs.TableKinds.{signature_of}
@@ -28,27 +28,27 @@ AreSameListed m p n base =
     → (old : List ℕ) × IsListedTable m p (signature_of kind) old × (contents_of kind new ≡ contents_of kind old)
 
 -- the first five stages hold
-pub record IsSoundFront (m : Memory) (p : ℕ) : Type 0 where
-  pub rsdp : IsSoundRsdp m p
-  pub root : IsSoundRoot m p
-  pub tables : AreSoundTables m p
-  pub fadt : IsSoundFadt m p
-  pub facs : IsSoundFacs m p
+pub record IsValidFront (m : Memory) (p : ℕ) : Type 0 where
+  pub rsdp : IsValidRsdp m p
+  pub root : IsValidRoot m p
+  pub tables : AreValidTables m p
+  pub fadt : IsValidFadt m p
+  pub facs : IsValidFacs m p
 
 -- ---- the policy: what is asked of a MADT does not hang on the RSDP's address
 
-entry_again : (q : PolicyValue) (base : ℕ) (e : madt.MadtEntry) → madt.IsSoundMadtEntry q e
-    → madt.IsSoundMadtEntry (with_rsdp q base) e
+entry_again : (q : PolicyValue) (base : ℕ) (e : madt.MadtEntry) → madt.IsValidMadtEntry q e
+    → madt.IsValidMadtEntry (with_rsdp q base) e
 unfolding inputs_of
-entry_again q base (madt.IoApic v) sound = sound
-entry_again q base _ sound = sound
+entry_again q base (madt.IoApic v) valid = valid
+entry_again q base _ valid = valid
 
-madt_again : (q : PolicyValue) (base : ℕ) (c : MadtContents) → IsSoundMadt q c → IsSoundMadt (with_rsdp q base) c
-madt_again q base c sound = record {
-  long = sound.long;
-  filled = sound.filled;
-  entries = λ o e stands. entry_again q base e (sound.entries o e stands);
-  one_address = sound.one_address;
+madt_again : (q : PolicyValue) (base : ℕ) (c : MadtContents) → IsValidMadt q c → IsValidMadt (with_rsdp q base) c
+madt_again q base c valid = record {
+  long = valid.long;
+  filled = valid.filled;
+  entries = λ o e stands. entry_again q base e (valid.entries o e stands);
+  one_address = valid.one_address;
 }
 
 -- an entry serves the same interrupt numbers
@@ -101,7 +101,7 @@ module _ {m n : Memory} {p base : ℕ} (same : AreSameListed m p n base) where
 
 -- every stage holds
 pub clean_again : (m n : Memory) (q : PolicyValue) (base : ℕ) → IsClean m q → AreSameListed m q.rsdp n base
-    → IsSoundFront n base → IsClean n (with_rsdp q base)
+    → IsValidFront n base → IsClean n (with_rsdp q base)
 clean_again m n q base clean same front = each
   where
     each : (s : Stage) → Holds s n (with_rsdp q base)
@@ -111,16 +111,16 @@ clean_again m n q base clean same front = each
     each stage.Fadt = front.fadt
     each stage.Facs = front.facs
     each stage.Madt =
-        moved same kind.Madt (IsSoundMadt q) (IsSoundMadt (with_rsdp q base)) (madt_again q base) (clean stage.Madt)
+        moved same kind.Madt (IsValidMadt q) (IsValidMadt (with_rsdp q base)) (madt_again q base) (clean stage.Madt)
     each stage.Interrupts =
         moved same kind.Madt (AreInterruptsApart q) (AreInterruptsApart (with_rsdp q base)) (apart_again q base)
         (clean stage.Interrupts)
     each stage.Overrides = still same kind.Madt DoOverridesAgree (clean stage.Overrides)
-    each stage.Srat = still same kind.Srat IsSoundSrat (clean stage.Srat)
+    each stage.Srat = still same kind.Srat IsValidSrat (clean stage.Srat)
     each stage.Ranges = still same kind.Srat (AreRangesApart q.hotplug) (clean stage.Ranges)
-    each stage.Slit = still same kind.Slit IsSoundSlit (clean stage.Slit)
+    each stage.Slit = still same kind.Slit IsValidSlit (clean stage.Slit)
     each stage.Pptt = still same kind.Pptt IsCutPptt (clean stage.Pptt)
-    each stage.References = still same kind.Pptt AreReferencesSound (clean stage.References)
+    each stage.References = still same kind.Pptt AreReferencesValid (clean stage.References)
     each stage.Parents = still same kind.Pptt DoParentsEnd (clean stage.Parents)
     each stage.Caches = still same kind.Pptt DoCachesEnd (clean stage.Caches)
     each stage.Domains =

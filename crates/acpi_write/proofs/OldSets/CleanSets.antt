@@ -9,21 +9,21 @@ use Rattle.acpi_base.specs.Number.{field, byte_sum}
 use Rattle.acpi_base.specs.Policy.{PolicyValue}
 use Rattle.acpi_base.specs.Signature.{has_signature}
 use Rattle.acpi_base.specs.Root.{IsSlotWidth, IsRoot, IsRootTable, HasSlot}
-use Rattle.acpi_base.specs.Tables.{IsSigned, IsSoundTable}
+use Rattle.acpi_base.specs.Tables.{IsSigned, IsValidTable}
 use Rattle.acpi_base.specs.Listed.{listed_addresses, IsFirstListed, IsListedTable}
 use Rattle.acpi_base.specs.Statements.{IsClean}
 use Rattle.acpi_base.specs.TableKinds.{signature_of}
 use Rattle.acpi_base.specs.declared.stage.Stage.TheVariants as stage
 use Rattle.acpi_base.specs.declared.table_kind.TableKind.{TableKind}
-use Rattle.acpi_base.proofs.Images.HeldBytes.{same_value}
+use Rattle.acpi_base.proofs.Images.PresentBytes.{same_value}
 use Rattle.acpi_base.proofs.Root.Slots.{root_slot}
 use Rattle.acpi_base.proofs.Root.Named.{root_width}
 use Rattle.acpi_base.proofs.Tables.Kinds.{length-signature_of}
 use Rattle.acpi_base.proofs.Tables.Listed.{listed_in_root}
 use Rattle.acpi_base.proofs.Frames.{one_frame}
-use Rattle.acpi_base.proofs.Tables.Whole.{signed_table}
+use Rattle.acpi_base.proofs.Tables.Complete.{signed_table}
 use Rattle.acpi_write.specs.Kinds.{AreReadable, IsKindBehind, is_among}
-use Rattle.acpi_write.specs.SetValues.{IsWholeAt, is_first}
+use Rattle.acpi_write.specs.SetValues.{IsCompleteAt, is_first}
 use Rattle.acpi_write.specs.Bodies.{IsReadableAs}
 use Rattle.acpi_write.proofs.OldSets.FirstTables.{first_parts}
 use Rattle.acpi_write.proofs.Tables.Kinds.{facts}
@@ -37,14 +37,14 @@ record IsAt (m : Memory) (root : List ℕ) (d j : ℕ) (ts : List (List ℕ)) (k
   from : j ≤ i
   a : ℕ
   slot : HasSlot root d i a
-  table : IsWholeAt m a (get_or ts k none)
-  earlier : (h b : ℕ) → j ≤ h → h < i → HasSlot root d h b → (l : ℕ) × (l < k) × IsWholeAt m b (get_or ts l none)
+  table : IsCompleteAt m a (get_or ts k none)
+  earlier : (h b : ℕ) → j ≤ h → h < i → HasSlot root d h b → (l : ℕ) × (l < k) × IsCompleteAt m b (get_or ts l none)
 
 abbrev Inside : List ℕ → ℕ → ℕ → Type 0
 Inside root d s = (i : ℕ) → i < s → 36 + d * (i + 1) ≤ length root
 
 at : (m : Memory) (root : List ℕ) (d j n : ℕ) (ts : List (List ℕ)) (k : ℕ) (none : List ℕ) → Inside root d (j + n)
-    → AllZip (IsWholeAt m) (listed_from root d j n) ts → k < length ts → IsAt m root d j ts k none
+    → AllZip (IsCompleteAt m) (listed_from root d j n) ts → k < length ts → IsAt m root d j ts k none
 at m root d j zero [] k none inside zip below = absurd (omega arith)
 at m root d j zero (t ∷ ts) k none inside zip below = absurd zip
 at m root d j (suc n) ts k none inside zip below =
@@ -52,7 +52,7 @@ at m root d j (suc n) ts k none inside zip below =
     elim (cases_eq (field root (36 + d * j) d) 0) [
       | inl nil ↦
           let rest = at m root d (j + 1) n ts k none further
-          (subst (λ (xs : List ℕ). AllZip (IsWholeAt m) xs ts) (listed_skip root d j n nil) zip) below in
+          (subst (λ (xs : List ℕ). AllZip (IsCompleteAt m) xs ts) (listed_skip root d j n nil) zip) below in
           record {
             i = rest.i;
             from = omega (arith, rest.from);
@@ -66,13 +66,13 @@ at m root d j (suc n) ts k none inside zip below =
             ];
           }
       | inr some ↦ go ts k (inside j (omega arith)) some (λ us l z b. at m root d (j + 1) n us l none further z b)
-          (subst (λ (xs : List ℕ). AllZip (IsWholeAt m) xs ts) (listed_take root d j n some) zip) below
+          (subst (λ (xs : List ℕ). AllZip (IsCompleteAt m) xs ts) (listed_take root d j n some) zip) below
     ]
   where
     go : (ts : List (List ℕ)) (k : ℕ) → 36 + d * (j + 1) ≤ length root → field root (36 + d * j) d ≢ 0
-        → ((us : List (List ℕ)) (l : ℕ) → AllZip (IsWholeAt m) (listed_from root d (j + 1) n) us → l < length us
+        → ((us : List (List ℕ)) (l : ℕ) → AllZip (IsCompleteAt m) (listed_from root d (j + 1) n) us → l < length us
         → IsAt m root d (j + 1) us l none)
-        → AllZip (IsWholeAt m) (field root (36 + d * j) d ∷ listed_from root d (j + 1) n) ts → k < length ts
+        → AllZip (IsCompleteAt m) (field root (36 + d * j) d ∷ listed_from root d (j + 1) n) ts → k < length ts
         → IsAt m root d j ts k none
     go [] k within some again zip below = absurd zip
     go (t ∷ ts) zero within some again zip below =
@@ -96,7 +96,7 @@ at m root d j (suc n) ts k none inside zip below =
             | inl same ↦
                 let place : field root (36 + d * j) d ≡ b = ap (λ (i : ℕ). field root (36 + d * i) d) (sym same)
                 ∙ slot.address in
-                (zero, omega arith, subst (λ (x : ℕ). IsWholeAt m x t) place zip.0)
+                (zero, omega arith, subst (λ (x : ℕ). IsCompleteAt m x t) place zip.0)
             | inr other ↦
                 let before = rest.earlier h b (omega (arith, other, from)) less slot in
                 (suc before.0, omega (arith, before.1), before.2)
@@ -113,10 +113,10 @@ slots_inside root d (inr eight) i below =
     subst (λ (x : ℕ). 36 + x * (i + 1) ≤ length root) (sym eight) (omega arith)
 
 at_listed : (m : Memory) (root : List ℕ) (d : ℕ) (ts : List (List ℕ)) (k : ℕ) (none : List ℕ) → IsSlotWidth d
-    → AllZip (IsWholeAt m) (listed_addresses root d) ts → k < length ts → IsAt m root d 0 ts k none
+    → AllZip (IsCompleteAt m) (listed_addresses root d) ts → k < length ts → IsAt m root d 0 ts k none
 at_listed m root d ts k none width zip below =
     at m root d 0 ((length root - 36) / d) ts k none (slots_inside root d width)
-    (subst (λ (xs : List ℕ). AllZip (IsWholeAt m) xs ts) (listed_is root d) zip) below
+    (subst (λ (xs : List ℕ). AllZip (IsCompleteAt m) xs ts) (listed_is root d) zip) below
 
 -- ---- the first with a signature
 
@@ -132,7 +132,7 @@ among (t ∷ ts) (suc k) (suc l) none signature less below is =
 
 -- the table that is the first with a signature is the first listed one
 pub first_listed_table : (m : Memory) (p r d : ℕ) (root : List ℕ) (ts : List (List ℕ)) (k : ℕ) (none signature : List ℕ)
-    → IsRoot m p r d → IsRootTable m r d root → AllZip (IsWholeAt m) (listed_addresses root d) ts → k < length ts
+    → IsRoot m p r d → IsRootTable m r d root → AllZip (IsCompleteAt m) (listed_addresses root d) ts → k < length ts
     → length signature ≡ 4
     → is_first (take k ts) (get_or ts k none) signature ≡ true → IsListedTable m p signature (get_or ts k none)
 first_listed_table m p r d root ts k none signature named table zip below four is =
@@ -143,14 +143,14 @@ first_listed_table m p r d root ts k none signature named table zip below four i
     let signed : IsSigned m here.a signature =
     record {
       header = header;
-      header_held = here.table.1.header_held;
+      header_present = here.table.1.header_present;
       signed = sym (signed_table m here.a header whole signature here.table.1 four) ∙ parts.0;
     } in
     let none_before = λ (h : ℕ) (b : ℕ) (less : h < here.i) (slot : HasSlot root d h b)
     (other : IsSigned m b signature). (
     let before = here.earlier h b (omega arith) less slot in
     let its = before.2 in
-    let same = same_value its.0 other.header its.1.header_held other.header_held in
+    let same = same_value its.0 other.header its.1.header_present other.header_present in
     let has : has_signature (get_or ts before.0 none) signature ≡ true =
     signed_table m b its.0 (get_or ts before.0 none) signature its.1 four
     ∙ ap (λ (x : List ℕ). has_signature x signature) same ∙ other.signed in
@@ -161,17 +161,17 @@ first_listed_table m p r d root ts k none signature named table zip below four i
 
 -- ---- each can be read
 
--- a table that stands where a sound one does sums to 0
-zero_sum : (m : Memory) (a : ℕ) (whole : List ℕ) → IsSoundTable m a → IsWholeAt m a whole → byte_sum whole ≡ 0
-zero_sum m a whole sound stands =
-    subst (λ (b : List ℕ). byte_sum b ≡ 0) (one_frame sound.frame stands.1) sound.zero_sum
+-- a table that stands where a valid one does sums to 0
+zero_sum : (m : Memory) (a : ℕ) (whole : List ℕ) → IsValidTable m a → IsCompleteAt m a whole → byte_sum whole ≡ 0
+zero_sum m a whole valid stands =
+    subst (λ (b : List ℕ). byte_sum b ≡ 0) (one_frame valid.frame stands.1) valid.zero_sum
 
-pub sound_slots : (m : Memory) (q : PolicyValue) (r d : ℕ) (root : List ℕ) → IsClean m q → IsRoot m q.rsdp r d
-    → IsRootTable m r d root → (k a : ℕ) → HasSlot root d k a → IsSoundTable m a
-sound_slots m q r d root clean named table k a slot = clean stage.Tables k a (root_slot named table slot)
+pub valid_slots : (m : Memory) (q : PolicyValue) (r d : ℕ) (root : List ℕ) → IsClean m q → IsRoot m q.rsdp r d
+    → IsRootTable m r d root → (k a : ℕ) → HasSlot root d k a → IsValidTable m a
+valid_slots m q r d root clean named table k a slot = clean stage.Tables k a (root_slot named table slot)
 
 pub clean_readable : (m : Memory) (q : PolicyValue) (r d : ℕ) (root : List ℕ) (ts : List (List ℕ)) → IsClean m q
-    → IsRoot m q.rsdp r d → IsRootTable m r d root → AllZip (IsWholeAt m) (listed_addresses root d) ts → AreReadable ts
+    → IsRoot m q.rsdp r d → IsRootTable m r d root → AllZip (IsCompleteAt m) (listed_addresses root d) ts → AreReadable ts
 clean_readable m q r d root ts clean named table zip k none below = record { readable = readable; zero_sum = sum }
   where
     whole : List ℕ
@@ -180,7 +180,7 @@ clean_readable m q r d root ts clean named table zip k none below = record { rea
     sum : byte_sum whole ≡ 0
     sum =
         let here = at_listed m root d ts k none (root_width named) zip below in
-        zero_sum m here.a whole (sound_slots m q r d root clean named table here.i here.a here.slot) here.table
+        zero_sum m here.a whole (valid_slots m q r d root clean named table here.i here.a here.slot) here.table
 
     readable : (kind : Option TableKind) → IsKindBehind (take k ts) whole kind → IsReadableAs kind whole
     readable None first = sum

@@ -7,11 +7,11 @@ use Rattle.acpi_base.specs.Number.{field}
 use Rattle.acpi_base.specs.Signature.{has_signature}
 use Rattle.acpi_base.specs.Root.{IsSlotWidth, IsRoot, IsRootTable, HasSlot}
 use Rattle.acpi_base.specs.Listed.{listed_addresses, IsFirstListed, IsListedTable}
-use Rattle.acpi_base.proofs.Images.HeldBytes.{cases_Option, same_value}
+use Rattle.acpi_base.proofs.Images.PresentBytes.{cases_Option, same_value}
 use Rattle.acpi_base.proofs.Root.Named.{root_width}
 use Rattle.acpi_base.proofs.Tables.Listed.{listed_of_root, one_listed}
-use Rattle.acpi_base.proofs.Tables.Whole.{signed_table}
-use Rattle.acpi_write.specs.SetValues.{IsWholeAt, is_first}
+use Rattle.acpi_base.proofs.Tables.Complete.{signed_table}
+use Rattle.acpi_write.specs.SetValues.{IsCompleteAt, is_first}
 use Rattle.acpi_write.proofs.OldSets.CleanSets.{first_listed_table}
 use Rattle.acpi_write.proofs.OldSets.FirstTables.{first_table_with}
 use Rattle.acpi_write.proofs.OldSets.Listing.{listed_from, listed_is, listed_skip, listed_take}
@@ -57,11 +57,11 @@ none_with (u ∷ ts) signature none =
 -- it is one of those listed
 pub record IsSlotTable (m : Memory) (P : List ℕ → Type 0) (a : ℕ) : Type 0 where
   pub t : List ℕ
-  pub stands : IsWholeAt m a t
+  pub stands : IsCompleteAt m a t
   pub holds : P t
 
 slot_from : (m : Memory) (P : List ℕ → Type 0) (root : List ℕ) (d j n : ℕ) (ts : List (List ℕ)) (i a : ℕ)
-    → AllZip (IsWholeAt m) (listed_from root d j n) ts → AllByRecursion P ts → j ≤ i → i < j + n → HasSlot root d i a
+    → AllZip (IsCompleteAt m) (listed_from root d j n) ts → AllByRecursion P ts → j ≤ i → i < j + n → HasSlot root d i a
     → IsSlotTable m P a
 slot_from m P root d j zero ts i a zip all from below slot = absurd (omega arith)
 slot_from m P root d j (suc n) ts i a zip all from below slot =
@@ -70,17 +70,17 @@ slot_from m P root d j (suc n) ts i a zip all from below slot =
           elim (cases_eq i j) [
             | inl same ↦ absurd (slot.listed (sym slot.address ∙ ap (λ (h : ℕ). field root (36 + d * h) d) same ∙ nil))
             | inr other ↦ slot_from m P root d (j + 1) n ts i a
-                (subst (λ (xs : List ℕ). AllZip (IsWholeAt m) xs ts) (listed_skip root d j n nil) zip) all (omega arith)
+                (subst (λ (xs : List ℕ). AllZip (IsCompleteAt m) xs ts) (listed_skip root d j n nil) zip) all (omega arith)
                 (omega arith) slot
           ]
       | inr some ↦
-          go ts (subst (λ (xs : List ℕ). AllZip (IsWholeAt m) xs ts) (listed_take root d j n some) zip) all
+          go ts (subst (λ (xs : List ℕ). AllZip (IsCompleteAt m) xs ts) (listed_take root d j n some) zip) all
           (λ us z l other. slot_from m P root d (j + 1) n us i a z l (omega (arith, other)) (omega (arith, other)) slot)
     ]
   where
-    go : (ts : List (List ℕ)) → AllZip (IsWholeAt m) (field root (36 + d * j) d ∷ listed_from root d (j + 1) n) ts
+    go : (ts : List (List ℕ)) → AllZip (IsCompleteAt m) (field root (36 + d * j) d ∷ listed_from root d (j + 1) n) ts
         → AllByRecursion P ts
-        → ((us : List (List ℕ)) → AllZip (IsWholeAt m) (listed_from root d (j + 1) n) us → AllByRecursion P us
+        → ((us : List (List ℕ)) → AllZip (IsCompleteAt m) (listed_from root d (j + 1) n) us → AllByRecursion P us
         → (i ≡ j → ⊥) → IsSlotTable m P a) → IsSlotTable m P a
     go [] zip all again = absurd zip
     go (t ∷ ts) zip all again =
@@ -88,7 +88,7 @@ slot_from m P root d j (suc n) ts i a zip all from below slot =
           | inl same ↦
               let place : field root (36 + d * j) d ≡ a = ap (λ (h : ℕ). field root (36 + d * h) d) (sym same)
               ∙ slot.address in
-              record { t = t; stands = subst (λ (x : ℕ). IsWholeAt m x t) place zip.0; holds = all.0 }
+              record { t = t; stands = subst (λ (x : ℕ). IsCompleteAt m x t) place zip.0; holds = all.0 }
           | inr other ↦ again ts zip.1 all.1 other
         ]
 
@@ -101,11 +101,11 @@ counted root d i (inr eight) inside =
     subst (λ (x : ℕ). i < 0 + (length root - 36) / x) (sym eight) (omega (arith, b))
 
 pub slot_table : (m : Memory) (P : List ℕ → Type 0) (root : List ℕ) (d : ℕ) (ts : List (List ℕ)) (i a : ℕ)
-    → IsSlotWidth d → AllZip (IsWholeAt m) (listed_addresses root d) ts → AllByRecursion P ts → HasSlot root d i a
+    → IsSlotWidth d → AllZip (IsCompleteAt m) (listed_addresses root d) ts → AllByRecursion P ts → HasSlot root d i a
     → IsSlotTable m P a
 slot_table m P root d ts i a width zip all slot =
     slot_from m P root d 0 ((length root - 36) / d) ts i a
-    (subst (λ (xs : List ℕ). AllZip (IsWholeAt m) xs ts) (listed_is root d) zip) all (omega arith)
+    (subst (λ (xs : List ℕ). AllZip (IsCompleteAt m) xs ts) (listed_is root d) zip) all (omega arith)
     (counted root d i width slot.inside) slot
 
 -- ---- the set's first table with a signature is the first of the list
@@ -117,7 +117,7 @@ pub record AreListed (m : Memory) (p : ℕ) (ts : List (List ℕ)) : Type 0 wher
   pub root_bytes : List ℕ
   pub root : IsRoot m p r d
   pub table : IsRootTable m r d root_bytes
-  pub each : AllZip (IsWholeAt m) (listed_addresses root_bytes d) ts
+  pub each : AllZip (IsCompleteAt m) (listed_addresses root_bytes d) ts
 
 pub listed_first : (m : Memory) (p : ℕ) (ts : List (List ℕ)) (signature t : List ℕ) → AreListed m p ts
     → length signature ≡ 4 → first_table_with signature ts ≡ Some t → IsListedTable m p signature t
@@ -138,7 +138,7 @@ first_of_listed m p ts signature t are four listed_addresses =
           listed_of_root are.root are.table listed_addresses.first in
           let its = slot_table m (λ x. has_signature x signature ≡ false) are.root_bytes are.d ts first.k
           listed_addresses.a (root_width are.root) are.each (none_with ts signature none) first.slot in
-          let same = same_value its.stands.0 first.signed.header its.stands.1.header_held first.signed.header_held in
+          let same = same_value its.stands.0 first.signed.header its.stands.1.header_present first.signed.header_present in
           let has : has_signature its.t signature ≡ true = signed_table m listed_addresses.a its.stands.0 its.t
           signature its.stands.1 four ∙ ap (λ (x : List ℕ). has_signature x signature) same ∙ first.signed.signed in
           absurd (both_ways (has_signature its.t signature) its.holds has)

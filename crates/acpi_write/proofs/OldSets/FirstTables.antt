@@ -6,7 +6,7 @@ use Rattle.std.proofs.lemmas.Bool.{cases_Bool}
 use Rattle.std.proofs.Math.Bool.{and-true}
 use Rattle.std.proofs.lemmas.List.Folds.{list_any-append}
 use Rattle.acpi_base.specs.Signature.{has_signature}
-use Rattle.acpi_base.specs.Fadt.{IsSoundFadtTable}
+use Rattle.acpi_base.specs.Fadt.{IsValidFadtTable}
 use Rattle.acpi_base.specs.Listed.{fadt_signature}
 use Rattle.acpi_base.specs.TableKinds.{signature_of}
 use Rattle.acpi_base.specs.declared.table_kind.TableKind.{TableKind}
@@ -23,12 +23,12 @@ unfoldable pub first_table_with : List ℕ → List (List ℕ) → Option (List 
 first_table_with signature [] = None
 first_table_with signature (t ∷ ts) = if has_signature t signature then Some t else first_table_with signature ts
 
--- tables are whole, the first of each kind can be read by its contents, and the first FADT is sound
+-- tables are whole, the first of each kind can be read by its contents, and the first FADT is valid
 pub record AreCleanTables (ts : List (List ℕ)) : Type 0 where
   pub each : AllByRecursion IsCleanTable ts
   pub readable : (kind : TableKind) (t : List ℕ) → first_table_with (signature_of kind) ts ≡ Some t
       → IsReadableAs (Some kind) t
-  pub sound : (t : List ℕ) → first_table_with fadt_signature ts ≡ Some t → IsSoundFadtTable t
+  pub valid : (t : List ℕ) → first_table_with fadt_signature ts ≡ Some t → IsValidFadtTable t
 
 -- the tables that are written for what these say, where the FACS stands at this address
 abbrev pub new_tables : ℕ → List (List ℕ) → List (List ℕ)

@@ -7,7 +7,7 @@ use Rattle.std.proofs.lemmas.List.{append-nil}
 use Rattle.acpi_base.specs.Memory.{Memory}
 use Rattle.acpi_base.specs.Number.{field}
 use Rattle.acpi_base.specs.Listed.{listed_addresses}
-use Rattle.acpi_write.specs.SetValues.{IsWholeAt}
+use Rattle.acpi_write.specs.SetValues.{IsCompleteAt}
 
 -- what the n slots, of d bytes each, from slot k on list
 abbrev pub listed_from : List ℕ → ℕ → ℕ → ℕ → List ℕ
@@ -29,35 +29,35 @@ listed_take root d j n some = rw (ne_eqb (field root (36 + d * j) d) 0 some) ref
 -- whatever the tables of the n slots from k on are, with those found they are all tables
 abbrev pub Completes : Memory → List ℕ → ℕ → ℕ → ℕ → List (List ℕ) → Type 0
 Completes m root d k n found =
-    (rest : List (List ℕ)) → AllZip (IsWholeAt m) (listed_from root d k n) rest
-    → AllZip (IsWholeAt m) (listed_addresses root d) (found ++ rest)
+    (rest : List (List ℕ)) → AllZip (IsCompleteAt m) (listed_from root d k n) rest
+    → AllZip (IsCompleteAt m) (listed_addresses root d) (found ++ rest)
 
 pub begins : (m : Memory) (root : List ℕ) (d n : ℕ) (found : List (List ℕ)) → n ≡ (length root - 36) / d → found ≡ []
     → Completes m root d 0 n found
 begins m root d n found count none rest zip =
-    rw (none, listed_is root d) (subst (λ (k : ℕ). AllZip (IsWholeAt m) (listed_from root d 0 k) rest) count zip)
+    rw (none, listed_is root d) (subst (λ (k : ℕ). AllZip (IsCompleteAt m) (listed_from root d 0 k) rest) count zip)
 
 pub skips : (m : Memory) (root : List ℕ) (d k s : ℕ) (found : List (List ℕ)) → k < s → field root (36 + d * k) d ≡ 0
     → Completes m root d k (s - k) found → Completes m root d (k + 1) (s - (k + 1)) found
 skips m root d k s found below nil before rest zip =
     let n : s - k ≡ suc (s - (k + 1)) = omega arith in
-    before rest (subst (λ (xs : List ℕ). AllZip (IsWholeAt m) xs rest)
+    before rest (subst (λ (xs : List ℕ). AllZip (IsCompleteAt m) xs rest)
     (sym (ap (listed_from root d k) n ∙ listed_skip root d k (s - (k + 1)) nil)) zip)
 
 pub takes : (m : Memory) (root : List ℕ) (d k s : ℕ) (found new : List (List ℕ)) (t : List ℕ) → k < s
-    → field root (36 + d * k) d ≢ 0 → IsWholeAt m (field root (36 + d * k) d) t → new ≡ found ++ t ∷ []
+    → field root (36 + d * k) d ≢ 0 → IsCompleteAt m (field root (36 + d * k) d) t → new ≡ found ++ t ∷ []
     → Completes m root d k (s - k) found → Completes m root d (k + 1) (s - (k + 1)) new
 takes m root d k s found new t below some at pushed before rest zip =
     let n : s - k ≡ suc (s - (k + 1)) = omega arith in
     let whole = before (t ∷ rest)
-    (subst (λ (xs : List ℕ). AllZip (IsWholeAt m) xs (t ∷ rest))
+    (subst (λ (xs : List ℕ). AllZip (IsCompleteAt m) xs (t ∷ rest))
     (sym (ap (listed_from root d k) n ∙ listed_take root d k (s - (k + 1)) some)) (at, zip)) in
-    subst (AllZip (IsWholeAt m) (listed_addresses root d))
+    subst (AllZip (IsCompleteAt m) (listed_addresses root d))
     (sym (append_assoc found (t ∷ []) rest) ∙ ap (λ (f : List (List ℕ)). f ++ rest) (sym pushed)) whole
 
 pub completed : (m : Memory) (root : List ℕ) (d k s : ℕ) (found : List (List ℕ)) → s ≤ k
-    → Completes m root d k (s - k) found → AllZip (IsWholeAt m) (listed_addresses root d) found
+    → Completes m root d k (s - k) found → AllZip (IsCompleteAt m) (listed_addresses root d) found
 completed m root d k s found past before =
     let none : s - k ≡ 0 = omega arith in
-    let whole = before [] (subst (λ (n : ℕ). AllZip (IsWholeAt m) (listed_from root d k n) []) (sym none) tt) in
-    subst (AllZip (IsWholeAt m) (listed_addresses root d)) (append-nil found) whole
+    let whole = before [] (subst (λ (n : ℕ). AllZip (IsCompleteAt m) (listed_from root d k n) []) (sym none) tt) in
+    subst (AllZip (IsCompleteAt m) (listed_addresses root d)) (append-nil found) whole

@@ -4,7 +4,7 @@ use Rattle.std.specs.List.{AllByRecursion, AllZip, All}
 use Rattle.std.proofs.lemmas.List.{length-take-le}
 use Rattle.std.proofs.lemmas.List.Elements.{All-cons, All-nil}
 use Rattle.acpi_base.specs.Memory.{Memory, IsImage}
-use Rattle.acpi_base.specs.Fadt.{IsSoundFadtTable, IsFadt}
+use Rattle.acpi_base.specs.Fadt.{IsValidFadtTable, IsFadt}
 use Rattle.acpi_base.specs.Facs.{IsFacs, facs_signature}
 use Rattle.acpi_base.specs.Listed.{listed_addresses, fadt_signature}
 use Rattle.acpi_base.specs.Policy.{PolicyValue}
@@ -13,7 +13,7 @@ use Rattle.acpi_base.specs.Tables.{length_of}
 use Rattle.acpi_base.specs.Statements.{IsClean}
 use Rattle.acpi_base.specs.TableKinds.{signature_of}
 use Rattle.acpi_base.specs.declared.stage.Stage.TheVariants as stage
-use Rattle.acpi_base.proofs.Images.HeldBytes.{bytes_below, held_field_below, length-bytes_at, same_value}
+use Rattle.acpi_base.proofs.Images.PresentBytes.{bytes_below, present_field_below, length-bytes_at, same_value}
 use Rattle.acpi_base.proofs.Tables.Kinds.{length-signature_of}
 use Rattle.acpi_base.proofs.Tables.Listed.{one_listed}
 use Rattle.acpi_base.proofs.Frames.{length_frame, header_is, says_length, one_frame}
@@ -22,7 +22,7 @@ use Rattle.acpi_base.proofs.Root.Named.{one_root, one_root_table}
 use Rattle.acpi_write.specs.Encoded.{FitsHead}
 use Rattle.acpi_write.specs.Laws.{AreByteValues}
 use Rattle.acpi_write.specs.Kinds.{AreReadable}
-use Rattle.acpi_write.specs.SetValues.{IsWholeAt, IsSetValue, IsFacsOf, values_of, OneSetValue}
+use Rattle.acpi_write.specs.SetValues.{IsCompleteAt, IsSetValue, IsFacsOf, values_of, OneSetValue}
 use Rattle.acpi_write.specs.Values.{SetValue}
 use Rattle.acpi_write.specs.Rebuilt.{option_list}
 use Rattle.acpi_write.proofs.OldSets.CleanSets.{clean_readable}
@@ -30,7 +30,7 @@ use Rattle.acpi_write.proofs.OldSets.FirstListed.{AreListed, listed_first}
 use Rattle.acpi_write.proofs.OldSets.FirstTables.{AreCleanTables}
 use Rattle.acpi_write.proofs.Tables.Kinds.{facts}
 use Rattle.acpi_write.proofs.TablesWritten.KeptContents.{IsCleanTable}
-use Rattle.acpi_write.proofs.TablesWritten.WholeTables.{fits_head}
+use Rattle.acpi_write.proofs.TablesWritten.CompleteTables.{fits_head}
 use Rattle.acpi_write.proofs.NewSets.NewImage.{signed_front}
 
 -- ---- of two lists
@@ -50,19 +50,19 @@ each_is P (t ∷ ts) h = (h zero (omega arith), each_is P ts (λ k below. h (suc
 
 -- ---- a table that stands in an image
 
-pub held_bytes : (m : Memory) (a : ℕ) (whole : List ℕ) → IsImage m → IsWholeAt m a whole → AreByteValues whole
-held_bytes m a whole image (header, table) = bytes_below m image a (length_of header) whole table.held
+pub present_bytes : (m : Memory) (a : ℕ) (whole : List ℕ) → IsImage m → IsCompleteAt m a whole → AreByteValues whole
+present_bytes m a whole image (header, table) = bytes_below m image a (length_of header) whole table.present
 
-pub held_least : (m : Memory) (a : ℕ) (whole : List ℕ) → IsWholeAt m a whole → 36 ≤ length whole
-held_least m a whole (header, table) = omega (arith, length_frame table, table.least)
+pub present_least : (m : Memory) (a : ℕ) (whole : List ℕ) → IsCompleteAt m a whole → 36 ≤ length whole
+present_least m a whole (header, table) = omega (arith, length_frame table, table.least)
 
-held_size : (m : Memory) (a : ℕ) (whole : List ℕ) → IsWholeAt m a whole → length_of whole ≡ length whole
-held_size m a whole (header, table) =
+present_size : (m : Memory) (a : ℕ) (whole : List ℕ) → IsCompleteAt m a whole → length_of whole ≡ length whole
+present_size m a whole (header, table) =
     says_length table (omega arith) (omega arith)
 
-held_small : (m : Memory) (a : ℕ) (whole : List ℕ) → IsImage m → IsWholeAt m a whole → length whole < 2 ^ 32
-held_small m a whole image (header, table) =
-    omega (arith, length_frame table, held_field_below m image a 36 header table.header_held 4 4)
+present_small : (m : Memory) (a : ℕ) (whole : List ℕ) → IsImage m → IsCompleteAt m a whole → length whole < 2 ^ 32
+present_small m a whole image (header, table) =
+    omega (arith, length_frame table, present_field_below m image a 36 header table.header_present 4 4)
 
 -- ---- the tables of a clean set
 
@@ -78,15 +78,15 @@ clean_each m q ts image clean are =
     each_is IsCleanTable ts (λ k below.
     let a = get_or (listed_addresses are.root_bytes are.d) k 0 in
     let t = get_or ts k [] in
-    let at = zip_at (IsWholeAt m) (listed_addresses are.root_bytes are.d) ts k are.each below in
+    let at = zip_at (IsCompleteAt m) (listed_addresses are.root_bytes are.d) ts k are.each below in
     record {
       table = record {
-        least = held_least m a t at;
-        size = held_size m a t at;
+        least = present_least m a t at;
+        size = present_size m a t at;
         zero_sum = (readable k [] below).zero_sum;
       };
-      bytes = held_bytes m a t image at;
-      small = held_small m a t image at;
+      bytes = present_bytes m a t image at;
+      small = present_small m a t image at;
     })
 
 pub clean_tables : (m : Memory) (q : PolicyValue) (ts : List (List ℕ)) → IsImage m → IsClean m q → AreListed m q.rsdp ts
@@ -97,23 +97,23 @@ clean_tables m q ts image clean are =
       each = clean_each m q ts image clean are;
       readable = λ kind t is. (facts kind).readable m q t clean
           (listed_first m q.rsdp ts (signature_of kind) t are (length-signature_of kind) is);
-      sound = λ t is. subst IsSoundFadtTable
+      valid = λ t is. subst IsValidFadtTable
           (one_listed m q.rsdp fadt_signature fadt.whole t fadt.fadt
-          (listed_first m q.rsdp ts fadt_signature t are refl is)) fadt.sound;
+          (listed_first m q.rsdp ts fadt_signature t are refl is)) fadt.valid;
     }
 
 -- ---- the RSDP and the root
 
 pub oemid_is_six : (m : Memory) (p : ℕ) (v : SetValue) → IsSetValue m p v → length v.oemid ≡ 6
 oemid_is_six m p v is =
-    let count = length-bytes_at m p 20 is.head is.head_held in
+    let count = length-bytes_at m p 20 is.head is.head_present in
     ap length is.oemid ∙ length-take-le 6 (drop 9 is.head) (omega (arith, count, length-drop 9 is.head))
 
 pub root_fits_head : (m : Memory) (p : ℕ) (v : SetValue) → IsImage m → IsSetValue m p v → FitsHead v.root
 root_fits_head m p v image is =
-    let at : IsWholeAt m is.r is.root_bytes = (is.root_table.header, is.root_table.table) in
+    let at : IsCompleteAt m is.r is.root_bytes = (is.root_table.header, is.root_table.table) in
     subst FitsHead (sym is.root_head)
-    (fits_head is.root_bytes (held_bytes m is.r is.root_bytes image at) (held_least m is.r is.root_bytes at))
+    (fits_head is.root_bytes (present_bytes m is.r is.root_bytes image at) (present_least m is.r is.root_bytes at))
 
 -- ---- the FACS
 
@@ -147,7 +147,7 @@ facs_some m q v clean said =
     let fadt = clean stage.Fadt in
     facs_of m fadt.whole v.facs (said.facs fadt.whole fadt.fadt)
 
-one_list : (m : Memory) (xs : List ℕ) (ts us : List (List ℕ)) → AllZip (IsWholeAt m) xs ts → AllZip (IsWholeAt m) xs us
+one_list : (m : Memory) (xs : List ℕ) (ts us : List (List ℕ)) → AllZip (IsCompleteAt m) xs ts → AllZip (IsCompleteAt m) xs us
     → ts ≡ us
 one_list m [] [] [] a b = refl
 one_list m [] [] (u ∷ us) a b = absurd b
@@ -168,7 +168,7 @@ one_facs m fadt (Some x) (Some y) a b = ap Some (one_frame a.1.frame b.1.frame)
 pub one_value : (m : Memory) (p : ℕ) (v w : SetValue) (fadt : List ℕ) → IsFadt m p fadt → IsSetValue m p v
     → IsSetValue m p w → v ≡ w
 one_value m p v w fadt there a b =
-    let head : a.head ≡ b.head = same_value a.head b.head a.head_held b.head_held in
+    let head : a.head ≡ b.head = same_value a.head b.head a.head_present b.head_present in
     let oemid : v.oemid ≡ w.oemid = a.oemid ∙ ap (λ (h : List ℕ). take 6 (drop 9 h)) head ∙ sym b.oemid in
     let root = one_root m p a.r a.d b.r b.d a.root b.root in
     let bytes : a.root_bytes ≡ b.root_bytes = one_root_table a.root_bytes b.root_bytes a.root b.root a.root_table
@@ -176,7 +176,7 @@ one_value m p v w fadt there a b =
     let root_head : v.root ≡ w.root = a.root_head ∙ ap head_of bytes ∙ sym b.root_head in
     let lists : listed_addresses a.root_bytes a.d ≡ listed_addresses b.root_bytes b.d =
     λ i. listed_addresses (bytes i) (root.1 i) in
-    let each = subst (λ (xs : List ℕ). AllZip (IsWholeAt m) xs a.tables) lists a.each in
+    let each = subst (λ (xs : List ℕ). AllZip (IsCompleteAt m) xs a.tables) lists a.each in
     let tables : v.tables ≡ w.tables = a.values ∙ ap values_of
     (one_list m (listed_addresses b.root_bytes b.d) a.tables b.tables each b.each) ∙ sym b.values in
     let facs : v.facs ≡ w.facs = one_facs m fadt v.facs w.facs (a.facs fadt there) (b.facs fadt there) in

@@ -20,7 +20,7 @@ use Rattle.acpi_write.specs.Bodies.{kinds}
 use Rattle.acpi_write.specs.Kinds.{is_among, IsKindBehind, HasFirsts}
 use Rattle.acpi_write.specs.SetValues.{is_first, table_value_behind, table_value_as, values_behind, values_of}
 use Rattle.acpi_write.specs.Spells.{IsTableOf}
-use Rattle.acpi_write.specs.Views.{IsWholeTable}
+use Rattle.acpi_write.specs.Views.{IsCompleteTable}
 use Rattle.acpi_write.proofs.OldSets.FirstTables.{first_parts}
 use Rattle.acpi_write.proofs.Tables.Kinds.{each_kind}
 
@@ -84,7 +84,7 @@ AmongAlike one other = (signature : List ℕ) → length signature ≡ 4 → is_
 
 -- one table is another one with the same signature, that says the same
 pub record IsRewritten (before : List (List ℕ)) (old new : List ℕ) : Type 0 where
-  pub table : IsWholeTable new
+  pub table : IsCompleteTable new
   pub signature : (s : List ℕ) → length s ≡ 4 → has_signature new s ≡ has_signature old s
   pub said : (others : List (List ℕ)) → AmongAlike others before
       → table_value_behind others new ≡ table_value_behind before old
@@ -123,7 +123,7 @@ as_first kind before old new is table same =
     }
 
 -- any other
-pub as_it_was : (before : List (List ℕ)) (old : List ℕ) → IsKindBehind before old None → IsWholeTable old
+pub as_it_was : (before : List (List ℕ)) (old : List ℕ) → IsKindBehind before old None → IsCompleteTable old
     → IsRewritten before old old
 as_it_was before old none whole =
     record {

@@ -8,13 +8,13 @@ use Rattle.acpi_base.specs.Memory.{Memory}
 use Rattle.acpi_base.specs.Number.{number_bytes}
 use Rattle.acpi_base.specs.Signature.{xsdt_signature}
 use Rattle.acpi_base.specs.Tables.{IsTable}
-use Rattle.acpi_base.proofs.Images.HeldBytes.{length-bytes_at}
+use Rattle.acpi_base.proofs.Images.PresentBytes.{length-bytes_at}
 use Rattle.acpi_base.proofs.Layouts.RoundTrip.{length-number_bytes}
 use Rattle.acpi_base.proofs.Frames.{length_frame}
 use Rattle.acpi_write.specs.Encoded.{table_bytes, encoded_length, encoded_bytes_with}
 use Rattle.acpi_write.specs.Kinds.{IsKindBehind}
 use Rattle.acpi_write.specs.Rebuilt.{aligned_address, blocks_from, block_places, option_list, part_lengths, part_places, part_bytes, facs_place, table_places, rsdp_bytes, CleanPartsAreLaid}
-use Rattle.acpi_write.specs.SetValues.{IsWholeAt, table_value_behind, values_behind}
+use Rattle.acpi_write.specs.SetValues.{IsCompleteAt, table_value_behind, values_behind}
 use Rattle.acpi_write.specs.Values.{TableValue, SetValue}
 use Rattle.acpi_base.specs.declared.table_kind.TableKind.{TableKind}
 use Rattle.acpi_write.specs.Bodies.{IsReadableAs}
@@ -23,7 +23,7 @@ use Rattle.acpi_write.proofs.NewSets.NewImage.{length-block_places}
 use Rattle.acpi_write.proofs.NewSets.NewRoot.{length-slots}
 use Rattle.acpi_write.proofs.OldSets.ValuesBehind.{kind_found}
 use Rattle.acpi_write.proofs.TablesWritten.KeptContents.{length-encoded_bytes_with}
-use Rattle.acpi_write.proofs.TablesWritten.WholeTables.{HasWidths, widths_of, length-table_bytes}
+use Rattle.acpi_write.proofs.TablesWritten.CompleteTables.{HasWidths, widths_of, length-table_bytes}
 
 -- blocks are laid at the places that are counted from their lengths
 laid_at_places : (a : ℕ) (blocks : List (List ℕ))
@@ -63,7 +63,7 @@ table_long m a header whole table =
     let least = table.least in
     omega (arith, count, least)
 
-all_long : (m : Memory) (xs : List ℕ) (ts : List (List ℕ)) → AllZip (IsWholeAt m) xs ts → All (λ t. 36 ≤ length t) ts
+all_long : (m : Memory) (xs : List ℕ) (ts : List (List ℕ)) → AllZip (IsCompleteAt m) xs ts → All (λ t. 36 ≤ length t) ts
 all_long m [] [] zip = All-nil (λ t. 36 ≤ length t)
 all_long m [] (t ∷ ts) zip = absurd zip
 all_long m (x ∷ xs) [] zip = absurd zip
@@ -102,7 +102,7 @@ clean_parts_are_laid m q v base clean said =
     (λ k none h. (readable k none h).readable)) in
     let behind = map-append length (option_list v.facs) (map (encoded_bytes_with facs) v.tables)
     ∙ ap (λ (ns : List ℕ). map length (option_list v.facs) ++ ns) tables in
-    let count = length-bytes_at m q.rsdp 20 said.head said.head_held in
+    let count = length-bytes_at m q.rsdp 20 said.head said.head_present in
     let six : length v.oemid ≡ 6 = ap length said.oemid ∙ length-take-le 6 (drop 9 said.head)
     (omega (arith, count, length-drop 9 said.head)) in
     let rsdp : length (rsdp_bytes v.oemid (slice_index (part_places v base) 1)) ≡ 36 =

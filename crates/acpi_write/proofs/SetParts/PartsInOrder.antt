@@ -9,7 +9,7 @@ use Rattle.std.proofs.lemmas.List.{length-map, drop_more, drop_all}
 use Rattle.std.proofs.lemmas.List.Folds.{list_any_at}
 use Rattle.std.proofs.lemmas.Bool.{le-ltb}
 use Rattle.acpi_base.specs.Header.{HeadValue}
-use Rattle.acpi_base.specs.Memory.{Memory, with_bytes, byte_of, first_held}
+use Rattle.acpi_base.specs.Memory.{Memory, with_bytes, byte_of, first_present}
 use Rattle.acpi_base.specs.Number.{number_bytes}
 use Rattle.acpi_base.specs.Signature.{xsdt_signature}
 use Rattle.acpi_base.proofs.Images.RunBytes.{byte_of-with_bytes_outside}
@@ -30,7 +30,7 @@ use Rattle.acpi_write.specs.declared.table_value.TableValue as written
 use Rattle.acpi_write.specs.declared.table_value.TableValue.TheVariants as table
 use Rattle.acpi_write.proofs.NewSets.NewImage.{length-block_places, aligned_from}
 use Rattle.acpi_write.proofs.NewSets.NewRoot.{length-slots}
-use Rattle.acpi_write.proofs.TablesWritten.WholeTables.{whole_table, length_of_parts}
+use Rattle.acpi_write.proofs.TablesWritten.CompleteTables.{complete_table, length_of_parts}
 use Rattle.acpi_write.proofs.TablesWritten.FadtBodies.{length-with_facs}
 
 -- ---- tables
@@ -44,7 +44,7 @@ pub fadt_count : (head : HeadValue) (body : List ℕ) (facs : ℕ) → 80 ≤ le
     → FitsHead head → length (table_bytes fadt_signature head (with_facs body facs)) ≡ 36 + length body
 fadt_count head body facs long short fits =
     let same = length-with_facs body facs (omega (arith, long)) in
-    let is = whole_table fadt_signature head (with_facs body facs) refl fits (omega (arith, same, short)) in
+    let is = complete_table fadt_signature head (with_facs body facs) refl fits (omega (arith, same, short)) in
     length_of_parts (table_bytes fadt_signature head (with_facs body facs)) (with_facs body facs) is.0.least is.1
     ∙ ap (λ (n : ℕ). 36 + n) same
 
@@ -60,7 +60,7 @@ encoded_without facs _ not = refl
 pub never_refused : (m : Memory) (a : ℕ) (bytes : List ℕ) → EndsBelow m a → a + length bytes ≤ 2 ^ 64
     → add_refusal m a bytes ≡ None
 never_refused m a bytes below fits =
-    let nothing : first_held m a (length bytes) ≡ None = first_of_none (byte_of m) a (length bytes)
+    let nothing : first_present m a (length bytes) ≡ None = first_of_none (byte_of m) a (length bytes)
     (λ k h. below (a + k) (omega arith)) in
     rw (le-ltb (2 ^ 64) (a + length bytes) fits) (ap (option_map (λ x. Twice x)) nothing)
 
@@ -75,7 +75,7 @@ pub xsdt_count : (head : HeadValue) (xs : List ℕ) → FitsHead head → 36 + 8
 xsdt_count head xs fits short =
     let slots = flat_map (number_bytes 8) xs in
     let behind = length-slots xs in
-    let table = whole_table xsdt_signature head slots refl fits (omega (arith, behind, short)) in
+    let table = complete_table xsdt_signature head slots refl fits (omega (arith, behind, short)) in
     length_of_parts (table_bytes xsdt_signature head slots) slots table.0.least table.1 ∙ ap (λ (n : ℕ). 36 + n) behind
 
 -- ---- how many parts there are

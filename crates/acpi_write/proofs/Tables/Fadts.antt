@@ -47,7 +47,7 @@ facts = record {
   readable = λ m q whole clean is. (
       let fadt = clean stage.Fadt in
       subst (λ (b : List ℕ). 116 ≤ length b) (one_listed m q.rsdp fadt_signature fadt.whole whole fadt.fadt is)
-      fadt.sound.long);
+      fadt.valid.long);
 }
 
 -- what is written for a value says it

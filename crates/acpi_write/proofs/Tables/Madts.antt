@@ -7,7 +7,7 @@ use Rattle.acpi_base.specs.Madt as madt
 use Rattle.acpi_base.specs.Madt.{madt_entry, madt_contents}
 use Rattle.acpi_base.specs.declared.stage.Stage.TheVariants as stage
 use Rattle.acpi_base.specs.declared.table_kind.TableKind.TheVariants as kind
-use Rattle.acpi_base.proofs.Images.HeldBytes.{field_below}
+use Rattle.acpi_base.proofs.Images.PresentBytes.{field_below}
 use Rattle.acpi_base.proofs.Layouts.RoundTrip.{length-number_bytes, number_there}
 use Rattle.acpi_check.proofs.EntryPasses.Filled.{filled_madt}
 use Rattle.acpi_read.specs.Madts.{madt_value, madt_bytes, IsOfOwnLength}

@@ -1,10 +1,10 @@
 -- What is proved of the SLIT.
 use Rattle.std.proofs.Common.{◌≡◌, ℕ, ◌+◌, ◌*◌, ◌^◌, ◌<◌, ◌≤◌, List, length, drop, refl, sym, ap, ◌∙◌, arith, length-append, length-drop}
 use Rattle.acpi_base.specs.Number.{field, number_bytes}
-use Rattle.acpi_base.specs.Slit.{IsSoundSlit, slit_contents}
+use Rattle.acpi_base.specs.Slit.{IsValidSlit, slit_contents}
 use Rattle.acpi_base.specs.declared.stage.Stage.TheVariants as stage
 use Rattle.acpi_base.specs.declared.table_kind.TableKind.TheVariants as kind
-use Rattle.acpi_base.proofs.Images.HeldBytes.{field_below}
+use Rattle.acpi_base.proofs.Images.PresentBytes.{field_below}
 use Rattle.acpi_base.proofs.Layouts.RoundTrip.{length-number_bytes, number_there}
 use Rattle.acpi_write.specs.Bodies.{value_in, IsReadableSlit, body_bytes, SpellsBody}
 use Rattle.acpi_write.specs.Values.{Slit}
@@ -30,11 +30,11 @@ kept facs whole new is =
     let at_36 = number_there 36 8 rows new (drop 44 whole) is.body (field_below whole is.low 36 8) in
     λ i. record { size = is.count i; count = at_36 i; cells = cells i }
 
-readable : (whole : List ℕ) → IsSoundSlit (slit_contents whole) → IsReadableSlit whole
+readable : (whole : List ℕ) → IsValidSlit (slit_contents whole) → IsReadableSlit whole
 unfolding slit_contents
-readable whole sound =
-    let size : length whole ≡ 44 + field whole 36 8 * field whole 36 8 = sound.size in
-    record { long = omega (arith, size); size = sound.size }
+readable whole valid =
+    let size : length whole ≡ 44 + field whole 36 8 * field whole 36 8 = valid.size in
+    record { long = omega (arith, size); size = valid.size }
 
 pub facts : KindFacts kind.Slit
 unfolding slit_contents

@@ -8,14 +8,14 @@ use Rattle.acpi_write.specs.Bodies.{value_in, IsFilledAs, IsReadableAs, body_wit
 use Rattle.acpi_write.specs.Encoded.{encoded_bytes_with, encoded_length, table_bytes}
 use Rattle.acpi_write.specs.Laws.{AreByteValues, KeepsContents, ContentsAreKept}
 use Rattle.acpi_write.specs.SetValues.{table_value_as}
-use Rattle.acpi_write.specs.Spells.{IsWholeTable}
+use Rattle.acpi_write.specs.Spells.{IsCompleteTable}
 use Rattle.acpi_write.specs.Values.{kind_of}
 use Rattle.acpi_write.proofs.Tables.Kinds.{facts}
-use Rattle.acpi_write.proofs.TablesWritten.WholeTables.{whole_table, length_of_parts, fits_head, widths_of, length-table_bytes}
+use Rattle.acpi_write.proofs.TablesWritten.CompleteTables.{complete_table, length_of_parts, fits_head, widths_of, length-table_bytes}
 
 -- a whole table in bytes, whose Length has 32 bits
 pub record IsCleanTable (whole : List ℕ) : Type 0 where
-  pub table : IsWholeTable whole
+  pub table : IsCompleteTable whole
   pub bytes : AreByteValues whole
   pub small : length whole < 2 ^ 32
 
@@ -28,7 +28,7 @@ kept kind facs whole is filled =
     let size = (facts kind).count facs whole is.table.least filled in
     let small = is.small in
     let fits = fits_head whole is.bytes is.table.least in
-    let table = whole_table (signature_of kind) (head_of whole) body (length-signature_of kind) fits
+    let table = complete_table (signature_of kind) (head_of whole) body (length-signature_of kind) fits
     (omega (arith, size, small)) in
     let count = length_of_parts new body table.0.least table.1 ∙ size in
     let contents = (facts kind).kept facs whole new

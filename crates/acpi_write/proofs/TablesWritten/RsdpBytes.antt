@@ -1,4 +1,4 @@
--- A written RSDP is sound and says what it was written from.
+-- A written RSDP is valid and says what it was written from.
 use Rattle.std.proofs.Common.{append_assoc, ◌∙◌, ◌≡◌, ℕ, ◌+◌, ◌^◌, ◌<◌, List, [], ◌∷◌, ◌++◌, length, take, drop, sum, true, refl, arith}
 use Rattle.acpi_base.specs.Number.{field, byte_sum, number_bytes}
 use Rattle.acpi_base.specs.Signature.{has_signature, rsdp_signature}

@@ -1,7 +1,7 @@
 use Rattle.std.proofs.Common.{arith, ap, sym, ◌∙◌}
 use Rattle.std.proofs.lemmas.Grind.{common_steps}
 use Rattle.std.specs.Result.{result_ok}
-use Rattle.acpi_arguments.proofs.InputsWords.{held, read_all, read_more, read_wrong}
+use Rattle.acpi_arguments.proofs.InputsWords.{present, read_all, read_more, read_wrong}
 use Rattle.acpi_arguments.proofs.policy_words.read_inputs.Goals as goal
 
 pub returns-in_err-inputs-clause-refused : goal.returns-in_err-inputs-clause-refused
@@ -18,7 +18,7 @@ pub loop-word-preserved : goal.loop-word-preserved
 loop-word-preserved c =
     let first = sym c.inputs_of_word.ensures ∙ c.ok_or-in-loop-word.ensures.ok_part
     ∙ ap result_ok c.in_ok-inputs.was in
-    let added = held c.add_input.result _ (sym c.is_err.ensures.value ∙ c.if-is_err.false) c.add_input.ensures.value in
+    let added = present c.add_input.result _ (sym c.is_err.ensures.value ∙ c.if-is_err.false) c.add_input.ensures.value in
     record {
       goes_on = read_more (λ text. text.now) c.args.words.now _ _ _ c.loop-word-test.true first _ _ _
           added c.loop-word.invariant.goes_on;

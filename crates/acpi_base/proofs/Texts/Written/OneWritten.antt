@@ -9,12 +9,12 @@ use Rattle.std.proofs.lemmas.Option.{same_Some}
 use Rattle.acpi_base.specs.Memory.{Memory, byte_of, with_bytes}
 use Rattle.acpi_base.specs.Image.Runs.{Run, end_of, byte_in, lookup}
 use Rattle.acpi_base.specs.Text.WrittenText.{AreSortedRuns, with_runs, runs_text, OneWritten}
-use Rattle.acpi_base.proofs.Images.RunBytes.{held_none, held_at, byte_of-with_bytes}
+use Rattle.acpi_base.proofs.Images.RunBytes.{present_none, present_at, byte_of-with_bytes}
 
 pub lookup_below : (rs : List Run) (bound x : ℕ) → AreSortedRuns bound rs → x < bound → lookup rs x ≡ None
 lookup_below [] bound x up h = refl
 lookup_below (r ∷ rs) bound x up h =
-    ap (λ (o : Option ℕ). option_or o (lookup rs x)) (held_none r x (inl (omega (arith, up.0))))
+    ap (λ (o : Option ℕ). option_or o (lookup rs x)) (present_none r x (inl (omega (arith, up.0))))
     ∙ lookup_below rs (end_of r + 1) x up.2 (omega (arith, up.0))
 
 or_order : (x y m : Option ℕ) → (x ≡ None) ⊎ (y ≡ None) → option_or y (option_or x m) ≡ option_or (option_or x y) m
@@ -34,7 +34,7 @@ byte_of-with_runs m (r ∷ rs) bound x up =
   where
     apart : (x < end_of r) ⊎ (end_of r ≤ x) → (byte_in r x ≡ None) ⊎ (lookup rs x ≡ None)
     apart (inl below) = inr (lookup_below rs (end_of r + 1) x up.2 (omega arith))
-    apart (inr past) = inl (held_none r x (inr past))
+    apart (inr past) = inl (present_none r x (inr past))
 
 abbrev Alike : List Run → List Run → Type 0
 Alike rs ss = (x : ℕ) → lookup rs x ≡ lookup ss x
@@ -42,10 +42,10 @@ Alike rs ss = (x : ℕ) → lookup rs x ≡ lookup ss x
 -- the first run's byte, and none behind it
 here : (r : Run) (rs : List Run) (x : ℕ) → r.base ≤ x → x < end_of r
     → lookup (r ∷ rs) x ≡ Some (get_or r.bytes (x - r.base) 0)
-here r rs x l h = ap (λ (o : Option ℕ). option_or o (lookup rs x)) (held_at r x l h)
+here r rs x l h = ap (λ (o : Option ℕ). option_or o (lookup rs x)) (present_at r x l h)
 
 behind : (r : Run) (rs : List Run) (x : ℕ) → end_of r ≤ x → lookup (r ∷ rs) x ≡ lookup rs x
-behind r rs x h = ap (λ (o : Option ℕ). option_or o (lookup rs x)) (held_none r x (inr h))
+behind r rs x h = ap (λ (o : Option ℕ). option_or o (lookup rs x)) (present_none r x (inr h))
 
 nothing_some : {o : Option ℕ} {b : ℕ} → o ≡ None → o ≡ Some b → ⊥
 nothing_some none some = cc

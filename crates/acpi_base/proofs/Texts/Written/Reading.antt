@@ -6,9 +6,9 @@ use Rattle.std.specs.FinMap.{empty, get-empty}
 use Rattle.std.specs.Ordering.{nat_cmp}
 use Rattle.std.proofs.lemmas.Bool.{cases_lt, le-ltb}
 use Rattle.std.proofs.lemmas.List.{length-take, take-append-drop, get_or_append_left, get_or-append_right}
-use Rattle.acpi_base.specs.Memory.{Memory, byte_of, with_bytes, first_held}
+use Rattle.acpi_base.specs.Memory.{Memory, byte_of, with_bytes, first_present}
 use Rattle.acpi_base.specs.Image.Adding.{add_refusal}
-use Rattle.acpi_base.specs.Image.Runs.{Run, end_of, IsWhole}
+use Rattle.acpi_base.specs.Image.Runs.{Run, end_of, IsComplete}
 use Rattle.acpi_base.specs.Text.WrittenText.{AreSortedRuns, with_runs, IsEmptyFrom, row, rows, row_count, address_line, run_lines, line_with_lf, text_of, runs_text, WrittenIsText}
 use Rattle.acpi_base.specs.Text.ImageText.{Line, Blank, Address, Data, Reading, start, on_ok, is_too_long, skip_blanks, form_of, line_of, take_line, read_line, read_lines, ended_lines_from, last_line_from, read_text, IsText}
 use Rattle.acpi_base.specs.declared.text.TextFault.{TextFault}
@@ -56,7 +56,7 @@ lines_append r (x ∷ xs) ys s e =
 none_refused : (m : Memory) (a : ℕ) (bytes : List ℕ) → IsEmptyFrom m a → a + length bytes ≤ 2 ^ 64
     → add_refusal m a bytes ≡ None
 none_refused m a bytes below fits =
-    let none : first_held m a (length bytes) ≡ None = first_of_none (byte_of m) a (length bytes)
+    let none : first_present m a (length bytes) ≡ None = first_of_none (byte_of m) a (length bytes)
     (λ k l. below (a + k) (omega arith)) in
     rw (le-ltb (2 ^ 64) (a + length bytes) fits, none) refl
 
@@ -221,7 +221,7 @@ address_taken r a fits short =
     }
 
 -- a run is read
-run_read : (r : Reading) (bound : ℕ) (w : Run) → IsEmptyFrom r.image bound → bound ≤ w.base → IsWhole w
+run_read : (r : Reading) (bound : ℕ) (w : Run) → IsEmptyFrom r.image bound → bound ≤ w.base → IsComplete w
     → r.through + length (text_of (run_lines w)) ≤ 67108864
     → Reads r (run_lines w) (end_of w) (with_bytes r.image w.base w.bytes)
 run_read r bound w below from whole short =

@@ -7,7 +7,7 @@ use Rattle.std.proofs.lemmas.Bool.{cases_lt}
 use Rattle.std.proofs.lemmas.List.{append-nil}
 use Rattle.std.proofs.lemmas.List.Elements.{All-from_get_or, recursion_from_All}
 use Rattle.acpi_base.specs.Memory.{Memory, byte_of, with_bytes, IsImage}
-use Rattle.acpi_base.specs.Image.Runs.{Run, end_of, IsWhole}
+use Rattle.acpi_base.specs.Image.Runs.{Run, end_of, IsComplete}
 use Rattle.acpi_base.specs.Text.WrittenText.{AreSortedRuns, with_runs, IsEmptyFrom, IsNextRun, run_lines, text_of, runs_text, IsWritten}
 use Rattle.acpi_base.proofs.Images.RunMemory.{same_memory}
 use Rattle.acpi_base.proofs.Images.RunBytes.{byte_of-with_bytes_within, byte_of-with_bytes_outside}
@@ -17,13 +17,13 @@ use Rattle.acpi_base.proofs.Texts.Written.Reading.{text_append}
 -- rising runs, behind which another may begin at an address
 abbrev RiseTo : ℕ → List Run → ℕ → Type 0
 RiseTo from [] next = from ≤ next
-RiseTo from (r ∷ rs) next = (from ≤ r.base) × IsWhole r × RiseTo (end_of r + 1) rs next
+RiseTo from (r ∷ rs) next = (from ≤ r.base) × IsComplete r × RiseTo (end_of r + 1) rs next
 
 rising : (from : ℕ) (rs : List Run) (next : ℕ) → RiseTo from rs next → AreSortedRuns from rs
 rising from [] next up = tt
 rising from (r ∷ rs) next up = (up.0, up.1, rising (end_of r + 1) rs next up.2)
 
-rise_more : (from : ℕ) (rs : List Run) (next : ℕ) (r : Run) → RiseTo from rs next → next ≤ r.base → IsWhole r
+rise_more : (from : ℕ) (rs : List Run) (next : ℕ) (r : Run) → RiseTo from rs next → next ≤ r.base → IsComplete r
     → RiseTo from (rs ++ r ∷ []) (end_of r + 1)
 rise_more from [] next r up h whole = (omega (arith, up), whole, omega arith)
 rise_more from (s ∷ rs) next r up h whole = (up.0, up.1, rise_more (end_of s + 1) rs next r up.2 h whole)
@@ -74,18 +74,18 @@ begin m = record {
 }
 
 some_none : {o : Option ℕ} → IsSome o → o ≡ None → ⊥
-some_none held none = absurd (cc)
+some_none present none = absurd (cc)
 
 -- the next run is whole
 whole_run : (m : Memory) (from base : ℕ) (bytes : List ℕ) → IsImage m → IsNextRun m from base bytes
-    → IsWhole (record { base = base; bytes = bytes })
+    → IsComplete (record { base = base; bytes = bytes })
 whole_run m from base bytes image run =
-    let each = run_of-each (byte_of m) base (length bytes) bytes run.held in
+    let each = run_of-each (byte_of m) base (length bytes) bytes run.present in
     let filled : 0 < length bytes = elim (cases_lt 0 (length bytes)) [
       | inl some ↦ some
       | inr none ↦
           let here : base + length bytes ≡ base = omega arith in
-          absurd (some_none run.first.held (ap (byte_of m) (sym here) ∙ run.none_behind))
+          absurd (some_none run.first.present (ap (byte_of m) (sym here) ∙ run.none_behind))
     ] in
     record {
       filled = filled;
@@ -110,7 +110,7 @@ more text m from base bytes image so_far run =
     let whole = whole_run m from base bytes image run in
     let start = run.first.from_there in
     let behind : so_far.next ≤ base = elim (cases_lt base so_far.next) [
-      | inl less ↦ absurd (some_none run.first.held (so_far.gap base start less))
+      | inl less ↦ absurd (some_none run.first.present (so_far.gap base start less))
       | inr from ↦ from
     ] in
     let put : (x : ℕ) → byte_of (with_runs empty (so_far.runs ++ r ∷ [])) x ≡ byte_of (with_bytes old base bytes) x =
@@ -129,13 +129,13 @@ more text m from base bytes image so_far run =
         | inr within ↦
             let place : base + (x - base) ≡ x = omega arith in
             byte_of-with_bytes_within old base bytes x within h
-            ∙ sym (run_of-each (byte_of m) base (length bytes) bytes run.held (x - base) (omega arith))
+            ∙ sym (run_of-each (byte_of m) base (length bytes) bytes run.present (x - base) (omega arith))
             ∙ ap (byte_of m) place
       ];
       past = λ x h. put x ∙ byte_of-with_bytes_outside old base bytes x (inr h) ∙ so_far.past x (omega (arith, start));
     }
 
--- where nothing is held from there on, it is the image's
+-- where nothing is present from there on, it is the image's
 pub whole_text : (text : List ℕ) (m : Memory) (from : ℕ) → IsWrittenTo text m from → IsEmptyFrom m from
     → IsWritten text m
 whole_text text m from so_far none = record {

@@ -10,7 +10,7 @@ returns c = record {
   srat_faults = srat_faults;
   first_interrupt = first_interrupt;
   first_overlaps = first_overlaps;
-  sound_madt = no_madt_fault;
-  sound_srat =
+  valid_madt = no_madt_fault;
+  valid_srat =
       no_srat_fault;
 }

@@ -1,4 +1,4 @@
-use Rattle.acpi_base.proofs.Examples.Slits.{slit_said, slit_faults, sound_slits}
+use Rattle.acpi_base.proofs.Examples.Slits.{slit_said, slit_faults, valid_slits}
 use Rattle.acpi_base.proofs.Examples.Pptts.{pptt_said, pptt_faults, cycle_faults, no_pptt_fault}
 use Rattle.acpi_base.proofs.laws.slit_and_pptt_examples.Goals as goal
 
@@ -6,9 +6,9 @@ pub returns : goal.returns
 returns c = record {
   slit = slit_said;
   slit_faults = slit_faults;
-  sound_slit = sound_slits;
+  valid_slit = valid_slits;
   pptt = pptt_said;
   pptt_faults = pptt_faults;
   cycles = cycle_faults;
-  sound_pptt = no_pptt_fault;
+  valid_pptt = no_pptt_fault;
 }

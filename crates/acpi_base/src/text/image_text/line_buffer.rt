@@ -28,7 +28,7 @@ pub struct LineBuffer {
 impl LineBuffer {
     /// Nothing read. Takes no memory.
     pub fn new(alloc: Global) -> LineBuffer
-        ensures sound { IsLineBuffer result }
+        ensures valid { IsLineBuffer result }
         ensures state { buffer_state result ≡ initial_state }
         ensures parser { judged result.parser ≡ Ok start }
         ensures line { result.line.items ≡ [] }
@@ -44,7 +44,7 @@ impl LineBuffer {
     /// Reads the line that this ends.
     fn end_line(&mut self, part: &[u8]) -> Result<(), TextFault>
         requires { IsLineBuffer self.old }
-        ensures sound { OnOk result (IsLineBuffer self.new) }
+        ensures valid { OnOk result (IsLineBuffer self.new) }
         ensures ok { OnOk result
             (on_ok (judged self.old.parser) (λ r. read_line r (self.old.line.items ++ part.now) 1)
             ≡ judged self.new.parser) }
@@ -72,9 +72,9 @@ impl LineBuffer {
 
     /// Keeps a part of a line that has not ended.
     fn keep(&mut self, part: &[u8]) -> Result<(), TextFault>
-        requires sound { IsLineBuffer self.old }
+        requires valid { IsLineBuffer self.old }
         requires free { (k : ℕ) → k < length part.now → slice_index part.now k ≢ 10 }
-        ensures sound { OnOk result (IsLineBuffer self.new) }
+        ensures valid { OnOk result (IsLineBuffer self.new) }
         ensures parser { self.new.parser ≡ self.old.parser }
         ensures ok { OnOk result (run (buffer_state self.old) part.now ≡ buffer_state self.new) }
         ensures count { OnOk result (byte_count self.new ≡ byte_count self.old + length part.now) }
@@ -94,7 +94,7 @@ impl LineBuffer {
     /// before, memory is needed for data alone.
     pub fn end_lines<'a>(&mut self, piece: &'a [u8]) -> Result<&'a [u8], TextFault>
         requires { IsLineBuffer self.old }
-        ensures sound { OnOk result (IsLineBuffer self.new) }
+        ensures valid { OnOk result (IsLineBuffer self.new) }
         ensures ok { IfOk result (λ rest.
             run (buffer_state self.new) rest.now ≡ run (buffer_state self.old) piece.now) }
         ensures free { IfOk result (λ rest.
@@ -128,7 +128,7 @@ impl LineBuffer {
     /// Reads the next piece of the text.
     pub fn take(&mut self, piece: &[u8]) -> Result<(), TextFault>
         requires { IsLineBuffer self.old }
-        ensures sound { OnOk result (IsLineBuffer self.new) }
+        ensures valid { OnOk result (IsLineBuffer self.new) }
         ensures ok { OnOk result (run (buffer_state self.old) piece.now ≡ buffer_state self.new) }
         ensures count { OnOk result (byte_count self.new ≡ byte_count self.old + length piece.now) }
         ensures err { IfErr result (λ fault. (told self.new.parser.image fault ≡ TextFault.Memory)
@@ -152,7 +152,7 @@ impl LineBuffer {
     /// Reads the next piece of the text, and refuses at once an address that came twice.
     pub fn take_and_judge(&mut self, piece: &[u8]) -> Result<(), TextFault>
         requires { IsLineBuffer self.old }
-        ensures sound { OnOk result (IsLineBuffer self.new) }
+        ensures valid { OnOk result (IsLineBuffer self.new) }
         ensures ok { OnOk result (run (buffer_state self.old) piece.now ≡ buffer_state self.new) }
         ensures going { OnOk result (IsGoing (buffer_state self.new)) }
         ensures err { IfErr result (λ fault. (fault ≡ TextFault.Memory)

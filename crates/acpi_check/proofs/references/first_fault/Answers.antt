@@ -2,7 +2,7 @@ use Rattle.acpi_base.specs.Pptt.{pptt_contents}
 use Rattle.acpi_check.specs.EntryPlaces.{NamesPlaces}
 use Rattle.acpi_check.proofs.EntryPasses.Kept.{pptt_rising}
 use Rattle.acpi_check.proofs.EntryPasses.Passes.{none_passed, past}
-use Rattle.acpi_check.proofs.NodeLinks.ReferencePass.{stops, ends_sound}
+use Rattle.acpi_check.proofs.NodeLinks.ReferencePass.{stops, ends_valid}
 use Rattle.acpi_check.proofs.references.first_fault.Goals as goal
 
 pub loop-at-init : goal.loop-at-init
@@ -20,5 +20,5 @@ pub loop-at-preserved : goal.loop-at-preserved
 loop-at-preserved c = past (rw c.in-Some.ensures.steps.0 at c.loop-at.invariant) c.in_default-own_fault.ensures
 
 pub returns : goal.returns
-returns c = ends_sound c.args.places.now (pptt_contents c.args.pptt.now) c.requires
+returns c = ends_valid c.args.places.now (pptt_contents c.args.pptt.now) c.requires
     (rw c.in_default.ensures.steps.0 at c.loop-at.invariant)

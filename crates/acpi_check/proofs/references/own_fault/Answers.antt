@@ -1,6 +1,6 @@
 use Rattle.std.proofs.Common.{refl}
 use Rattle.acpi_read.specs.Pptts.{node_value, cache24_value, cache28_value}
-use Rattle.acpi_check.proofs.NodeLinks.NamedPlaces.{node_sound, parent_first, resource_first, cache_link}
+use Rattle.acpi_check.proofs.NodeLinks.NamedPlaces.{node_valid, parent_first, resource_first, cache_link}
 use Rattle.acpi_check.proofs.references.own_fault.Goals as goal
 
 pub returns-in-Some-first_dangling : goal.returns-in-Some-first_dangling
@@ -23,7 +23,7 @@ returns-in-None c =
     let references = c.in-Node.references.now in
     let parent = c.in_default.ensures in
     let all = c.in-None.ensures in
-    rw c.in-Node.is (node_sound c.args.places.now (node_value head references) references head.count refl parent all)
+    rw c.in-Node.is (node_valid c.args.places.now (node_value head references) references head.count refl parent all)
 
 pub returns-in-Cache24 : goal.returns-in-Cache24
 returns-in-Cache24 c =

@@ -41,5 +41,5 @@ returns c = λ q same.
     let clean = clean_before stage.Root stage.Tables refl before_root root.0 in
     let tables = c.in_ok-tables.ensures q clean root.1 in (
       clean_to stage.Tables clean tables.0,
-      record { image = refl; rsdp = rsdp.1; root = root.1; sound = tables.0; tables = tables.1 },
+      record { image = refl; rsdp = rsdp.1; root = root.1; valid = tables.0; tables = tables.1 },
     )

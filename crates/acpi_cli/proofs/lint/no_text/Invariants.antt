@@ -1,5 +1,5 @@
 use Rattle.std.proofs.Common.{◌≡◌, ◌++◌, drop, flat_map}
-use Rattle.acpi_cli.specs.Engine.{no_line}
+use Rattle.acpi_cli.specs.Commands.{no_line}
 use Rattle.acpi_cli.proofs.lint.no_text.Given as goal
 
 -- the lines of the faults before the index, and of those still to come

@@ -1,7 +1,7 @@
 use Rattle.std.proofs.Common.{inl, subst}
 use Rattle.std.proofs.lemmas.Result.{IfOk-weaker}
 use Rattle.acpi_base.specs.Policy.{PolicyValue}
-use Rattle.acpi_cli.specs.Engine.{TellsRebuilt}
+use Rattle.acpi_cli.specs.Commands.{TellsRebuilt}
 use Rattle.acpi_cli.proofs.rebuild.rebuild_output.Goals as goal
 
 -- under the policy with the RSDP's address

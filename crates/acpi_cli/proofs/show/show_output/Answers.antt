@@ -2,7 +2,7 @@ use Rattle.std.proofs.Common.{inl, inr, refl}
 use Rattle.acpi_base.specs.Policy.{with_rsdp}
 use Rattle.acpi_base.specs.declared.verdict.Verdict.TheVariants.{No}
 use Rattle.acpi_check.proofs.ListedSets.{listed_itself}
-use Rattle.acpi_cli.specs.Engine.{shown_policy}
+use Rattle.acpi_cli.specs.Commands.{shown_policy}
 use Rattle.acpi_cli.proofs.show.show_output.Goals as goal
 
 pub set_text-requires : goal.set_text-requires

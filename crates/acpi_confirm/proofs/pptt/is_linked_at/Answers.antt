@@ -5,4 +5,4 @@ use Rattle.acpi_confirm.proofs.pptt.is_linked_at.Goals as goal
 
 pub returns : goal.returns
 returns c = rw c.is_some.ensures
-    (only_some (Names c.args.link (pptt_contents c.args.pptt.now) c.args.at) c.named_at.result c.named_at.ensures)
+    (only_some (Names c.args.chain (pptt_contents c.args.pptt.now) c.args.at) c.named_at.result c.named_at.ensures)

@@ -5,7 +5,7 @@ use Rattle.acpi_lint.proofs.one_code.gsi_clash.Goals as goal
 pub returns-in-Some : goal.returns-in-Some
 returns-in-Some c = λ m are.
     gsi_result m c.args.policy.now c.in-Some.madt (rw c.in-Some.ensures.0 at are.listed kind.Madt)
-    c.apart_interrupts.result c.place_of.result c.apart_interrupts.ensures c.place_of.ensures.place
+    c.check_interrupts.result c.place_of.result c.check_interrupts.ensures c.place_of.ensures.place
 
 pub returns-in-None : goal.returns-in-None
 returns-in-None c = λ m are.

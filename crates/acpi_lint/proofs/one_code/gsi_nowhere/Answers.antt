@@ -21,7 +21,7 @@ returns-in-Some c = λ m are.
     (ServedFault c.args.policy.now (madt_contents whole))
     (excludes c.args.policy.now (madt_contents whole) code.GsiNowhere)
     (one_gsi_nowhere c.args.policy.now (madt_contents whole))
-    c.named_served.result c.place_of.result c.named_served.ensures c.place_of.ensures.place)
+    c.check_served.result c.place_of.result c.check_served.ensures c.place_of.ensures.place)
 
 pub returns-in-None : goal.returns-in-None
 returns-in-None c = λ m are.

@@ -42,8 +42,8 @@ returns c = λ m are.
     let found = verdict_found stage.Leaves code.LeafUnknown (AreLeavesKnown (madt_contents madt) (pptt_contents pptt))
     (LeafFault (madt_contents madt) (pptt_contents pptt))
     (excludes (madt_contents madt) (pptt_contents pptt) code.LeafUnknown)
-    (one_leaf_unknown (madt_contents madt) (pptt_contents pptt)) c.known_leaves.result c.place_of.result
-    c.known_leaves.ensures c.place_of.ensures.place in
+    (one_leaf_unknown (madt_contents madt) (pptt_contents pptt)) c.check_leaves.result c.place_of.result
+    c.check_leaves.ensures c.place_of.ensures.place in
     some_long m q.rsdp madt_signature (OfMadt m q) c.place_of.result (are.listed kind.Madt)
     (sym c.table.ensures ∙ c.in-Some.is)
     (some_long m q.rsdp pptt_signature (OfTables madt) c.place_of.result (are.listed kind.Pptt)

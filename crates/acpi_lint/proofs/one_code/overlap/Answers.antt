@@ -5,7 +5,7 @@ use Rattle.acpi_lint.proofs.one_code.overlap.Goals as goal
 pub returns-in-Some : goal.returns-in-Some
 returns-in-Some c = λ m are.
     overlap_result m c.args.policy.now c.in-Some.srat (rw c.in-Some.ensures.0 at are.listed kind.Srat)
-    c.apart_ranges.result c.place_of.result (rw c.hotplug.ensures.value at c.apart_ranges.ensures)
+    c.check_ranges.result c.place_of.result (rw c.hotplug.ensures.value at c.check_ranges.ensures)
     c.place_of.ensures.place c.place_of.ensures.fits
 
 pub returns-in-None : goal.returns-in-None

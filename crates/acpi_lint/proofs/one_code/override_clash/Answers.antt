@@ -19,7 +19,7 @@ returns-in-Some c = λ m are.
     (verdict_found stage.Overrides code.OverrideClash (DoOverridesAgree (madt_contents whole))
     (OverrideFault (madt_contents whole))
     (excludes (madt_contents whole) code.OverrideClash) (one_override_clash (madt_contents whole))
-    c.agreeing_overrides.result c.place_of.result c.agreeing_overrides.ensures.settled c.place_of.ensures.place)
+    c.check_overrides.result c.place_of.result c.check_overrides.ensures.settled c.place_of.ensures.place)
 
 pub returns-in-None : goal.returns-in-None
 returns-in-None c = λ m are.

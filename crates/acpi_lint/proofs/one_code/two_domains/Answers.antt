@@ -49,8 +49,8 @@ returns c = λ m are.
     (HaveOneDomain q.processors (madt_contents madt) (srat_contents srat))
     (DomainFault q.processors (madt_contents madt) (srat_contents srat))
     (excludes q.processors (madt_contents madt) (srat_contents srat) code.TwoDomains)
-    (one_two_domains q.processors (madt_contents madt) (srat_contents srat)) c.one_domain.result c.place_of.result
-    (rw c.processors.ensures.value at c.one_domain.ensures) c.place_of.ensures.place in
+    (one_two_domains q.processors (madt_contents madt) (srat_contents srat)) c.check_domains.result c.place_of.result
+    (rw c.processors.ensures.value at c.check_domains.ensures) c.place_of.ensures.place in
     some_long m q.rsdp madt_signature (OfMadt m q) c.place_of.result (are.listed kind.Madt) c.in-Some.ensures.0
     (some_long m q.rsdp srat_signature (OfTables q madt) c.place_of.result (are.listed kind.Srat)
     c.in-Some-srat.ensures.0 found)

@@ -6,12 +6,12 @@ use Rattle.std.proofs.lemmas.List.Sums.{AllPass-from_list_all}
 use Rattle.std.proofs.lemmas.Option.{slice_get-map, slice_get-get_or}
 use Rattle.acpi_base.specs.Fadt.{fadt_places}
 use Rattle.acpi_read.specs.Places.{place_value}
-use Rattle.acpi_read.specs.declared.fadt.Place.{Place}
+use Rattle.acpi_read.specs.declared.fadt.FieldPlace.{FieldPlace}
 use Rattle.acpi_read.specs.declared.fadt.TheConstants.{PLACES}
 use Rattle.acpi_read.proofs.fadt.field_place.Goals as goal
 
 -- a place that stands for none
-abbrev nowhere : Place
+abbrev nowhere : FieldPlace
 nowhere = record { 0 = 0; 1 = 0 }
 
 -- the constant's rows are the definition's
@@ -19,7 +19,7 @@ rows : map place_value PLACES ≡ fadt_places
 rows = refl
 
 -- whether a field has a byte at least and a number's 8 at most
-abbrev has_width : Place → Bool
+abbrev has_width : FieldPlace → Bool
 has_width p = nat_le 1 p.1 && nat_le p.1 8
 
 widths : list_all has_width PLACES ≡ true

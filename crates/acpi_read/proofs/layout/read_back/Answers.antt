@@ -18,4 +18,4 @@ returns-clause-value g c =
     let same = ap (values_at 0 layout.parts) c.write.ensures.bytes ∙ holds.same in
     found c.read.result value (λ y. values_at 0 layout.parts c.write.new.out ≡ layout.values y)
     (c.read.ensures.some.1 (of_layout, c.write.ensures.allowed)) c.read.ensures.value
-    (λ y held. g.met.L.Layout.one_value y value (sym held ∙ same))
+    (λ y present. g.met.L.Layout.one_value y value (sym present ∙ same))

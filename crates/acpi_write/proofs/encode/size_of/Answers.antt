@@ -4,7 +4,7 @@ use Rattle.acpi_read.specs.Srats.{srat_value, srat_bytes}
 use Rattle.acpi_write.proofs.EntryBytes.EntryLists.{joined_values}
 use Rattle.acpi_write.proofs.Tables.Madts as madts
 use Rattle.acpi_write.proofs.Tables.Srats as srats
-use Rattle.acpi_write.proofs.TablesWritten.WholeTables.{length_of_parts}
+use Rattle.acpi_write.proofs.TablesWritten.CompleteTables.{length_of_parts}
 use Rattle.acpi_write.proofs.encode.size_of.Goals as goal
 
 pub returns-in_ok-sizes-in-Madt : goal.returns-in_ok-sizes-in-Madt
@@ -28,7 +28,7 @@ returns-in_ok-sizes-in-Srat c =
           (sized.1 ∙ ap length (sym (joined_values srat_bytes srat_value v.entries.items))) ∙ sym (srats.length-body _),
     )
 
-pub returns-else-not-is_whole_table : goal.returns-else-not-is_whole_table
-returns-else-not-is_whole_table c =
-    let whole = c.if-not-is_whole_table.ensures.0 refl in
+pub returns-else-not-is_complete_table : goal.returns-else-not-is_complete_table
+returns-else-not-is_complete_table c =
+    let whole = c.if-not-is_complete_table.ensures.0 refl in
     rw c.in-Other.is (whole, length_of_parts c.in-Other.bytes.now _ whole.least refl)

@@ -1,5 +1,5 @@
 use Rattle.std.proofs.Common.{refl}
-use Rattle.acpi_write.proofs.TablesWritten.WholeTables.{length_of_parts}
+use Rattle.acpi_write.proofs.TablesWritten.CompleteTables.{length_of_parts}
 use Rattle.acpi_write.proofs.placing.written_length.Goals as goal
 
 pub returns-in-Other : goal.returns-in-Other

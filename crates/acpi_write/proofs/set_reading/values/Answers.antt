@@ -18,7 +18,7 @@ use Rattle.acpi_check.specs.declared.refusal.Refusal.{Refusal}
 use Rattle.acpi_check.specs.declared.refusal.Refusal.TheVariants.{Fault, OutOfMemory}
 use Rattle.acpi_check.proofs.ListedSets.{listed_itself}
 use Rattle.acpi_write.specs.Kinds.{table_of}
-use Rattle.acpi_write.specs.SetValues.{IsFacsOf, IsWholeAt, values_of}
+use Rattle.acpi_write.specs.SetValues.{IsFacsOf, IsCompleteAt, values_of}
 use Rattle.acpi_write.specs.Views.{IsValuesRefusal, values_fault_of}
 use Rattle.acpi_write.specs.declared.set_value.ValuesFault.{ValuesFault}
 use Rattle.acpi_write.proofs.OldSets.CleanSets.{clean_readable}
@@ -56,10 +56,10 @@ table_values-requires c =
     let clean = c.in_ok-set.ensures in
     let root = clean.listed.root in
     let found = c.in_ok-listed.listed.items in
-    let each = subst (λ (n : Memory). AllZip (IsWholeAt n)
+    let each = subst (λ (n : Memory). AllZip (IsCompleteAt n)
     (listed_addresses c.in_ok-set.set.listed.root.bytes c.in_ok-set.set.listed.root.width) (map table_of found))
     clean.listed.image c.in_ok-listed.ensures in
-    let readable = clean_readable m c.args.policy.now _ _ _ (map table_of found) clean.clean root.named root.sound.table
+    let readable = clean_readable m c.args.policy.now _ _ _ (map table_of found) clean.clean root.named root.valid.table
     each in
     rw c.deref.ensures.value readable
 
@@ -80,16 +80,16 @@ returns-clause-value c =
     ] in
     record {
       head = rsdp.head;
-      head_held = rsdp.head_held;
+      head_present = rsdp.head_present;
       oemid = c.oemid-oemid.ensures ∙ rsdp.oemid;
       r = set.listed.root.address;
       d = set.listed.root.width;
       root_bytes = set.listed.root.bytes;
       root = root.named;
-      root_table = root.sound.table;
+      root_table = root.valid.table;
       root_head = c.head_in-root.ensures set.listed.root.bytes c.header.ensures.fields;
       tables = map table_of found;
-      each = subst (λ (n : Memory). AllZip (IsWholeAt n) (listed_addresses set.listed.root.bytes set.listed.root.width)
+      each = subst (λ (n : Memory). AllZip (IsCompleteAt n) (listed_addresses set.listed.root.bytes set.listed.root.width)
           (map table_of found)) clean.listed.image c.in_ok-listed.ensures;
       values = c.in_ok-tables.ensures.values ∙ ap (λ l. values_of (map table_of l)) c.deref.ensures.value;
       facs = λ fadt is.

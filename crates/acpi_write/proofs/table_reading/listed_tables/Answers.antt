@@ -4,7 +4,7 @@ use Rattle.std.proofs.lemmas.List.{map-append}
 use Rattle.acpi_base.specs.Number.{field}
 use Rattle.acpi_base.specs.Tables.{IsTable}
 use Rattle.acpi_write.specs.Kinds.{table_of}
-use Rattle.acpi_write.specs.SetValues.{IsWholeAt}
+use Rattle.acpi_write.specs.SetValues.{IsCompleteAt}
 use Rattle.acpi_write.proofs.OldSets.Listing.{begins, skips, takes, completed}
 use Rattle.acpi_write.proofs.table_reading.listed_tables.Goals.{in-Some+in_ok-push, in_default}
 use Rattle.acpi_write.proofs.table_reading.listed_tables.Goals as goal
@@ -26,7 +26,7 @@ loop-slot-preserved c =
       | in-Some+in_ok-push w ↦
           let here = w.in-Some.ensures.some in
           let whole = w.in-Some.listed.table in
-          let at : IsWholeAt m (field root.bytes (36 + root.width * c.loop-slot.slot) root.width) whole =
+          let at : IsCompleteAt m (field root.bytes (36 + root.width * c.loop-slot.slot) root.width) whole =
           (here.header, subst (λ (a : ℕ). IsTable m a here.header whole) (sym here.slot.address) here.table) in
           let pushed = ap (map table_of) w.in_ok-push.ensures.items ∙ map-append table_of c.loop-slot.found.items _ in
           rw w.found-is (takes m root.bytes root.width c.loop-slot.slot _ (map table_of c.loop-slot.found.items)

@@ -13,20 +13,20 @@ use Rattle.acpi_base.proofs.text.image_text.read_image.Goals as goal
 pub pieces-init : goal.pieces-init
 pieces-init g c = record {
   brought = nothing_brought _ _ c.new-buffer.ensures.state (Consumes-nil _);
-  sound = c.new-buffer.ensures.sound;
+  valid = c.new-buffer.ensures.valid;
   counted = c.new-buffer.ensures.count;
   count = refl;
 }
 
 pub overflow_sub-total : goal.overflow_sub-total
 overflow_sub-total g c =
-    let fits = brought_fits c.pieces.buffer c.pieces.total c.pieces.invariant.sound c.pieces.invariant.counted in
+    let fits = brought_fits c.pieces.buffer c.pieces.total c.pieces.invariant.valid c.pieces.invariant.counted in
     omega arith
 
 pub returns-in_default-clause-text : goal.returns-in_default-clause-text
 returns-in_default-clause-text g c =
     let b = c.pieces.buffer in
-    let fits = brought_fits b c.pieces.total c.pieces.invariant.sound c.pieces.invariant.counted in
+    let fits = brought_fits b c.pieces.total c.pieces.invariant.valid c.pieces.invariant.counted in
     let before = g.R.Read.remaining c.args.reader.now.inner in
     let middle = g.R.Read.remaining c.pieces.reader.inner in
     let left = g.R.Read.remaining c.read.new.self.inner in
@@ -42,7 +42,7 @@ returns-in_default-clause-count g c =
 
 pub returns-then-count-eq0-clause-text : goal.returns-then-count-eq0-clause-text
 returns-then-count-eq0-clause-text g c =
-    let fits = brought_fits c.pieces.buffer c.pieces.total c.pieces.invariant.sound c.pieces.invariant.counted in
+    let fits = brought_fits c.pieces.buffer c.pieces.total c.pieces.invariant.valid c.pieces.invariant.counted in
     let bytes = c.in-Ok.ensures.bytes in
     let consumed = subst (Consumes _ _) (ap (λ n. take n c.read.new.buffer) c.if-count-eq0.true) bytes.0 in
     let some : 0 < length c.read.new.buffer =
@@ -58,7 +58,7 @@ returns-then-count-eq0-clause-count g c =
 pub returns-in-Err-clause-text : goal.returns-in-Err-clause-text
 returns-in-Err-clause-text g c =
     let state = buffer_state c.pieces.buffer in
-    let fits = brought_fits c.pieces.buffer c.pieces.total c.pieces.invariant.sound c.pieces.invariant.counted in
+    let fits = brought_fits c.pieces.buffer c.pieces.total c.pieces.invariant.valid c.pieces.invariant.counted in
     let bound : c.in-Ok.count ≤ length c.read.new.buffer = c.in-Ok.ensures.bound.0 in
     let long = sym c.in-Ok.ensures.bound.1 in
     let room : c.pieces.total + c.in-Ok.count ≤ 67108865 =
@@ -90,7 +90,7 @@ pieces-preserved g c =
       brought = more_brought _ _ _ (buffer_state c.pieces.buffer) (buffer_state c.take.new.self) c.pieces.total
           c.in-Ok.count (c.pieces.total + c.in-Ok.count) (take c.in-Ok.count c.read.new.buffer)
           c.pieces.invariant.brought c.in-Ok.ensures.bytes.0 long taken refl;
-      sound = c.in_default-take.ensures.sound;
+      valid = c.in_default-take.ensures.valid;
       counted = omega arith;
       count = c.in-Ok.ensures.ok ∙ c.pieces.invariant.count;
     }

@@ -7,7 +7,7 @@ abbrev pub invariant-pieces : goal.invariant-pieces
 invariant-pieces g l = record {
   brought : HasRead (g.R.Read.remaining l.initial.reader.inner) (g.R.Read.remaining l.reader.inner)
       (buffer_state l.buffer) l.total;
-  sound : IsLineBuffer l.buffer;
+  valid : IsLineBuffer l.buffer;
   counted : byte_count l.buffer ≡ l.total;
   count : l.reader.failures ≡ l.initial.reader.failures;
 }

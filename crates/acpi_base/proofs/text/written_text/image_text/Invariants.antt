@@ -3,7 +3,7 @@ use Rattle.acpi_base.specs.Memory.{IsImage}
 use Rattle.acpi_base.proofs.Texts.Written.WrittenRuns.{IsWrittenTo}
 use Rattle.acpi_base.proofs.text.written_text.image_text.Given as goal
 
--- all that is held before `from` is written
+-- all that is present before `from` is written
 abbrev pub invariant-loop-base : goal.invariant-loop-base
 invariant-loop-base l = record {
   image : IsImage l.image;

@@ -14,7 +14,7 @@ returns-then-place-len-clause-some c =
     (λ (p : Piece). (c.args.address < p.0) × IsSome (lookup (runs_of s) p.0) × IsGap (runs_of s) c.args.address p.0)
     (sym c.index.ensures)
     (next_ended s.store s.ended.items s.base s.start c.args.address c.place-place.result c.index.result.now
-    c.requires.sound c.requires.free c.place-place.ensures.place (omega arith))
+    c.requires.valid c.requires.free c.place-place.ensures.place (omega arith))
 
 pub returns-then-self-len-clause-some : goal.returns-then-self-len-clause-some
 returns-then-self-len-clause-some c =
@@ -24,7 +24,7 @@ returns-then-self-len-clause-some c =
     let store = c.len.ensures in
     let s = c.args.self.now in
     let all : c.place-place.result ≡ length s.ended.items = omega arith in
-    next_open s.store s.ended.items s.base s.start c.args.address c.requires.sound c.requires.free
+    next_open s.store s.ended.items s.base s.start c.args.address c.requires.valid c.requires.free
     (subst (IsPartitionPoint s.ended.items c.args.address) all c.place-place.ensures.place)
     c.if-address-self.true (omega arith)
 
@@ -39,5 +39,5 @@ returns-clause-none c = λ _.
           inr (let none = w.if-self-len.false in let store = w.len-then-address-self.ensures in omega arith)
       | else-address-self-via-else-address-self w ↦ inl (let behind = w.if-address-self.false in omega arith)
     ] in
-    no_next s.store s.ended.items s.base s.start c.args.address c.requires.sound c.requires.free
+    no_next s.store s.ended.items s.base s.start c.args.address c.requires.valid c.requires.free
     (subst (IsPartitionPoint s.ended.items c.args.address) all c.place-place.ensures.place) past

@@ -21,6 +21,6 @@ loop-piece-preserved c =
     c.in_ok-take.ensures.end in
     record {
       left = left_next c.args.store.now _ c.loop-piece.self c.take.new.self ps i p c.bytes.result.now left low is
-          c.bytes.ensures c.in_ok-take.ensures.sound c.in_ok-take.ensures.ok c.in_ok-take.ensures.end;
+          c.bytes.ensures c.in_ok-take.ensures.valid c.in_ok-take.ensures.ok c.in_ok-take.ensures.end;
       end = λ a l all. (let within = of_all (λ (q : Piece). end_at q ≤ a) ps i none all low in omega arith);
     }

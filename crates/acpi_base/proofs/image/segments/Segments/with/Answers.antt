@@ -10,19 +10,19 @@ use Rattle.acpi_base.proofs.image.segments.Segments.with.Goals.{then-self-store+
 
 pub take_all-requires-clause-rising : goal.take_all-requires-clause-rising
 take_all-requires-clause-rising c =
-    let parts = parts_at c.args.self.now c.args.base (length c.args.bytes.now) c.place.result c.requires.sound
+    let parts = parts_at c.args.self.now c.args.base (length c.args.bytes.now) c.place.result c.requires.valid
     c.requires.before c.requires.some c.requires.free c.place.ensures.within c.place.ensures.place in
     rw (c.split_at.ensures.front, c.deref.ensures.value) parts.low_rising
 
 pub take_all-requires-clause-lies : goal.take_all-requires-clause-lies
 take_all-requires-clause-lies c =
-    let parts = parts_at c.args.self.now c.args.base (length c.args.bytes.now) c.place.result c.requires.sound
+    let parts = parts_at c.args.self.now c.args.base (length c.args.bytes.now) c.place.result c.requires.valid
     c.requires.before c.requires.some c.requires.free c.place.ensures.within c.place.ensures.place in
     rw (c.split_at.ensures.front, c.deref.ensures.value, c.bytes-store.ensures) parts.low_lies
 
 pub take_all-requires-clause-behind : goal.take_all-requires-clause-behind
 take_all-requires-clause-behind c =
-    let parts = parts_at c.args.self.now c.args.base (length c.args.bytes.now) c.place.result c.requires.sound
+    let parts = parts_at c.args.self.now c.args.base (length c.args.bytes.now) c.place.result c.requires.valid
     c.requires.before c.requires.some c.requires.free c.place.ensures.within c.place.ensures.place in
     rw (c.split_at.ensures.front, c.deref.ensures.value)
     (subst (λ n. AllByRecursion (λ (p : Piece). n ≤ p.0) (take c.place.result c.args.self.now.ended.items))
@@ -30,7 +30,7 @@ take_all-requires-clause-behind c =
 
 pub take-requires-clause-behind : goal.take-requires-clause-behind
 take-requires-clause-behind c =
-    let parts = parts_at c.args.self.now c.args.base (length c.args.bytes.now) c.place.result c.requires.sound
+    let parts = parts_at c.args.self.now c.args.base (length c.args.bytes.now) c.place.result c.requires.valid
     c.requires.before c.requires.some c.requires.free c.place.ensures.within c.place.ensures.place in
     let empty_end = c.in_ok-all.ensures.end in
     c.in_ok-take_all.ensures.end c.args.base (omega arith)
@@ -38,19 +38,19 @@ take-requires-clause-behind c =
 
 pub take_all-requires-2-clause-rising : goal.take_all-requires-2-clause-rising
 take_all-requires-2-clause-rising c =
-    let parts = parts_at c.args.self.now c.args.base (length c.args.bytes.now) c.place.result c.requires.sound
+    let parts = parts_at c.args.self.now c.args.base (length c.args.bytes.now) c.place.result c.requires.valid
     c.requires.before c.requires.some c.requires.free c.place.ensures.within c.place.ensures.place in
     rw (c.split_at.ensures.back, c.deref.ensures.value) parts.high_rising
 
 pub take_all-requires-2-clause-lies : goal.take_all-requires-2-clause-lies
 take_all-requires-2-clause-lies c =
-    let parts = parts_at c.args.self.now c.args.base (length c.args.bytes.now) c.place.result c.requires.sound
+    let parts = parts_at c.args.self.now c.args.base (length c.args.bytes.now) c.place.result c.requires.valid
     c.requires.before c.requires.some c.requires.free c.place.ensures.within c.place.ensures.place in
     rw (c.split_at.ensures.back, c.deref.ensures.value, c.bytes-store.ensures) parts.high_lies
 
 pub take_all-requires-2-clause-behind : goal.take_all-requires-2-clause-behind
 take_all-requires-2-clause-behind c =
-    let parts = parts_at c.args.self.now c.args.base (length c.args.bytes.now) c.place.result c.requires.sound
+    let parts = parts_at c.args.self.now c.args.base (length c.args.bytes.now) c.place.result c.requires.valid
     c.requires.before c.requires.some c.requires.free c.place.ensures.within c.place.ensures.place in
     rw (c.split_at.ensures.back, c.deref.ensures.value)
     (subst (λ n. AllByRecursion (λ (p : Piece). n ≤ p.0) (drop c.place.result c.args.self.now.ended.items))
@@ -58,7 +58,7 @@ take_all-requires-2-clause-behind c =
 
 pub take-requires-then-self-store-clause-behind : goal.take-requires-then-self-store-clause-behind
 take-requires-then-self-store-clause-behind c =
-    let parts = parts_at c.args.self.now c.args.base (length c.args.bytes.now) c.place.result c.requires.sound
+    let parts = parts_at c.args.self.now c.args.base (length c.args.bytes.now) c.place.result c.requires.valid
     c.requires.before c.requires.some c.requires.free c.place.ensures.within c.place.ensures.place in
     let long = ap length c.bytes-store.ensures in
     let some = c.if-self-store.true in

@@ -22,7 +22,7 @@ returns-in-Err-clause-err c =
     let low : n < length text = omega arith in
     let refused = subst (λ part. Refuses (on_ok (judged f.parser) (λ r. read_line r (f.line.items ++ part) 1)) stop)
     c.split_at.ensures.front c.in-Err.ensures.err in
-    elim (line_refused f.parser f.parser.image f.line.items text n stop c.lines.invariant.sound.short low
+    elim (line_refused f.parser f.parser.image f.line.items text n stop c.lines.invariant.valid.short low
     c.first_index.ensures.before (c.first_index.ensures.found low) refused) [
       | inl memory ↦ inl memory
       | inr stopped ↦ inr (sym c.lines.invariant.run ∙ stopped)
@@ -59,8 +59,8 @@ lines-preserved c =
     let left = c.split_at.ensures.back_len in
     let some : 0 < length after = grind (arith, nat_tests, c.is_empty.ensures, c.if-is_empty.false) in
     let low : n < length text = omega arith in
-    let sound = c.in_default.ensures.sound in
-    let fits = (short_bounds (length next.line.items) (byte_count next) sound.short).1 in
+    let valid = c.in_default.ensures.valid in
+    let fits = (short_bounds (length next.line.items) (byte_count next) valid.short).1 in
     let rest : List ℕ = take (length after - 1) (drop 1 after) in
     let behind : rest ≡ drop (suc n) text = between_to_end after 1 (length after) (omega arith)
     ∙ ap (drop 1) c.split_at.ensures.back ∙ drop-drop 1 n text ∙ ap (λ k. drop k text) (add-one n) in
@@ -73,10 +73,10 @@ lines-preserved c =
     let line_count = c.in_default.ensures.count in
     let so_far = c.lines.invariant.count in
     record {
-      sound = sound;
+      valid = valid;
       run = ap (λ line. run (state_with (judged next.parser) line) rest) c.in_default.ensures.line
           ∙ sym (line_passed f.parser next.parser f.parser.image next.parser.image
-          f.line.items text n rest c.lines.invariant.sound.short low c.first_index.ensures.before
+          f.line.items text n rest c.lines.invariant.valid.short low c.first_index.ensures.before
           (c.first_index.ensures.found low) read (omega arith) behind)
           ∙ c.lines.invariant.run;
       count = omega arith;

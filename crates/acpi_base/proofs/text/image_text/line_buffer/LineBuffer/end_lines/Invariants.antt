@@ -8,7 +8,7 @@ use Rattle.acpi_base.proofs.text.image_text.line_buffer.LineBuffer.end_lines.Giv
 -- the rest is read on from here as the piece was from the start
 abbrev pub invariant-lines : goal.invariant-lines
 invariant-lines l = record {
-  sound : IsLineBuffer l.self;
+  valid : IsLineBuffer l.self;
   run : run (buffer_state l.self) l.rest ≡ run (buffer_state l.initial.self) l.piece;
   count : byte_count l.self + length l.rest ≡ byte_count l.initial.self + length l.piece;
   whole : l.initial.self.line.items ≡ [] → l.self.line.items ≡ [];

@@ -9,14 +9,14 @@ use Rattle.acpi_base.proofs.text.image_text.line_buffer.LineBuffer.keep.Goals as
 pub returns-then-part-most-clause-err : goal.returns-then-part-most-clause-err
 returns-then-part-most-clause-err c =
     let f = c.args.self.now in
-    let bounds = short_bounds (length f.line.items) (byte_count f) c.requires.sound.short in
+    let bounds = short_bounds (length f.line.items) (byte_count f) c.requires.valid.short in
     let line_fits = bounds.0 in
     let text_fits = bounds.1 in
     let through = c.through.ensures in
     let most = c.min-most.ensures in
     let long = c.len.ensures in
     let far = c.if-part-most.true in
-    inr (kept_refused f.parser f.line.items c.args.part.now c.requires.sound.short c.requires.free
+    inr (kept_refused f.parser f.line.items c.args.part.now c.requires.valid.short c.requires.free
     (elim (cases_lt max_line (length f.line.items + length c.args.part.now)) [
       | inl l ↦ inl l
       | inr l ↦ inr (omega arith)
@@ -26,14 +26,14 @@ returns-then-part-most-clause-err c =
 pub returns-clause-ok : goal.returns-clause-ok
 returns-clause-ok c =
     let f = c.args.self.now in
-    let bounds = short_bounds (length f.line.items) (byte_count f) c.requires.sound.short in
+    let bounds = short_bounds (length f.line.items) (byte_count f) c.requires.valid.short in
     let line_fits = bounds.0 in
     let text_fits = bounds.1 in
     let through = c.through.ensures in
     let most = c.min-most.ensures in
     let long = c.len.ensures in
     let near = c.if-part-most.false in
-    kept f.parser f.line.items c.args.part.now c.requires.sound.short c.requires.free (omega arith)
+    kept f.parser f.line.items c.args.part.now c.requires.valid.short c.requires.free (omega arith)
     (omega arith) f.parser.image
     ∙ ap (state_with (judged f.parser)) (sym c.in_ok-extend_from_slice.ensures.items)
 

@@ -1,6 +1,0 @@
-use Rattle.acpi_check.specs.FirstBelow.{AreFirstBelow}
-use Rattle.acpi_check.proofs.tables.sound_tables.Given as goal
-
--- of the slots so far the tables are sound and the first ones kept
-abbrev pub invariant-loop-slot : goal.invariant-loop-slot
-invariant-loop-slot l = AreFirstBelow l.image l.root l.slot l.firsts

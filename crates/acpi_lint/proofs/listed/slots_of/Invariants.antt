@@ -1,7 +1,0 @@
-use Rattle.acpi_lint.specs.Slots.{AreSlots}
-use Rattle.acpi_lint.proofs.ListedSlots.{ListsBefore}
-use Rattle.acpi_lint.proofs.listed.slots_of.Given as goal
-
--- these are the slots before this one
-abbrev pub invariant-loop-slot : goal.invariant-loop-slot
-invariant-loop-slot l = AreSlots l.image (ListsBefore l.root.bytes l.root.width l.slot) l.slots.items

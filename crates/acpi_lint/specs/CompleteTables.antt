@@ -1,0 +1,40 @@
+-- The tables of a set that are looked at, as far as they are complete.
+use Rattle.std.specs.Prelude.{◌≡◌, ℕ, ◌<◌, ◌≤◌, List, length, Option, Some, None, MatchOption, option_map}
+use Rattle.acpi_base.specs.Memory.{Memory}
+use Rattle.acpi_base.specs.Listed.{IsListedTable}
+use Rattle.acpi_base.specs.Root.{IsSlot}
+use Rattle.acpi_base.specs.TableKinds.{signature_of}
+use Rattle.acpi_base.specs.declared.table_kind.TableKind.{TableKind}
+use Rattle.acpi_base.specs.declared.table_kind.TableKind.TheVariants as kind
+use Rattle.acpi_lint.specs.Slots.{IsRootOf, AreSlots, AreFirstSlots}
+use Rattle.acpi_lint.specs.declared.complete_tables.CompleteTables.{CompleteTables}
+
+-- these are the bytes of the set's first listed table with the signature, or it is missing or incomplete
+abbrev pub IsFound : Memory → ℕ → List ℕ → Option (List ℕ) → Type 0
+IsFound m p signature found =
+    MatchOption found ((whole : List ℕ) → ¬ IsListedTable m p signature whole) (IsListedTable m p signature)
+
+-- the table of a kind
+abbrev pub table_of : CompleteTables → TableKind → Option (List ℕ)
+table_of tables kind.Fadt = tables.fadt
+table_of tables kind.Madt = tables.madt
+table_of tables kind.Srat = tables.srat
+table_of tables kind.Slit = tables.slit
+table_of tables kind.Pptt = tables.pptt
+
+-- these are the root table and the tables of the set that the RSDP at p leads to
+pub record AreCompleteTables (m : Memory) (p : ℕ) (tables : CompleteTables) : Type 0 where
+  pub root : IsRootOf m p tables.root
+  pub slots : AreSlots m (IsSlot m p) tables.slots.items
+  pub firsts : AreFirstSlots m p tables.firsts
+  pub listed : (kind : TableKind) → IsFound m p (signature_of kind) (table_of tables kind)
+
+-- this is the table that was found, of at least this many bytes; or none was found, or it is shorter
+abbrev pub IsLong : ℕ → Option (List ℕ) → Option (List ℕ) → Type 0
+IsLong least found None = (whole : List ℕ) → found ≡ Some whole → length whole < least
+IsLong least found (Some whole) = (found ≡ Some whole) × (least ≤ length whole)
+
+-- and these are its entries, as `read` gives them
+abbrev pub AreEntries : {E : Type 0} → ℕ → (List ℕ → E) → Option (List ℕ) → Option E → Type 0
+AreEntries least read found entries =
+    (view : Option (List ℕ)) × IsLong least found view × (entries ≡ option_map read view)

@@ -1,0 +1,145 @@
+//! The tables of a set that are looked at.
+
+ghost use Rattle.std.specs.Prelude.{◌≡◌, ℕ, IfOk, option_map};
+ghost use Rattle.acpi_base.specs.Entries.{entries_read_by};
+ghost use Rattle.acpi_base.specs.Madt.{madt_contents, madt_entry};
+ghost use Rattle.acpi_base.specs.Pptt.{pptt_contents, pptt_entry};
+ghost use Rattle.acpi_base.specs.Srat.{srat_contents, srat_entry};
+ghost use Rattle.acpi_base.specs.TableKinds.{signature_of};
+ghost use Rattle.acpi_lint.specs.Slots.{AreFirstSlots};
+ghost use Rattle.acpi_lint.specs.CompleteTables.{IsFound, IsLong, AreEntries, table_of, AreCompleteTables};
+
+use crate::first_slots::FirstSlots;
+use crate::listed_slots::{Slot, listed_slots};
+use acpi_base::{Image, TableKind};
+use acpi_read::{Fadt, MadtEntry, PpttEntry, Root, SratEntry, Table, TableEntry, TypedEntries};
+use std::alloc::{AllocError, Global};
+
+/// The root table of a set and the first listed table of each kind, if they are complete, whatever their checksums.
+/// They are looked up once.
+#[derive(Drop)]
+pub struct CompleteTables<'a> {
+    /// The root table.
+    pub root: Option<Root<'a>>,
+    /// Its slots that list an address, in their order.
+    pub slots: Vec<Slot>,
+    /// The first of these slots of each kind.
+    pub firsts: FirstSlots,
+    /// The FADT.
+    pub fadt: Option<Table<'a>>,
+    /// The MADT.
+    pub madt: Option<Table<'a>>,
+    /// The SRAT.
+    pub srat: Option<Table<'a>>,
+    /// The SLIT.
+    pub slit: Option<Table<'a>>,
+    /// The PPTT.
+    pub pptt: Option<Table<'a>>,
+}
+
+/// The first listed table of a kind in a set with these first slots.
+fn found<'a>(image: &'a Image, firsts: &FirstSlots, kind: TableKind) -> Option<Table<'a>>
+    ensures { (p : ℕ) → AreFirstSlots image.now p firsts.now
+        → IsFound image.now p (signature_of kind) result }
+{
+    let slot = firsts.of_kind(kind)?;
+    Table::complete(image, slot.table.address)
+}
+
+impl<'a> CompleteTables<'a> {
+    /// The tables of the set that the RSDP at an address leads to. Allocates for each address that is listed.
+    pub fn of(alloc: Global, image: &'a Image, rsdp: u64) -> Result<CompleteTables<'a>, AllocError>
+        ensures { IfOk result (AreCompleteTables image.now rsdp) }
+    {
+        let root = Root::complete(image, rsdp);
+        let slots = listed_slots(alloc, image, &root)?;
+        let firsts = FirstSlots::of(&slots);
+        Ok(CompleteTables {
+            fadt: found(image, &firsts, TableKind::Fadt),
+            madt: found(image, &firsts, TableKind::Madt),
+            srat: found(image, &firsts, TableKind::Srat),
+            slit: found(image, &firsts, TableKind::Slit),
+            pptt: found(image, &firsts, TableKind::Pptt),
+            root,
+            slots,
+            firsts,
+        })
+    }
+
+    /// The table of a kind, if there is one.
+    pub fn table(&self, kind: TableKind) -> Option<Table<'a>>
+        ensures { result ≡ table_of self.now kind }
+    {
+        let table = match kind {
+            TableKind::Fadt => &self.fadt,
+            TableKind::Madt => &self.madt,
+            TableKind::Srat => &self.srat,
+            TableKind::Slit => &self.slit,
+            TableKind::Pptt => &self.pptt,
+        };
+        Some(table.as_ref()?.copied())
+    }
+
+    /// The FADT, if it has the 116 bytes that are always read.
+    pub fn fadt(&self) -> Option<Fadt<'a>>
+        ensures { IsLong 116 self.now.fadt result }
+    {
+        Fadt::new(self.table(TableKind::Fadt)?).ok()
+    }
+
+    /// The table of a kind, if it does not end before its first entry's place.
+    fn long<E: TableEntry<'a>>(&self, kind: TableKind) -> Option<Table<'a>>
+        ensures { IsLong E.first (table_of self.now kind) result }
+    {
+        let table = self.table(kind)?;
+        if table.bytes().len() < E::first() {
+            return None;
+        }
+        Some(table)
+    }
+
+    /// The MADT, if it has the 44 bytes of its fields.
+    pub fn madt(&self) -> Option<Table<'a>>
+        ensures { IsLong 44 self.now.madt result }
+    {
+        self.long::<MadtEntry<'a>>(TableKind::Madt)
+    }
+
+    /// The SRAT, if it has the 48 bytes of its fields.
+    pub fn srat(&self) -> Option<Table<'a>>
+        ensures { IsLong 48 self.now.srat result }
+    {
+        self.long::<SratEntry<'a>>(TableKind::Srat)
+    }
+
+    /// The PPTT.
+    pub fn pptt(&self) -> Option<Table<'a>>
+        ensures { result ≡ self.now.pptt }
+    {
+        self.table(TableKind::Pptt)
+    }
+
+    /// The entries of the MADT, if it has the 44 bytes of its fields.
+    pub fn madt_entries(&self) -> Option<TypedEntries<'a, MadtEntry<'a>>>
+        ensures { AreEntries 44 (λ whole. (madt_contents whole).entries) self.now.madt
+            (option_map (λ e. entries_read_by madt_entry e.entries.entries) result) }
+    {
+        Some(self.madt()?.entries::<MadtEntry<'_>>())
+    }
+
+    /// The entries of the SRAT, if it has the 48 bytes of its fields.
+    pub fn srat_entries(&self) -> Option<TypedEntries<'a, SratEntry<'a>>>
+        ensures { AreEntries 48 (λ whole. (srat_contents whole).entries) self.now.srat
+            (option_map (λ e. entries_read_by srat_entry e.entries.entries) result) }
+    {
+        Some(self.srat()?.entries::<SratEntry<'_>>())
+    }
+
+    /// The entries of the PPTT.
+    pub fn pptt_entries(&self) -> Option<TypedEntries<'a, PpttEntry<'a>>>
+        ensures { option_map (λ e. entries_read_by pptt_entry e.entries.entries) result
+            ≡ option_map (λ whole. (pptt_contents whole).entries) self.now.pptt }
+    {
+        Some(self.pptt()?.entries::<PpttEntry<'_>>())
+    }
+}
