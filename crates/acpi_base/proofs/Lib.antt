@@ -4,7 +4,6 @@ pub mod Elements
 pub mod Entries
 pub mod EntryOffsets
 pub mod EntrySteps
-pub mod Examples
 pub mod Facs
 pub mod Fadt
 pub mod Faults

@@ -3,7 +3,6 @@ pub mod Chains
 pub mod Codes
 pub mod Contents
 pub mod Entries
-pub mod Examples
 pub mod Facs
 pub mod Fadt
 pub mod Faults

@@ -1,25 +1,11 @@
 //! Laws about the definitions: the contract of each function is a law, and its body is empty.
 
 ghost use Rattle.std.specs.Prelude.{◌≡◌, ℕ, ◌↔◌, List, Some, IsSome};
-ghost use Rattle.acpi_base.specs.Memory.{Memory, IsImage, bytes_at, Has, AreBytes};
-ghost use Rattle.acpi_base.specs.Policy.{PolicyValue, IsPolicy};
+ghost use Rattle.acpi_base.specs.Memory.{Memory, bytes_at, Has, AreBytes};
 ghost use Rattle.acpi_base.specs.Entries.{OneCut, EntriesStand, CutIsStart, NoCutFault, CutsWhereAllStand, NoneInShort};
-ghost use Rattle.acpi_base.specs.Examples.AdviceFadt.{IsFadtAdvised};
-ghost use Rattle.acpi_base.specs.Examples.AdviceMadt.{IsMadtAdvised};
-ghost use Rattle.acpi_base.specs.Examples.AdvicePptt.{IsPpttAdvised};
-ghost use Rattle.acpi_base.specs.Examples.AdviceSlots.{AreSlotsAdvised};
-ghost use Rattle.acpi_base.specs.Examples.AdviceSrat.{IsSratAdvised};
-ghost use Rattle.acpi_base.specs.Examples.AlteredSets.{AreRsdpFaults, AreRootFaults, AreTableFaults, AreFadtFaults, AreFacsFaults};
-ghost use Rattle.acpi_base.specs.Examples.Madts.{AreMadtContents, AreMadtFaults, IsFirstInterrupt, HasNoMadtFault};
-ghost use Rattle.acpi_base.specs.Examples.Pptts.{ArePpttContents, ArePpttFaults, AreCycleFaults, HasNoPpttFault};
-ghost use Rattle.acpi_base.specs.Examples.Sets.{AreListedTables, AreSetFaults};
-ghost use Rattle.acpi_base.specs.Examples.Slits.{AreSlitContents, AreSlitFaults, AreValidSlits};
-ghost use Rattle.acpi_base.specs.Examples.Srats.{AreSratContents, AreSratFaults, AreFirstOverlaps, HasNoSratFault};
-ghost use Rattle.acpi_base.specs.Examples.WholeSets.{whole_set, example_policy};
 ghost use Rattle.acpi_base.specs.Laws.{FaultsExcludeClean, FaultsFit, CleanOrFaulty, CleanOrFirstFault, OneFirstFault, OneVerdict, RootsListSlots, TextsDiffer};
 ghost use Rattle.acpi_base.specs.Lint.Laws.{CleanWithoutFaults, CleanWithoutFirsts, FirstIsFirstOfCode, OneFirstOfCode, OneFirstAdvice, NoneReportedOfClean, FirstIsReported, ReportedAreFaults};
 ghost use Rattle.acpi_base.specs.Pptt.{ParentsEndOrGoRound, CachesEndOrGoRound};
-ghost use Rattle.acpi_base.specs.Statements.{IsClean};
 ghost use Rattle.acpi_base.specs.Text.WrittenText.{WrittenIsText, OneWritten};
 ghost use Rattle.acpi_base.specs.Text.TextLaws.{RunReadsText, RunReadsPrefix, RunStopsAtFaults, RunGoesOn, PrefixDecides, TextMeans, TextOrFault, NeverBoth, OneImage, OneTextFault, RefusalsAreOwn, LinesMean};
 
@@ -161,64 +147,6 @@ pub fn entries_stand()
     ensures filled { NoCutFault }
     ensures all { CutsWhereAllStand }
     ensures short { NoneInShort }
-{}
-
-/// Examples of the MADT and the SRAT: the contents of small tables, a fault of each code, which overlap is reported,
-/// and that valid tables have no fault.
-pub fn madt_and_srat_examples()
-    ensures madt { AreMadtContents }
-    ensures srat { AreSratContents }
-    ensures madt_faults { (q : PolicyValue) → AreMadtFaults q }
-    ensures srat_faults { AreSratFaults }
-    ensures first_interrupt { (q : PolicyValue) → IsFirstInterrupt q }
-    ensures first_overlaps { AreFirstOverlaps }
-    ensures valid_madt { (q : PolicyValue) → HasNoMadtFault q }
-    ensures valid_srat { HasNoSratFault }
-{}
-
-/// Examples of the SLIT and the PPTT: the contents of small tables, a fault of each code, and that valid tables have
-/// no fault.
-pub fn slit_and_pptt_examples()
-    ensures slit { AreSlitContents }
-    ensures slit_faults { AreSlitFaults }
-    ensures valid_slit { AreValidSlits }
-    ensures pptt { ArePpttContents }
-    ensures pptt_faults { ArePpttFaults }
-    ensures cycles { AreCycleFaults }
-    ensures valid_pptt { HasNoPpttFault }
-{}
-
-/// Examples of complete sets, as images: which tables their root tables list, and a fault of each stage that compares
-/// tables.
-pub fn set_examples()
-    ensures listed { AreListedTables }
-    ensures faults { AreSetFaults }
-{}
-
-/// An example of a clean set: an image with one table of each kind that is read, for which every stage holds.
-pub fn clean_set_example()
-    ensures image { IsImage whole_set }
-    ensures policy { IsPolicy example_policy }
-    ensures clean { IsClean whole_set example_policy }
-{}
-
-/// Examples of the faults of the first five stages, one of each code: the clean set with one byte changed or missing.
-pub fn altered_set_examples()
-    ensures rsdp_faults { AreRsdpFaults }
-    ensures root_faults { AreRootFaults }
-    ensures table_faults { AreTableFaults }
-    ensures fadt_faults { AreFadtFaults }
-    ensures facs_faults { AreFacsFaults }
-{}
-
-/// Examples of advice: for each rule, some small tables that break it, with the three numbers, and similar ones that
-/// do not.
-pub fn advice_examples()
-    ensures slots { AreSlotsAdvised }
-    ensures fadt { (q : PolicyValue) → IsFadtAdvised q }
-    ensures madt { IsMadtAdvised }
-    ensures srat_and_slit { IsSratAdvised }
-    ensures pptt { IsPpttAdvised }
 {}
 
 /// The written form of an image is read as that image, unless it is too long for a text, and an image has one written

@@ -1,5 +1,4 @@
 pub mod EntryBytes
-pub mod Examples
 pub mod NewSets
 pub mod OldSets
 pub mod SetParts

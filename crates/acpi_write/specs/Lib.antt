@@ -1,6 +1,5 @@
 pub mod Bodies
 pub mod Encoded
-pub mod Examples
 pub mod FadtBody
 pub mod Kinds
 pub mod Laws

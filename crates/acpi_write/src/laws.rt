@@ -1,12 +1,10 @@
 //! Laws about the definitions: the contract of each function is a law, and its body is empty.
 
-ghost use Rattle.acpi_base.specs.Examples.WholeSets.{whole_set, example_policy};
-ghost use Rattle.acpi_write.specs.Examples.{whole_value, new_base, new_image};
 ghost use Rattle.acpi_write.specs.Laws.{ContentsAreKept, EntriesAreKept, FadtsNameFacs, WhatIsReadIsSpelled};
 ghost use Rattle.acpi_write.specs.Placed.{PlacedUnlessRefused, RebuiltLeadsToTables};
-ghost use Rattle.acpi_write.specs.Rebuilding.{IsRebuilt, RebuiltSetsAreKept, RefusedSetsAreNotRebuilt};
+ghost use Rattle.acpi_write.specs.Rebuilding.{RebuiltSetsAreKept, RefusedSetsAreNotRebuilt};
 ghost use Rattle.acpi_write.specs.Rebuilt.{CleanPartsAreLaid, RebuiltHoldsParts};
-ghost use Rattle.acpi_write.specs.SetValues.{IsSetValue, OneSetValue};
+ghost use Rattle.acpi_write.specs.SetValues.{OneSetValue};
 ghost use Rattle.acpi_write.specs.Spells.{OneValueSpelled};
 
 /// Bytes encode at most one value of a kind, so what is written can be read in only one way.
@@ -80,10 +78,4 @@ pub fn refused_sets_are_not_rebuilt()
 /// caller that borrows an image gets the premise that its numbers fit from `Image::numbers_fit`.
 pub fn rebuilt_sets_are_kept()
     ensures { RebuiltSetsAreKept }
-{}
-
-/// An example: the value of the clean set of `acpi_base`, and its rebuilt image from 0xF0000 on, byte by byte.
-pub fn rebuilt_set_example()
-    ensures value { IsSetValue whole_set example_policy.rsdp whole_value }
-    ensures rebuilt { IsRebuilt whole_set example_policy new_base new_image }
 {}

@@ -1,5 +1,0 @@
-use Rattle.acpi_base.proofs.Examples.CleanSet.{is_image, is_policy, is_clean}
-use Rattle.acpi_base.proofs.laws.clean_set_example.Goals as goal
-
-pub returns : goal.returns
-returns c = record { image = is_image; policy = is_policy; clean = is_clean }

@@ -1,0 +1,200 @@
+-- The examples of advice on the PPTT, by computing.
+use Rattle.std.proofs.Common.{◌≡◌, ℕ, ◌≤◌, true, [], refl, sym, ◌∙◌, subst, inl, inr, arith}
+use Rattle.std.specs.Prelude.{◌≢◌, Some}
+use Rattle.std.proofs.Math.Nat.{pow-le-pow_right}
+use Rattle.std.proofs.lemmas.Bool.{both_ways, cases_lt}
+use Rattle.std.proofs.lemmas.Nat.{pow_pos}
+use Rattle.std.proofs.lemmas.Option.{none-some, same_Some}
+use Rattle.acpi_base.specs.Number.{field, has_bit}
+use Rattle.acpi_base.specs.Pptt.{Node, CacheValue, Cache, parent_of}
+use Rattle.acpi_base.specs.Lint.Processors.{uid_of, uid_on, IsGicc, IsParent, IsLeafAt, IsLeafId}
+use Rattle.acpi_base.specs.Lint.Numbered.{IsNamed}
+use Rattle.acpi_base.specs.Lint.PpttAdvice.{IsPowerOfTwo, HasOddShape, IsCacheShape, cache_id}
+use Rattle.acpi_examples.specs.Advice.{one_entry, processor, gicc}
+use Rattle.acpi_examples.specs.AdvicePptt.{two_nodes, one_node, one_cache, AreSameLeaves, AreCacheShapes, AreSameCacheIds, AreNoLeaves, AreLeavesNowhere, IsPpttAdvised}
+use Rattle.acpi_examples.proofs.NamedEntries.{each_entry, none_stands, never}
+use Rattle.acpi_examples.proofs.Advice.{both_say, two_differ, unnamed, other_number, all_read}
+
+-- ---- leaves
+
+-- at Revision 1 the two nodes are leaves that no node names, or the second names the first
+unparented : (o : ℕ) → o ≢ 0 → ¬ IsParent (two_nodes 1 2 0) o
+unparented o some (p, names) =
+    none_stands (two_nodes 1 2 0).entries p (λ p e. parent_of e ≡ Some o)
+    ((λ is. some (sym (same_Some 0 o is))), ((λ is. some (sym (same_Some 0 o is))), tt)) names
+
+-- where a node's flags do not say that it is a leaf, there is no leaf but the first
+first_alone : (o n : ℕ) → IsLeafAt (two_nodes 2 2 36) o n → o ≡ 36
+unfolding has_bit
+first_alone o n (e, stands, (v, is, same, valid, new, old)) =
+    each_entry (two_nodes 2 2 36).entries (λ o e. e ≡ Node v → o ≡ 36)
+    ((λ _. refl), ((λ is. absurd (none is)), tt)) o e stands is
+  where
+    none : ¬ (Node (record { flags = 2; parent = 36; id = 7; resources = [] }) ≡ Node v)
+    none is =
+        let flags : v.flags ≡ 2 = cc in
+        both_ways _ refl (subst (λ (x : ℕ). has_bit x 3 ≡ true) flags (new (omega arith)))
+
+-- where it names the first as its Parent, at Revision 1, there is no leaf but it
+second_alone : (o n : ℕ) → IsLeafAt (two_nodes 1 2 36) o n → o ≡ 56
+second_alone o n (e, stands, (v, is, same, valid, new, old)) =
+    each_entry (two_nodes 1 2 36).entries (λ o e. ¬ IsParent (two_nodes 1 2 36) o → o ≡ 56)
+    ((λ none. absurd (none (56, (_, (1, omega arith, refl), refl)))), ((λ _. refl), tt)) o e stands (old (omega arith))
+
+same_leaves : AreSameLeaves
+unfolding has_bit
+same_leaves = record {
+  same = record {
+    here = (_, (1, omega arith, refl), (_, refl, refl, refl, (λ _. refl), (λ old. absurd (omega arith))));
+    earlier = (_, (0, omega arith, refl), (_, refl, refl, refl, (λ _. refl), (λ old. absurd (omega arith))));
+    before = omega arith;
+    first = λ p leaf. each_entry (two_nodes 2 10 36).entries (λ o e. 36 ≤ o) (omega arith, (omega arith, tt)) p leaf.0
+        leaf.1;
+  };
+  no_leaf = λ at other point it. omega (
+    arith,
+    it.before,
+    first_alone at point it.here,
+    first_alone other point it.earlier,
+  );
+  old = record {
+    here = (
+      _,
+      (1, omega arith, refl),
+      (_, refl, refl, refl, (λ new. absurd (omega arith)), (λ _. unparented 56 (λ same. omega arith))),
+    );
+    earlier = (
+      _,
+      (0, omega arith, refl),
+      (_, refl, refl, refl, (λ new. absurd (omega arith)), (λ _. unparented 36 (λ same. omega arith))),
+    );
+    before = omega arith;
+    first = λ p leaf. each_entry (two_nodes 1 2 0).entries (λ o e. 36 ≤ o) (omega arith, (omega arith, tt)) p leaf.0
+        leaf.1;
+  };
+  old_parent = λ at other point it. omega (
+    arith,
+    it.before,
+    second_alone at point it.here,
+    second_alone other point it.earlier,
+  );
+}
+
+-- ---- caches
+
+-- 48 and 0 are no powers of two
+not_48 : ¬ IsPowerOfTwo 48
+not_48 (k, is) =
+    elim (cases_lt k 6) [
+      | inl less ↦ omega (arith, pow-le-pow_right {n = 2} (omega arith) {i = k} {j = 5} (omega arith))
+      | inr least ↦ omega (arith, pow-le-pow_right {n = 2} (omega arith) {i = 6} {j = k} least)
+    ]
+
+not_0 : ¬ IsPowerOfTwo 0
+not_0 (k, is) = omega (arith, pow_pos k)
+
+-- a cache whose shape is not odd is none that has an odd one
+not_odd : (v : CacheValue) (other point : ℕ) → ¬ HasOddShape v → ¬ IsCacheShape (Cache v) other point
+not_odd v other point none ((w, is, odd), _) = none (subst HasOddShape same odd)
+  where
+    same : w ≡ v
+    same = cc
+
+cache_shapes : AreCacheShapes
+unfolding has_bit
+cache_shapes = record {
+  no_sets = (_, (0, omega arith, refl), ((_, refl, inl (refl, refl)), (refl, refl)));
+  odd_line = (_, (0, omega arith, refl), ((_, refl, inr (refl, not_48)), (refl, refl)));
+  no_line = (_, (0, omega arith, refl), ((_, refl, inr (refl, not_0)), (refl, refl)));
+  least =
+      λ at other point it. none_stands (one_cache 0x42 1 1).entries at (λ o e. IsCacheShape e other point)
+      (not_odd _ other point (λ odd. elim odd [ inl h ↦ omega (arith, h.1) | inr h ↦ h.1 (0, refl) ]), tt) it;
+  not_valid =
+      λ at other point it. none_stands (one_cache 0xbd 0 48).entries at (λ o e. IsCacheShape e other point)
+      (not_odd _ other point (λ odd. elim odd [ inl h ↦ both_ways _ refl h.0 | inr h ↦ both_ways _ refl h.0 ]), tt) it;
+}
+
+same_cache_ids : AreSameCacheIds
+unfolding has_bit
+same_cache_ids = record {
+  same = (omega arith, both_say cache_id 36 _ 64 _ 3 refl refl (omega arith));
+  old = λ at other point it. omega (arith, it.0);
+  not_valid = λ at other point it. two_differ cache_id 36 _ 64 _ (λ n one two. none-some n two) at other point it.1;
+  differ = λ at other point it. two_differ cache_id 36 _ 64 _
+      (λ n one two. omega (arith, same_Some 3 n one, same_Some 4 n two)) at other point it.1;
+  no_id = λ at other point it. two_differ cache_id 36 _ 64 _ (λ n one two. none-some n two) at other point it.1;
+}
+
+-- ---- processors and leaves
+
+-- the node of this ID is a leaf
+leaf : (id : ℕ) → IsLeafAt (one_node 10 id) 36 id
+unfolding has_bit
+leaf id = (_, (0, omega arith, refl), (_, refl, refl, refl, (λ _. refl), (λ old. absurd (omega arith))))
+
+-- and no leaf has another
+leaf_id : (flags id n : ℕ) → IsLeafId (one_node flags id) n → id ≡ n
+leaf_id flags id n (o, (e, stands, (v, is, same, _, _, _))) =
+    each_entry (one_node flags id).entries (λ o e. e ≡ Node v → id ≡ n) ((λ is. of is), tt) o e stands is
+  where
+    of : Node (record { flags = flags; parent = 0; id = id; resources = [] }) ≡ Node v → id ≡ n
+    of is =
+        let own : id ≡ v.id = cc in own ∙ same
+
+-- where its ID is not valid, there is none
+no_leaf : (id n : ℕ) → ¬ IsLeafId (one_node 8 id) n
+unfolding has_bit
+no_leaf id n (o, (e, stands, (v, is, _, valid, _, _))) =
+    each_entry (one_node 8 id).entries (λ o e. ¬ (e ≡ Node v)) (none, tt) o e stands is
+  where
+    none : ¬ (Node (record { flags = 8; parent = 0; id = id; resources = [] }) ≡ Node v)
+    none is =
+        let flags : v.flags ≡ 8 = cc in
+        both_ways _ refl (subst (λ (x : ℕ). has_bit x 1 ≡ true) flags valid)
+
+no_leaves : AreNoLeaves
+unfolding has_bit
+no_leaves = record {
+  none = (
+    all_read (one_entry 8 (processor 2)) (never, tt),
+    (7, (36, leaf 7)),
+    (_, (0, omega arith, refl), refl),
+    (λ it. omega (arith, leaf_id 10 7 3 it)),
+    refl,
+  );
+  has =
+      λ at other point it. none_stands (one_entry 8 (processor 2)).entries at (λ o e. uid_on e ≡ Some point)
+      ((λ is. it.3 (subst (IsLeafId (one_node 10 3)) (same_Some 3 point is) (36, leaf 3))), tt) it.2;
+  off =
+      λ at other point it. none_stands (one_entry 8 (processor 0)).entries at (λ o e. uid_on e ≡ Some point)
+      (none-some point, tt) it.2;
+  no_leaf = λ at other point it. no_leaf 7 it.1.0 it.1.1;
+  not_read = λ at other point it. it.0 52 (_, (1, omega arith, refl), inl refl);
+}
+
+leaves_nowhere : AreLeavesNowhere
+unfolding has_bit field
+leaves_nowhere = record {
+  nowhere = (
+    all_read (one_entry 40 (gicc 3 0)) ((λ is. omega arith), tt),
+    (44, (_, (0, omega arith, refl), refl)),
+    leaf 7,
+    unnamed uid_of (one_entry 40 (gicc 3 0)).entries 7 (other_number 3 7 (λ same. omega arith), tt),
+    refl,
+  );
+  known =
+      λ at other point it. it.3 (subst (IsNamed uid_of (one_entry 40 (gicc 3 0)).entries)
+      (leaf_id 10 3 point (at, it.2)) (44, (_, (0, omega arith, refl), refl)));
+  no_gicc =
+      λ at other point it. none_stands (one_entry 8 (processor 1)).entries it.1.0 (λ o e. IsGicc e) (never, tt) it.1.1;
+  not_read = λ at other point it. it.0 84 (_, (1, omega arith, refl), inr (inr (inr (refl, omega arith))));
+}
+
+pub pptt_advised : IsPpttAdvised
+pptt_advised = record {
+  leaves = same_leaves;
+  shapes = cache_shapes;
+  ids = same_cache_ids;
+  none = no_leaves;
+  nowhere = leaves_nowhere;
+}

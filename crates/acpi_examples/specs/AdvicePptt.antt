@@ -1,0 +1,100 @@
+-- Examples of advice on the PPTT: each rule broken, and kept (ACPI 6.5, 5.2.30).
+use Rattle.std.specs.Prelude.{ℕ, List, [], ◌∷◌, Option, Some, None}
+use Rattle.acpi_base.specs.Entries.{PlacedEntry}
+use Rattle.acpi_base.specs.Pptt.{PpttEntry, Node, Cache, PpttContents}
+use Rattle.acpi_base.specs.Lint.Numbered.{OnEntry}
+use Rattle.acpi_base.specs.Lint.PpttAdvice.{IsSameLeaf, IsCacheShape, IsSameCacheId, IsNoLeaf, IsLeafNowhere}
+use Rattle.acpi_examples.specs.Tables.{placed_entry}
+use Rattle.acpi_examples.specs.Advice.{IsKept, one_entry, two_entries, processor, gicc, short_gicc, sapic}
+
+-- ---- the PPTTs
+
+-- a PPTT of this Revision, of so many bytes, with these entries
+abbrev pub pptt_of : ℕ → ℕ → List (PlacedEntry PpttEntry) → PpttContents
+pptt_of revision size entries = record { size = size; revision = revision; entries = entries; cut = None }
+
+-- a node with these flags, this Parent and this ID, and no private resources (5.2.30.1)
+abbrev pub node : ℕ → ℕ → ℕ → PpttEntry
+node flags parent id = Node (record { flags = flags; parent = parent; id = id; resources = [] })
+
+-- a leaf of ID 7, and a node of the same ID
+abbrev pub two_nodes : ℕ → ℕ → ℕ → PpttContents
+two_nodes revision flags parent =
+    pptt_of revision 76 (placed_entry 36 (node 10 0 7) ∷ placed_entry 56 (node flags parent 7) ∷ [])
+
+-- a node of this ID with these flags, at Revision 2
+abbrev pub one_node : ℕ → ℕ → PpttContents
+one_node flags id = pptt_of 2 56 (placed_entry 36 (node flags 0 id) ∷ [])
+
+-- a cache with these flags, Number of Sets and Line Size, and this Cache ID, which one of 24 bytes lacks (5.2.30.2)
+abbrev pub cache : ℕ → ℕ → ℕ → Option ℕ → PpttEntry
+cache flags sets line_size id =
+    Cache (record {
+      flags = flags;
+      next_level = 0;
+      size = 0;
+      sets = sets;
+      associativity = 0;
+      attributes = 0;
+      line_size = line_size;
+      id = id;
+    })
+
+abbrev pub one_cache : ℕ → ℕ → ℕ → PpttContents
+one_cache flags sets line_size = pptt_of 2 60 (placed_entry 36 (cache flags sets line_size None) ∷ [])
+
+-- a cache of the Cache ID 3, which is valid, and another one
+abbrev pub two_caches : ℕ → ℕ → ℕ → Option ℕ → PpttContents
+two_caches revision size flags id =
+    pptt_of revision size (placed_entry 36 (cache 0x80 1 64 (Some 3)) ∷ placed_entry 64 (cache flags 1 64 id) ∷ [])
+
+-- ---- what is stated of them
+
+-- two leaves of one ID; not so where the second is no leaf. From Revision 2 on the flags say so, below it that a node names
+-- it as its Parent.
+pub record AreSameLeaves : Type 0 where
+  pub same : IsSameLeaf (two_nodes 2 10 36) 0x38 0x24 7
+  pub no_leaf : IsKept (IsSameLeaf (two_nodes 2 2 36))
+  pub old : IsSameLeaf (two_nodes 1 2 0) 0x38 0x24 7
+  pub old_parent : IsKept (IsSameLeaf (two_nodes 1 2 36))
+
+-- no sets, and Line Sizes that are no powers of two; not so 1 set and a Line Size of 1, nor where neither is valid
+pub record AreCacheShapes : Type 0 where
+  pub no_sets : OnEntry IsCacheShape (one_cache 2 0 64).entries 0x24 0 0
+  pub odd_line : OnEntry IsCacheShape (one_cache 0x40 1 48).entries 0x24 0 0
+  pub no_line : OnEntry IsCacheShape (one_cache 0x40 1 0).entries 0x24 0 0
+  pub least : IsKept (OnEntry IsCacheShape (one_cache 0x42 1 1).entries)
+  pub not_valid : IsKept (OnEntry IsCacheShape (one_cache 0xbd 0 48).entries)
+
+-- two caches of one Cache ID; not so at Revision 2, or where the second's is not valid, is another one, or is not there
+pub record AreSameCacheIds : Type 0 where
+  pub same : IsSameCacheId (two_caches 3 92 0x80 (Some 3)) 0x40 0x24 3
+  pub old : IsKept (IsSameCacheId (two_caches 2 92 0x80 (Some 3)))
+  pub not_valid : IsKept (IsSameCacheId (two_caches 3 92 0x7f (Some 3)))
+  pub differ : IsKept (IsSameCacheId (two_caches 3 92 0x80 (Some 4)))
+  pub no_id : IsKept (IsSameCacheId (two_caches 3 88 0x80 None))
+
+-- a processor that is on and has no leaf; not so where it has one, is off, where there is no leaf, or a local SAPIC is not
+-- read
+pub record AreNoLeaves : Type 0 where
+  pub none : IsNoLeaf (one_entry 8 (processor 2)) (one_node 10 7) 0x2c 0 3
+  pub has : IsKept (IsNoLeaf (one_entry 8 (processor 2)) (one_node 10 3))
+  pub off : IsKept (IsNoLeaf (one_entry 8 (processor 0)) (one_node 10 7))
+  pub no_leaf : IsKept (IsNoLeaf (one_entry 8 (processor 2)) (one_node 8 7))
+  pub not_read : IsKept (IsNoLeaf (two_entries 8 (processor 2) 16 sapic) (one_node 10 7))
+
+-- a leaf of no processor beside a GIC CPU interface; not so where one that is off has the ID, where there is no such
+-- interface, or a second one is too short to be read
+pub record AreLeavesNowhere : Type 0 where
+  pub nowhere : IsLeafNowhere (one_entry 40 (gicc 3 0)) (one_node 10 7) 0x24 0 7
+  pub known : IsKept (IsLeafNowhere (one_entry 40 (gicc 3 0)) (one_node 10 3))
+  pub no_gicc : IsKept (IsLeafNowhere (one_entry 8 (processor 1)) (one_node 10 7))
+  pub not_read : IsKept (IsLeafNowhere (two_entries 40 (gicc 3 0) 39 short_gicc) (one_node 10 7))
+
+-- all of them
+pub record IsPpttAdvised : Type 0 where
+  pub leaves : AreSameLeaves
+  pub shapes : AreCacheShapes
+  pub ids : AreSameCacheIds
+  pub none : AreNoLeaves
+  pub nowhere : AreLeavesNowhere
