@@ -14,11 +14,11 @@ use Rattle.acpi_base.specs.Text.WitnessText.{hex_text, is_no_blank, witness_line
 use Rattle.acpi_base.specs.declared.code.Code.{Code}
 use Rattle.acpi_base.specs.declared.code.Code.TheVariants as code
 use Rattle.acpi_base.specs.declared.witness.Witness.{Witness}
-use Rattle.acpi_base.proofs.Texts.FaultTexts.{name_has_no_blank, stage_has_no_blank}
+use Rattle.acpi_base.proofs.Texts.FaultTexts.{name_has_no_blank, stage_has_no_blank, behind_at, behind_name, behind_stage}
 use Rattle.acpi_base.proofs.Texts.HexTexts.{hex_has_no_blank, hex_reads_back}
+use Rattle.acpi_arguments.specs.Words.{behind_word, code_by_name, named_fault, written_fault, number_behind_0x, numbers_fit, word_of}
 use Rattle.acpi_arguments.proofs.Hyphens.{IsPlain, plain_with_more}
 use Rattle.acpi_arguments.proofs.Spellings.{lacks}
-use Rattle.acpi_arguments.specs.Words.{behind_word, code_by_name, named_fault, written_fault, number_behind_0x, numbers_fit, word_of}
 
 -- ---- words
 
@@ -41,16 +41,6 @@ code_is_named _ = refl
 number_is : (n : ℕ) → n < 2 ^ 64 → number_behind_0x (hex_text n) ≡ n
 unfolding hex_text
 number_is n fits = hex_reads_back n fits
-
--- from here on a fault's text goes on so
-behind_at : Witness → List ℕ
-behind_at w = hex_text w.other ++ 32 ∷ hex_text w.point
-
-behind_name : Witness → List ℕ
-behind_name w = hex_text w.at ++ 32 ∷ behind_at w
-
-behind_stage : Witness → List ℕ
-behind_stage w = code_name w.code ++ 32 ∷ behind_name w
 
 line_is : (w : Witness) → witness_line w ≡ decimal (stage_number (stage_of w.code)) ++ 32 ∷ behind_stage w
 unfolding witness_line behind_stage behind_name behind_at

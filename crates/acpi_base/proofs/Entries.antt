@@ -8,9 +8,9 @@ use Rattle.std.proofs.lemmas.Option.{cond_some}
 use Rattle.std.proofs.lemmas.List.{length-take, length-take-le, take-append-drop, get_or-take, take_at, drop_at, drop-drop, nil_from_length}
 use Rattle.std.proofs.lemmas.List.Elements.{All-from_recursion, recursion_from_All}
 use Rattle.std.proofs.lemmas.List.Sums.{sum_by-cons}
+use Rattle.acpi_base.specs.Entries.{IsEntry, PlacedEntry, Stands, first_entry, entries_from, entries_of, end_of_entries, cut_of, IsCut, IsStart, StandsAt, OneCut, CutsWhereAllStand, EntriesStand, CutIsStart, NoCutFault, NoneInShort}
 use Rattle.acpi_base.proofs.Elements.{first_or_later}
 use Rattle.acpi_base.proofs.Images.PresentBytes.{cases_Option, none_and_some, same_value}
-use Rattle.acpi_base.specs.Entries.{IsEntry, PlacedEntry, Stands, first_entry, entries_from, entries_of, end_of_entries, cut_of, IsCut, IsStart, StandsAt, OneCut, CutsWhereAllStand, EntriesStand, CutIsStart, NoCutFault, NoneInShort}
 
 -- ---- the first entry
 
@@ -39,7 +39,7 @@ first_says left e is =
       run = grind (arith, nat_tests, count);
     }
 
-nothing_at_end : first_entry [] ≡ None
+pub nothing_at_end : first_entry [] ≡ None
 unfolding first_entry
 nothing_at_end = refl
 

@@ -22,7 +22,7 @@ use Rattle.acpi_base.proofs.Faults.Order.{same_witness}
 use Rattle.acpi_base.proofs.Faults.Stages.{excludes, one_first}
 
 -- no stage has a greater number than the last
-up_to_last : (s : Stage) → stage_number s ≤ stage_number stage.Leaves
+pub up_to_last : (s : Stage) → stage_number s ≤ stage_number stage.Leaves
 up_to_last stage.Rsdp = omega arith
 up_to_last _ = omega arith
 

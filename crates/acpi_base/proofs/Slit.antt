@@ -1,11 +1,14 @@
 -- The faults of the SLIT: each can be decided, excludes that it is valid, and where there is none it is valid.
 use Rattle.std.proofs.Common.{◌≡◌, ◌<◌, ◌≤◌, ◌+◌, ◌*◌, ℕ, List, length, refl, subst, inr, arith}
 use Rattle.std.proofs.lemmas.Nat.{mul-add-lt}
+use Rattle.std.proofs.lemmas.List.{get_or-drop}
+use Rattle.std.specs.Prelude.{slice_index}
 use Rattle.acpi_base.specs.Slit.{SlitContents, slit_contents, cell_place, distance, HasSlitSize, IsCell, SomeCell, IsValidSlit, SlitFaultAt, SlitFault}
 use Rattle.acpi_base.specs.Codes.{stage_of}
 use Rattle.acpi_base.specs.declared.code.Code.{Code}
 use Rattle.acpi_base.specs.declared.code.Code.TheVariants as code
 use Rattle.acpi_base.specs.declared.stage.Stage.TheVariants as stage
+use Rattle.acpi_base.specs.Number.{field}
 use Rattle.acpi_base.proofs.Faults.Deciding.{Decided, decided_as, both, all3, same, below, at_most, differs, negated, not_below, not_other}
 use Rattle.acpi_base.proofs.Faults.Least.{some_below}
 
@@ -81,6 +84,15 @@ pub place : (c : SlitContents) (fault : Code) (at other point : ℕ) → SlitFau
 place c fault at other point (wrong, no_other, no_point) = (place_at c fault at wrong, omega arith, omega arith)
 
 -- which is its number of bytes
-pub size_is : (whole : List ℕ) → (slit_contents whole).size ≡ length whole
+pub slit_size : (whole : List ℕ) → (slit_contents whole).size ≡ length whole
 unfolding slit_contents
-size_is whole = refl
+slit_size whole = refl
+
+pub slit_count : (whole : List ℕ) → (slit_contents whole).count ≡ field whole 36 8
+unfolding slit_contents
+slit_count whole = refl
+
+pub slit_distance : (whole : List ℕ) (i j : ℕ)
+    → distance (slit_contents whole) i j ≡ slice_index whole (44 + (slit_contents whole).count * i + j)
+unfolding slit_contents
+slit_distance whole i j = grind (arith, get_or-drop 44 whole (field whole 36 8 * i + j) 0)

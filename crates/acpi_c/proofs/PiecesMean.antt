@@ -11,6 +11,7 @@ use Rattle.acpi_base.specs.declared.image.ImageFault.{ImageFault}
 use Rattle.acpi_base.proofs.Images.RunBytes.{byte_of-with_bytes, present_from, present_inside}
 use Rattle.acpi_base.proofs.Images.RunMemory.{fits_unless, same_memory}
 use Rattle.acpi_base.proofs.Images.Searches.{nothing_present}
+use Rattle.acpi_base.proofs.Texts.GoodTexts.{same_options}
 use Rattle.acpi_c.specs.Laws.{PiecesMean, OneImage, HaveByte, HasByte}
 use Rattle.acpi_c.specs.Pieces.{unless_refused, with_pieces}
 use Rattle.acpi_c.specs.declared.pieces.Piece.{Piece}
@@ -99,15 +100,9 @@ pieces_mean ps m e a b =
     let nothing : byte_of empty a ≡ Some b → ⊥ = λ h. cc (sym (get-empty nat_cmp a) ∙ h) in
     (λ h. elim (all.0 h) [ inl never ↦ absurd (nothing never) | inr s ↦ s ], λ s. all.1 (inr s))
 
--- the images have the same byte at an address, if what the one has the other has
-same_byte : (o q : Option ℕ) → ((b : ℕ) → (o ≡ Some b) ↔ (q ≡ Some b)) → o ≡ q
-same_byte None None h = refl
-same_byte None (Some b) h = (h b).1 refl
-same_byte (Some b) q h = sym ((h b).0 refl)
-
 pub one_image : OneImage
 one_image ps qs m n e f same =
-    same_memory m n (λ a. same_byte (byte_of m a) (byte_of n a) (λ b. (
+    same_memory m n (λ a. same_options (byte_of m a) (byte_of n a) (λ b. (
       λ h. (pieces_mean qs n f a b).1 ((same a b).0 ((pieces_mean ps m e a b).0 h)),
       λ h. (pieces_mean ps m e a b).1 ((same a b).1 ((pieces_mean qs n f a b).0 h)),
     )))

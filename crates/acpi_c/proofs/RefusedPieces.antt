@@ -13,6 +13,7 @@ use Rattle.acpi_base.specs.declared.image.ImageFault.TheVariants.{PastEnd, Twice
 use Rattle.acpi_base.specs.declared.image.ImageFault.TheVariants as image
 use Rattle.acpi_base.proofs.Images.ByteRuns.{first_of_at}
 use Rattle.acpi_base.proofs.Images.RunBytes.{present_inside, present_some}
+use Rattle.acpi_base.proofs.Texts.GoodTexts.{a_value}
 use Rattle.acpi_c.specs.Laws.{StandsBehind, IsPastEnd, IsOverlap, HasByte, HaveByte, PastEndMeans, OverlapMeans}
 use Rattle.acpi_c.specs.Pieces.{piece_refusal, unless_refused, with_pieces}
 use Rattle.acpi_c.specs.declared.pieces.Piece.{Piece}
@@ -148,10 +149,6 @@ overlap : (t : Bool) (o : Option ℕ) (a : ℕ) → cond t (Some PastEnd) (optio
     → (t ≡ false) × (o ≡ Some a)
 overlap t o a e = grind arith
 
-value_of : (o : Option ℕ) → IsSome o → (b : ℕ) × (o ≡ Some b)
-value_of None s = absurd (cc)
-value_of (Some b) s = (b, refl)
-
 -- ---- past the last address
 
 past_fault : (fault : ImageFault) (k index : ℕ) → PiecePastEnd index ≡ piece_refusal k fault
@@ -203,7 +200,7 @@ overlap_fault image.Memory k index a e = absurd (cc)
 own_byte : (m : Memory) (p : Piece) (a : ℕ) → IsFirstAt (byte_of m) p.address (length p.bytes.now) a
     → (b : ℕ) × HasByte p a b
 own_byte m p a first =
-    let found = value_of (byte_at p a) (present_some (run_at p.address p.bytes.now) a first.from first.below) in
+    let found = a_value (byte_at p a) (present_some (run_at p.address p.bytes.now) a first.from first.below) in
     (found.0, byte_at_has p a found.0 found.1)
 
 -- no lesser address of the piece is one of the earlier pieces'
@@ -225,7 +222,7 @@ overlap_there ps index a it =
     let why = subst (λ f. add_refusal it.image it.piece.address it.piece.bytes.now ≡ Some f) known.0 it.why in
     let tests = overlap _ _ a why in
     let first = first_found (byte_of it.image) it.piece.address (length it.piece.bytes.now) a tests.1 in
-    let taken = value_of (byte_of it.image a) first.some in
+    let taken = a_value (byte_of it.image a) first.some in
     record {
       piece = it.piece;
       earlier = it.earlier;
@@ -258,7 +255,7 @@ shared_first m p earlier a made own taken least =
         go : (o : Option ℕ) → byte_of m (p.address + j) ≡ o → o ≡ None
         go None e = refl
         go (Some c) e =
-            let mine = value_of (byte_at p (p.address + j))
+            let mine = a_value (byte_at p (p.address + j))
             (present_some (run_at p.address p.bytes.now) (p.address + j) (omega arith) (omega (arith, inside, below))) in
             let theirs = (pieces_mean earlier m made (p.address + j) c).0 e in
             let above = least (p.address + j) mine.0 c (byte_at_has p (p.address + j) mine.0 mine.1) theirs in

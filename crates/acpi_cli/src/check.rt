@@ -83,8 +83,6 @@ pub fn run_check<R: Read, W: Write>(
         result }
 {
     let image = read_input(alloc, reader)?;
-    let Ok(output) = check_output(alloc, &image, rsdp, policy, last) else {
-        return Err(RunFault::Memory);
-    };
-    write_output(writer, &output)
+    let output = check_output(alloc, &image, rsdp, policy, last);
+    write_output(writer, output)
 }

@@ -57,8 +57,6 @@ pub fn run_confirm<R: Read, W: Write>(
         result }
 {
     let image = read_input(alloc, reader)?;
-    let Ok(output) = confirm_output(alloc, &image, rsdp, policy, witness) else {
-        return Err(RunFault::Memory);
-    };
-    write_output(writer, &output)
+    let output = confirm_output(alloc, &image, rsdp, policy, witness);
+    write_output(writer, output)
 }

@@ -1,13 +1,13 @@
 //! Reading a command function's input and writing its output.
 
-ghost use Rattle.std.specs.Prelude.{◌≡◌, ℕ, OnOk, OnErr, take};
+ghost use Rattle.std.specs.Prelude.{◌≡◌, ℕ, Err, IfErr, IfOk, OnOk, OnErr, take};
 ghost use Rattle.std.specs.Io.KnownBytes.{Appends};
 ghost use Rattle.acpi_base.specs.Tally.{CountsFailure};
-ghost use Rattle.acpi_cli.specs.Commands.{device, ReadsInput, WritesOutput};
+ghost use Rattle.acpi_cli.specs.Commands.{device, ReadsInput, WritesNothing, WritesOutput};
 
 use crate::outcome::{Outcome, RunFault};
 use acpi_base::{DeviceFailed, Image, Tally, TextFault, read_image};
-use std::alloc::Global;
+use std::alloc::{AllocError, Global};
 use std::io::{Read, Write};
 
 /// What a command function is to write, and the outcome that it then returns.
@@ -30,11 +30,20 @@ pub fn read_input<R: Read>(alloc: Global, reader: &mut Tally<R>) -> Result<Image
     }
 }
 
-/// Writes the output's bytes, and returns its outcome, or `Device` if a write failed.
-pub fn write_output<W: Write>(writer: &mut Tally<W>, output: &Output) -> Result<Outcome, RunFault>
-    ensures { WritesOutput (device W.contents writer.old writer.new) output.now.bytes.items
-        output.now.outcome result }
+/// Writes the output's bytes, and returns its outcome, or `Device` if a write failed. If the output was not made, nothing is
+/// written: `Memory`.
+pub fn write_output<W: Write>(
+    writer: &mut Tally<W>,
+    output: Result<Output, AllocError>,
+) -> Result<Outcome, RunFault>
+    ensures made { IfOk output (λ made. WritesOutput (device W.contents writer.old writer.new)
+        made.bytes.items made.outcome result) }
+    ensures memory { IfErr output (λ _. (result ≡ Err RunFault.Memory)
+        × WritesNothing (device W.contents writer.old writer.new)) }
 {
+    let Ok(output) = output else {
+        return Err(RunFault::Memory);
+    };
     match write_whole(writer, &output.bytes) {
         Ok(()) => Ok(output.outcome),
         Err(DeviceFailed) => Err(RunFault::Device),

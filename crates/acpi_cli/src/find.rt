@@ -42,8 +42,6 @@ pub fn run_find<R: Read, W: Write>(
         result }
 {
     let image = read_input(alloc, reader)?;
-    let Ok(output) = find_output(alloc, &image) else {
-        return Err(RunFault::Memory);
-    };
-    write_output(writer, &output)
+    let output = find_output(alloc, &image);
+    write_output(writer, output)
 }

@@ -99,8 +99,6 @@ pub fn run_lint<R: Read, W: Write>(
         result }
 {
     let image = read_input(alloc, reader)?;
-    let Ok(output) = lint_output(alloc, &image, rsdp, policy, is_strict) else {
-        return Err(RunFault::Memory);
-    };
-    write_output(writer, &output)
+    let output = lint_output(alloc, &image, rsdp, policy, is_strict);
+    write_output(writer, output)
 }

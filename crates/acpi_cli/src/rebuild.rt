@@ -95,8 +95,6 @@ pub fn run_rebuild<R: Read, W: Write>(
         result }
 {
     let image = read_input(alloc, reader)?;
-    let Ok(output) = rebuild_output(alloc, image, rsdp, policy, base) else {
-        return Err(RunFault::Memory);
-    };
-    write_output(writer, &output)
+    let output = rebuild_output(alloc, image, rsdp, policy, base);
+    write_output(writer, output)
 }

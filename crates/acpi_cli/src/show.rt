@@ -64,8 +64,6 @@ pub fn run_show<R: Read, W: Write>(
         result }
 {
     let image = read_input(alloc, reader)?;
-    let Ok(output) = show_output(alloc, &image, rsdp) else {
-        return Err(RunFault::Memory);
-    };
-    write_output(writer, &output)
+    let output = show_output(alloc, &image, rsdp);
+    write_output(writer, output)
 }

@@ -6,21 +6,9 @@ use Rattle.std.proofs.lemmas.List.{get_or-drop}
 use Rattle.std.proofs.Math.Nat.{mul-le-mul_left}
 use Rattle.acpi_base.specs.Number.{field}
 use Rattle.acpi_base.specs.Slit.{SlitContents, slit_contents, distance, HasSlitSize, IsCell, SomeCell}
+use Rattle.acpi_base.proofs.Slit.{slit_size, slit_count, slit_distance}
 use Rattle.acpi_confirm.specs.Cells.{HasCell, HasNoCell}
 use Rattle.acpi_confirm.specs.declared.slit.Cell.{Cell}
-
-pub slit_size : (slit : List ℕ) → (slit_contents slit).size ≡ length slit
-unfolding slit_contents
-slit_size slit = refl
-
-pub slit_count : (slit : List ℕ) → (slit_contents slit).count ≡ field slit 36 8
-unfolding slit_contents
-slit_count slit = refl
-
-pub slit_distance : (slit : List ℕ) (i j : ℕ)
-    → distance (slit_contents slit) i j ≡ slice_index slit (44 + ((slit_contents slit).count * i + j))
-unfolding slit_contents
-slit_distance slit i j = grind (arith, get_or-drop 44 slit (field slit 36 8 * i + j) 0)
 
 -- a place is that of one row
 one_row : (n i j a b : ℕ) → j < n → b < n → n * i + j ≡ n * a + b → i ≡ a

@@ -7,6 +7,7 @@ use Rattle.std.proofs.lemmas.List.FromFn.{length-map-range_with_len, get_or-map-
 use Rattle.acpi_base.specs.Number.{field}
 use Rattle.acpi_base.specs.Entries.{StandsWith, has_form, cut_of}
 use Rattle.acpi_base.specs.Pptt.{pptt_entry, pptt_type, has_node_form, has_cache_form, resource_count, resources_of, PpttContents, pptt_contents}
+use Rattle.acpi_base.proofs.Pptt.Places.{size_is}
 use Rattle.acpi_confirm.specs.Links.{Names, named_offset}
 use Rattle.acpi_confirm.specs.Walks.{IsOnly}
 use Rattle.acpi_confirm.specs.declared.pptt.Chain.{Chain}
@@ -48,10 +49,6 @@ pub ruleset kinds = (node_type, cache_type, cache_no_node)
 pub pptt_cut : (pptt : List ℕ) → (pptt_contents pptt).cut ≡ cut_of 36 pptt
 unfolding pptt_contents
 pptt_cut pptt = refl
-
-pub pptt_size : (pptt : List ℕ) → (pptt_contents pptt).size ≡ length pptt
-unfolding pptt_contents
-pptt_size pptt = refl
 
 -- ---- private resources
 

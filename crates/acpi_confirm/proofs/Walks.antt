@@ -11,34 +11,18 @@ use Rattle.acpi_base.proofs.Images.PresentBytes.{none_and_some}
 use Rattle.acpi_base.proofs.EntryOffsets.{entry_within}
 use Rattle.acpi_base.proofs.EntrySteps as step
 use Rattle.acpi_confirm.specs.Walks.{IsThere, IsEnd, IsNext, IsOnWay}
+use Rattle.acpi_base.proofs.EntrySteps.{is_next, is_end}
+use Rattle.acpi_base.proofs.Entries.{nothing_at_end}
 
 -- ---- a step of the walk
 
-pub is_end : (start : ℕ) (whole : List ℕ) → first_entry (drop start whole) ≡ None → IsEnd start whole
-is_end start whole none = (let end = step.is_end start whole none in record { none = end.none; end = end.end })
-
-pub is_next : (start : ℕ) (whole e : List ℕ) → first_entry (drop start whole) ≡ Some e → IsNext start whole e
-is_next start whole e is =
-    let next = step.is_next start whole e is in
-    let least = next.entry.least in
-    record {
-      entry = next.entry;
-      fits = omega (arith, next.fits, length-drop start whole);
-      first = next.first;
-      end = next.end;
-    }
-
 -- ---- the walk
-
-nothing_behind : first_entry [] ≡ None
-unfolding first_entry
-nothing_behind = refl
 
 -- nothing stands behind the end of the table
 pub is_past : (start : ℕ) (whole : List ℕ) → length whole ≤ start → IsEnd start whole
 is_past start whole past =
     is_end start whole (ap first_entry (nil_from_length (drop start whole) (omega (arith, length-drop start whole)))
-    ∙ nothing_behind)
+    ∙ nothing_at_end)
 
 -- the entry that the bytes from the start on begin with, or none
 pub end_or_next : (start : ℕ) (whole : List ℕ) (found : Option (Bor (List ℕ)))

@@ -67,7 +67,7 @@ fn is_low(slit: &[u8], at: u64) -> bool
 }
 
 /// Whether the table has this fault at this offset.
-#[tactic(auto, using(crate::proofs::Cells::slit_size))]
+#[tactic(auto, using(acpi_base::proofs::Slit::slit_size))]
 fn has_fault_at(slit: &[u8], code: Code, at: u64) -> bool
     ensures { IsTrue result ↔ SlitFaultAt (slit_contents slit.now) code at }
 {

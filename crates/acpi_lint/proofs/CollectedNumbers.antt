@@ -10,7 +10,7 @@ use Rattle.acpi_base.specs.Lint.Numbered.{NamesAt, IsNamed, IsLater, Repeats}
 use Rattle.acpi_read.specs.TypedEntries.{entry_at_value}
 use Rattle.acpi_read.specs.declared.typed_entries.EntryAt.{EntryAt}
 use Rattle.acpi_check.specs.CollectedValues.{Picks, Collects}
-use Rattle.acpi_check.proofs.EntryPasses.Collecting.{are_collected, gathered_same}
+use Rattle.acpi_check.proofs.EntryPasses.Collecting.{are_collected, gathered_same, itself}
 use Rattle.acpi_check.proofs.EntryPasses.Kept.{AreRising, kept_has, kept_from, keys_rise}
 use Rattle.acpi_lint.specs.EntryNumbers.{FindsRepeated, AreGathered}
 use Rattle.acpi_lint.specs.KnownNumbers.{AreKnown}
@@ -93,11 +93,6 @@ pub gathered_numbers : {E Said X : Type 0} (value : E → Said) {Answers : Bor (
 gathered_numbers value read StandsAt low {entries = entries} r rises stands found same each =
     gathered_same value (λ s. option_map (at_place s.offset) (read s)) (AreNumbersAt StandsAt) r found same each
     (λ given is. are_numbers read StandsAt low entries given rises is stands)
-
--- what is collected is what a function gives of the entries, if each call gives that of its entry
-itself : {T : Type 0} (picked : Option T) → option_map (λ x. x) picked ≡ picked
-itself None = refl
-itself (Some value) = refl
 
 pub collected_same : {S T : Type 0} {Gives : S → Option T → Type 0} (h : S → Option T) (all : List S) (found : List T)
     → Collects Gives all found → ((s : S) (picked : Option T) → Gives s picked → picked ≡ h s)

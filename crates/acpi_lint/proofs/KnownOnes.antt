@@ -4,7 +4,7 @@ use Rattle.std.specs.Prelude.{◌↔◌, AllPairs, Contains, IfOk, map}
 use Rattle.std.specs.List.{filter_map}
 use Rattle.acpi_base.specs.Entries.{PlacedEntry}
 use Rattle.acpi_base.specs.Lint.Numbered.{IsNamed}
-use Rattle.acpi_base.proofs.Elements.{first_element, later_element, first_or_later, no_element}
+use Rattle.acpi_base.proofs.Elements.{first_element, later_element, first_or_later, no_element, element_of_map}
 use Rattle.acpi_check.proofs.EntryPasses.Kept.{kept_has, kept_from, map_has}
 use Rattle.acpi_lint.specs.KnownNumbers.{AreKnown}
 use Rattle.acpi_lint.specs.Numbered.{at_place, AreNumbersAt}
@@ -31,16 +31,6 @@ are_known {E} read entries gathered known is rise same =
     from : (n : ℕ) → ((s : PlacedEntry E) × Contains entries s × (make s ≡ Some n)) → IsNamed read entries n
     from n (s, listed, names) = (s.offset, (s.entry, listed, names))
 
--- what a map has it makes of an element
-pub map_from : {X Y : Type 0} (f : X → Y) (xs : List X) (y : Y) → Contains (map f xs) y
-    → (x : X) × Contains xs x × (f x ≡ y)
-map_from f [] y listed = absurd (no_element y listed)
-map_from f (u ∷ xs) y listed =
-    elim (first_or_later (f u) y (map f xs) listed) [
-      | inl is ↦ (u, first_element u xs, is)
-      | inr later ↦ let (x, here, is) = map_from f xs y later in (x, later_element u x xs here, is)
-    ]
-
 -- and those that stand at places stand at some place
 pub are_placed : {X : Type 0} (StandsAt : ℕ → ℕ → Type 0) (given : List Numbered) (gathered : List ℕ)
     (r : Result (Vec ℕ Global) X) → AreNumbersAt StandsAt given → gathered ≡ map (λ g. g.number) given
@@ -52,7 +42,7 @@ are_placed StandsAt given gathered (Ok numbers) are is rise same =
     record {
       rise = rise;
       all = λ n. (
-        λ listed. from n (map_from (λ g. g.number) given n (rw is at ((same n).0 listed))),
+        λ listed. from n (element_of_map (λ g. g.number) given n (rw is at ((same n).0 listed))),
         λ (at, stands). (same n).1
             (rw is (map_has (λ (g : Numbered). g.number) given (at_place at n) ((are.all at n).1 stands))),
       );

@@ -7,15 +7,14 @@ use Rattle.std.proofs.lemmas.List.Elements.{Contains-append_left, Contains-appen
 use Rattle.acpi_base.specs.Memory.{Memory}
 use Rattle.acpi_base.specs.Number.{field}
 use Rattle.acpi_base.specs.Root.{HasSlot, IsSlot}
-use Rattle.acpi_base.proofs.Elements.{first_element, first_or_later, no_element}
+use Rattle.acpi_base.proofs.Elements.{first_element, first_or_later, no_element, element_of_map}
 use Rattle.acpi_base.proofs.Root.Slots.{one_slot, slot_of_root, root_slot}
-use Rattle.acpi_check.proofs.EntryPasses.Kept.{map_has}
 use Rattle.acpi_read.specs.Roots.{RootValue, IsCompleteRoot}
+use Rattle.acpi_check.proofs.EntryPasses.Kept.{map_has}
 use Rattle.acpi_lint.specs.Numbered.{at_place, HasAt, AreNumbersAt}
 use Rattle.acpi_lint.specs.Slots.{IsTableAt, AreSlots, numbered_slot}
 use Rattle.acpi_lint.specs.declared.listed_slots.Slot.{Slot}
 use Rattle.acpi_lint.specs.declared.numbered.Numbered.{Numbered}
-use Rattle.acpi_lint.proofs.KnownOnes.{map_from}
 use Rattle.acpi_lint.proofs.RisingLists.{rise_more}
 
 -- the slot at which a list is read that has none there
@@ -120,7 +119,7 @@ no_slots none =
 -- ---- their addresses
 
 pub at_numbers : (slots : List Slot) (g : Numbered) → Contains (map numbered_slot slots) g → g.value ≡ g.at
-at_numbers slots g here = (let (s, listed, is) = map_from numbered_slot slots g here in rw (← is) refl)
+at_numbers slots g here = (let (s, listed, is) = element_of_map numbered_slot slots g here in rw (← is) refl)
 
 -- each address stands at its slot's number
 pub are_numbered : {m : Memory} {Lists : ℕ → ℕ → Type 0} (slots : List Slot) → AreSlots m Lists slots
@@ -133,7 +132,7 @@ are_numbered {Lists = Lists} slots are =
           (rw (get_or-map numbered_slot slots j no_slot d inside) (are.rise i j no_slot before inside));
       placed = at_numbers slots;
       all = λ at n. (
-        λ here. from at n (map_from numbered_slot slots (at_place at n) here),
+        λ here. from at n (element_of_map numbered_slot slots (at_place at n) here),
         λ lists. to (are.all at n lists),
       );
     }

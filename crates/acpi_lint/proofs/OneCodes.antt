@@ -20,6 +20,7 @@ use Rattle.acpi_base.specs.declared.policy.Processors.{Processors}
 use Rattle.acpi_base.specs.declared.stage.Stage.TheVariants as stage
 use Rattle.acpi_base.specs.declared.witness.Witness.{Witness}
 use Rattle.acpi_base.proofs.Faults.ListedTables.{of_listed}
+use Rattle.acpi_base.proofs.Srat.Ranges.{is_overlap}
 use Rattle.acpi_check.specs.ChainCycles.{Names, most_of, code_of, FindsCycle}
 use Rattle.acpi_check.specs.TableResults as results
 use Rattle.acpi_check.specs.TableResults.{Finds}
@@ -101,12 +102,6 @@ gsi_found m q whole is (Err (refusal.Fault w)) (Some p) first same =
       },
     )
 gsi_found m q whole is _ _ found same = absurd same
-
-is_overlap : (h : HotPlug) (c : SratContents) (at other point : ℕ) → IsFirstOverlap h c at other point
-    → IsOverlap h c at other point
-is_overlap Counted c at other point first = first.overlap
-is_overlap Apart c at other point (inl (first, _)) = inl first.overlap
-is_overlap Apart c at other point (inr (first, _)) = inr first.overlap
 
 -- the first address that two ranges cover that are compared
 pub overlap_found : (m : Memory) (q : PolicyValue) (whole : List ℕ) → IsListedTable m q.rsdp srat_signature whole

@@ -9,15 +9,11 @@ use Rattle.acpi_base.specs.Madt.{MadtEntry, IoApic, Override, OverrideValue, Ser
 use Rattle.acpi_base.specs.Number.{field}
 use Rattle.acpi_base.specs.Policy.{PolicyValue}
 use Rattle.acpi_base.proofs.EntryOffsets.{AreOnes, one_said}
+use Rattle.acpi_base.proofs.Madt.Faults.{ones}
 use Rattle.acpi_lint.specs.Overrides.{IsOverrideAt, ServesNumber, IsNowhere}
 use Rattle.acpi_lint.specs.Places.{IsNotAfter, IsLeast, FindsLeast}
 use Rattle.acpi_lint.specs.declared.place.Place.{Place}
 use Rattle.acpi_lint.proofs.OnePlace.{finds_one}
-
--- one entry of a MADT stands at an offset
-madt_ones : (whole : List ℕ) → AreOnes (madt_contents whole).entries
-unfolding madt_contents
-madt_ones whole = one_said madt_entry 44 whole
 
 -- an override of the interrupt gives it some number
 some_number : (c : MadtContents) (source at : ℕ) → StandsWith c.entries at (IsOverrideOf source)
@@ -59,7 +55,7 @@ one_first whole source g h one other =
     let place : other.at ≡ one.at = omega arith in
     let there = subst (λ (o : ℕ). Stands (madt_contents whole).entries o (Override other.v)) place other.stands in
     let same : Override one.v ≡ Override other.v =
-    madt_ones whole one.at (Override one.v) (Override other.v) one.stands there in
+    ones whole one.at (Override one.v) (Override other.v) one.stands there in
     let value : one.v ≡ other.v = cc in
     sym one.is ∙ ap (λ (v : OverrideValue). v.gsi) value ∙ other.is
 

@@ -7,8 +7,9 @@ use Rattle.acpi_base.specs.Number.{field}
 use Rattle.acpi_base.specs.Slit.{SlitContents, slit_contents, distance, HasSlitSize, IsCell, SlitFault}
 use Rattle.acpi_base.specs.Lint.SlitAdvice.{IsSlitDiffers}
 use Rattle.acpi_base.specs.declared.code.Code.TheVariants as code
+use Rattle.acpi_base.proofs.Slit.{slit_size, slit_count, slit_distance}
 use Rattle.acpi_read.specs.Slits.{HasRows}
-use Rattle.acpi_read.proofs.SlitCells.{slit_size, slit_count, slit_distance}
+use Rattle.acpi_read.proofs.SlitCells.{cell_at, distance_at, right_size}
 use Rattle.acpi_lint.specs.Places.{IsLeast, FindsLeast}
 use Rattle.acpi_lint.specs.SlitPlaces.{IsRowDiffers, IsSizedDiffers}
 use Rattle.acpi_lint.specs.declared.place.Place.{Place}
@@ -27,9 +28,6 @@ pub has_rows : (whole : List ℕ) → 44 + field whole 36 8 * field whole 36 8 �
     → HasRows whole (field whole 36 8)
 has_rows whole is = record { count = slit_count whole; size = sym is }
 
-pub has_size : (whole : List ℕ) (n : ℕ) → HasRows whole n → HasSlitSize (slit_contents whole)
-has_size whole n rows = grind (arith, slit_size whole, rows.count, rows.size)
-
 pub no_size_fault : (c : SlitContents) → (c.size < 44) ⊎ HasSlitSize c → FindsLeast (SlitFault c code.SlitSize) None
 no_size_fault c sized = λ at other point ((long, wrong, is), _, _).
     elim sized [ inl short ↦ omega (arith, short, long) | inr has ↦ wrong has ]
@@ -44,11 +42,6 @@ size_fault c long wrong =
 
 -- ---- cells
 
--- a byte behind the first 44 is the distance of its cell
-distance_at : (whole : List ℕ) (n i j : ℕ) → HasRows whole n
-    → slice_index whole (44 + n * i + j) ≡ distance (slit_contents whole) i j
-distance_at whole n i j rows = grind (arith, slit_distance whole i j, rows.count)
-
 -- a cell is one of the rows'
 record IsPlaced (n a b at : ℕ) : Type 0 where
   row : a < n
@@ -62,11 +55,6 @@ placed whole n a b at rows cell =
       column = omega (arith, rows.count, cell.column);
       place = omega (arith, rw rows.count at cell.place);
     }
-
-is_cell : (whole : List ℕ) (n i j : ℕ) → HasRows whole n → i < n → j < n
-    → IsCell (slit_contents whole) i j (44 + n * i + j)
-is_cell whole n i j rows row column =
-    record { row = omega (arith, rows.count); column = omega (arith, rows.count); place = grind (arith, rows.count) }
 
 -- a cell of a row stands before those of later rows
 row_before : (n i j a b : ℕ) → j < n → i < a → 44 + n * i + j < 44 + n * a + b
@@ -86,8 +74,8 @@ first_diagonal whole n i rows row tens wrong =
     record {
       here = (
         (
-          has_size whole n rows,
-          (i, i, is_cell whole n i i rows row row, (refl, rw (distance_at whole n i i rows) at wrong)),
+          right_size whole n rows,
+          (i, i, cell_at whole n i i rows row row, (refl, rw (distance_at whole n i i rows) at wrong)),
         ),
         refl,
         refl,
@@ -148,11 +136,11 @@ first_low whole n o rows from below high low =
     record {
       here = (
         (
-          has_size whole n rows,
+          right_size whole n rows,
           (
             i,
             j,
-            subst (IsCell (slit_contents whole) i j) (sym cell.place) (is_cell whole n i j rows cell.row cell.column),
+            subst (IsCell (slit_contents whole) i j) (sym cell.place) (cell_at whole n i j rows cell.row cell.column),
             rw (distance_at whole n i j rows) at (rw cell.place at low),
           ),
         ),
@@ -228,8 +216,8 @@ first_in_row whole n i j rows upper column same unlike =
       i = i;
       j = j;
       upper = upper;
-      here = is_cell whole n i j rows row column;
-      there = is_cell whole n j i rows column row;
+      here = cell_at whole n i j rows row column;
+      there = cell_at whole n j i rows column row;
       differ = rw (distance_at whole n i j rows, distance_at whole n j i rows) at unlike;
       unused = refl;
     } in
@@ -285,5 +273,5 @@ no_row c i none all = λ at other point found. none found.i (omega (arith, found
 pub sized : (whole : List ℕ) (n : ℕ) (found : Option Place) → HasRows whole n
     → FindsLeast (IsSlitDiffers (slit_contents whole)) found → FindsLeast (IsSizedDiffers (slit_contents whole)) found
 sized whole n found rows least =
-    least_as found (λ at other point differs. (has_size whole n rows, differs))
+    least_as found (λ at other point differs. (right_size whole n rows, differs))
     (λ at other point (size, differs). differs) least

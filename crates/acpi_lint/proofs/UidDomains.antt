@@ -11,6 +11,7 @@ use Rattle.acpi_base.specs.Lint.SratAdvice.{PlacesUid, IsTwoUidDomains}
 use Rattle.acpi_base.specs.Number.{field}
 use Rattle.acpi_base.specs.Srat.{SratEntry, ApicDomain, MemoryRange, X2apicDomain, Opaque, SratContents, srat_entry, srat_contents}
 use Rattle.acpi_base.proofs.EntryOffsets.{AreOnes, one_said}
+use Rattle.acpi_base.proofs.Srat.Ranges.{ones}
 use Rattle.acpi_check.proofs.EntryPasses.Kept.{kept_has, kept_from}
 use Rattle.acpi_lint.specs.Numbered.{IsNoLater, IsUnlikeAt}
 use Rattle.acpi_lint.specs.Places.{FindsLeast}
@@ -41,11 +42,6 @@ has_domain (MemoryRange v) uid is = cc
 has_domain (X2apicDomain v) uid is = cc
 
 -- ---- all entries
-
--- at most one entry stands at an offset of an SRAT
-pub srat_ones : (whole : List ℕ) → AreOnes (srat_contents whole).entries
-unfolding srat_contents
-srat_ones whole = one_said srat_entry 48 whole
 
 -- these are what is given of the entries
 abbrev pub uid_domains : SratContents → List Numbered

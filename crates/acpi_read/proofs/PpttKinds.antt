@@ -8,11 +8,11 @@ use Rattle.std.proofs.lemmas.List.{drop-drop, length-take, length-drop}
 use Rattle.acpi_base.specs.Number.{field}
 use Rattle.acpi_base.specs.Entries.{IsEntry, IsEntryOf, has_form}
 use Rattle.acpi_base.specs.Pptt.{NodeValue, node_of, CacheValue, cache_of, cache24, cache28, resource_count, has_node_form, has_cache_form, pptt_entry, Node, Cache, Opaque}
-use Rattle.acpi_base.proofs.Images.PresentBytes.{field-take}
-use Rattle.acpi_read.specs.Pptts.{node_value}
-use Rattle.acpi_base.proofs.Layouts.Kinds.{byte_field}
 use Rattle.acpi_base.specs.Layouts.{values_at, layout_bytes, FitLayout, IsOfLayout, HasValues}
+use Rattle.acpi_base.proofs.Images.PresentBytes.{field-take}
+use Rattle.acpi_base.proofs.Layouts.Kinds.{byte_field}
 use Rattle.acpi_base.proofs.Layouts.RoundTrip.{HasValues-layout_bytes}
+use Rattle.acpi_read.specs.Pptts.{node_value}
 use Rattle.acpi_read.specs.Pptts.{node_head_parts, node_head_values, HasNodeLength}
 use Rattle.acpi_read.specs.declared.pptt.node_head.NodeHead.{NodeHead}
 
@@ -56,7 +56,7 @@ length_in_head e = (
 )
 
 -- the references behind the head
-references_of : (e : List ℕ) (j : ℕ) → field (drop 20 e) (4 * j) 4 ≡ field e (20 + 4 * j) 4
+pub references_of : (e : List ℕ) (j : ℕ) → field (drop 20 e) (4 * j) 4 ≡ field e (20 + 4 * j) 4
 unfolding field
 references_of e j = grind (arith, drop-drop (4 * j) 20 e)
 

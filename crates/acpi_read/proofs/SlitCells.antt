@@ -10,31 +10,18 @@ use Rattle.acpi_base.specs.Slit.{SlitContents, slit_contents, cell_place, distan
 use Rattle.acpi_base.specs.declared.code.Code.{Code}
 use Rattle.acpi_base.specs.declared.code.Code.TheVariants as code
 use Rattle.acpi_base.specs.declared.witness.Witness.{Witness}
-use Rattle.acpi_base.proofs.Slit.{excludes}
+use Rattle.acpi_base.proofs.Slit.{excludes, slit_size, slit_count, slit_distance}
 use Rattle.acpi_base.proofs.Faults.Deciding.{not_other}
 use Rattle.acpi_read.specs.Slits.{HasRows, IsValidCell, AreValidTo, IsFirstSlitFault}
 
 -- ---- what a SLIT's bytes say
 
-pub slit_size : (whole : List ℕ) → (slit_contents whole).size ≡ length whole
-unfolding slit_contents
-slit_size whole = refl
-
-pub slit_count : (whole : List ℕ) → (slit_contents whole).count ≡ field whole 36 8
-unfolding slit_contents
-slit_count whole = refl
-
-pub slit_distance : (whole : List ℕ) (i j : ℕ)
-    → distance (slit_contents whole) i j ≡ slice_index whole (44 + (slit_contents whole).count * i + j)
-unfolding slit_contents
-slit_distance whole i j = grind (arith, get_or-drop 44 whole (field whole 36 8 * i + j) 0)
-
 -- ---- valid cells
 
-right_size : (whole : List ℕ) (n : ℕ) → HasRows whole n → HasSlitSize (slit_contents whole)
+pub right_size : (whole : List ℕ) (n : ℕ) → HasRows whole n → HasSlitSize (slit_contents whole)
 right_size whole n rows = grind (arith, slit_size whole, rows.count, rows.size)
 
-distance_at : (whole : List ℕ) (n i j : ℕ) → HasRows whole n
+pub distance_at : (whole : List ℕ) (n i j : ℕ) → HasRows whole n
     → slice_index whole (44 + n * i + j) ≡ distance (slit_contents whole) i j
 distance_at whole n i j rows = grind (arith, slit_distance whole i j, rows.count)
 
@@ -159,7 +146,7 @@ least_of c i j number size column before small other at second third fault =
     ]
 
 -- the cell is one of the table's, at its place
-cell_at : (whole : List ℕ) (n i j : ℕ) → HasRows whole n → i < n → j < n
+pub cell_at : (whole : List ℕ) (n i j : ℕ) → HasRows whole n → i < n → j < n
     → IsCell (slit_contents whole) i j (44 + n * i + j)
 cell_at whole n i j rows row column =
     record { row = omega (arith, rows.count); column = omega (arith, rows.count); place = grind (arith, rows.count) }

@@ -14,6 +14,7 @@ use Rattle.acpi_base.specs.Image.Segments.{AreSegmentsApart, AreSegments, IsVali
 use Rattle.acpi_base.proofs.Images.RunBytes.{present_none, byte_in-cons, byte_in-nil, byte_of_memory_of, byte_of-with_bytes}
 use Rattle.acpi_base.proofs.Images.Stores.{all_weaker, run_ends, runs_in_more, none_present}
 use Rattle.acpi_base.proofs.Images.RunMemory.{same_memory, no_bytes, image_with}
+use Rattle.acpi_base.proofs.Images.Holders.{all_push}
 
 -- ---- more bytes behind those of the open piece
 
@@ -72,17 +73,11 @@ more_laid store new more ps base begin e fits bytes s =
 
 -- ---- the open segment ends
 
--- what holds of a piece and of those before it holds of all
-all_pushed : (P : Piece → Type 0) (ps : List Piece) (q : Piece) → AllByRecursion P ps → P q
-    → AllByRecursion P (ps ++ q ∷ [])
-all_pushed P [] q all here = (here, tt)
-all_pushed P (p ∷ ps) q all here = (all.0, all_pushed P ps q all.1 here)
-
 pub apart_pushed : (ps : List Piece) (q : Piece) → AreSegmentsApart ps → AllByRecursion (λ p. end_at p < q.0) ps
     → 0 < q.1.len → AreSegmentsApart (ps ++ q ∷ [])
 apart_pushed [] q apart below some = (some, tt, tt)
 apart_pushed (p ∷ ps) q apart below some =
-    (apart.0, all_pushed _ ps q apart.1 below.0, apart_pushed ps q apart.2 below.1 some)
+    (apart.0, all_push _ ps q apart.1 below.0, apart_pushed ps q apart.2 below.1 some)
 
 -- a piece behind others holds its part
 lookup_pushed : (store : List ℕ) (n : ℕ) (ps : List Piece) (q : Piece) (x : ℕ) → n ≤ length store
@@ -126,8 +121,8 @@ pushed_laid store ps qs old base begin end v e s b n l some gap fits =
     let low = s.fits in
     subst (λ ts. AreSegments store ts base end) (sym e) (record {
       apart = apart_pushed ps (old, v) s.apart s.below some;
-      below = all_pushed _ ps (old, v) (all_weaker _ (λ p. end_at p < base) ps (λ p h. omega arith) s.below) gap;
-      lies = all_pushed _ ps (old, v)
+      below = all_push _ ps (old, v) (all_weaker _ (λ p. end_at p < base) ps (λ p h. omega arith) s.below) gap;
+      lies = all_push _ ps (old, v)
           (all_weaker _ (LiesBefore end) ps (λ p h. (let inside = h.0 in omega arith, h.1)) s.lies)
           (omega arith, omega arith);
       within = omega arith;

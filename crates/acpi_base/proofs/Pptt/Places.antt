@@ -16,7 +16,7 @@ least_size (Node v) = 20
 least_size (Cache v) = 24
 least_size (Opaque e) = 2
 
-form_size : (e : List ℕ) (type size : ℕ) → has_form e type size ≡ true → length e ≡ size
+pub form_size : (e : List ℕ) (type size : ℕ) → has_form e type size ≡ true → length e ≡ size
 unfolding has_form
 form_size e type size form = eqb-true _ _ (and_parts _ _ form).1
 

@@ -40,7 +40,7 @@ covers_decided P decide s x (MemoryRange v) =
 covers_decided P decide s x _ = inr (λ h. h)
 
 -- at most one entry stands at an offset
-ones : (whole : List ℕ) → AreOnes (srat_contents whole).entries
+pub ones : (whole : List ℕ) → AreOnes (srat_contents whole).entries
 unfolding srat_contents
 ones whole = one_said srat_entry 48 whole
 
@@ -113,7 +113,7 @@ apart_or_overlap Apart whole =
     joined (srat_contents whole) (apart_or_first (other_ranges whole)) (apart_or_first (hot_ranges whole))
 
 -- what is reported is an overlap
-is_overlap : (h : HotPlug) (c : SratContents) (at other point : ℕ) → IsFirstOverlap h c at other point
+pub is_overlap : (h : HotPlug) (c : SratContents) (at other point : ℕ) → IsFirstOverlap h c at other point
     → IsOverlap h c at other point
 is_overlap Counted c at other point first = first.overlap
 is_overlap Apart c at other point (inl (first, _)) = inl first.overlap

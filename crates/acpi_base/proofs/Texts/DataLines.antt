@@ -11,7 +11,7 @@ use Rattle.acpi_base.specs.Text.ImageText.{Data, Bad, digit_of, is_blank, skip_b
 
 -- ---- pairs of digits
 
-blank_read : (bytes rest : List ℕ) → data_from bytes None (32 ∷ rest) ≡ data_from bytes None rest
+pub blank_read : (bytes rest : List ℕ) → data_from bytes None (32 ∷ rest) ≡ data_from bytes None rest
 unfolding data_from digit_of
 blank_read bytes rest = refl
 

@@ -7,6 +7,7 @@ use Rattle.std.specs.Option.{option_map_or}
 use Rattle.std.specs.List.{All, AllByRecursion, Contains, slice_get}
 use Rattle.std.specs.FinMap.{empty, get-empty}
 use Rattle.std.specs.Ordering.{nat_cmp}
+use Rattle.std.proofs.lemmas.Bool.Decides.{nat_tests}
 use Rattle.acpi_base.specs.Memory.{Memory, byte_of, with_bytes}
 use Rattle.acpi_base.specs.Image.Adding.{add_refusal}
 use Rattle.acpi_base.specs.Text.ImageText.{Line, Blank, Address, Data, Bad, Reading, start, on_ok, max_line, max_text, is_too_long, data_fault, put_data, take_line, line_of, read_line, read_lines, ended_lines_from, last_line_from, ended_lines, last_line, read_text, IsText, IsRefused}
@@ -16,10 +17,9 @@ use Rattle.acpi_base.proofs.Images.RunMemory.{same_memory}
 use Rattle.acpi_base.proofs.Texts.LineParsing.{data_some}
 use Rattle.acpi_base.proofs.Texts.ByteMachine.{take_line_keeps}
 use Rattle.acpi_base.proofs.Texts.DataPlaces.{place_of, first_here, stands_is_place}
-use Rattle.std.proofs.lemmas.Bool.Decides.{nat_tests}
 use Rattle.acpi_base.proofs.Texts.DataImages.{Given, Makes, data_more, data_less, taken, not_refused}
 
-same_options : (o p : Option ℕ) → ((b : ℕ) → (o ≡ Some b) ↔ (p ≡ Some b)) → o ≡ p
+pub same_options : (o p : Option ℕ) → ((b : ℕ) → (o ≡ Some b) ↔ (p ≡ Some b)) → o ≡ p
 same_options None None h = refl
 same_options None (Some b) h = (h b).1 refl
 same_options (Some b) p h = sym ((h b).0 refl)
@@ -205,7 +205,7 @@ valid_lines (line ∷ lines) good = (
 
 -- ---- and so the text means what it means
 
-a_value : (o : Option ℕ) → IsSome o → (a : ℕ) × (o ≡ Some a)
+pub a_value : (o : Option ℕ) → IsSome o → (a : ℕ) × (o ≡ Some a)
 a_value None h = absurd (cc)
 a_value (Some a) h = (a, refl)
 

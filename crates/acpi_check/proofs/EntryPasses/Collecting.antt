@@ -53,7 +53,7 @@ kept : {T V : Type 0} (view : T → V) (others : List T) (picked : Option T) (gi
 kept view others None given rest same are = rw (← same) are
 kept view others (Some value) given rest same are = rw (← same) (ap (λ vs. view value ∷ vs) are)
 
-itself : {T : Type 0} (picked : Option T) → option_map (λ x. x) picked ≡ picked
+pub itself : {T : Type 0} (picked : Option T) → option_map (λ x. x) picked ≡ picked
 itself None = refl
 itself (Some value) = refl
 

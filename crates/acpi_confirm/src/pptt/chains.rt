@@ -97,7 +97,7 @@ fn is_cycle(pptt: &[u8], chain: Chain, most: u64, witness: &Witness) -> bool
 }
 
 /// Code 55: a cycle of parents. No more than one node fits into 20 bytes.
-#[tactic(auto, using(crate::proofs::PpttEntries::pptt_size))]
+#[tactic(auto, using(acpi_base::proofs::Pptt::Places::size_is))]
 pub(super) fn has_parent_fault(pptt: &[u8], witness: &Witness) -> bool
     ensures { IsTrue result ↔ ParentFault (pptt_contents pptt.now) witness.now.code witness.now.at
         witness.now.other witness.now.point }
@@ -107,7 +107,7 @@ pub(super) fn has_parent_fault(pptt: &[u8], witness: &Witness) -> bool
 }
 
 /// Code 56: a cycle of next levels. No more than one cache fits into 24 bytes.
-#[tactic(auto, using(crate::proofs::PpttEntries::pptt_size))]
+#[tactic(auto, using(acpi_base::proofs::Pptt::Places::size_is))]
 pub(super) fn has_cache_fault(pptt: &[u8], witness: &Witness) -> bool
     ensures { IsTrue result ↔ CacheFault (pptt_contents pptt.now) witness.now.code witness.now.at
         witness.now.other witness.now.point }

@@ -11,6 +11,7 @@ use Rattle.acpi_base.specs.Srat as srat
 use Rattle.acpi_base.specs.Number.{field, number_bytes}
 use Rattle.acpi_base.specs.Pptt as pptt
 use Rattle.acpi_base.proofs.Layouts.RoundTrip.{length-number_bytes}
+use Rattle.acpi_base.proofs.Pptt.Places.{form_size}
 use Rattle.acpi_read.specs.Madts.{madt_bytes, madt_kept}
 use Rattle.acpi_read.specs.Srats.{srat_bytes, srat_kept}
 use Rattle.acpi_read.specs.Pptts.{pptt_bytes}
@@ -120,11 +121,6 @@ again_by write (k ∷ kinds) opaque keep kept e low entry =
           })
     ]
 
--- bytes of a form have its length
-form_length : (e : List ℕ) (type size : ℕ) → has_form e type size ≡ true → length e ≡ size
-unfolding has_form
-form_length e type size is = eqb-true (length e) size (and_parts (slice_index e 0 == type) (length e == size) is).1
-
 pub madt_length : (e : List ℕ) → length (madt_bytes (madt.madt_entry e)) ≡ length e
 unfolding madt.madt_entry
 madt_length e = length_by madt_bytes madt.madt_kinds madt.Opaque madt_kept (λ e. refl) e
@@ -161,13 +157,13 @@ pub cache_sizes : (e : List ℕ) → pptt.has_cache_form e ≡ true → (length 
 unfolding pptt.has_cache_form
 cache_sizes e is =
     elim (cases_Bool (has_form e 1 24)) [
-      | inl short ↦ inl (form_length e 1 24 short)
-      | inr other ↦ inr (form_length e 1 28 (sym (rw other refl) ∙ is))
+      | inl short ↦ inl (form_size e 1 24 short)
+      | inr other ↦ inr (form_size e 1 28 (sym (rw other refl) ∙ is))
     ]
 
 pub node_size : (e : List ℕ) → pptt.has_node_form e ≡ true → length e ≡ 20 + 4 * pptt.resource_count e
 unfolding pptt.has_node_form
-node_size e is = form_length e 0 (20 + 4 * pptt.resource_count e) is
+node_size e is = form_size e 0 (20 + 4 * pptt.resource_count e) is
 
 pub pptt_length : (e : List ℕ) → length (pptt_bytes (pptt.pptt_entry e)) ≡ length e
 unfolding pptt.pptt_entry

@@ -13,14 +13,15 @@ use Rattle.acpi_base.specs.Srat.{srat_kinds, srat_entry}
 use Rattle.acpi_base.specs.Srat as srat
 use Rattle.acpi_base.specs.Pptt.{pptt_entry}
 use Rattle.acpi_base.specs.Pptt as pptt
+use Rattle.acpi_base.specs.KindLayouts.{bytes_of}
 use Rattle.acpi_base.proofs.Images.PresentBytes.{field_below}
 use Rattle.acpi_base.proofs.Layouts.RoundTrip.{HasValues-layout_bytes}
-use Rattle.acpi_base.specs.KindLayouts.{bytes_of}
 use Rattle.acpi_base.proofs.Layouts.Kinds.{written_again}
 use Rattle.acpi_read.specs.Madts.{madt_bytes, madt_kept}
 use Rattle.acpi_read.specs.Srats.{srat_bytes, srat_kept}
 use Rattle.acpi_read.specs.Pptts.{pptt_bytes, cache_bytes, node_head_parts, node_head_values, node_value, cache24_layout, cache24_laid, cache28_layout, cache28_laid}
 use Rattle.acpi_read.specs.declared.pptt.node_head.NodeHead.{NodeHead}
+use Rattle.acpi_read.proofs.PpttKinds.{references_of}
 use Rattle.acpi_write.specs.Spells.{SaysEntry}
 use Rattle.acpi_write.specs.Laws.{AreByteValues, EntriesAreKept}
 use Rattle.acpi_write.proofs.EntryBytes.EntryForms.{again_by, madt_length, srat_length, pptt_length, node_size, cache_sizes}
@@ -42,10 +43,6 @@ srat_again e low is =
 
 abbrev PpttAgain : pptt.PpttEntry → Type 0
 PpttAgain v = SaysEntry pptt_entry (pptt_bytes v) v
-
-reference_at : (e : List ℕ) (j : ℕ) → field (drop 20 e) (4 * j) 4 ≡ field e (20 + 4 * j) 4
-unfolding field
-reference_at e j = rw (drop-drop (4 * j) 20 e) refl
 
 node_again : (e : List ℕ) → AreByteValues e → IsEntry e → length e ≡ 20 + 4 * pptt.resource_count e
     → PpttAgain (pptt.Node (pptt.node_of e))
@@ -78,7 +75,7 @@ node_again e low is size =
       flags = field e 4 4;
       parent = field e 8 4;
       id = field e 12 4;
-      resources = map (λ j. reference_at e j i) (range_with_len 0 count);
+      resources = map (λ j. references_of e j i) (range_with_len 0 count);
     } in
     subst (λ (v : pptt.NodeValue). PpttAgain (pptt.Node v)) same says
 

@@ -8,6 +8,7 @@ use Rattle.std.proofs.Math.Nat.{pow-succ'}
 use Rattle.std.proofs.lemmas.List.{take_all, drop_all, append-nil}
 use Rattle.acpi_base.specs.Text.ImageText.{Address, Data, digit_of, is_hex_digit, skip_blanks, without_cr, without_comment, form_of, line_of, address_line_of, hex_number, data_from, ended_lines_from, last_line_from}
 use Rattle.acpi_base.specs.Text.WrittenText.{pair, spaced_pairs, row, address_line}
+use Rattle.acpi_base.proofs.Texts.DataLines.{blank_read}
 
 -- a glyph is read as its digit
 pub glyph_read : (d : ℕ) → d < 16 → digit_of (digit_glyph false d) ≡ Some d
@@ -118,10 +119,6 @@ pair_read bytes b rest low =
 data_end : (bytes : List ℕ) → data_from bytes None [] ≡ Data bytes
 unfolding data_from
 data_end bytes = refl
-
-blank_read : (bytes rest : List ℕ) → data_from bytes None (32 ∷ rest) ≡ data_from bytes None rest
-unfolding data_from digit_of
-blank_read bytes rest = refl
 
 spaced_read : (bytes bs : List ℕ) → AllByRecursion (λ b. b < 256) bs
     → data_from bytes None (spaced_pairs bs) ≡ Data (bytes ++ bs)

@@ -12,7 +12,7 @@ use Rattle.acpi_base.specs.Image.Runs.{Run, end_of, IsComplete}
 use Rattle.acpi_base.specs.Text.WrittenText.{AreSortedRuns, with_runs, IsEmptyFrom, row, rows, row_count, address_line, run_lines, line_with_lf, text_of, runs_text, WrittenIsText}
 use Rattle.acpi_base.specs.Text.ImageText.{Line, Blank, Address, Data, Reading, start, on_ok, is_too_long, skip_blanks, form_of, line_of, take_line, read_line, read_lines, ended_lines_from, last_line_from, read_text, IsText}
 use Rattle.acpi_base.specs.declared.text.TextFault.{TextFault}
-use Rattle.acpi_base.proofs.Images.RunMemory.{same_memory}
+use Rattle.acpi_base.proofs.Images.RunMemory.{same_memory, no_bytes}
 use Rattle.acpi_base.proofs.Images.RunBytes.{byte_of-with_bytes_within, byte_of-with_bytes_outside}
 use Rattle.acpi_base.proofs.Images.ByteRuns.{first_of_none}
 use Rattle.acpi_base.proofs.Texts.Written.Lines.{Plain, row_line, row_plain, length-row, address_line_is, ended_line, last_of_line}
@@ -158,11 +158,6 @@ no_lines : (r : Reading) → read_lines r [] ≡ Ok r
 unfolding read_lines
 no_lines r = refl
 
-no_put : (m : Memory) (a : ℕ) (bytes : List ℕ) → length bytes ≡ 0 → m ≡ with_bytes m a bytes
-unfolding with_bytes
-no_put m a [] e = refl
-no_put m a (b ∷ bs) e = absurd (omega arith)
-
 rows_read : (n : ℕ) (r : Reading) (a : ℕ) (bytes : List ℕ) → r.next ≡ Some a → IsEmptyFrom r.image a
     → a + length bytes ≤ 2 ^ 64 → length bytes ≤ 16 * n → 16 * n < length bytes + 16
     → AllByRecursion (λ b. b < 256) bytes
@@ -176,7 +171,7 @@ rows_read zero r a bytes next below fits few many low short =
       reading = r;
       read = no_lines r;
       next_is = next ∙ ap Some here;
-      image_is = no_put r.image a bytes none;
+      image_is = no_bytes r.image a bytes none;
       through_is = omega arith;
     }
 rows_read (suc n) r a bytes next below fits few many low short =

@@ -4,13 +4,9 @@ use Rattle.acpi_base.specs.Codes.{stage_number}
 use Rattle.acpi_base.specs.Faults.{IsFirstFault}
 use Rattle.acpi_base.specs.declared.stage.Stage.{Stage}
 use Rattle.acpi_base.specs.declared.stage.Stage.TheVariants as stage
+use Rattle.acpi_base.proofs.Lint.{up_to_last}
 use Rattle.acpi_check.specs.Headline.{IfNo}
 use Rattle.acpi_cli.proofs.laws.check_and_confirm_agree.Goals as goal
-
--- each stage is one of those up to the last
-up_to_last : (s : Stage) → stage_number s ≤ stage_number stage.Leaves
-up_to_last stage.Rsdp = omega arith
-up_to_last _ = omega arith
 
 pub returns-clause-first : goal.returns-clause-first
 returns-clause-first c = λ reported.

@@ -1,7 +1,8 @@
 use Rattle.std.proofs.Common.{inl, inr, arith}
 use Rattle.acpi_base.specs.Slit.{slit_contents}
-use Rattle.acpi_read.proofs.SlitCells.{slit_size}
-use Rattle.acpi_lint.proofs.SlitFaults.{has_size, size_fault, no_size_fault}
+use Rattle.acpi_base.proofs.Slit.{slit_size}
+use Rattle.acpi_read.proofs.SlitCells.{right_size}
+use Rattle.acpi_lint.proofs.SlitFaults.{size_fault, no_size_fault}
 use Rattle.acpi_lint.proofs.slit.size_place.Goals as goal
 
 pub returns-then-bytes-lt-CELLS : goal.returns-then-bytes-lt-CELLS
@@ -12,7 +13,7 @@ returns-then-bytes-lt-CELLS c =
 pub returns-in-Some : goal.returns-in-Some
 returns-in-Some c =
     let whole = c.args.bytes.now in
-    no_size_fault (slit_contents whole) (inr (has_size whole _ c.in-Some.ensures))
+    no_size_fault (slit_contents whole) (inr (right_size whole _ c.in-Some.ensures))
 
 pub returns-in-None : goal.returns-in-None
 returns-in-None c =
