@@ -6,7 +6,7 @@ use Rattle.std.proofs.lemmas.Bool.{and_parts, leb-true, ltb-true, cases_lt}
 use Rattle.std.proofs.lemmas.List.{length-take-le, length-take, get_or-take, get_or-drop, get_or_past}
 use Rattle.std.proofs.lemmas.List.Sums.{sum_by-cons}
 use Rattle.std.proofs.lemmas.Option.{cond_some}
-use Rattle.acpi_base.specs.Entries.{PlacedEntry, Stands, StandsWith, first_entry, entries_from, entries_of, end_of_entries, cut_of, entries_read_by, EntryKind, IsTypeOf, AreUnused}
+use Rattle.acpi_base.specs.Entries.{PlacedEntry, Stands, StandsWith, first_entry, entries_from, entries_of, end_of_entries, cut_of, entries_read_by, EntryType, IsTypeOf, AreUnused}
 use Rattle.acpi_base.proofs.Faults.Deciding.{Decided, decided_as, both, either, same}
 use Rattle.acpi_base.proofs.Images.PresentBytes.{cases_Option}
 use Rattle.acpi_base.proofs.Elements.{no_element, first_or_later, element_of_map, element_decided, bounded}
@@ -201,7 +201,7 @@ somewhere_decided entries P decide =
     (element_decided entries (λ s. P s.entry) (λ s. decide s.entry))
 
 -- whether one of the kinds has a type
-pub type_decided : {E : Type 0} (kinds : List (EntryKind E)) (type : ℕ) → Decided (IsTypeOf kinds type)
+pub type_decided : {E : Type 0} (kinds : List (EntryType E)) (type : ℕ) → Decided (IsTypeOf kinds type)
 type_decided [] type = inr (λ h. h)
 type_decided (k ∷ kinds) type = either (same type k.type) (type_decided kinds type)
 

@@ -69,33 +69,33 @@ AreUnused other point = (other ≡ 0) × (point ≡ 0)
 -- ---- kinds of entries
 
 -- a kind of entry: its type, its length in bytes, and what an entry of the kind says
-pub record EntryKind (E : Type 0) : Type 0 where
+pub record EntryType (E : Type 0) : Type 0 where
   pub type : ℕ
   pub size : ℕ
   pub read : List ℕ → E
 
 -- the kind with these
-abbrev pub kind : {E : Type 0} → ℕ → ℕ → (List ℕ → E) → EntryKind E
+abbrev pub kind : {E : Type 0} → ℕ → ℕ → (List ℕ → E) → EntryType E
 kind type size read = record { type = type; size = size; read = read }
 
 -- the same kind, whose entries say what they say as one of all that a table's entries can say
-abbrev pub kind_as : {V E : Type 0} → (V → E) → EntryKind V → EntryKind E
+abbrev pub kind_as : {V E : Type 0} → (V → E) → EntryType V → EntryType E
 kind_as variant k = kind k.type k.size (λ e. variant (k.read e))
 
 -- these are the bytes of an entry of the kind that says v
-pub record IsEntryOf {V : Type 0} (k : EntryKind V) (e : List ℕ) (v : V) : Type 0 where
+pub record IsEntryOf {V : Type 0} (k : EntryType V) (e : List ℕ) (v : V) : Type 0 where
   pub count : length e ≡ k.size
   pub typed : slice_index e 0 ≡ k.type
   pub said : slice_index e 1 ≡ k.size
   pub value : k.read e ≡ v
 
 -- what an entry says: as the kind with its type and length does, and where there is none as `opaque` does
-abbrev pub value_of_kind : {E : Type 0} → List (EntryKind E) → (List ℕ → E) → List ℕ → E
+abbrev pub value_of_kind : {E : Type 0} → List (EntryType E) → (List ℕ → E) → List ℕ → E
 value_of_kind [] opaque e = opaque e
 value_of_kind (k ∷ kinds) opaque e = if has_form e k.type k.size then k.read e else value_of_kind kinds opaque e
 
 -- one of the kinds has this type
-abbrev pub IsTypeOf : {E : Type 0} → List (EntryKind E) → ℕ → Type 0
+abbrev pub IsTypeOf : {E : Type 0} → List (EntryType E) → ℕ → Type 0
 IsTypeOf [] type = ⊥
 IsTypeOf (k ∷ kinds) type = (type ≡ k.type) ⊎ IsTypeOf kinds type
 

@@ -1,7 +1,7 @@
 -- The layouts of kinds of entries: type, length, and behind them numbers and reserved bytes.
 use Rattle.std.specs.Prelude.{◌≡◌, ℕ, ◌+◌, ◌<◌, Bool, true, false, List, [], ◌∷◌, length, slice_index}
 use Rattle.acpi_base.specs.Layouts.{Part, NumberOf, Fixed, Reserved, PartValue, Number, layout_size, values_at, layout_bytes, IsOfLayout, HasValues}
-use Rattle.acpi_base.specs.Entries.{EntryKind, IsEntryOf}
+use Rattle.acpi_base.specs.Entries.{EntryType, IsEntryOf}
 
 -- each number of the list is a byte
 abbrev pub AreByteValues : List ℕ → Type 0
@@ -23,7 +23,7 @@ HaveNumbers _ _ = ⊥
 
 -- The layout of a kind: its parts behind the type and the length, and the values that these have of what an entry says.
 pub record KindLayout (V : Type 0) : Type 0 where
-  pub kind : EntryKind V
+  pub kind : EntryType V
   pub rest : List Part
   pub values : V → List PartValue
 
@@ -49,7 +49,7 @@ pub record IsLaidOut {V : Type 0} (l : KindLayout V) : Type 0 where
 
 -- The structures of this layout are the entries of the kind: v has the values of an entry e, a list of bytes, exactly where
 -- the kind reads of e what `say` says of v. All that have the kind's type and length are structures of the layout.
-pub record LaysOut {S V : Type 0} (k : EntryKind V) (parts : List Part) (values : S → List PartValue) (Allows : List ℕ → Type 0) (say : S → V) : Type 0 where
+pub record LaysOut {S V : Type 0} (k : EntryType V) (parts : List Part) (values : S → List PartValue) (Allows : List ℕ → Type 0) (say : S → V) : Type 0 where
   pub reads : (e : List ℕ) (v : S) → HasValues parts e (values v) → IsEntryOf k e (say v)
   pub writes : (e : List ℕ) (v : S) → AreByteValues e → IsEntryOf k e (say v) → HasValues parts e (values v)
   pub formed : (e : List ℕ) → length e ≡ k.size → slice_index e 0 ≡ k.type → slice_index e 1 ≡ k.size → IsOfLayout parts e × Allows e
@@ -57,11 +57,11 @@ pub record LaysOut {S V : Type 0} (k : EntryKind V) (parts : List Part) (values 
 -- ---- of the kinds of a table
 
 -- the bytes that are written for what an entry of the kind says are one of the kind that says the same
-pub record KeepsKind {E : Type 0} (write : E → List ℕ) (k : EntryKind E) : Type 0 where
+pub record KeepsKind {E : Type 0} (write : E → List ℕ) (k : EntryType E) : Type 0 where
   pub count : (e : List ℕ) → length e ≡ k.size → length (write (k.read e)) ≡ k.size
   pub again : (e : List ℕ) → length e ≡ k.size → AreByteValues e → IsEntryOf k (write (k.read e)) (k.read e)
 
 -- of each of the kinds
-abbrev pub KeepKinds : {E : Type 0} → (E → List ℕ) → List (EntryKind E) → Type 0
+abbrev pub KeepKinds : {E : Type 0} → (E → List ℕ) → List (EntryType E) → Type 0
 KeepKinds write [] = Unit {0}
 KeepKinds write (k ∷ kinds) = KeepsKind write k × KeepKinds write kinds

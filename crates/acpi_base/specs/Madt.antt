@@ -3,7 +3,7 @@
 use Rattle.std.specs.Prelude.{◌≡◌, ◌≢◌, ℕ, ◌+◌, ◌/◌, ◌%◌, ◌^◌, ◌<◌, ◌≤◌, ◌⊎◌, List, [], ◌∷◌, length, slice_index, Option, Some, None, true, MatchOption}
 use Rattle.acpi_base.specs.Number.{field}
 use Rattle.acpi_base.specs.Policy.{PolicyValue, inputs_of, counts_as_enabled}
-use Rattle.acpi_base.specs.Entries.{PlacedEntry, Stands, StandsWith, entries_of, cut_of, entries_read_by, EntryKind, kind, kind_as, value_of_kind, IsTypeOf, AreUnused}
+use Rattle.acpi_base.specs.Entries.{PlacedEntry, Stands, StandsWith, entries_of, cut_of, entries_read_by, EntryType, kind, kind_as, value_of_kind, IsTypeOf, AreUnused}
 use Rattle.acpi_base.specs.Overlaps.{IsIntervalOverlap, AreApart, IsFirstIntervalOverlap}
 use Rattle.acpi_base.specs.declared.policy.Processors.{Processors}
 use Rattle.acpi_base.specs.declared.code.Code.{Code}
@@ -17,7 +17,7 @@ pub record LocalApicValue : Type 0 where
   pub apic_id : ℕ
   pub flags : ℕ
 
-abbrev pub local_apic : EntryKind LocalApicValue
+abbrev pub local_apic : EntryType LocalApicValue
 local_apic = kind 0 8 (λ e. record { uid = field e 2 1; apic_id = field e 3 1; flags = field e 4 4 })
 
 -- I/O APIC (5.2.12.3); `gsi_base` is the first interrupt number that it serves
@@ -26,7 +26,7 @@ pub record IoApicValue : Type 0 where
   pub address : ℕ
   pub gsi_base : ℕ
 
-abbrev pub io_apic : EntryKind IoApicValue
+abbrev pub io_apic : EntryType IoApicValue
 io_apic = kind 1 12 (λ e. record { id = field e 2 1; address = field e 4 4; gsi_base = field e 8 4 })
 
 -- Interrupt Source Override (5.2.12.5): the interrupt number of an ISA interrupt
@@ -36,7 +36,7 @@ pub record OverrideValue : Type 0 where
   pub gsi : ℕ
   pub flags : ℕ
 
-abbrev pub override : EntryKind OverrideValue
+abbrev pub override : EntryType OverrideValue
 override = kind 2 10 (λ e. record { bus = field e 2 1; source = field e 3 1; gsi = field e 4 4; flags = field e 8 2 })
 
 -- NMI Source (5.2.12.6): an interrupt number that is an NMI
@@ -44,7 +44,7 @@ pub record NmiSourceValue : Type 0 where
   pub flags : ℕ
   pub gsi : ℕ
 
-abbrev pub nmi_source : EntryKind NmiSourceValue
+abbrev pub nmi_source : EntryType NmiSourceValue
 nmi_source = kind 3 8 (λ e. record { flags = field e 2 2; gsi = field e 4 4 })
 
 -- Local APIC NMI (5.2.12.7); the UID FFh means all processors
@@ -53,14 +53,14 @@ pub record LocalNmiValue : Type 0 where
   pub flags : ℕ
   pub lint : ℕ
 
-abbrev pub local_nmi : EntryKind LocalNmiValue
+abbrev pub local_nmi : EntryType LocalNmiValue
 local_nmi = kind 4 6 (λ e. record { uid = field e 2 1; flags = field e 3 2; lint = field e 5 1 })
 
 -- Local APIC Address Override (5.2.12.8): the address in 64 bits
 pub record AddressOverrideValue : Type 0 where
   pub address : ℕ
 
-abbrev pub address_override : EntryKind AddressOverrideValue
+abbrev pub address_override : EntryType AddressOverrideValue
 address_override = kind 5 12 (λ e. record { address = field e 4 8 })
 
 -- Processor Local x2APIC (5.2.12.12)
@@ -69,7 +69,7 @@ pub record X2apicValue : Type 0 where
   pub flags : ℕ
   pub uid : ℕ
 
-abbrev pub x2apic : EntryKind X2apicValue
+abbrev pub x2apic : EntryType X2apicValue
 x2apic = kind 9 16 (λ e. record { x2apic_id = field e 4 4; flags = field e 8 4; uid = field e 12 4 })
 
 -- Local x2APIC NMI (5.2.12.13); the UID FFFFFFFFh means all processors
@@ -78,7 +78,7 @@ pub record X2apicNmiValue : Type 0 where
   pub uid : ℕ
   pub lint : ℕ
 
-abbrev pub x2apic_nmi : EntryKind X2apicNmiValue
+abbrev pub x2apic_nmi : EntryType X2apicNmiValue
 x2apic_nmi = kind 10 12 (λ e. record { flags = field e 2 2; uid = field e 4 4; lint = field e 8 1 })
 
 -- ---- entries
@@ -97,7 +97,7 @@ pub data MadtEntry : Type 0 where
   Opaque : List ℕ → MadtEntry
 
 -- their kinds
-abbrev pub madt_kinds : List (EntryKind MadtEntry)
+abbrev pub madt_kinds : List (EntryType MadtEntry)
 madt_kinds =
     kind_as LocalApic local_apic ∷
     kind_as IoApic io_apic ∷

@@ -3,7 +3,7 @@
 use Rattle.std.specs.Prelude.{◌≡◌, ◌≢◌, ℕ, ◌+◌, ◌*◌, ◌/◌, ◌≤◌, Bool, List, length, map, slice_get, slice_index, Option, Some, None, ◌||◌, ◌==◌, if◌then◌else◌}
 use Rattle.std.specs.List.{range_with_len}
 use Rattle.acpi_base.specs.Number.{field}
-use Rattle.acpi_base.specs.Entries.{PlacedEntry, Stands, entries_of, cut_of, entries_read_by, has_form, EntryKind, kind, StandsWith}
+use Rattle.acpi_base.specs.Entries.{PlacedEntry, Stands, entries_of, cut_of, entries_read_by, has_form, EntryType, kind, StandsWith}
 use Rattle.acpi_base.specs.Chains.{IsAt, Dangles, NoneDangles, AllEnd, IsCycle, EndOrGoRound}
 use Rattle.acpi_base.specs.declared.code.Code.{Code}
 use Rattle.acpi_base.specs.declared.code.Code.TheVariants as code
@@ -52,10 +52,10 @@ cache_of e =
       id = if length e == 28 then Some (field e 24 4) else None;
     }
 
-abbrev pub cache24 : EntryKind CacheValue
+abbrev pub cache24 : EntryType CacheValue
 cache24 = kind 1 24 cache_of
 
-abbrev pub cache28 : EntryKind CacheValue
+abbrev pub cache28 : EntryType CacheValue
 cache28 = kind 1 28 cache_of
 
 -- what an entry says: one of the above, which is a typed entry, or any other bytes, also those of type 0 or 1 with

@@ -2,7 +2,7 @@
 -- start of the table or of the entry.
 use Rattle.std.specs.Prelude.{◌≡◌, ℕ, suc, ◌+◌, ◌*◌, ◌^◌, ◌<◌, ◌≤◌, ◌⊎◌, Bool, true, false, List, [], ◌∷◌, length, slice_index, Option, Some, None}
 use Rattle.acpi_base.specs.Number.{field, has_bit}
-use Rattle.acpi_base.specs.Entries.{PlacedEntry, Stands, StandsWith, entries_of, cut_of, entries_read_by, EntryKind, kind, kind_as, value_of_kind, IsTypeOf, AreUnused}
+use Rattle.acpi_base.specs.Entries.{PlacedEntry, Stands, StandsWith, entries_of, cut_of, entries_read_by, EntryType, kind, kind_as, value_of_kind, IsTypeOf, AreUnused}
 use Rattle.acpi_base.specs.Overlaps.{IsIntervalOverlap, AreApartBelow, IsFirstIntervalOverlap}
 use Rattle.acpi_base.specs.declared.policy.HotPlug.{HotPlug}
 use Rattle.acpi_base.specs.declared.policy.HotPlug.TheVariants.{Counted, Apart}
@@ -19,7 +19,7 @@ pub record ApicDomainValue : Type 0 where
   pub eid : ℕ
   pub clock_domain : ℕ
 
-abbrev pub apic_domain : EntryKind ApicDomainValue
+abbrev pub apic_domain : EntryType ApicDomainValue
 apic_domain = kind 0 16 (λ e. record {
   domain = field e 2 1 + 256 * field e 9 3;
   apic_id = field e 3 1;
@@ -35,7 +35,7 @@ pub record MemoryValue : Type 0 where
   pub size : ℕ
   pub flags : ℕ
 
-abbrev pub memory_range : EntryKind MemoryValue
+abbrev pub memory_range : EntryType MemoryValue
 memory_range = kind 1 40 (λ e. record { domain = field e 2 4; base = field e 8 8; size = field e 16 8; flags = field e 28 4 })
 
 -- Processor Local x2APIC Affinity (5.2.16.3)
@@ -45,7 +45,7 @@ pub record X2apicDomainValue : Type 0 where
   pub flags : ℕ
   pub clock_domain : ℕ
 
-abbrev pub x2apic_domain : EntryKind X2apicDomainValue
+abbrev pub x2apic_domain : EntryType X2apicDomainValue
 x2apic_domain = kind 2 24 (λ e. record { domain = field e 4 4; x2apic_id = field e 8 4; flags = field e 12 4; clock_domain = field e 16 4 })
 
 -- ---- entries
@@ -59,7 +59,7 @@ pub data SratEntry : Type 0 where
   Opaque : List ℕ → SratEntry
 
 -- their kinds
-abbrev pub srat_kinds : List (EntryKind SratEntry)
+abbrev pub srat_kinds : List (EntryType SratEntry)
 srat_kinds =
     kind_as ApicDomain apic_domain ∷
     kind_as MemoryRange memory_range ∷

@@ -10,7 +10,7 @@ use Rattle.acpi_base.specs.Statements.{AreValidTables, IsClean}
 use Rattle.acpi_base.specs.Tables.{IsTable}
 use Rattle.acpi_read.specs.Fadts.{FacsValue}
 use Rattle.acpi_read.specs.declared.first_tables.Listed.{Listed}
-use Rattle.acpi_check.specs.Tables.{AreFirstTables, IsRootOf}
+use Rattle.acpi_check.specs.TableResults.{AreFirstTables, IsRootOf}
 use Rattle.acpi_check.specs.declared.set.ListedSet.{ListedSet}
 use Rattle.acpi_check.specs.declared.set.CleanSet.{CleanSet}
 

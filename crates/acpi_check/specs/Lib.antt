@@ -1,23 +1,14 @@
 -- What the contracts of the checker cite.
-pub mod ChainCycles
-pub mod ChainIndices
-pub mod ChainNodes
-pub mod CollectedValues
-pub mod Domains
+pub mod Chains
 pub mod EntryPlaces
 pub mod FirstBelow
 pub mod FirstSeen
 pub mod HandedOn
-pub mod Headline
-pub mod Leaves
 pub mod NamedNumbers
-pub mod OffsetSets
 pub mod PassResults
 pub mod Processors
-pub mod RangeKinds
 pub mod RangeSpans
 pub mod ServedGsis
 pub mod Set
 pub mod StageResults
 pub mod TableResults
-pub mod Tables

@@ -1,16 +1,34 @@
--- The contents of a table's entries, collected for a search: ranges as spans, and their first overlap.
-use Rattle.std.specs.Prelude.{◌≡◌, ℕ, ◌+◌, ◌^◌, ◌<◌, ◌&&◌, ◌↔◌, Bool, List, All, Contains, Option, Some, None, nat_lt, if◌then◌else◌}
+-- Ranges of one kind as spans, and their first overlap.
+use Rattle.std.specs.Prelude.{Bool, true, not, ◌≡◌, ℕ, ◌+◌, ◌^◌, ◌<◌, ◌&&◌, ◌↔◌, List, All, Contains, Option, Some, None, nat_lt, if◌then◌else◌}
+use Rattle.acpi_base.specs.Srat.{MemoryValue, is_hot_pluggable, IsAny, IsHotPluggable, IsNotHotPluggable, SratEntry, MemoryRange, SratContents, is_enabled, AreRangesApart, IsFirstOverlap}
+use Rattle.acpi_check.specs.declared.range_kind.RangeKind.{RangeKind}
+use Rattle.acpi_check.specs.declared.range_kind.RangeKind.TheVariants as kind
 use Rattle.std.specs.List.{filter_map}
 use Rattle.acpi_base.specs.Overlaps.{AreApart, IsFirstIntervalOverlap}
 use Rattle.acpi_base.specs.Entries.{PlacedEntry}
 use Rattle.acpi_base.specs.Madt.{MadtEntry, IoApic}
 use Rattle.acpi_base.specs.Policy.{PolicyValue, inputs_of}
-use Rattle.acpi_base.specs.Srat.{SratEntry, MemoryRange, MemoryValue, SratContents, is_enabled, AreRangesApart, IsFirstOverlap}
 use Rattle.acpi_base.specs.declared.policy.HotPlug.{HotPlug}
 use Rattle.acpi_graph.specs.Spans.{NamesDiffer, HasNumber, IfAt}
 use Rattle.acpi_graph.specs.declared.clash.Clash.{Clash}
 use Rattle.acpi_graph.specs.declared.clash.Clash.TheVariants as clash
 use Rattle.acpi_graph.specs.declared.span.Span.{Span}
+
+-- ---- the ranges of each kind
+
+-- whether a range is of the kind
+abbrev pub counts : RangeKind → MemoryValue → Bool
+counts kind.Any v = true
+counts kind.HotPluggable v = is_hot_pluggable v.flags
+counts kind.NotHotPluggable v = not (is_hot_pluggable v.flags)
+
+-- the range is of the kind
+abbrev pub IsOfKind : RangeKind → MemoryValue → Type 0
+IsOfKind kind.Any v = IsAny v
+IsOfKind kind.HotPluggable v = IsHotPluggable v
+IsOfKind kind.NotHotPluggable v = IsNotHotPluggable v
+
+-- ---- the contents of a table's entries, collected for a search: ranges as spans, and their first overlap
 
 -- ---- spans that represent ranges
 

@@ -1,4 +1,7 @@
--- What the result of a stage means.
+-- What the results of one stage and of all stages mean.
+use Rattle.acpi_base.specs.declared.verdict.Verdict.{Verdict}
+use Rattle.acpi_base.specs.declared.verdict.Verdict.TheVariants.{Yes, No}
+use Rattle.acpi_base.specs.declared.witness.Witness.{Witness}
 use Rattle.std.specs.Prelude.{◌≡◌, ◌<◌, ◌≤◌, Result, Ok, Err}
 use Rattle.acpi_base.specs.Memory.{Memory}
 use Rattle.acpi_base.specs.Policy.{PolicyValue}
@@ -7,9 +10,17 @@ use Rattle.acpi_base.specs.Statements.{Holds, CleanBefore, CleanTo}
 use Rattle.acpi_base.specs.Faults.{IsFirstFault}
 use Rattle.acpi_base.specs.declared.stage.Stage.{Stage}
 use Rattle.acpi_base.specs.declared.stage.Stage.TheVariants as stage
-use Rattle.acpi_base.specs.declared.witness.Witness.{Witness}
 use Rattle.acpi_check.specs.declared.refusal.Refusal.{Refusal}
 use Rattle.acpi_check.specs.declared.refusal.Refusal.TheVariants.{Fault, OutOfMemory}
+
+-- ---- what the verdict over all stages means
+
+-- if the verdict is No, P holds for its fault
+abbrev pub IfNo : (Witness → Type 0) → Verdict → Type 0
+IfNo P Yes = Unit {0}
+IfNo P (No w) = P w
+
+-- ---- what the result of a stage means
 
 -- If the result is Ok the stage holds, and P holds for the value; a fault is the first of the set, and one of the
 -- stage's. Stages 1 to 6 never run out of memory.

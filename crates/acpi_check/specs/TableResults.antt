@@ -1,5 +1,13 @@
--- What the result of a stage on the tables that it looks at means.
-use Rattle.std.specs.Prelude.{◌≡◌, ℕ, ◌<◌, ⊤, Result, Ok, Err}
+-- The tables that are passed to a stage, and what its result on them means.
+use Rattle.std.specs.Prelude.{ℕ, ◌≡◌, ◌<◌, ⊤, Result, Ok, Err}
+use Rattle.acpi_base.specs.Memory.{Memory}
+use Rattle.acpi_base.specs.Root.{IsRoot, IsValidRootTable}
+use Rattle.acpi_base.specs.Listed.{IsListed}
+use Rattle.acpi_base.specs.TableKinds.{signature_of}
+use Rattle.acpi_base.specs.declared.table_kind.TableKind.{TableKind}
+use Rattle.acpi_read.specs.FirstTables.{first_table}
+use Rattle.acpi_read.specs.Roots.{RootValue}
+use Rattle.acpi_read.specs.declared.first_tables.FirstTables.{FirstTables}
 use Rattle.acpi_base.specs.Codes.{stage_number, stage_of}
 use Rattle.acpi_base.specs.Faults.{NotAfter}
 use Rattle.acpi_base.specs.declared.code.Code.{Code}
@@ -7,6 +15,19 @@ use Rattle.acpi_base.specs.declared.stage.Stage.{Stage}
 use Rattle.acpi_base.specs.declared.witness.Witness.{Witness}
 use Rattle.acpi_check.specs.declared.refusal.Refusal.{Refusal}
 use Rattle.acpi_check.specs.declared.refusal.Refusal.TheVariants.{Fault, OutOfMemory}
+
+-- ---- the tables that are passed to a stage
+
+-- the set's root table
+pub record IsRootOf (m : Memory) (p : ℕ) (root : RootValue) : Type 0 where
+  pub named : IsRoot m p root.address root.width
+  pub valid : IsValidRootTable m root.address root.width root.bytes
+
+-- the first table of each kind that the set lists
+pub record AreFirstTables (m : Memory) (p : ℕ) (firsts : FirstTables) : Type 0 where
+  pub each : (kind : TableKind) → IsListed m p (signature_of kind) (first_table firsts kind)
+
+-- ---- what the result of a stage on the tables that it looks at means
 
 -- w is a fault of the stage by `IsFault`, and comes after no other
 pub record IsFirstOfTable (s : Stage) (IsFault : Code → ℕ → ℕ → ℕ → Type 0) (w : Witness) : Type 0 where

@@ -4,10 +4,8 @@ ghost use Rattle.std.specs.Prelude.{◌≡◌, AllPairs, IfOk, ◌<◌};
 ghost use Rattle.acpi_base.specs.Pptt.{pptt_contents, AreReferencesValid, DoParentsEnd, DoCachesEnd, ParentFault, CacheFault};
 ghost use Rattle.acpi_base.specs.declared.stage.Stage.{Stage};
 ghost use Rattle.acpi_read.specs.Pptts.{pptt_value};
-ghost use Rattle.acpi_check.specs.ChainIndices.{IsIndexOf};
+ghost use Rattle.acpi_check.specs.Chains.{IsIndexOf, AreNodesOf, AreIndices, named_offset, code_of, FindsCycle};
 ghost use Rattle.acpi_check.specs.TableResults.{FindsFirst};
-ghost use Rattle.acpi_check.specs.ChainNodes.{AreNodesOf, AreIndices};
-ghost use Rattle.acpi_check.specs.ChainCycles.{named_offset, code_of, FindsCycle};
 
 use crate::nodes::{Chain, Nodes};
 use crate::refusal::{Refusal, refuse};

@@ -6,7 +6,7 @@ ghost use Rattle.acpi_base.specs.Madt.{madt_contents};
 ghost use Rattle.acpi_base.specs.Srat.{srat_contents, PutsIn};
 ghost use Rattle.acpi_base.specs.declared.stage.Stage.{Stage};
 ghost use Rattle.acpi_read.specs.Srats.{srat_value};
-ghost use Rattle.acpi_check.specs.Domains.{placement_of, PutsPlaced};
+ghost use Rattle.acpi_check.specs.Processors.{placement_of, PutsPlaced};
 ghost use Rattle.acpi_check.specs.FirstSeen.{IsGiven, FindsOther};
 ghost use Rattle.acpi_check.specs.TableResults.{FindsFirst};
 

@@ -6,7 +6,7 @@ ghost use Rattle.acpi_base.specs.Statements.{CleanBefore};
 ghost use Rattle.acpi_base.specs.Memory.{Memory};
 ghost use Rattle.acpi_base.specs.declared.stage.Stage.{Stage};
 ghost use Rattle.acpi_check.specs.StageResults.{Reads};
-ghost use Rattle.acpi_check.specs.Tables.{AreFirstTables};
+ghost use Rattle.acpi_check.specs.TableResults.{AreFirstTables};
 
 use acpi_base::{Code, TableKind, Witness};
 use acpi_read::{Fadt, FirstTables};

@@ -8,7 +8,7 @@ ghost use Rattle.acpi_base.specs.declared.code.Code.{Code};
 ghost use Rattle.acpi_base.specs.declared.stage.Stage.{Stage};
 ghost use Rattle.acpi_read.specs.Madts.{madt_value};
 ghost use Rattle.acpi_read.specs.Pptts.{pptt_value};
-ghost use Rattle.acpi_check.specs.Leaves.{has_known_type, leaf_id};
+ghost use Rattle.acpi_check.specs.Processors.{has_known_type, leaf_id};
 ghost use Rattle.acpi_check.specs.NamedNumbers.{IsKnown, IsUnknown, FindsUnknown};
 ghost use Rattle.acpi_check.specs.TableResults.{FindsFirst};
 

@@ -7,8 +7,7 @@ ghost use Rattle.acpi_base.specs.declared.code.Code.{Code};
 ghost use Rattle.acpi_base.specs.declared.stage.Stage.{Stage};
 ghost use Rattle.acpi_read.specs.Srats.{srat_value};
 ghost use Rattle.acpi_check.specs.TableResults.{Finds, IsOverlap};
-ghost use Rattle.acpi_check.specs.RangeSpans.{span_value, covered_span, earlier_clash, AreSpansOf, BeginLow, HasLowPoint, IsOverlapResult, IsRangesResult};
-ghost use Rattle.acpi_check.specs.RangeKinds.{counts, IsOfKind};
+ghost use Rattle.acpi_check.specs.RangeSpans.{span_value, covered_span, earlier_clash, AreSpansOf, BeginLow, HasLowPoint, IsOverlapResult, IsRangesResult, counts, IsOfKind};
 
 use crate::collecting::collected;
 use crate::range_kind::RangeKind;

@@ -8,7 +8,7 @@ ghost use Rattle.acpi_base.specs.Statements.{CleanBefore};
 ghost use Rattle.acpi_base.specs.declared.stage.Stage.{Stage};
 ghost use Rattle.acpi_base.specs.declared.code.Code.{Code};
 ghost use Rattle.acpi_check.specs.StageResults.{Reads};
-ghost use Rattle.acpi_check.specs.Tables.{IsRootOf};
+ghost use Rattle.acpi_check.specs.TableResults.{IsRootOf};
 
 use acpi_base::{Code, Image, Witness};
 use acpi_read::{Root, Rsdp};

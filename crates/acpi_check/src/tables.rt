@@ -5,7 +5,7 @@ ghost use Rattle.acpi_base.specs.Policy.{PolicyValue};
 ghost use Rattle.acpi_base.specs.Statements.{CleanBefore};
 ghost use Rattle.acpi_base.specs.declared.stage.Stage.{Stage};
 ghost use Rattle.acpi_check.specs.StageResults.{Reads};
-ghost use Rattle.acpi_check.specs.Tables.{AreFirstTables, IsRootOf};
+ghost use Rattle.acpi_check.specs.TableResults.{AreFirstTables, IsRootOf};
 
 use acpi_base::{Code, Image, Witness};
 use acpi_read::{FirstTables, Listed, Root, Table};

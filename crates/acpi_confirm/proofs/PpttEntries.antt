@@ -11,7 +11,7 @@ use Rattle.acpi_base.proofs.Pptt.Places.{size_is}
 use Rattle.acpi_confirm.specs.Links.{Names, named_offset}
 use Rattle.acpi_confirm.specs.Walks.{IsOnly}
 use Rattle.acpi_confirm.specs.declared.pptt.Chain.{Chain}
-use Rattle.acpi_confirm.specs.declared.pptt.Chain.TheVariants.{Parent, NextLevel}
+use Rattle.acpi_confirm.specs.declared.pptt.Chain.TheVariants.{Parents, NextLevels}
 
 form_type : (e : List ℕ) (type size : ℕ) → has_form e type size ≡ true → slice_index e 0 ≡ type
 unfolding has_form
@@ -74,5 +74,5 @@ pub ruleset resources = (resource_is, no_resource, node_size)
 -- what an entry names by a chain is all that is named there
 pub names_of : (chain : Chain) (c : PpttContents) (at : ℕ) (only : Option ℕ)
     → IsOnly (λ p. StandsWith c.entries at (λ e. named_offset chain e ≡ Some p)) only → IsOnly (Names chain c at) only
-names_of Parent c at only is = is
-names_of NextLevel c at only is = is
+names_of Parents c at only is = is
+names_of NextLevels c at only is = is

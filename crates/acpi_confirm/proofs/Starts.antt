@@ -2,8 +2,7 @@
 use Rattle.std.proofs.Common.{◌≤◌, ℕ, List, Option, length, sym, subst, inl, inr, arith}
 use Rattle.acpi_base.specs.Entries.{entries_of}
 use Rattle.acpi_base.proofs.Elements.{first_element}
-use Rattle.acpi_confirm.specs.Starts.{HasEntryAt, AreStarts, AreNotedWith}
-use Rattle.acpi_confirm.specs.Walks.{IsThere, IsNext}
+use Rattle.acpi_confirm.specs.Walks.{HasEntryAt, AreStarts, AreNotedWith, IsThere, IsNext}
 use Rattle.acpi_confirm.proofs.Chains.{ahead}
 use Rattle.acpi_confirm.proofs.Walks.{IsOver}
 

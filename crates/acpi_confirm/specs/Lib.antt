@@ -4,5 +4,4 @@ pub mod Links
 pub mod Madts
 pub mod Roots
 pub mod Srats
-pub mod Starts
 pub mod Walks

@@ -25,9 +25,9 @@ pub(crate) const FIRST_ENTRY: usize = 36;
 #[derive(Clone, Copy)]
 enum Chain {
     /// From a node to its Parent.
-    Parent,
+    Parents,
     /// From a cache to its Next Level of Cache.
-    NextLevel,
+    NextLevels,
 }
 
 /// Whether an entry is a node: type 0, 20 bytes and 4 for each private resource.

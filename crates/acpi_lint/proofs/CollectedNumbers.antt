@@ -7,13 +7,12 @@ use Rattle.std.proofs.lemmas.Option.{same_Some}
 use denote.Ref.{Bor}
 use Rattle.acpi_base.specs.Entries.{PlacedEntry}
 use Rattle.acpi_base.specs.Lint.Numbered.{NamesAt, IsNamed, IsLater, Repeats}
-use Rattle.acpi_read.specs.TypedEntries.{entry_at_value}
+use Rattle.acpi_read.specs.Entries.{entry_at_value}
 use Rattle.acpi_read.specs.declared.typed_entries.EntryAt.{EntryAt}
-use Rattle.acpi_check.specs.CollectedValues.{Picks, Collects}
+use Rattle.acpi_check.specs.PassResults.{Picks, Collects}
 use Rattle.acpi_check.proofs.EntryPasses.Collecting.{are_collected, gathered_same, itself}
 use Rattle.acpi_check.proofs.EntryPasses.Kept.{AreRising, kept_has, kept_from, keys_rise}
-use Rattle.acpi_lint.specs.EntryNumbers.{FindsRepeated, AreGathered}
-use Rattle.acpi_lint.specs.KnownNumbers.{AreKnown}
+use Rattle.acpi_lint.specs.EntryNumbers.{FindsRepeated, AreGathered, AreKnown}
 use Rattle.acpi_lint.specs.Numbered.{at_place, HasAt, AreNumbersAt}
 use Rattle.acpi_lint.specs.Places.{FindsLeast}
 use Rattle.acpi_lint.specs.declared.numbered.Numbered.{Numbered}

@@ -12,9 +12,7 @@ use Rattle.acpi_read.specs.declared.entry_codes.Subject.{Subject}
 use Rattle.acpi_read.specs.declared.entry_codes.Subject.TheVariants.{Second, Own}
 use Rattle.acpi_check.proofs.EntryPasses.Kept.{rising}
 use Rattle.acpi_check.proofs.EntryPasses.Passes.{none_said}
-use Rattle.acpi_lint.specs.EntryPlaces.{IsSoughtEntry}
-use Rattle.acpi_lint.specs.FirstPicked.{PicksFirst, FindsOwn}
-use Rattle.acpi_lint.specs.Places.{FindsLeast}
+use Rattle.acpi_lint.specs.Places.{IsSoughtEntry, PicksFirst, FindsOwn, FindsLeast}
 use Rattle.acpi_lint.specs.declared.passes.SoughtEntry.{SoughtEntry}
 use Rattle.acpi_lint.specs.declared.passes.SoughtEntry.TheVariants as sought
 use Rattle.acpi_lint.specs.declared.place.Place.{Place}

@@ -5,8 +5,7 @@ use Rattle.acpi_base.specs.Memory.{Memory}
 use Rattle.acpi_base.specs.Policy.{PolicyValue}
 use Rattle.acpi_base.specs.declared.code.Code.{Code}
 use Rattle.acpi_base.specs.declared.stage.Stage.TheVariants as stage
-use Rattle.acpi_lint.specs.FacsPlaces.{IsFacsFaultOf}
-use Rattle.acpi_lint.specs.Places.{FindsLeast}
+use Rattle.acpi_lint.specs.Places.{IsFacsFaultOf, FindsLeast}
 use Rattle.acpi_lint.specs.StageFaults.{IsFaultOfStage}
 use Rattle.acpi_lint.specs.declared.place.Place.{Place}
 use Rattle.acpi_lint.proofs.LeastPlaces.{least_as}

@@ -11,8 +11,7 @@ use Rattle.acpi_base.specs.declared.stage.Stage.TheVariants as stage
 use Rattle.acpi_base.proofs.Root.Slots.{slot_of_root, root_slot}
 use Rattle.acpi_base.proofs.Tables.Listed.{none_in_root}
 use Rattle.acpi_read.specs.Roots.{RootValue, IsCompleteRoot}
-use Rattle.acpi_lint.specs.FadtPlaces.{IsFadtFault}
-use Rattle.acpi_lint.specs.Places.{FindsLeast}
+use Rattle.acpi_lint.specs.Places.{IsFadtFault, FindsLeast}
 use Rattle.acpi_lint.specs.Slots.{FindsSlot}
 use Rattle.acpi_lint.specs.StageFaults.{IsFaultOfStage}
 use Rattle.acpi_lint.specs.declared.listed_slots.Slot.{Slot}

@@ -4,13 +4,12 @@ use Rattle.std.specs.Prelude.{◌⊎◌, Contains}
 use denote.Ref.{Bor}
 use Rattle.acpi_base.specs.Entries.{PlacedEntry, Stands, StandsWith}
 use Rattle.acpi_base.proofs.Elements.{first_element, later_element, first_or_later, no_element}
-use Rattle.acpi_read.specs.TypedEntries.{entry_at_value}
+use Rattle.acpi_read.specs.Entries.{entry_at_value}
 use Rattle.acpi_read.specs.declared.typed_entries.EntryAt.{EntryAt}
-use Rattle.acpi_check.specs.CollectedValues.{Picks}
+use Rattle.acpi_check.specs.PassResults.{Picks}
 use Rattle.acpi_check.proofs.EntryPasses.Kept.{AreRising}
 use Rattle.acpi_check.proofs.EntryPasses.Passes.{none_passed, left_behind}
-use Rattle.acpi_lint.specs.FirstPicked.{PicksFirst, FindsOwn}
-use Rattle.acpi_lint.specs.Places.{IsLeast, FindsLeast}
+use Rattle.acpi_lint.specs.Places.{PicksFirst, FindsOwn, IsLeast, FindsLeast}
 use Rattle.acpi_lint.specs.declared.place.Place.{Place}
 
 -- an entry stands at `at` that is at fault with these two numbers

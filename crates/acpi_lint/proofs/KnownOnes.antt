@@ -6,7 +6,7 @@ use Rattle.acpi_base.specs.Entries.{PlacedEntry}
 use Rattle.acpi_base.specs.Lint.Numbered.{IsNamed}
 use Rattle.acpi_base.proofs.Elements.{first_element, later_element, first_or_later, no_element, element_of_map}
 use Rattle.acpi_check.proofs.EntryPasses.Kept.{kept_has, kept_from, map_has}
-use Rattle.acpi_lint.specs.KnownNumbers.{AreKnown}
+use Rattle.acpi_lint.specs.EntryNumbers.{AreKnown}
 use Rattle.acpi_lint.specs.Numbered.{at_place, AreNumbersAt}
 use Rattle.acpi_lint.specs.declared.numbered.Numbered.{Numbered}
 use Rattle.acpi_lint.proofs.SameNumbers.{has_at}

@@ -19,14 +19,13 @@ use Rattle.acpi_base.specs.Srat.{SratEntry, srat_contents}
 use Rattle.acpi_base.specs.declared.table_kind.TableKind.TheVariants as kind
 use Rattle.acpi_base.proofs.Faults.ListedTables.{of_listed}
 use Rattle.acpi_read.specs.Slits.{HasRows}
-use Rattle.acpi_read.specs.TypedEntries.{entry_at_value}
+use Rattle.acpi_read.specs.Entries.{entry_at_value}
 use Rattle.acpi_read.specs.declared.typed_entries.EntryAt.{EntryAt}
-use Rattle.acpi_check.specs.CollectedValues.{Picks}
+use Rattle.acpi_check.specs.PassResults.{Picks}
 use Rattle.acpi_check.proofs.EntryPasses.Kept.{AreRising, madt_rising, srat_rising, pptt_rising}
 use Rattle.acpi_lint.specs.EntryNumbers.{FindsRepeated}
-use Rattle.acpi_lint.specs.FirstPicked.{PicksFirst, FindsOwn}
+use Rattle.acpi_lint.specs.Places.{PicksFirst, FindsOwn, FindsLeast}
 use Rattle.acpi_lint.specs.Numbered.{at_place}
-use Rattle.acpi_lint.specs.Places.{FindsLeast}
 use Rattle.acpi_lint.specs.CompleteTables.{IsFound, IsLong, AreEntries, AreCompleteTables}
 use Rattle.acpi_lint.specs.declared.numbered.Numbered.{Numbered}
 use Rattle.acpi_lint.specs.declared.place.Place.{Place}

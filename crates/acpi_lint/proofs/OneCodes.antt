@@ -21,15 +21,14 @@ use Rattle.acpi_base.specs.declared.stage.Stage.TheVariants as stage
 use Rattle.acpi_base.specs.declared.witness.Witness.{Witness}
 use Rattle.acpi_base.proofs.Faults.ListedTables.{of_listed}
 use Rattle.acpi_base.proofs.Srat.Ranges.{is_overlap}
-use Rattle.acpi_check.specs.ChainCycles.{Names, most_of, code_of, FindsCycle}
+use Rattle.acpi_check.specs.Chains.{Names, most_of, code_of, FindsCycle}
 use Rattle.acpi_check.specs.TableResults as results
 use Rattle.acpi_check.specs.TableResults.{Finds}
 use Rattle.acpi_check.specs.declared.nodes.Chain.{Chain}
 use Rattle.acpi_check.specs.declared.refusal.Refusal.{Refusal}
 use Rattle.acpi_check.specs.declared.refusal.Refusal.TheVariants as refusal
 use Rattle.acpi_lint.specs.Places.{IsLeast}
-use Rattle.acpi_lint.specs.StageFaults.{FindsFirstAt}
-use Rattle.acpi_lint.specs.Verdicts.{IsPlaceOf}
+use Rattle.acpi_lint.specs.StageFaults.{FindsFirstAt, IsPlaceOf}
 use Rattle.acpi_lint.specs.CompleteTables.{IsFound, IsLong}
 use Rattle.acpi_lint.specs.declared.place.Place.{Place}
 use Rattle.acpi_lint.proofs.ShortTables.{no_madt_entry, no_srat_entry}

@@ -2,7 +2,7 @@
 use Rattle.std.proofs.Common.{◌≡◌, List, [], ◌∷◌, Option, Some, None, refl, inl, inr}
 use Rattle.std.specs.Prelude.{Contains}
 use Rattle.acpi_base.proofs.Elements.{later_element}
-use Rattle.acpi_lint.specs.FirstPicked.{PicksFirst}
+use Rattle.acpi_lint.specs.Places.{PicksFirst}
 
 -- what is picked first of those left is picked first of all
 pub record IsPicking {S T : Type 0} (Gives : S → Option T → Type 0) (all left : List S) : Type 0 where

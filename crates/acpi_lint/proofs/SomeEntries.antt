@@ -6,9 +6,9 @@ use denote.Ref.{Bor}
 use Rattle.acpi_base.specs.Entries.{PlacedEntry, StandsWith}
 use Rattle.acpi_base.proofs.Elements.{first_element, later_element, first_or_later, no_element}
 use Rattle.acpi_read.specs.declared.typed_entries.EntryAt.{EntryAt}
-use Rattle.acpi_check.specs.CollectedValues.{Picks}
-use Rattle.acpi_lint.specs.FirstPicked.{PicksFirst}
-use Rattle.acpi_lint.specs.KnownNumbers.{IsAnyNamed}
+use Rattle.acpi_check.specs.PassResults.{Picks}
+use Rattle.acpi_lint.specs.Places.{PicksFirst}
+use Rattle.acpi_lint.specs.EntryNumbers.{IsAnyNamed}
 
 -- something is given of an entry exactly where this holds of it
 abbrev GivesWhere : {S T : Type 0} → (S → Option T → Type 0) → (S → Type 0) → Type 0

@@ -10,7 +10,7 @@ use Rattle.acpi_check.specs.TableResults.{FindsFirst}
 use Rattle.acpi_check.specs.declared.refusal.Refusal.{Refusal}
 use Rattle.acpi_check.specs.declared.refusal.Refusal.TheVariants.{Fault}
 use Rattle.acpi_lint.specs.Places.{IsNotAfter, FindsLeast}
-use Rattle.acpi_lint.specs.Verdicts.{IsPlaceOf}
+use Rattle.acpi_lint.specs.StageFaults.{IsPlaceOf}
 use Rattle.acpi_lint.specs.declared.place.Place.{Place}
 
 -- the place of a witness

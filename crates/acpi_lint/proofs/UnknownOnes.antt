@@ -13,11 +13,9 @@ use Rattle.acpi_base.specs.Lint.Processors.{Processor, is_gicc, apic_id_on, gicc
 use Rattle.acpi_base.specs.Madt as madt
 use Rattle.acpi_base.specs.Number.{field, has_bit}
 use Rattle.acpi_base.specs.Srat as srat
-use Rattle.acpi_lint.specs.FirstPicked.{FindsOwn}
-use Rattle.acpi_lint.specs.KnownNumbers.{AreKnown}
+use Rattle.acpi_lint.specs.Places.{FindsOwn, FindsLeast}
+use Rattle.acpi_lint.specs.EntryNumbers.{AreKnown, IsUnknown, IsUnknownOf, IsUnknownAt, IsWhereRead}
 use Rattle.acpi_lint.specs.Numbered.{at_place, AreNumbersAt}
-use Rattle.acpi_lint.specs.Places.{FindsLeast}
-use Rattle.acpi_lint.specs.UnknownNumbers.{IsUnknown, IsUnknownOf, IsUnknownAt, IsWhereRead}
 use Rattle.acpi_lint.specs.declared.numbered.Numbered.{Numbered}
 use Rattle.acpi_lint.specs.declared.place.Place.{Place}
 use Rattle.acpi_lint.proofs.FirstEntries.{IsFaultAt}

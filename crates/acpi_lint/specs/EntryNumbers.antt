@@ -1,16 +1,21 @@
--- Numbers that are read from entries.
-use Rattle.std.specs.Prelude.{◌<◌, ◌↔◌, ℕ, List, AllPairs, Contains, Option, option_map}
+-- Numbers that are read from entries, those that are looked up, and those that are not known.
+use Rattle.std.specs.Prelude.{◌<◌, ◌↔◌, ℕ, List, AllPairs, Contains, Option, option_map, ◌≡◌, ◌⊎◌, Some, None, MatchOption}
 use Rattle.std.specs.Option.{option_and_then}
 use Rattle.acpi_base.specs.Lint.Processors as said
-use Rattle.acpi_base.specs.Lint.Processors.{placed_uid, processor_domain}
+use Rattle.acpi_base.specs.Lint.Processors.{placed_uid, processor_domain, apic_id_on, gicc_uid_on, placed_apic_id, AreProcessorsRead}
 use Rattle.acpi_base.specs.Srat.{SratEntry}
-use Rattle.acpi_check.specs.CollectedValues.{Collects}
+use Rattle.acpi_check.specs.PassResults.{Collects}
 use Rattle.acpi_lint.specs.Numbered.{IsUnlikeAt}
 use Rattle.acpi_lint.specs.Places.{FindsLeast}
 use Rattle.acpi_lint.specs.declared.numbered.Numbered.{Numbered}
 use Rattle.acpi_lint.specs.declared.numbered.Order.TheVariants.{Later}
 use Rattle.acpi_lint.specs.declared.place.Place.{Place}
 use Rattle.acpi_lint.specs.declared.processors.Processor.{Processor}
+use Rattle.acpi_base.specs.Entries.{PlacedEntry}
+use Rattle.acpi_base.specs.Lint.Numbered.{IsNamed}
+use Rattle.acpi_base.specs.Madt.{MadtEntry, MadtContents}
+
+-- ---- numbers that are read from entries
 
 -- the processor that a struct describes
 abbrev pub processor_value : Processor → said.Processor
@@ -33,3 +38,44 @@ abbrev pub AreGathered : {S : Type 0} → (S → Option ℕ → Type 0) → List
 AreGathered Gives entries known =
     AllPairs (λ i j. i < j) known
     × ((given : List ℕ) × Collects Gives entries given × ((n : ℕ) → Contains known n ↔ Contains given n))
+
+-- ---- numbers that are looked up
+
+-- the numbers rise, and are those for which `IsKnown` holds
+pub record AreKnown (IsKnown : ℕ → Type 0) (numbers : List ℕ) : Type 0 where
+  pub rise : AllPairs (λ i j. i < j) numbers
+  pub all : (n : ℕ) → Contains numbers n ↔ IsKnown n
+
+-- `read` gives a number for an entry
+abbrev pub IsAnyNamed : {E : Type 0} → (E → Option ℕ) → List (PlacedEntry E) → Type 0
+IsAnyNamed read entries = (n : ℕ) × IsNamed read entries n
+
+-- ---- numbers that are not among the known ones
+
+-- the number at `at`, if any, is `point`, which is not among the known ones
+abbrev pub IsUnknown : List ℕ → ℕ → Option ℕ → ℕ → ℕ → Type 0
+IsUnknown known at number other point = (number ≡ Some point) × (¬ Contains known point) × (other ≡ 0)
+
+-- the same for the number that `read` gives for an entry at `at`
+abbrev pub IsUnknownOf : {E : Type 0} → (E → Option ℕ) → List ℕ → ℕ → E → ℕ → ℕ → Type 0
+IsUnknownOf read known at e other point = IsUnknown known at (read e) other point
+
+-- the affinity is for an APIC ID or x2APIC ID that is not among these, or for a UID that is not among those
+abbrev pub IsUnknownAffinity : List ℕ → List ℕ → ℕ → SratEntry → ℕ → ℕ → Type 0
+IsUnknownAffinity ids uids at e other point =
+    IsUnknown ids at (placed_apic_id e) other point ⊎ IsUnknown uids at (placed_uid e) other point
+
+-- the same for a processor that is on, for a GIC CPU interface by its UID
+abbrev pub IsUnplaced : List ℕ → List ℕ → ℕ → MadtEntry → ℕ → ℕ → Type 0
+IsUnplaced ids uids at e other point =
+    IsUnknown ids at (apic_id_on e) other point ⊎ IsUnknown uids at (gicc_uid_on e) other point
+
+-- one of these numbers is at `at` and is not among the known ones
+abbrev pub IsUnknownAt : List ℕ → List Numbered → ℕ → ℕ → ℕ → Type 0
+IsUnknownAt known given at other point =
+    (g : Numbered) × Contains given g × (g.at ≡ at) × IsUnknown known at (Some g.number) other point
+
+-- the place, if the rules read all processors of the MADT
+abbrev pub IsWhereRead : MadtContents → Option Place → Option Place → Type 0
+IsWhereRead c None found = found ≡ None
+IsWhereRead c (Some p) found = MatchOption found (¬ AreProcessorsRead c) (λ r. (r ≡ p) × AreProcessorsRead c)

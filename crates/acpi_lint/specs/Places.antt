@@ -1,7 +1,20 @@
--- Places of findings, and the lowest of them.
-use Rattle.std.specs.Prelude.{◌≡◌, ℕ, List, [], ◌∷◌, Option, Some, None}
+-- Places of findings: the lowest, the first of a table's entries, and those of the FADT, the FACS and the SLIT.
+use Rattle.std.specs.Prelude.{◌≡◌, ℕ, List, [], ◌∷◌, Option, Some, None, ◌<◌, ◌≤◌, ◌⊎◌, ◌+◌, ◌*◌, length}
 use Rattle.acpi_base.specs.Order.{AreNotAfter}
 use Rattle.acpi_lint.specs.declared.place.Place.{Place}
+use Rattle.acpi_base.specs.Entries.{PlacedEntry, AreUnused}
+use Rattle.acpi_read.specs.EntryTables.{EntryTable}
+use Rattle.acpi_lint.specs.declared.passes.SoughtEntry.{SoughtEntry}
+use Rattle.acpi_lint.specs.declared.passes.SoughtEntry.TheVariants as sought
+use Rattle.acpi_base.specs.Fadt.{gas_at, FadtTableFault}
+use Rattle.acpi_base.specs.Lint.FadtAdvice.{DoFieldsDiffer}
+use Rattle.acpi_base.specs.declared.code.Code.{Code}
+use Rattle.acpi_base.specs.Facs.{NamedFacsFault}
+use Rattle.acpi_base.specs.Memory.{Memory}
+use Rattle.acpi_base.specs.Slit.{SlitContents, HasSlitSize}
+use Rattle.acpi_base.specs.Lint.SlitAdvice.{IsSlitDiffers}
+
+-- ---- places of findings, and the lowest of them
 
 -- the place comes before these numbers in the order of findings, or is equal to them
 abbrev pub IsNotAfter : Place → ℕ → ℕ → ℕ → Type 0
@@ -16,3 +29,64 @@ pub record IsLeast (P : ℕ → ℕ → ℕ → Type 0) (p : Place) : Type 0 whe
 abbrev pub FindsLeast : (ℕ → ℕ → ℕ → Type 0) → Option Place → Type 0
 FindsLeast P None = (at other point : ℕ) → ¬ P at other point
 FindsLeast P (Some p) = IsLeast P p
+
+-- ---- what is picked from the entries of a table: the first place
+
+-- the result of `Gives` for the first of these for which it gives something, or nothing if it gives nothing for any
+unfoldable pub PicksFirst : {S T : Type 0} → (S → Option T → Type 0) → List S → Option T → Type 0
+PicksFirst Gives [] found = found ≡ None
+PicksFirst {S} {T} Gives (s ∷ left) None = Gives s None × PicksFirst Gives left None
+PicksFirst {S} {T} Gives (s ∷ left) (Some value) =
+    Gives s (Some value) ⊎ (Gives s None × PicksFirst Gives left (Some value))
+
+-- the entry has no such fault, or this is the lowest place of those at its offset: `IsFault o e other point` says
+-- that an entry e at o is at fault with these two numbers
+abbrev pub FindsOwn : {E : Type 0} → (ℕ → E → ℕ → ℕ → Type 0) → PlacedEntry E → Option Place → Type 0
+FindsOwn IsFault s None = (other point : ℕ) → ¬ IsFault s.offset s.entry other point
+FindsOwn IsFault s (Some p) =
+    (p.at ≡ s.offset) × IsFault s.offset s.entry p.other p.point
+    × ((other point : ℕ) → IsFault s.offset s.entry other point → (p.other < other) ⊎ ((p.other ≡ other) × (p.point ≤ point)))
+
+-- ---- where the entries are that are looked for in a table
+
+-- the entry, which is at `at`, is looked for
+abbrev pub IsSoughtEntry : {E : Type 0} → EntryTable E → SoughtEntry → ℕ → E → ℕ → ℕ → Type 0
+IsSoughtEntry t (sought.Own code) at e other point = t.IsOwn code e × AreUnused other point
+IsSoughtEntry t sought.Single at e other point = t.IsSingle e × AreUnused other point
+IsSoughtEntry t (sought.SingleAfter first) at e other point = t.IsSingle e × (first < at) × (other ≡ first) × (point ≡ 0)
+
+-- ---- where a FADT is at fault, and where its fields disagree (ACPI 6.5, 5.2.9)
+
+-- the table has the fault with this code, which is reported at the offset `at`
+abbrev pub IsFadtFault : List ℕ → Code → ℕ → ℕ → ℕ → Type 0
+IsFadtFault whole fault at other point = FadtTableFault whole fault at × AreUnused other point
+
+-- `at` is the offset of the 4-byte field at `narrow`, which differs from the 8-byte field at `wide`
+abbrev pub AreTwoFields : List ℕ → ℕ → ℕ → ℕ → ℕ → ℕ → Type 0
+AreTwoFields whole narrow wide at other point = (at ≡ narrow) × DoFieldsDiffer whole narrow wide other point
+
+-- `at` is the offset of the 4-byte address of register block k, which differs from that of its X_ structure, in
+-- system I/O
+abbrev pub IsBlock : List ℕ → ℕ → ℕ → ℕ → ℕ → Type 0
+IsBlock whole k at other point =
+    ((gas_at whole (148 + 12 * k)).space ≡ 1) × AreTwoFields whole (56 + 4 * k) (152 + 12 * k) at other point
+
+-- ---- where the FACS that a FADT names is at fault (ACPI 6.5, 5.2.10)
+
+-- the FACS that these bytes of a FADT name has the fault with this code, which is reported at `at`
+abbrev pub IsFacsFault : Memory → List ℕ → Code → ℕ → ℕ → ℕ → Type 0
+IsFacsFault m fadt fault at other point = NamedFacsFault m fadt fault at × AreUnused other point
+
+-- the same, if the FADT has at least 116 bytes
+abbrev pub IsFacsFaultOf : Memory → List ℕ → Code → ℕ → ℕ → ℕ → Type 0
+IsFacsFaultOf m fadt fault at other point = (116 ≤ length fadt) × IsFacsFault m fadt fault at other point
+
+-- ---- where distances of a SLIT differ from those in the other direction (ACPI 6.5, 5.2.17)
+
+-- one from this locality differs
+abbrev pub IsRowDiffers : SlitContents → ℕ → ℕ → ℕ → ℕ → Type 0
+IsRowDiffers c i at other point = (differs : IsSlitDiffers c at other point) × (differs.i ≡ i)
+
+-- one of a table that has the right size differs
+abbrev pub IsSizedDiffers : SlitContents → ℕ → ℕ → ℕ → Type 0
+IsSizedDiffers c at other point = HasSlitSize c × IsSlitDiffers c at other point

@@ -5,8 +5,7 @@ ghost use Rattle.acpi_base.specs.Fadt.{facs_address};
 ghost use Rattle.acpi_base.specs.Facs.{NamedFacsFault};
 ghost use Rattle.acpi_base.specs.Policy.{PolicyValue};
 ghost use Rattle.acpi_base.specs.declared.stage.Stage.{Stage};
-ghost use Rattle.acpi_lint.specs.FacsPlaces.{IsFacsFault, IsFacsFaultOf};
-ghost use Rattle.acpi_lint.specs.Places.{FindsLeast};
+ghost use Rattle.acpi_lint.specs.Places.{IsFacsFault, IsFacsFaultOf, FindsLeast};
 ghost use Rattle.acpi_lint.specs.StageFaults.{IsFaultOfStage};
 ghost use Rattle.acpi_lint.specs.CompleteTables.{AreCompleteTables};
 

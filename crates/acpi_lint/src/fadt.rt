@@ -5,8 +5,7 @@ ghost use Rattle.acpi_base.specs.Fadt.{gas_at, HasNoFadt, IsNoResetRegister};
 ghost use Rattle.acpi_base.specs.Memory.{Memory};
 ghost use Rattle.acpi_base.specs.Policy.{PolicyValue};
 ghost use Rattle.acpi_base.specs.declared.stage.Stage.{Stage};
-ghost use Rattle.acpi_lint.specs.FadtPlaces.{IsFadtFault};
-ghost use Rattle.acpi_lint.specs.Places.{FindsLeast};
+ghost use Rattle.acpi_lint.specs.Places.{IsFadtFault, FindsLeast};
 ghost use Rattle.acpi_lint.specs.StageFaults.{IsFaultOfStage};
 ghost use Rattle.acpi_lint.specs.CompleteTables.{AreCompleteTables};
 

@@ -2,8 +2,7 @@
 
 ghost use Rattle.std.specs.Prelude.{◌≡◌, ◌≤◌, ◌<◌, ◌+◌, ◌*◌, ◌↔◌, IsTrue, length};
 ghost use Rattle.acpi_base.specs.Lint.FadtAdvice.{fields_length, IsFadtOfRevision, IsFacsDiffers, IsDsdtDiffers, IsBlockDiffers};
-ghost use Rattle.acpi_lint.specs.FadtPlaces.{AreTwoFields, IsBlock};
-ghost use Rattle.acpi_lint.specs.Places.{FindsLeast};
+ghost use Rattle.acpi_lint.specs.Places.{AreTwoFields, IsBlock, FindsLeast};
 
 use crate::place::Place;
 use acpi_base::field::{u8_at, u32_at, u64_at};

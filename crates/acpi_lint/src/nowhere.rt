@@ -12,10 +12,9 @@ ghost use Rattle.acpi_base.specs.Pptt.{pptt_contents};
 ghost use Rattle.acpi_base.specs.Srat.{srat_contents};
 ghost use Rattle.acpi_read.specs.Madts.{madt_value};
 ghost use Rattle.acpi_read.specs.Srats.{srat_value};
-ghost use Rattle.acpi_read.specs.TypedEntries.{entry_at_value};
-ghost use Rattle.acpi_lint.specs.FirstPicked.{FindsOwn};
-ghost use Rattle.acpi_lint.specs.Places.{FindsLeast};
-ghost use Rattle.acpi_lint.specs.UnknownNumbers.{IsUnknown, IsUnknownOf, IsUnknownAffinity, IsUnplaced, IsUnknownAt, IsWhereRead};
+ghost use Rattle.acpi_read.specs.Entries.{entry_at_value};
+ghost use Rattle.acpi_lint.specs.Places.{FindsOwn, FindsLeast};
+ghost use Rattle.acpi_lint.specs.EntryNumbers.{IsUnknown, IsUnknownOf, IsUnknownAffinity, IsUnplaced, IsUnknownAt, IsWhereRead};
 
 use crate::known_numbers::{
     are_processors_read, has_gicc, is_any_on, is_any_placed, known_numbers, leaf_ids,

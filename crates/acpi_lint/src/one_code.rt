@@ -7,7 +7,7 @@ ghost use Rattle.acpi_base.specs.Memory.{Memory};
 ghost use Rattle.acpi_base.specs.Pptt.{pptt_contents};
 ghost use Rattle.acpi_base.specs.declared.code.Code.{Code};
 ghost use Rattle.acpi_base.specs.declared.stage.Stage.{Stage};
-ghost use Rattle.acpi_check.specs.ChainCycles.{Names, most_of};
+ghost use Rattle.acpi_check.specs.Chains.{Names, most_of};
 ghost use Rattle.acpi_lint.specs.Places.{FindsLeast};
 ghost use Rattle.acpi_lint.specs.StageFaults.{IsFaultOfStage, FindsFirstAt};
 ghost use Rattle.acpi_lint.specs.CompleteTables.{AreCompleteTables};

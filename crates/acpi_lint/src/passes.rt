@@ -7,13 +7,11 @@ ghost use Rattle.acpi_base.specs.Entries.{entries_of, entries_read_by};
 ghost use Rattle.acpi_base.specs.Listed.{HasListed};
 ghost use Rattle.acpi_base.specs.Memory.{Memory};
 ghost use Rattle.acpi_base.specs.TableKinds.{signature_of};
-ghost use Rattle.acpi_check.specs.CollectedValues.{Picks};
-ghost use Rattle.acpi_lint.specs.EntryPlaces.{IsSoughtEntry};
-ghost use Rattle.acpi_lint.specs.FirstPicked.{FindsOwn, PicksFirst};
-ghost use Rattle.acpi_lint.specs.Places.{FindsLeast};
+ghost use Rattle.acpi_check.specs.PassResults.{Picks};
+ghost use Rattle.acpi_lint.specs.Places.{IsSoughtEntry, FindsOwn, PicksFirst, FindsLeast};
 ghost use Rattle.acpi_lint.specs.CompleteTables.{AreCompleteTables};
 ghost use Rattle.acpi_read.specs.EntryTables.{entry_table, IsAbout};
-ghost use Rattle.acpi_read.specs.TypedEntries.{entry_at_value};
+ghost use Rattle.acpi_read.specs.Entries.{entry_at_value};
 ghost use Rattle.acpi_read.specs.declared.entry_codes.Subject.{Subject};
 
 use crate::place::Place;

@@ -4,11 +4,10 @@ ghost use Rattle.std.specs.Prelude.{◌≡◌, IfOk};
 ghost use Rattle.acpi_base.specs.Chains.{IsAt};
 ghost use Rattle.acpi_base.specs.Pptt.{pptt_contents, Says, IsResourceAt, ReferenceFault};
 ghost use Rattle.acpi_base.specs.declared.code.Code.{Code};
-ghost use Rattle.acpi_check.specs.ChainCycles.{named_offset};
+ghost use Rattle.acpi_check.specs.Chains.{named_offset};
 ghost use Rattle.acpi_read.specs.Pptts.{pptt_value, HasReferences};
-ghost use Rattle.acpi_read.specs.TypedEntries.{entry_at_value};
-ghost use Rattle.acpi_lint.specs.FirstPicked.{FindsOwn};
-ghost use Rattle.acpi_lint.specs.Places.{FindsLeast};
+ghost use Rattle.acpi_read.specs.Entries.{entry_at_value};
+ghost use Rattle.acpi_lint.specs.Places.{FindsOwn, FindsLeast};
 ghost use Rattle.acpi_lint.specs.References.{is_linked, is_resource, offset_where, AreOffsets, IsDanglingLink, NamesNoLink, NamesNoResource};
 
 use crate::passes::first_picked;

@@ -5,10 +5,9 @@ ghost use Rattle.acpi_base.specs.Across.{HasIoApic, IsServed};
 ghost use Rattle.acpi_base.specs.Lint.FadtAdvice.{IsGsiOf, IsSciNowhere};
 ghost use Rattle.acpi_base.specs.Madt.{madt_contents};
 ghost use Rattle.acpi_read.specs.Madts.{madt_value};
-ghost use Rattle.acpi_read.specs.TypedEntries.{entry_at_value};
-ghost use Rattle.acpi_lint.specs.FirstPicked.{FindsOwn};
+ghost use Rattle.acpi_read.specs.Entries.{entry_at_value};
+ghost use Rattle.acpi_lint.specs.Places.{FindsOwn, FindsLeast};
 ghost use Rattle.acpi_lint.specs.Overrides.{IsOwnOverride, IsOverrideAt, ServesNumber, IsNowhere};
-ghost use Rattle.acpi_lint.specs.Places.{FindsLeast};
 
 use crate::passes::first_picked;
 use crate::place::Place;

@@ -5,8 +5,7 @@ ghost use Rattle.acpi_base.specs.Slit.{slit_contents, HasSlitSize, SlitFault};
 ghost use Rattle.acpi_base.specs.Lint.SlitAdvice.{IsSlitDiffers};
 ghost use Rattle.acpi_base.specs.declared.code.Code.{Code};
 ghost use Rattle.acpi_read.specs.Slits.{HasRows};
-ghost use Rattle.acpi_lint.specs.Places.{FindsLeast};
-ghost use Rattle.acpi_lint.specs.SlitPlaces.{IsRowDiffers, IsSizedDiffers};
+ghost use Rattle.acpi_lint.specs.Places.{FindsLeast, IsRowDiffers, IsSizedDiffers};
 
 use crate::place::Place;
 use acpi_base::Code;

@@ -1,7 +1,7 @@
 //! What stages on single tables find.
 
 ghost use Rattle.std.specs.Prelude.{◌<◌, ◌^◌, IfOk, IfSome};
-ghost use Rattle.acpi_lint.specs.Verdicts.{IsPlaceOf};
+ghost use Rattle.acpi_lint.specs.StageFaults.{IsPlaceOf};
 
 use crate::place::Place;
 use acpi_check::Refusal;

@@ -1,9 +1,19 @@
--- What the views of a FADT and a FACS return, as the plain values of the definitions.
+-- Where the fields of a FADT are read, and what the views of a FADT and a FACS return.
+use Rattle.acpi_base.specs.Fadt as fadt
+use Rattle.acpi_read.specs.declared.fadt.FieldPlace.{FieldPlace}
 use Rattle.std.specs.Prelude.{ℕ, List}
 use Rattle.acpi_base.specs.Fadt.{BlockValue, NoBlock, GasBlock, PortBlock}
-use Rattle.acpi_read.specs.Gases.{gas_value}
+use Rattle.acpi_read.specs.Structures.{gas_value}
 use Rattle.acpi_read.specs.declared.fadt.Block.{Block}
 use Rattle.acpi_read.specs.declared.fadt.Block.TheVariants as block
+
+-- ---- where the code reads the fields of a FADT, as the plain values of the definitions
+
+-- where a field begins, and how many bytes it has
+abbrev pub place_value : FieldPlace → fadt.FieldPlace
+place_value p = record { offset = p.0; width = p.1 }
+
+-- ---- what the views of a FADT and a FACS return, as the plain values of the definitions
 
 -- the contents of a register block's fields
 abbrev pub block_view_value : Block → BlockValue

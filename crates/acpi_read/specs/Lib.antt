@@ -2,16 +2,11 @@ pub mod Entries
 pub mod EntryFaults
 pub mod EntryTables
 pub mod Fadts
-pub mod FilledTables
 pub mod FirstTables
 pub mod Frames
-pub mod Gases
-pub mod Headers
 pub mod Madts
-pub mod NodeHeads
-pub mod Places
 pub mod Pptts
 pub mod Roots
 pub mod Slits
 pub mod Srats
-pub mod TypedEntries
+pub mod Structures

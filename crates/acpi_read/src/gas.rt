@@ -3,7 +3,7 @@
 ghost use Rattle.std.specs.Prelude.{◌≡◌, ◌≤◌, ◌+◌, length, refl};
 ghost use Rattle.std.proofs.Common.{rules};
 ghost use Rattle.acpi_base.specs.Fadt.{gas_at, gas_parts, gas_values};
-ghost use Rattle.acpi_read.specs.Gases.{gas_value};
+ghost use Rattle.acpi_read.specs.Structures.{gas_value};
 ghost use Rattle.acpi_read.specs.declared.gas.Gas.{Gas};
 
 use crate::layout::Layout;

@@ -3,7 +3,7 @@
 ghost use Rattle.std.specs.Prelude.{◌≡◌, ◌≤◌, length, refl};
 ghost use Rattle.std.proofs.Common.{rules};
 ghost use Rattle.acpi_base.specs.Header.{header_of, header_parts, header_values};
-ghost use Rattle.acpi_read.specs.Headers.{header_value};
+ghost use Rattle.acpi_read.specs.Structures.{header_value};
 ghost use Rattle.acpi_read.specs.declared.header.Header.{Header};
 
 use crate::layout::Layout;

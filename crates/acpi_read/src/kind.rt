@@ -2,7 +2,7 @@
 
 ghost use Rattle.std.specs.Prelude.{◌≡◌, ◌≢◌, ◌≤◌, ◌↔◌, ◌+◌, ℕ, length, slice_index, IsTrue, IfOk, IfErr};
 ghost use Rattle.std.proofs.Common.{rules};
-ghost use Rattle.acpi_base.specs.Entries.{Kind, IsEntry, IsEntryOf};
+ghost use Rattle.acpi_base.specs.Entries.{EntryType, IsEntry, IsEntryOf};
 ghost use Rattle.acpi_base.specs.Layouts.{IsOfLayout, HasValues, FitLayout, layout_bytes, values_at};
 ghost use Rattle.acpi_base.specs.Number.{field};
 ghost use Rattle.acpi_base.specs.KindLayouts.{KindLayout, IsLaidOut, LaysOut, parts_of};
@@ -23,7 +23,7 @@ pub trait EntryKind: Layout {
     ghost Said: { Type 0 };
 
     /// The kind in the definition of the table.
-    ghost kind: { Kind Said };
+    ghost kind: { EntryType Said };
 
     /// The contents of a value.
     ghost say: { Self → Said };

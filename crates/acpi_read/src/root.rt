@@ -10,7 +10,7 @@ ghost use Rattle.acpi_base.specs.Rsdp.{addresses_at};
 ghost use Rattle.acpi_base.specs.Root.{chosen_root, root_signature, IsSlotWidth, IsValidRootTable, RootTableFault, NamedRootFault};
 ghost use Rattle.acpi_base.specs.Tables.{length_of};
 ghost use Rattle.acpi_base.specs.declared.code.Code.{Code};
-ghost use Rattle.acpi_read.specs.Headers.{header_value};
+ghost use Rattle.acpi_read.specs.Structures.{header_value};
 ghost use Rattle.acpi_read.specs.Roots.{RootValue, place_value, slots_of, IsValidNamedRoot, IsCompleteRoot};
 
 use crate::frame::bytes_of;

@@ -8,7 +8,7 @@ ghost use Rattle.acpi_base.specs.Memory.{bytes_at};
 ghost use Rattle.acpi_base.specs.Number.{byte_sum};
 ghost use Rattle.acpi_base.specs.Tables.{length_of, IsTable, IsValidTable, TableFault};
 ghost use Rattle.acpi_base.specs.declared.code.Code.{Code};
-ghost use Rattle.acpi_read.specs.Headers.{header_value};
+ghost use Rattle.acpi_read.specs.Structures.{header_value};
 
 use crate::frame::bytes_of;
 use crate::header::{Header, header_at};

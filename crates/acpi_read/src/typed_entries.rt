@@ -7,9 +7,8 @@ ghost use Rattle.acpi_base.specs.Entries.{IsEntry, PlacedEntry, entries_of, entr
 ghost use Rattle.acpi_base.specs.Policy.{PolicyValue};
 ghost use Rattle.acpi_base.specs.declared.code.Code.{Code};
 ghost use Rattle.acpi_base.specs.declared.stage.Stage.{Stage};
-ghost use Rattle.acpi_read.specs.Entries.{entries_from_place};
+ghost use Rattle.acpi_read.specs.Entries.{entries_from_place, GivesTyped};
 ghost use Rattle.acpi_read.specs.EntryTables.{entry_table, subject_of, AreFaults};
-ghost use Rattle.acpi_read.specs.TypedEntries.{GivesTyped};
 ghost use Rattle.acpi_read.specs.declared.entry_codes.EntryCodes.{EntryCodes};
 ghost use Rattle.acpi_read.specs.declared.entry_codes.Subject.{Subject};
 

@@ -10,7 +10,7 @@ use Rattle.acpi_base.specs.Slit.{SlitContents, HasSlitSize, slit_contents}
 use Rattle.acpi_base.specs.Pptt.{PpttContents, HasOtherPpttLength, pptt_entry, pptt_contents}
 use Rattle.acpi_base.specs.declared.table_kind.TableKind.{TableKind}
 use Rattle.acpi_base.specs.declared.table_kind.TableKind.TheVariants as kind
-use Rattle.acpi_read.specs.FilledTables.{IsFilledMadt, IsFilledSrat, IsFilledPptt}
+use Rattle.acpi_read.specs.Entries.{IsFilledMadt, IsFilledSrat, IsFilledPptt}
 use Rattle.acpi_read.specs.Madts as madts
 use Rattle.acpi_read.specs.Srats as srats
 use Rattle.acpi_read.specs.Pptts as pptts

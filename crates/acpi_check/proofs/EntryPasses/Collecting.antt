@@ -9,9 +9,9 @@ use Rattle.std.proofs.lemmas.List.Elements.{All-from_recursion}
 use denote.Ref.{Bor}
 use Rattle.acpi_base.specs.Entries.{PlacedEntry}
 use Rattle.acpi_base.proofs.Elements.{first_element, later_element}
-use Rattle.acpi_read.specs.TypedEntries.{entry_at_value}
+use Rattle.acpi_read.specs.Entries.{entry_at_value}
 use Rattle.acpi_read.specs.declared.typed_entries.EntryAt.{EntryAt}
-use Rattle.acpi_check.specs.CollectedValues.{Picks, Collects}
+use Rattle.acpi_check.specs.PassResults.{Picks, Collects}
 
 -- ---- the loop
 

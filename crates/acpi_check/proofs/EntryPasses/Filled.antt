@@ -4,7 +4,7 @@ use Rattle.acpi_base.specs.Madt as madt
 use Rattle.acpi_base.specs.Srat as srat
 use Rattle.acpi_base.specs.Pptt as pptt
 use Rattle.acpi_base.specs.Policy.{PolicyValue}
-use Rattle.acpi_read.specs.FilledTables.{IsFilledMadt, IsFilledSrat, IsFilledPptt}
+use Rattle.acpi_read.specs.Entries.{IsFilledMadt, IsFilledSrat, IsFilledPptt}
 use Rattle.acpi_read.specs.Madts as madts
 use Rattle.acpi_read.specs.Srats as srats
 

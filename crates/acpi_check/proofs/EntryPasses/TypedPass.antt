@@ -5,7 +5,7 @@ use Rattle.std.specs.Option.{is_some}
 use Rattle.std.proofs.lemmas.Option.{none-some}
 use Rattle.acpi_base.specs.Entries.{PlacedEntry, Stands}
 use Rattle.acpi_base.specs.Madt.{MadtEntry, MadtContents, Opaque, madt_contents, IsWhollyTyped}
-use Rattle.acpi_check.specs.Leaves.{has_known_type}
+use Rattle.acpi_check.specs.Processors.{has_known_type}
 use Rattle.acpi_check.proofs.EntryPasses.Passes.{HasPassed, next_stands, all_passed}
 
 -- the pass has these entries left, and those before them are typed

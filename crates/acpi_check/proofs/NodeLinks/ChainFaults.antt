@@ -11,7 +11,7 @@ use Rattle.acpi_base.specs.declared.stage.Stage.TheVariants as stage
 use Rattle.acpi_base.specs.declared.witness.Witness.{Witness}
 use Rattle.acpi_base.proofs.Faults.Least.{witness}
 use Rattle.acpi_base.proofs.Pptt.Chains.{parents_end_or_go_round, caches_end_or_go_round}
-use Rattle.acpi_check.specs.ChainCycles.{IsFirstCycle, FindsCycle}
+use Rattle.acpi_check.specs.Chains.{IsFirstCycle, FindsCycle}
 use Rattle.acpi_check.specs.PassResults.{FindsFault}
 use Rattle.acpi_check.specs.TableResults.{IsFirstOfTable}
 use Rattle.acpi_check.specs.declared.nodes.Chain.TheVariants as chain

@@ -17,8 +17,7 @@ use Rattle.acpi_graph.specs.declared.stray.Stray.{Stray}
 use Rattle.acpi_graph.specs.declared.stray.Stray.TheVariants as stray
 use Rattle.acpi_graph.proofs.Chains.{node_after-add, went_on}
 use Rattle.acpi_graph.proofs.Rounds.{never_ends}
-use Rattle.acpi_check.specs.ChainIndices.{AreIndexed, IsCycleResult}
-use Rattle.acpi_check.specs.ChainCycles.{IsFirstCycle}
+use Rattle.acpi_check.specs.Chains.{AreIndexed, IsCycleResult, IsFirstCycle}
 
 -- the offset at an index
 abbrev at : List ℕ → ℕ → ℕ

@@ -14,10 +14,9 @@ use Rattle.acpi_base.specs.declared.code.Code.{Code}
 use Rattle.acpi_base.specs.declared.code.Code.TheVariants as code
 use Rattle.acpi_base.specs.declared.policy.Processors.{Processors}
 use Rattle.acpi_base.specs.declared.stage.Stage.TheVariants as stage
-use Rattle.acpi_check.specs.Domains.{PutsPlaced}
+use Rattle.acpi_check.specs.Processors.{PutsPlaced, number_of, AreNumbers}
 use Rattle.acpi_check.specs.FirstSeen.{IsFirstOther, FindsOther}
 use Rattle.acpi_check.specs.TableResults.{IsFirstOfTable}
-use Rattle.acpi_check.specs.Processors.{number_of, AreNumbers}
 use Rattle.acpi_check.specs.declared.first_seen.OtherValue.{OtherValue}
 use Rattle.acpi_check.specs.declared.processors.Key.TheVariants as key
 use Rattle.acpi_check.proofs.EntryPasses.ValuesPass.{in_order}

@@ -4,7 +4,7 @@ use Rattle.std.specs.Prelude.{◌↔◌, AllPairs, slice_index}
 use Rattle.std.proofs.lemmas.Bool.{cases_order}
 use Rattle.std.proofs.lemmas.Option.{none-some, same_Some, cond_some}
 use Rattle.acpi_base.specs.Srat.{SratEntry, ApicDomain, X2apicDomain, PutsIn, is_enabled}
-use Rattle.acpi_check.specs.Domains.{placement_of, PutsPlaced}
+use Rattle.acpi_check.specs.Processors.{placement_of, PutsPlaced}
 use Rattle.acpi_check.specs.declared.domains.Placement.{Placement}
 
 -- an entry puts a processor in a domain exactly where this is read of it

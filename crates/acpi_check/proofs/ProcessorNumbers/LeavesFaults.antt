@@ -14,10 +14,9 @@ use Rattle.acpi_base.specs.declared.code.Code.{Code}
 use Rattle.acpi_base.specs.declared.code.Code.TheVariants as code
 use Rattle.acpi_base.specs.declared.stage.Stage.TheVariants as stage
 use Rattle.acpi_base.specs.declared.witness.Witness.{Witness}
-use Rattle.acpi_check.specs.Leaves.{leaf_id}
+use Rattle.acpi_check.specs.Processors.{leaf_id, number_of, AreNumbers}
 use Rattle.acpi_check.specs.NamedNumbers.{FindsUnknown}
 use Rattle.acpi_check.specs.PassResults.{FindsFault}
-use Rattle.acpi_check.specs.Processors.{number_of, AreNumbers}
 use Rattle.acpi_check.specs.declared.processors.Key.TheVariants as key
 
 -- ---- entries

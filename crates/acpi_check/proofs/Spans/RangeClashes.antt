@@ -13,9 +13,8 @@ use Rattle.acpi_base.specs.declared.witness.Witness.{Witness}
 use Rattle.acpi_base.proofs.Faults.HoldsOrFault.{first_of_set}
 use Rattle.acpi_base.proofs.Srat.Ranges.{is_fault}
 use Rattle.acpi_graph.specs.declared.span.Span.{Span}
-use Rattle.acpi_check.specs.RangeSpans.{AreSpansOf, span_value, covered_span, spans_of}
+use Rattle.acpi_check.specs.RangeSpans.{AreSpansOf, span_value, covered_span, spans_of, counts, IsOfKind}
 use Rattle.acpi_check.specs.TableResults.{IsOverlap}
-use Rattle.acpi_check.specs.RangeKinds.{counts, IsOfKind}
 use Rattle.acpi_check.specs.declared.range_kind.RangeKind.{RangeKind}
 use Rattle.acpi_check.specs.declared.range_kind.RangeKind.TheVariants as kind
 use Rattle.acpi_check.proofs.Spans.CoveredSpans.{Tests, tests_any, tests_hot, tests_other, covered_spans}

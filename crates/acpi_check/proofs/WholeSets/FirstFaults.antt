@@ -29,7 +29,7 @@ use Rattle.acpi_base.proofs.Facs.{place}
 use Rattle.acpi_read.specs.Fadts.{FacsValue}
 use Rattle.acpi_read.specs.Roots.{RootValue}
 use Rattle.acpi_check.specs.HandedOn.{IsFacsNamed}
-use Rattle.acpi_check.specs.Tables.{IsRootOf}
+use Rattle.acpi_check.specs.TableResults.{IsRootOf}
 
 -- the least fault of the RSDP
 pub rsdp_first : (m : Memory) (q : PolicyValue) (w : Witness) (p : ℕ) (c : Code) → p ≡ q.rsdp

@@ -20,7 +20,7 @@ use Rattle.acpi_read.specs.declared.first_tables.FirstTables.{FirstTables}
 use Rattle.acpi_read.specs.declared.first_tables.Listed.{Listed}
 use Rattle.acpi_read.proofs.FirstsKept.{bytes_of_first}
 use Rattle.acpi_check.specs.FirstBelow.{IsFirstBelow, AreFirstBelow}
-use Rattle.acpi_check.specs.Tables.{IsRootOf, AreFirstTables}
+use Rattle.acpi_check.specs.TableResults.{IsRootOf, AreFirstTables}
 
 -- below the first slot nothing is listed
 pub below_none : (m : Memory) (bytes : List ℕ) (d : ℕ) (signature : List ℕ) → IsFirstBelow m bytes d 0 signature None

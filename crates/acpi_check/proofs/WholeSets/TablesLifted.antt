@@ -17,9 +17,8 @@ use Rattle.acpi_base.specs.declared.witness.Witness.{Witness}
 use Rattle.acpi_base.proofs.Faults.ListedTables.{of_listed, for_listed}
 use Rattle.acpi_base.proofs.Faults.HoldsOrFault.{first_of_set}
 use Rattle.acpi_base.proofs.Tables.Listed.{none_and_listed}
-use Rattle.acpi_check.specs.TableResults.{IsFirstOfTable, Finds, FindsFirst}
+use Rattle.acpi_check.specs.TableResults.{IsFirstOfTable, Finds, FindsFirst, AreFirstTables}
 use Rattle.acpi_check.specs.StageResults.{IsStageResult}
-use Rattle.acpi_check.specs.Tables.{AreFirstTables}
 use Rattle.acpi_check.specs.Set.{IsReady, IsSetResult}
 use Rattle.acpi_check.specs.declared.refusal.Refusal.{Refusal}
 use Rattle.acpi_check.specs.declared.set.Set.{Set}

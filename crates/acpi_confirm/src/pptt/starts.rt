@@ -7,8 +7,7 @@
 ghost use Rattle.std.specs.Prelude.{◌≡◌, ◌≤◌, IfSome, length};
 ghost use Rattle.std.specs.Option.{option_map};
 ghost use Rattle.acpi_base.specs.Entries.{IsEntry, entries_of};
-ghost use Rattle.acpi_confirm.specs.Starts.{IsNoted, AreStarts, AreNotedWith};
-ghost use Rattle.acpi_confirm.specs.Walks.{IsThere};
+ghost use Rattle.acpi_confirm.specs.Walks.{IsNoted, AreStarts, AreNotedWith, IsThere};
 
 use super::FIRST_ENTRY;
 use crate::entries::{entry_at, entry_from};

@@ -24,7 +24,7 @@ pub struct NodeHead {
 
 impl Layout for NodeHead {
     ghost use Rattle.acpi_read.specs.Pptts.{node_head_parts, node_head_values, HasNodeLength};
-    ghost use Rattle.acpi_read.specs.NodeHeads.{one_head};
+    ghost use Rattle.acpi_read.specs.Structures.{one_head};
     ghost use Rattle.acpi_read.specs.declared.pptt.node_head.NodeHead.{NodeHead};
 
     ghost LEN = { 20 };

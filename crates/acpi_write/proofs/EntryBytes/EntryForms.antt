@@ -4,7 +4,7 @@ use Rattle.std.specs.Prelude.{◌==◌, slice_index, ◌⊎◌}
 use Rattle.std.proofs.lemmas.Bool.{cases_Bool, eqb-true, and_parts, eq-eqb, ne_eqb}
 use Rattle.std.proofs.lemmas.Bool.Decides.{nat_tests}
 use Rattle.std.proofs.lemmas.List.FromFn.{length-map-range_with_len}
-use Rattle.acpi_base.specs.Entries.{IsEntry, IsEntryOf, EntryKind, has_form, value_of_kind, IsTypeOf}
+use Rattle.acpi_base.specs.Entries.{IsEntry, IsEntryOf, EntryType, has_form, value_of_kind, IsTypeOf}
 use Rattle.acpi_base.specs.KindLayouts.{AreByteValues, KeepKinds}
 use Rattle.acpi_base.specs.Madt as madt
 use Rattle.acpi_base.specs.Srat as srat
@@ -17,11 +17,11 @@ use Rattle.acpi_read.specs.Srats.{srat_bytes, srat_kept}
 use Rattle.acpi_read.specs.Pptts.{pptt_bytes}
 
 -- an entry of a kind is an entry
-pub is_entry : {V : Type 0} (k : EntryKind V) → 2 ≤ k.size → (e : List ℕ) (v : V) → IsEntryOf k e v → IsEntry e
+pub is_entry : {V : Type 0} (k : EntryType V) → 2 ≤ k.size → (e : List ℕ) (v : V) → IsEntryOf k e v → IsEntry e
 is_entry k some e v is = record { least = subst (λ (n : ℕ). 2 ≤ n) (sym is.count) some; said = is.said ∙ sym is.count }
 
 -- one of none of the types is opaque
-none_reads : {E : Type 0} (kinds : List (EntryKind E)) (opaque : List ℕ → E) (e : List ℕ)
+none_reads : {E : Type 0} (kinds : List (EntryType E)) (opaque : List ℕ → E) (e : List ℕ)
     → ¬ IsTypeOf kinds (slice_index e 0) → value_of_kind kinds opaque e ≡ opaque e
 unfolding has_form
 none_reads [] opaque e other = refl
@@ -61,16 +61,16 @@ pub record IsAgain {E : Type 0} (read : List ℕ → E) (e w : List ℕ) : Type 
   pub same : read w ≡ read e
 
 -- the first kind says it, or the others do
-chosen : {E : Type 0} (k : EntryKind E) (kinds : List (EntryKind E)) (opaque : List ℕ → E) (e : List ℕ)
+chosen : {E : Type 0} (k : EntryType E) (kinds : List (EntryType E)) (opaque : List ℕ → E) (e : List ℕ)
     → has_form e k.type k.size ≡ true → value_of_kind (k ∷ kinds) opaque e ≡ k.read e
 chosen k kinds opaque e is = rw is refl
 
-passed : {E : Type 0} (k : EntryKind E) (kinds : List (EntryKind E)) (opaque : List ℕ → E) (e : List ℕ)
+passed : {E : Type 0} (k : EntryType E) (kinds : List (EntryType E)) (opaque : List ℕ → E) (e : List ℕ)
     → has_form e k.type k.size ≡ false → value_of_kind (k ∷ kinds) opaque e ≡ value_of_kind kinds opaque e
 passed k kinds opaque e not = rw not refl
 
 -- as many bytes are written for what an entry says
-pub length_by : {E : Type 0} (write : E → List ℕ) (kinds : List (EntryKind E)) (opaque : List ℕ → E) → KeepKinds write kinds
+pub length_by : {E : Type 0} (write : E → List ℕ) (kinds : List (EntryType E)) (opaque : List ℕ → E) → KeepKinds write kinds
     → ((e : List ℕ) → write (opaque e) ≡ e) → (e : List ℕ)
     → length (write (value_of_kind kinds opaque e)) ≡ length e
 length_by write [] opaque keep kept e = ap length (kept e)
@@ -82,7 +82,7 @@ length_by write (k ∷ kinds) opaque keep kept e =
     ]
 
 -- and they say it again
-pub again_by : {E : Type 0} (write : E → List ℕ) (kinds : List (EntryKind E)) (opaque : List ℕ → E) → KeepKinds write kinds
+pub again_by : {E : Type 0} (write : E → List ℕ) (kinds : List (EntryType E)) (opaque : List ℕ → E) → KeepKinds write kinds
     → ((e : List ℕ) → write (opaque e) ≡ e) → (e : List ℕ)
     → AreByteValues e → IsEntry e → IsAgain (value_of_kind kinds opaque) e (write (value_of_kind kinds opaque e))
 again_by write [] opaque keep kept e low entry =

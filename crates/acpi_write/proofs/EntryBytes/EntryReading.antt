@@ -9,7 +9,7 @@ use Rattle.acpi_base.specs.Pptt as pptt
 use Rattle.acpi_read.specs.Madts as madts
 use Rattle.acpi_read.specs.Srats as srats
 use Rattle.acpi_read.specs.Pptts as pptts
-use Rattle.acpi_read.specs.TypedEntries.{entry_at_value}
+use Rattle.acpi_read.specs.Entries.{entry_at_value}
 use Rattle.acpi_read.specs.declared.madt.MadtEntry.{MadtEntry}
 use Rattle.acpi_read.specs.declared.madt.MadtEntry.TheVariants as madt_entry
 use Rattle.acpi_read.specs.declared.srat.SratEntry.{SratEntry}

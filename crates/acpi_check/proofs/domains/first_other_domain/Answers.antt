@@ -1,7 +1,7 @@
 use Rattle.std.proofs.Common.{◌≡◌, ◌++◌, length, take, drop, None, ◌∙◌, ap, rules}
 use Rattle.std.proofs.Math.Seq.{take-append_seam}
 use Rattle.std.proofs.lemmas.List.{length-replicate}
-use Rattle.acpi_check.specs.Domains.{PutsPlaced}
+use Rattle.acpi_check.specs.Processors.{PutsPlaced}
 use Rattle.acpi_check.proofs.EntryPasses.Kept.{srat_rising}
 use Rattle.acpi_check.proofs.EntryPasses.ValuesPass.{at_first, at_next, stops, ends}
 use Rattle.acpi_check.proofs.ProcessorNumbers.DomainsPass.{one_place}

@@ -1,7 +1,7 @@
 use Rattle.std.proofs.Common.{◌≡◌, length}
 use Rattle.acpi_base.specs.Entries.{entries_read_by}
 use Rattle.acpi_base.specs.Srat.{srat_entry, srat_contents}
-use Rattle.acpi_check.specs.Domains.{PutsPlaced}
+use Rattle.acpi_check.specs.Processors.{PutsPlaced}
 use Rattle.acpi_check.proofs.EntryPasses.ValuesPass.{IsAt}
 use Rattle.acpi_check.proofs.domains.first_other_domain.Given as goal
 

@@ -1,7 +1,7 @@
 use Rattle.std.proofs.Common.{◌≡◌, true, refl, sym, ap, ◌∙◌}
 use Rattle.std.proofs.lemmas.Bool.{false≢true}
 use Rattle.acpi_base.specs.Madt.{madt_contents}
-use Rattle.acpi_check.specs.Leaves.{has_known_type}
+use Rattle.acpi_check.specs.Processors.{has_known_type}
 use Rattle.acpi_check.proofs.EntryPasses.Kept.{madt_rising}
 use Rattle.acpi_check.proofs.EntryPasses.Passes.{none_passed, past}
 use Rattle.acpi_check.proofs.EntryPasses.TypedPass.{stops, filled_or_not}

@@ -1,6 +1,6 @@
 use Rattle.std.specs.Prelude.{Contains}
 use Rattle.acpi_base.specs.declared.code.Code.TheVariants as code
-use Rattle.acpi_check.specs.Leaves.{leaf_id}
+use Rattle.acpi_check.specs.Processors.{leaf_id}
 use Rattle.acpi_check.specs.NamedNumbers.{IsKnown}
 use Rattle.acpi_check.proofs.EntryPasses.Kept.{pptt_rising}
 use Rattle.acpi_check.proofs.EntryPasses.Passes.{none_passed, past}

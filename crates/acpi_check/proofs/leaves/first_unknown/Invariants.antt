@@ -1,7 +1,7 @@
 use Rattle.std.specs.Prelude.{Contains}
 use Rattle.acpi_base.specs.Entries.{entries_read_by}
 use Rattle.acpi_base.specs.Pptt.{pptt_entry, pptt_contents}
-use Rattle.acpi_check.specs.Leaves.{leaf_id}
+use Rattle.acpi_check.specs.Processors.{leaf_id}
 use Rattle.acpi_check.proofs.ProcessorNumbers.NamedPass.{IsAt}
 use Rattle.acpi_check.proofs.leaves.first_unknown.Given as goal
 

@@ -1,8 +1,7 @@
 use Rattle.std.proofs.Common.{rules, refl, ◌^◌, ◌<◌, arith}
 use Rattle.acpi_graph.specs.declared.span.Span.{Span}
 use Rattle.acpi_read.specs.Srats.{srat_value}
-use Rattle.acpi_check.specs.RangeSpans.{span_value, covered_span}
-use Rattle.acpi_check.specs.RangeKinds.{counts}
+use Rattle.acpi_check.specs.RangeSpans.{span_value, covered_span, counts}
 use Rattle.acpi_check.proofs.EntryPasses.Collecting.{gathered, gathered_each}
 use Rattle.acpi_check.proofs.EntryPasses.Kept.{srat_inside}
 use Rattle.acpi_check.proofs.Spans.RangeClashes.{kind_spans}

@@ -16,7 +16,7 @@ use Rattle.acpi_base.specs.declared.table_kind.TableKind.TheVariants as kind
 use Rattle.acpi_read.specs.Madts.{madt_value}
 use Rattle.acpi_read.specs.Pptts.{pptt_value}
 use Rattle.acpi_read.specs.Srats.{srat_value}
-use Rattle.acpi_lint.specs.SlitPlaces.{IsSizedDiffers}
+use Rattle.acpi_lint.specs.Places.{IsSizedDiffers}
 use Rattle.acpi_lint.proofs.OfTables.{listed_lifts, fadt_lifts, madt_lifts, srat_lifts, pptt_lifts, of_one, of_two, own_madt, own_srat, own_pptt, repeated_madt}
 use Rattle.acpi_lint.proofs.advice.first_place.Goals as goal
 

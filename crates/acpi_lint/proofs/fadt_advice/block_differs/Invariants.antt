@@ -1,5 +1,5 @@
 use Rattle.std.proofs.Common.{ℕ, ◌<◌}
-use Rattle.acpi_lint.specs.FadtPlaces.{IsBlock}
+use Rattle.acpi_lint.specs.Places.{IsBlock}
 use Rattle.acpi_lint.proofs.fadt_advice.block_differs.Given as goal
 
 -- no block before this one has two addresses

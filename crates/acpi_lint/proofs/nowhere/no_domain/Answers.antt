@@ -6,7 +6,7 @@ use Rattle.acpi_base.specs.Srat.{srat_contents}
 use Rattle.acpi_read.specs.Madts.{madt_value}
 use Rattle.acpi_read.specs.Srats.{srat_value}
 use Rattle.acpi_check.proofs.EntryPasses.Kept.{madt_rising}
-use Rattle.acpi_lint.specs.UnknownNumbers.{IsUnplaced}
+use Rattle.acpi_lint.specs.EntryNumbers.{IsUnplaced}
 use Rattle.acpi_lint.proofs.CollectedNumbers.{known_read}
 use Rattle.acpi_lint.proofs.FirstEntries.{least_of_entries}
 use Rattle.acpi_lint.proofs.LeastPlaces.{least_as}

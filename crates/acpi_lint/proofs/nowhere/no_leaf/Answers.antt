@@ -5,7 +5,7 @@ use Rattle.acpi_base.specs.Madt.{madt_contents}
 use Rattle.acpi_base.specs.Pptt.{pptt_contents}
 use Rattle.acpi_read.specs.Madts.{madt_value}
 use Rattle.acpi_check.proofs.EntryPasses.Kept.{madt_rising}
-use Rattle.acpi_lint.specs.UnknownNumbers.{IsUnknownOf}
+use Rattle.acpi_lint.specs.EntryNumbers.{IsUnknownOf}
 use Rattle.acpi_lint.proofs.FirstEntries.{least_of_entries}
 use Rattle.acpi_lint.proofs.LeastPlaces.{least_as}
 use Rattle.acpi_lint.proofs.UnknownOnes.{IsUnknownNamed, unknown_named, none_known, some_known, where_all_read}

@@ -1,7 +1,7 @@
 use Rattle.std.proofs.Common.{sym, ◌∙◌}
 use Rattle.acpi_base.specs.Lint.Processors.{placed_apic_id, placed_uid}
 use Rattle.acpi_read.specs.Srats.{srat_value}
-use Rattle.acpi_read.specs.TypedEntries.{entry_at_value}
+use Rattle.acpi_read.specs.Entries.{entry_at_value}
 use Rattle.acpi_lint.proofs.UnknownOnes.{own_first, own_second, affinity_has_one}
 use Rattle.acpi_lint.proofs.nowhere.unknown_affinity.Goals as goal
 

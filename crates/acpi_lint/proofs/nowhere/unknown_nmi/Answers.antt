@@ -1,6 +1,6 @@
 use Rattle.acpi_base.specs.Lint.MadtAdvice.{nmi_uid}
 use Rattle.acpi_read.specs.Madts.{madt_value}
-use Rattle.acpi_read.specs.TypedEntries.{entry_at_value}
+use Rattle.acpi_read.specs.Entries.{entry_at_value}
 use Rattle.acpi_lint.proofs.UnknownOnes.{own_number}
 use Rattle.acpi_lint.proofs.nowhere.unknown_nmi.Goals as goal
 

@@ -1,7 +1,7 @@
 use Rattle.std.proofs.Common.{sym, ◌∙◌}
 use Rattle.acpi_base.specs.Lint.Processors.{apic_id_on, gicc_uid_on}
 use Rattle.acpi_read.specs.Madts.{madt_value}
-use Rattle.acpi_read.specs.TypedEntries.{entry_at_value}
+use Rattle.acpi_read.specs.Entries.{entry_at_value}
 use Rattle.acpi_lint.proofs.UnknownOnes.{own_first, own_second, processor_has_one}
 use Rattle.acpi_lint.proofs.nowhere.unplaced.Goals as goal
 

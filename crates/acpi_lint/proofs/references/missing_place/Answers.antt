@@ -1,6 +1,6 @@
 use Rattle.std.proofs.Common.{◌≡◌, None, refl, ap, rules}
 use Rattle.acpi_read.specs.Pptts.{pptt_value, node_value}
-use Rattle.acpi_read.specs.TypedEntries.{entry_at_value}
+use Rattle.acpi_read.specs.Entries.{entry_at_value}
 use Rattle.acpi_lint.proofs.NamedPlaces.{none_missing, first_missing}
 use Rattle.acpi_lint.proofs.references.missing_place.Goals as goal
 

@@ -1,5 +1,5 @@
 use Rattle.std.proofs.Common.{◌-◌, length}
-use Rattle.acpi_confirm.specs.Starts.{AreStarts}
+use Rattle.acpi_confirm.specs.Walks.{AreStarts}
 use Rattle.acpi_confirm.proofs.Walks.{IsOver}
 use Rattle.acpi_confirm.proofs.pptt.starts.note_starts.Given as goal
 

@@ -1,8 +1,44 @@
--- The heads of the PPTT's nodes.
+-- Headers, generic addresses and the heads of nodes as the plain values of the definitions.
+use Rattle.acpi_base.specs.Header.{HeaderValue}
+use Rattle.acpi_read.specs.declared.header.Header.{Header}
+use Rattle.acpi_base.specs.Fadt.{GasValue}
+use Rattle.acpi_read.specs.declared.gas.Gas.{Gas}
 use Rattle.std.proofs.Common.{◌≡◌, ◌≤◌, ℕ, ap, sym, subst, ◌∙◌}
 use Rattle.std.specs.Coded.{le_prop}
 use Rattle.acpi_read.specs.Pptts.{node_head_values}
 use Rattle.acpi_read.specs.declared.pptt.node_head.NodeHead.{NodeHead}
+
+-- ---- headers as the plain values of the definitions
+
+-- the contents of a header
+abbrev pub header_value : Header → HeaderValue
+header_value h =
+    record {
+      signature = h.signature;
+      length = h.length;
+      revision = h.revision;
+      checksum = h.checksum;
+      oemid = h.oemid;
+      oem_table_id = h.oem_table_id;
+      oem_revision = h.oem_revision;
+      creator_id = h.creator_id;
+      creator_revision = h.creator_revision;
+    }
+
+-- ---- generic addresses as the plain values of the definitions
+
+-- the contents of a generic address
+abbrev pub gas_value : Gas → GasValue
+gas_value g =
+    record {
+      space = g.space;
+      bit_width = g.bit_width;
+      bit_offset = g.bit_offset;
+      access_size = g.access_size;
+      address = g.address;
+    }
+
+-- ---- the heads of the PPTT's nodes
 
 -- heads with the same fields are the same
 same_fields : (flags parent id count : ℕ) (fits : count ≤ 58) (h : NodeHead) → flags ≡ h.flags → parent ≡ h.parent → id ≡ h.id → count ≡ h.count

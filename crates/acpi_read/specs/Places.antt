@@ -1,7 +1,0 @@
--- Where the code reads the fields of a FADT, as the plain values of the definitions.
-use Rattle.acpi_base.specs.Fadt as fadt
-use Rattle.acpi_read.specs.declared.fadt.FieldPlace.{FieldPlace}
-
--- where a field begins, and how many bytes it has
-abbrev pub place_value : FieldPlace → fadt.FieldPlace
-place_value p = record { offset = p.0; width = p.1 }
