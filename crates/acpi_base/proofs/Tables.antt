@@ -2,4 +2,3 @@
 pub mod Faults
 pub mod Kinds
 pub mod Listed
-pub mod Complete

@@ -11,6 +11,5 @@ pub mod LineBuffers
 pub mod ByteSearch
 pub mod LineParsing
 pub mod LineSplitting
-pub mod OwnFaults
 pub mod PlacedData
 pub mod Written

@@ -3,5 +3,3 @@ pub mod Draft
 pub mod Pieces
 pub mod Runs
 pub mod Segments
-pub mod Sums
-pub mod Windows

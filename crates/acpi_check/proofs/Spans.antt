@@ -2,7 +2,6 @@
 pub mod Clashes
 pub mod CoveredSpans
 pub mod EntrySpans
-pub mod GsiClashes
 pub mod RangeClashes
 pub mod ServedFaults
 pub mod RisingSpans

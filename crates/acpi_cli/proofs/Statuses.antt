@@ -5,8 +5,7 @@ use Rattle.std.specs.Io.KnownBytes.{Consumes, Keeps}
 use Rattle.acpi_base.specs.Memory.{Memory}
 use Rattle.acpi_arguments.specs.CommandLine.{Asked, Does, DoesAsked, check, confirm, find, lint, rebuild, show}
 use Rattle.acpi_cli.specs.Commands.{Device, Reads, ReportsJob, Runs}
-use Rattle.acpi_cli.specs.Outcome.{exit_status}
-use Rattle.acpi_cli.specs.Program.{IsUntouched, Obeys, ReportsAsked}
+use Rattle.acpi_cli.specs.Program.{exit_status, IsUntouched, Obeys, ReportsAsked}
 use Rattle.acpi_cli.specs.declared.outcome.Outcome.{Outcome}
 use Rattle.acpi_cli.specs.declared.outcome.RunFault.{RunFault}
 use Rattle.acpi_cli.specs.declared.outcome.RunFault.TheVariants as run

@@ -1,4 +1,3 @@
 -- What the contracts of the program cite.
 pub mod Commands
-pub mod Outcome
 pub mod Program

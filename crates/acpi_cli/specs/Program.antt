@@ -1,14 +1,26 @@
--- What the program does with its arguments.
-use Rattle.std.specs.Prelude.{◌≡◌, ◌⊎◌, ℕ, List, Option, Some, None, Result}
+-- What the program does with its arguments, and its exit status.
+use Rattle.std.specs.Prelude.{ℕ, Result, Ok, Err, ◌≡◌, ◌⊎◌, List, Option, Some, None}
+use Rattle.acpi_cli.specs.declared.outcome.Outcome.{Outcome}
+use Rattle.acpi_cli.specs.declared.outcome.Outcome.TheVariants as outcome
+use Rattle.acpi_cli.specs.declared.outcome.RunFault.{RunFault}
+use Rattle.acpi_cli.specs.declared.outcome.RunFault.TheVariants as run
 use Rattle.std.specs.Io.KnownBytes.{Keeps}
 use Rattle.acpi_base.specs.Memory.{Memory}
 use Rattle.acpi_base.specs.Codes.{stage_number}
 use Rattle.acpi_base.specs.declared.stage.Stage.{Stage}
 use Rattle.acpi_arguments.specs.CommandLine.{Asked, check, confirm, find, lint, rebuild, show}
 use Rattle.acpi_cli.specs.Commands.{Device, HasNotFailed, ReportsCheck, ReportsConfirm, ReportsFound, ReportsLint, ReportsRebuild, ReportsShow, Runs}
-use Rattle.acpi_cli.specs.Outcome.{exit_status}
-use Rattle.acpi_cli.specs.declared.outcome.Outcome.{Outcome}
-use Rattle.acpi_cli.specs.declared.outcome.RunFault.{RunFault}
+
+-- ---- the exit status that goes with what a command function returns
+
+abbrev pub exit_status : Result Outcome RunFault → ℕ
+exit_status (Ok outcome.Yes) = 0
+exit_status (Ok outcome.No) = 1
+exit_status (Err (run.Image fault)) = 3
+exit_status (Err run.Memory) = 4
+exit_status (Err run.Device) = 4
+
+-- ---- what the program does with its arguments
 
 -- what is reported on an image by a command function that does what is asked
 abbrev pub ReportsAsked : Asked → Memory → List ℕ → Outcome → Type 0

@@ -1,7 +1,7 @@
 //! What a command function returns, and the exit status that goes with it.
 
 ghost use Rattle.std.specs.Prelude.{◌≡◌};
-ghost use Rattle.acpi_cli.specs.Outcome.{exit_status};
+ghost use Rattle.acpi_cli.specs.Program.{exit_status};
 
 use acpi_base::TextFault;
 use thiserror::Error;

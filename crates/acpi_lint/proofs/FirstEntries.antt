@@ -1,16 +1,49 @@
 -- What is picked first of the entries of a table is the least place.
-use Rattle.std.proofs.Common.{◌≡◌, ℕ, suc, ◌<◌, List, [], ◌∷◌, Option, Some, None, sym, ◌∙◌, ap, subst, inl, inr, arith}
-use Rattle.std.specs.Prelude.{◌⊎◌, Contains}
+use Rattle.std.proofs.Common.{◌≡◌, List, [], ◌∷◌, Option, Some, None, refl, inl, inr, ℕ, suc, ◌<◌, sym, ◌∙◌, ap, subst, arith}
+use Rattle.std.specs.Prelude.{Contains, ◌⊎◌}
+use Rattle.acpi_base.proofs.Elements.{later_element, first_element, first_or_later, no_element}
+use Rattle.acpi_lint.specs.Places.{PicksFirst, FindsOwn, IsLeast, FindsLeast}
 use denote.Ref.{Bor}
 use Rattle.acpi_base.specs.Entries.{PlacedEntry, Stands, StandsWith}
-use Rattle.acpi_base.proofs.Elements.{first_element, later_element, first_or_later, no_element}
 use Rattle.acpi_read.specs.Entries.{entry_at_value}
 use Rattle.acpi_read.specs.declared.typed_entries.EntryAt.{EntryAt}
 use Rattle.acpi_check.specs.PassResults.{Picks}
 use Rattle.acpi_check.proofs.EntryPasses.Kept.{AreRising}
 use Rattle.acpi_check.proofs.EntryPasses.Passes.{none_passed, left_behind}
-use Rattle.acpi_lint.specs.Places.{PicksFirst, FindsOwn, IsLeast, FindsLeast}
 use Rattle.acpi_lint.specs.declared.place.Place.{Place}
+
+-- ---- a pass over entries up to the first of which something is picked
+
+-- what is picked first of those left is picked first of all
+pub record IsPicking {S T : Type 0} (Gives : S → Option T → Type 0) (all left : List S) : Type 0 where
+  pub listed : (s : S) → Contains left s → Contains all s
+  pub others : (found : Option T) → PicksFirst Gives left found → PicksFirst Gives all found
+
+next_picked : {S T : Type 0} (Gives : S → Option T → Type 0) (s : S) (left : List S) (found : Option T) → Gives s None
+    → PicksFirst Gives left found → PicksFirst Gives (s ∷ left) found
+unfolding PicksFirst
+next_picked Gives s left None none more = (none, more)
+next_picked Gives s left (Some value) none more = inr (none, more)
+
+pub none_picked : {S T : Type 0} {Gives : S → Option T → Type 0} {all left : List S} {s : S}
+    → IsPicking Gives all (s ∷ left) → Gives s None → IsPicking Gives all left
+none_picked {Gives = Gives} {left = left} {s = s} before none =
+    record {
+      listed = λ t here. before.listed t (later_element s t left here);
+      others = λ found more. before.others found (next_picked Gives s left found none more);
+    }
+
+pub one_picked : {S T : Type 0} {Gives : S → Option T → Type 0} {all left : List S} {s : S} {value : T}
+    → IsPicking Gives all (s ∷ left) → Gives s (Some value) → PicksFirst Gives all (Some value)
+unfolding PicksFirst
+one_picked {value = value} before gives = before.others (Some value) (inl gives)
+
+pub all_passed : {S T : Type 0} {Gives : S → Option T → Type 0} {all left : List S} → IsPicking Gives all left
+    → left ≡ [] → PicksFirst Gives all None
+unfolding PicksFirst
+all_passed before none = before.others None (rw none refl)
+
+-- ---- what is picked first of the entries of a table is the least place
 
 -- an entry stands at `at` that is at fault with these two numbers
 abbrev pub IsFaultAt : {E : Type 0} → (ℕ → E → ℕ → ℕ → Type 0) → List (PlacedEntry E) → ℕ → ℕ → ℕ → Type 0

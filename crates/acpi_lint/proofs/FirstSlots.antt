@@ -14,7 +14,7 @@ use Rattle.acpi_lint.specs.Slots.{FindsSlot}
 use Rattle.acpi_lint.specs.CompleteTables.{IsFound}
 use Rattle.acpi_lint.specs.declared.place.Place.{Place}
 use Rattle.acpi_lint.specs.declared.listed_slots.Slot.{Slot}
-use Rattle.acpi_lint.proofs.OnePlace.{not_after_itself}
+use Rattle.acpi_lint.proofs.LeastPlaces.{not_after_itself}
 
 -- one address stands in a slot of a set
 pub one_listed : {m : Memory} {p k a b : ℕ} → IsSlot m p k a → IsSlot m p k b → a ≡ b

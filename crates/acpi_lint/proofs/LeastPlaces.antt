@@ -1,11 +1,38 @@
--- The least place of findings, by what is said of it.
-use Rattle.std.proofs.Common.{◌≡◌, ℕ, ◌<◌, ◌≤◌, List, Option, Some, None, subst, inl, inr, refl, arith}
-use Rattle.std.specs.Prelude.{◌⊎◌, IfSome}
+-- The least place of findings, and what holds at one place at most.
+use Rattle.std.proofs.Common.{◌≡◌, ℕ, refl, sym, inr, arith, ◌<◌, ◌≤◌, List, Option, Some, None, subst, inl}
+use Rattle.std.specs.Prelude.{◌↔◌, IsTrue, Bool, true, false, ◌⊎◌, IfSome}
+use Rattle.std.specs.Bool.{then_some}
+use Rattle.acpi_lint.specs.Places.{IsNotAfter, FindsLeast, IsLeast}
+use Rattle.acpi_lint.specs.declared.place.Place.{Place}
 use Rattle.std.proofs.lemmas.Option.{same_Some}
 use Rattle.std.proofs.lemmas.Bool.{cases_lt}
 use Rattle.acpi_base.specs.Entries.{PlacedEntry, StandsWith, AreUnused}
-use Rattle.acpi_lint.specs.Places.{IsNotAfter, IsLeast, FindsLeast}
-use Rattle.acpi_lint.specs.declared.place.Place.{Place}
+
+-- ---- what holds at one place at most
+
+-- these are the place's numbers
+abbrev pub IsPlace : Place → ℕ → ℕ → ℕ → Type 0
+IsPlace p at other point = (at ≡ p.at) × (other ≡ p.other) × (point ≡ p.point)
+
+-- a place does not stand after itself
+pub not_after_itself : (p : Place) (at other point : ℕ) → IsPlace p at other point → IsNotAfter p at other point
+not_after_itself p at other point (one, two, three) = inr (sym one, inr (sym two, omega arith))
+
+-- what holds at one place at most is found there where a test says that it holds
+pub finds_one : {P : ℕ → ℕ → ℕ → Type 0} (p : Place) (b : Bool) → (IsTrue b ↔ P p.at p.other p.point)
+    → ((at other point : ℕ) → P at other point → IsPlace p at other point) → FindsLeast P (then_some b p)
+finds_one p true test only =
+    record {
+      here = test.0 refl;
+      least = λ at other point holds. not_after_itself p at other point (only at other point holds);
+    }
+finds_one {P} p false test only = λ at other point holds.
+    let (one, two, three) = only at other point holds in
+    let there : P p.at p.other p.point = rw (← one, ← two, ← three) holds in
+    let no : IsTrue false = test.1 there in
+    absurd cc
+
+-- ---- the least place of findings, by what is said of it
 
 -- what holds of the same numbers has the same least place
 pub least_as : {P Q : ℕ → ℕ → ℕ → Type 0} (found : Option Place)

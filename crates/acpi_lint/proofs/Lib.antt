@@ -13,8 +13,6 @@ mod NamedPlaces
 mod OfSets
 mod OfTables
 mod OneCodes
-mod OnePlace
-mod Picked
 mod PowersOfTwo
 mod Reported
 mod RisingLists

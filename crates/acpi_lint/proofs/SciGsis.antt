@@ -13,7 +13,7 @@ use Rattle.acpi_base.proofs.Madt.Faults.{ones}
 use Rattle.acpi_lint.specs.Overrides.{IsOverrideAt, ServesNumber, IsNowhere}
 use Rattle.acpi_lint.specs.Places.{IsNotAfter, IsLeast, FindsLeast}
 use Rattle.acpi_lint.specs.declared.place.Place.{Place}
-use Rattle.acpi_lint.proofs.OnePlace.{finds_one}
+use Rattle.acpi_lint.proofs.LeastPlaces.{finds_one}
 
 -- an override of the interrupt gives it some number
 some_number : (c : MadtContents) (source at : ℕ) → StandsWith c.entries at (IsOverrideOf source)

@@ -1,7 +1,10 @@
 -- The faults of a listed table: each can be decided, excludes that it is valid, and where there is none it is valid.
-use Rattle.std.proofs.Common.{refl, ◌≡◌, ℕ, inr}
+use Rattle.std.proofs.Common.{◌≡◌, ℕ, List, length, arith, refl, inr}
+use Rattle.std.proofs.lemmas.List.{take-take}
 use Rattle.acpi_base.specs.Memory.{Memory}
-use Rattle.acpi_base.specs.Tables.{table_frame, IsValidTable, TableFault}
+use Rattle.acpi_base.specs.Signature.{has_signature}
+use Rattle.acpi_base.specs.Tables.{IsTable, table_frame, IsValidTable, TableFault}
+use Rattle.acpi_base.proofs.Frames.{header_is, stands_wrong}
 use Rattle.acpi_base.specs.Codes.{stage_of}
 use Rattle.acpi_base.specs.declared.code.Code.{Code}
 use Rattle.acpi_base.specs.declared.code.Code.TheVariants as code
@@ -9,7 +12,13 @@ use Rattle.acpi_base.specs.declared.frame.Question.TheVariants as question
 use Rattle.acpi_base.specs.declared.stage.Stage.TheVariants as stage
 use Rattle.acpi_base.proofs.Faults.Deciding.{Decided}
 use Rattle.acpi_base.proofs.Frames as frame
-use Rattle.acpi_base.proofs.Frames.{stands_wrong}
+
+-- a table has the signature of its header
+pub signed_table : (m : Memory) (a : ℕ) (header whole signature : List ℕ) → IsTable m a header whole
+    → length signature ≡ 4 → has_signature whole signature ≡ has_signature header signature
+unfolding has_signature
+signed_table m a header whole signature table four =
+    grind (arith, header_is table (omega arith), take-take)
 
 pub decided : (m : Memory) (a : ℕ) (c : Code) → Decided (TableFault m a c)
 decided m a code.TableHeaderOut = frame.decided table_frame m a question.Header

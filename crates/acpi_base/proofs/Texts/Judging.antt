@@ -1,23 +1,48 @@
 -- What `read_image` returns.
-use Rattle.std.proofs.Common.{◌≡◌, ◌⊎◌, inl, inr, List, ℕ, ◌+◌, ◌≤◌, [], ◌++◌, length, take, refl, sym, subst, ap, ◌∙◌, arith, length-append}
-use Rattle.std.specs.Prelude.{Option, Result, Ok, Err, IfOk, IfErr, MatchResult}
+use Rattle.std.proofs.Common.{◌≡◌, ℕ, List, [], ◌∷◌, true, arith, ◌⊎◌, inl, inr, ◌+◌, ◌≤◌, ◌++◌, length, take, refl, sym, subst, ap, ◌∙◌, length-append}
+use Rattle.std.specs.Prelude.{Err, Option, Result, Ok, IfOk, IfErr, MatchResult}
+use Rattle.acpi_base.specs.Text.ImageText.{Line, Reading, take_line, read_line, read_lines, IsRefused, max_text, read_text, IsText, IsRefusedPrefix}
+use Rattle.acpi_base.specs.Text.TextReading.{is_of_text, IsRefusal, CountsRead}
+use Rattle.acpi_base.specs.declared.text.TextFault.{TextFault}
 use Rattle.std.specs.Io.KnownBytes.{Consumes, IsAtEnd, Keeps}
 use Rattle.std.proofs.KnownBytes.{Consumes-trans, Consumes-kept}
 use Rattle.std.proofs.lemmas.List.{take-append-le}
 use Rattle.acpi_base.specs.Memory.{Memory}
-use Rattle.acpi_base.specs.Text.ImageText.{max_text, read_text, IsText, IsRefused, IsRefusedPrefix}
 use Rattle.acpi_base.specs.Text.TextMachine.{ReaderState, Stopped, EndsAs, initial_state, run, text_result, prefix_result}
 use Rattle.acpi_base.specs.Tally.{CountsFailure}
-use Rattle.acpi_base.specs.Text.TextReading.{IsRefusal, CountsRead}
 use Rattle.acpi_base.specs.Text.LineBuffers.{HasRead, IsLineBuffer, byte_count, state_with}
 use Rattle.acpi_base.specs.declared.text.image_text.line_buffer.LineBuffer.{LineBuffer}
 use Rattle.acpi_base.proofs.Texts.LineBuffers.{short_bounds}
 use Rattle.acpi_base.specs.Text.Lines.{Refuses, reading_with, judged_by, told}
 use Rattle.acpi_base.specs.declared.text.image_text.line_parser.LineParser.{LineParser}
-use Rattle.acpi_base.specs.declared.text.TextFault.{TextFault}
 use Rattle.acpi_base.specs.declared.text.TextFault.TheVariants as text
 use Rattle.acpi_base.proofs.Texts.ByteMachine.{run_append, run_reads_text, run_reads_prefix, refused_where_stopped, prefix_is_decided}
-use Rattle.acpi_base.proofs.Texts.OwnFaults.{refusals_are_own}
+
+-- ---- what a text is refused with is a fault of the text: no failed read, and not being out of memory
+
+-- a fault in what a line says
+own_said : (r : Reading) (n : ℕ) (said : Line) (fault : TextFault) → take_line r n said ≡ Err fault
+    → is_of_text fault ≡ true
+own_said r n said fault e = grind arith
+
+-- a fault of a line
+own_line : (r : Reading) (line : List ℕ) (ending : ℕ) (fault : TextFault) → read_line r line ending ≡ Err fault
+    → is_of_text fault ≡ true
+unfolding read_line
+own_line r line ending fault e = grind (arith, own_said)
+
+-- a fault of lines that have ended
+own_lines : (r : Reading) (lines : List (List ℕ)) (fault : TextFault) → read_lines r lines ≡ Err fault
+    → is_of_text fault ≡ true
+unfolding read_lines
+own_lines r [] fault e = absurd (cc)
+own_lines r (line ∷ rest) fault e = grind (arith, own_line, λ (s : Reading). own_lines s rest fault)
+
+-- the fault of a text
+pub refusals_are_own : (bytes : List ℕ) (fault : TextFault) → IsRefused bytes fault → is_of_text fault ≡ true
+refusals_are_own bytes fault refused = grind (arith, own_line, own_lines)
+
+-- ---- what `read_image` returns
 
 -- ---- a text that is refused
 

@@ -1,9 +1,30 @@
--- What an image holds, as runs of bytes.
-use Rattle.std.specs.Prelude.{ℕ, ◌+◌, ◌-◌, ◌^◌, ◌<◌, ◌≤◌, List, [], ◌∷◌, length, slice_get, Option, None, nat_lt, if◌then◌else◌}
+-- What an image holds: runs of bytes, the bytes from an address on, and running sums.
+use Rattle.std.specs.Prelude.{◌≡◌, ℕ, List, length, take, Some, None, nat_lt, if◌then◌else◌, ◌+◌, ◌*◌, ◌/◌, ◌<◌, slice_index, ◌-◌, ◌^◌, ◌≤◌, [], ◌∷◌, slice_get, Option}
+use Rattle.acpi_base.specs.Memory.{Memory, bytes_at, with_bytes}
+use Rattle.acpi_base.specs.Number.{byte_sum}
 use Rattle.std.specs.Option.{option_or}
 use Rattle.std.specs.List.{AllByRecursion}
 use Rattle.std.specs.FinMap.{empty}
-use Rattle.acpi_base.specs.Memory.{Memory, with_bytes}
+
+-- ---- the bytes of an image from an address on
+
+-- these are the bytes from a on, up to the first address without one: the n bytes from there on are their first n, and
+-- are not all present if they are fewer
+abbrev pub AreBytesFrom : Memory → ℕ → List ℕ → Type 0
+AreBytesFrom m a bytes = (n : ℕ) → bytes_at m a n ≡ (if nat_lt (length bytes) n then None else Some (take n bytes))
+
+-- ---- running sums of bytes
+
+-- the first of the numbers is the sum, modulo 256, of the first 128 bytes, the next that of the first 256, and so on
+abbrev pub AreSums : List ℕ → List ℕ → Type 0
+AreSums sums bytes = (k : ℕ) → k < length sums → slice_index sums k ≡ byte_sum (take (128 * (k + 1)) bytes)
+
+-- and there is one for each whole 128 bytes
+pub record HasAllSums (sums bytes : List ℕ) : Type 0 where
+  pub count : length sums ≡ length bytes / 128
+  pub each : AreSums sums bytes
+
+-- ---- what an image holds, as runs of bytes
 
 -- bytes, from an address on
 pub record Run : Type 0 where

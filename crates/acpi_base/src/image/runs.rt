@@ -2,7 +2,7 @@
 
 ghost use Rattle.std.specs.Prelude.{MatchOption};
 ghost use Rattle.acpi_base.specs.Image.Segments.{IsValid, memory_in};
-ghost use Rattle.acpi_base.specs.Image.Windows.{AreBytesFrom};
+ghost use Rattle.acpi_base.specs.Image.Runs.{AreBytesFrom};
 ghost use Rattle.acpi_base.specs.Text.WrittenText.{IsEmptyFrom, IsNextRun};
 
 use crate::image::Image;

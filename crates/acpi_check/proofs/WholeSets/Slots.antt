@@ -13,7 +13,7 @@ use Rattle.acpi_base.proofs.Images.PresentBytes.{same_value}
 use Rattle.acpi_base.proofs.Root.Slots.{one_slot, slot_of_root}
 use Rattle.acpi_base.proofs.Tables.Kinds.{length-signature_of}
 use Rattle.acpi_base.proofs.Tables.Listed.{listed_in_root, none_in_root}
-use Rattle.acpi_base.proofs.Tables.Complete.{signed_table}
+use Rattle.acpi_base.proofs.Tables.Faults.{signed_table}
 use Rattle.acpi_read.specs.FirstTables.{first_listed, first_table, first_signed, first_signed_table}
 use Rattle.acpi_read.specs.Roots.{RootValue}
 use Rattle.acpi_read.specs.declared.first_tables.FirstTables.{FirstTables}

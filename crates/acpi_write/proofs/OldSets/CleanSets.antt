@@ -21,7 +21,7 @@ use Rattle.acpi_base.proofs.Root.Named.{root_width}
 use Rattle.acpi_base.proofs.Tables.Kinds.{length-signature_of}
 use Rattle.acpi_base.proofs.Tables.Listed.{listed_in_root}
 use Rattle.acpi_base.proofs.Frames.{one_frame}
-use Rattle.acpi_base.proofs.Tables.Complete.{signed_table}
+use Rattle.acpi_base.proofs.Tables.Faults.{signed_table}
 use Rattle.acpi_write.specs.Kinds.{AreReadable, IsKindBehind, is_among}
 use Rattle.acpi_write.specs.SetValues.{IsCompleteAt, is_first}
 use Rattle.acpi_write.specs.Bodies.{IsReadableAs}

@@ -10,7 +10,7 @@ use Rattle.acpi_base.specs.Listed.{listed_addresses, IsFirstListed, IsListedTabl
 use Rattle.acpi_base.proofs.Images.PresentBytes.{cases_Option, same_value}
 use Rattle.acpi_base.proofs.Root.Named.{root_width}
 use Rattle.acpi_base.proofs.Tables.Listed.{listed_of_root, one_listed}
-use Rattle.acpi_base.proofs.Tables.Complete.{signed_table}
+use Rattle.acpi_base.proofs.Tables.Faults.{signed_table}
 use Rattle.acpi_write.specs.SetValues.{IsCompleteAt, is_first}
 use Rattle.acpi_write.proofs.OldSets.CleanSets.{first_listed_table}
 use Rattle.acpi_write.proofs.OldSets.FirstTables.{first_table_with}

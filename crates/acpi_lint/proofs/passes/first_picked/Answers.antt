@@ -1,5 +1,5 @@
 use Rattle.std.proofs.Common.{refl}
-use Rattle.acpi_lint.proofs.Picked.{one_picked, none_picked, all_passed}
+use Rattle.acpi_lint.proofs.FirstEntries.{one_picked, none_picked, all_passed}
 use Rattle.acpi_lint.proofs.passes.first_picked.Goals as goal
 
 pub returns-in-Some-pick : goal.returns-in-Some-pick

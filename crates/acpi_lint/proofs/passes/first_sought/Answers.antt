@@ -1,6 +1,6 @@
 use Rattle.acpi_read.specs.EntryTables.{entry_table}
 use Rattle.acpi_lint.proofs.EntryFaults.{none_sought}
-use Rattle.acpi_lint.proofs.Picked.{one_picked, none_picked, all_passed}
+use Rattle.acpi_lint.proofs.FirstEntries.{one_picked, none_picked, all_passed}
 use Rattle.acpi_lint.proofs.passes.first_sought.Goals as goal
 
 pub returns-in-Err : goal.returns-in-Err

@@ -1,7 +1,7 @@
 use Rattle.acpi_base.specs.Entries.{entries_of, entries_read_by}
 use Rattle.acpi_read.specs.EntryTables.{entry_table}
 use Rattle.acpi_lint.specs.Places.{IsSoughtEntry, FindsOwn}
-use Rattle.acpi_lint.proofs.Picked.{IsPicking}
+use Rattle.acpi_lint.proofs.FirstEntries.{IsPicking}
 use Rattle.acpi_lint.proofs.passes.first_sought.Given as goal
 
 -- none of the entries before those left is looked for

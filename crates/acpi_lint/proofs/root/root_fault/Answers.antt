@@ -1,6 +1,6 @@
 use Rattle.std.proofs.Common.{refl, inr}
 use Rattle.acpi_base.specs.Root.{IsRoot}
-use Rattle.acpi_lint.proofs.OnePlace.{finds_one}
+use Rattle.acpi_lint.proofs.LeastPlaces.{finds_one}
 use Rattle.acpi_lint.proofs.RootPlaces.{root_of_read, at_root}
 use Rattle.acpi_lint.proofs.root.root_fault.Goals as goal
 
