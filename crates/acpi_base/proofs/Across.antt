@@ -1,4 +1,4 @@
--- Rules across tables.
+-- Proofs about the rules across tables.
 pub mod Domains
 pub mod Leaves
 pub mod Served

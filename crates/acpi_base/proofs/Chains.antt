@@ -1,4 +1,4 @@
--- Chains of offsets: each ends or comes to a cycle, none does both, and both can be decided.
+-- Chains of offsets: each ends or reaches a cycle, none does both, and both can be decided.
 use Rattle.std.proofs.Common.{◌≡◌, ℕ, zero, suc, ◌+◌, ◌-◌, ◌<◌, ◌≤◌, List, [], ◌∷◌, refl, sym, ◌∙◌, ap, subst, inl, inr, arith}
 use Rattle.std.specs.Prelude.{◌⊎◌, ◌≢◌}
 use Rattle.std.proofs.lemmas.Bool.{cases_eq, cases_lt}
@@ -11,13 +11,13 @@ pub record IsNaming (Names : ℕ → ℕ → Type 0) : Type 0 where
   pub one : (o p q : ℕ) → Names o p → Names o q → p ≡ q
   pub decide : (o : ℕ) → Decided (IsAt Names o)
 
--- those of the kind have numbers of their own, below `most`
+-- each entry of the kind has its own number, below `most`
 pub record IsNumbered (Names : ℕ → ℕ → Type 0) (most : ℕ) : Type 0 where
   pub number : ℕ → ℕ
   pub below : (o : ℕ) → IsAt Names o → number o < most
   pub apart : (o p : ℕ) → IsAt Names o → IsAt Names p → number o ≡ number p → o ≡ p
 
--- ---- of n + 1 numbers below n two are one
+-- ---- of n + 1 numbers below n two are equal
 
 -- f at i, with the number after the last in the place of n
 moved : (f : ℕ → ℕ) (n i : ℕ) → Decided (f i ≡ n) → ℕ
@@ -42,9 +42,9 @@ pigeonhole (suc n) f below =
           (i, j, less, omega arith, grind (arith, is i, is j, new i, new j))
     ]
 
--- ---- a chain ends, or leads on
+-- ---- a chain ends, or goes on
 
--- the offset that is named from o, or 0 where none of the kind stands there
+-- the offset that o names, or 0 if no entry of the kind is there
 named : (Names : ℕ → ℕ → Type 0) (o : ℕ) → Decided (IsAt Names o) → ℕ
 named Names o (inl here) = here.0
 named Names o (inr none) = 0
@@ -54,12 +54,12 @@ unfolding named
 is_named Names o (inl there) here = there.1
 is_named Names o (inr none) here = absurd (none here)
 
--- where so many steps from o lead, if there are so many
+-- the offset that so many steps from o lead to, if there are so many
 after : (Names : ℕ → ℕ → Type 0) → IsNaming Names → ℕ → ℕ → ℕ
 after Names naming o zero = o
 after Names naming o (suc n) = named Names (after Names naming o n) (naming.decide (after Names naming o n))
 
--- each of the first n offsets leads to the one behind it by a step
+-- each of the first n offsets leads to the next one by a step
 abbrev AreSteps : (ℕ → ℕ → Type 0) → (ℕ → ℕ) → ℕ → Type 0
 AreSteps Names at n = (k : ℕ) → k < n → IsStep Names (at k) (at (suc k))
 
@@ -130,7 +130,6 @@ goes_round Names most numbered at here each =
     stands zero within = here
     stands (suc k) within = (each k (omega arith)).there
 
--- where what is named stands, each chain ends or goes round
 pub ends_or_goes_round : (Names : ℕ → ℕ → Type 0) (most : ℕ) → IsNaming Names → IsNumbered Names most
     → NoneDangles Names
     → (o : ℕ) → IsAt Names o → Ends Names o ⊎ GoesRound Names most o
@@ -141,7 +140,6 @@ ends_or_goes_round Names most naming numbered valid o here =
       | inr (there, each) ↦ inr (goes_round Names most numbered (after Names naming o) here each)
     ]
 
--- where none goes round, all end
 pub end_without_cycle : (Names : ℕ → ℕ → Type 0) (most : ℕ) → IsNaming Names → IsNumbered Names most → NoneDangles Names
     → ((o lead round : ℕ) → ¬ IsCycle Names most o lead round) → AllEnd Names
 end_without_cycle Names most naming numbered valid none o here =
@@ -150,7 +148,7 @@ end_without_cycle Names most naming numbered valid none o here =
       | inr (lead, round, cycle) ↦ absurd (none o lead round cycle)
     ]
 
--- ---- a chain that goes round does not end
+-- ---- a chain that reaches a cycle does not end
 
 never_ends : (Names : ℕ → ℕ → Type 0) → IsNaming Names → (rest : List ℕ) (lead round o there : ℕ)
     → LeadsTo Names lead o there → LeadsTo Names (suc round) there there → ¬ IsChain Names o rest
@@ -172,7 +170,6 @@ cycle_excludes_end Names naming most o lead zero cycle ends = omega (arith, cycl
 cycle_excludes_end Names naming most o lead (suc round) cycle (rest, chain) =
     never_ends Names naming rest lead round o cycle.there cycle.once cycle.back chain
 
--- what goes round begins with one of the kind
 pub cycle_begins : (Names : ℕ → ℕ → Type 0) (most o lead round : ℕ) → IsCycle Names most o lead round → IsAt Names o
 cycle_begins Names most o zero zero cycle = absurd (omega (arith, cycle.some))
 cycle_begins Names most o zero (suc round) cycle = (cycle.back.0, rw cycle.once cycle.back.1.names)
@@ -193,7 +190,6 @@ ends_or_round Names most naming numbered valid =
 
 -- ---- what can be decided
 
--- whether o names p
 pub names_decided : (Names : ℕ → ℕ → Type 0) → IsNaming Names → (o p : ℕ) → Decided (Names o p)
 names_decided Names naming o p =
     elim (naming.decide o) [

@@ -25,7 +25,6 @@ element_of_map f (x ∷ xs) y h =
       | inr later ↦ let found = element_of_map f xs y later in (found.0, later_element x found.0 xs found.1, found.2)
     ]
 
--- a function is below some number at each element
 pub bounded : {X : Type 0} (f : X → ℕ) (xs : List X) → (most : ℕ) × ((x : X) → Contains xs x → f x < most)
 bounded f [] = (0, λ x h. absurd (no_element x h))
 bounded f (x ∷ xs) =
@@ -38,7 +37,6 @@ bounded f (x ∷ xs) =
       ],
     )
 
--- whether P holds of an element of a list
 pub element_decided : {X : Type 0} (xs : List X) (P : X → Type 0) → ((x : X) → Decided (P x))
     → Decided ((x : X) × Contains xs x × P x)
 element_decided [] P decide = inr (λ h. no_element h.0 h.1)

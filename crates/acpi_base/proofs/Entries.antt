@@ -1,4 +1,4 @@
--- The entries that stand in a table, by the cuts of its bytes.
+-- The entries of a table, by the cuts of its bytes into entries.
 use Rattle.std.proofs.Common.{◌≡◌, ℕ, zero, suc, ◌+◌, ◌-◌, ◌<◌, ◌≤◌, List, [], ◌∷◌, ◌++◌, length, take, drop, map, Some, None, refl, sym, ap, ◌∙◌, subst, inl, inr, append_assoc, append-nil, length-append, length-drop, arith}
 use Rattle.std.specs.Prelude.{◌⊎◌, slice_index, flat_map, sum_by}
 use Rattle.std.specs.List.{AllByRecursion}
@@ -20,13 +20,11 @@ record IsFirst (left e : List ℕ) : Type 0 where
   fits : length e ≤ length left
   run : take (length e) left ≡ e
 
--- the entry that bytes begin with is their first
 first_is : (left e : List ℕ) → IsFirst left e → first_entry left ≡ Some e
 unfolding first_entry
 first_is left e first =
     grind (arith, nat_tests, get_or-take (length e) left 1 0, first.entry.least, first.entry.said, first.run)
 
--- and the other way round
 first_says : (left e : List ℕ) → first_entry left ≡ Some e → IsFirst left e
 unfolding first_entry
 first_says left e is =
@@ -48,12 +46,11 @@ nothing_at_end = refl
 abbrev joined : List (List ℕ) → List ℕ
 joined es = flat_map (λ e. e) es
 
--- these are the first entries of the bytes left, one after another, and `more` is what stands behind them
+-- these are the first entries of the remaining bytes, one after another, and `more` is what comes after them
 abbrev Path : List (List ℕ) → List ℕ → List ℕ → Type 0
 Path [] left more = left ≡ more
 Path (e ∷ es) left more = (first_entry left ≡ Some e) × Path es (drop (length e) left) more
 
--- bytes that are joined entries and more are a path
 path_of : (es : List (List ℕ)) (left more : List ℕ) → AllByRecursion IsEntry es → joined es ++ more ≡ left
     → Path es left more
 path_of [] left more each is = sym is
@@ -67,7 +64,7 @@ path_of (e ∷ es) left more each is =
       path_of es (drop (length e) left) more each.1 behind,
     )
 
--- and the other way round
+-- conversely, a path is joined entries and more
 record IsJoined (es : List (List ℕ)) (left more : List ℕ) : Type 0 where
   each : AllByRecursion IsEntry es
   is : joined es ++ more ≡ left
@@ -86,11 +83,9 @@ path_length : (es : List (List ℕ)) (left more : List ℕ) → Path es left mor
     → length (joined es) + length more ≡ length left
 path_length es left more path = grind (arith, length-append, (joined_of es left more path).is)
 
--- a cut is a path to the end
 cut_path : (body : List ℕ) (es : List (List ℕ)) → IsCut body es → Path es body []
 cut_path body es cut = path_of es body [] (recursion_from_All IsEntry es cut.each) (append-nil (joined es) ∙ cut.joined)
 
--- two paths behind which no entry stands are one
 one_path : (es ds : List (List ℕ)) (left more rest : List ℕ) → Path es left more → Path ds left rest
     → first_entry more ≡ None → first_entry rest ≡ None → es ≡ ds
 one_path [] [] left more rest path other ended none = refl
@@ -108,7 +103,7 @@ one_path (e ∷ es) (d ∷ ds) left more rest path other ended none =
 abbrev standing : ℕ → List ℕ → PlacedEntry (List ℕ)
 standing o e = record { offset = o; entry = e }
 
--- the entry e stands behind a path
+-- the entry e comes after a path
 record IsBehind (offset : ℕ) (left : List ℕ) (o : ℕ) (e : List ℕ) : Type 0 where
   es : List (List ℕ)
   more : List ℕ
@@ -116,7 +111,6 @@ record IsBehind (offset : ℕ) (left : List ℕ) (o : ℕ) (e : List ℕ) : Type
   here : first_entry more ≡ Some e
   place : o ≡ offset + length (joined es)
 
--- what stands behind a path is in the list
 listed : (es : List (List ℕ)) (n offset : ℕ) (left more : List ℕ) (o : ℕ) (e : List ℕ) → Path es left more
     → first_entry more ≡ Some e → length left ≤ n → o ≡ offset + length (joined es)
     → Stands (entries_from n offset left) o e
@@ -135,7 +129,6 @@ listed (d ∷ ds) (suc n) offset left more o e path here enough place =
     (omega (arith, length-drop (length d) left)) (omega (arith, length-append d (joined ds))) in
     rw (path.0) (suc rest.0, omega (arith, rest.1), rest.2)
 
--- what is in the list stands behind a path
 behind_path : (n offset : ℕ) (left : List ℕ) (o : ℕ) (e : List ℕ) → Stands (entries_from n offset left) o e
     → IsBehind offset left o e
 unfolding entries_from
@@ -166,7 +159,7 @@ behind_path (suc n) offset left o e stands =
 abbrev bytes_of : List (PlacedEntry (List ℕ)) → List (List ℕ)
 bytes_of xs = map (λ s. s.entry) xs
 
--- the entries of the list are a path behind which no entry stands
+-- the entries of the list are a path after which no entry can begin
 record IsLast (left : List ℕ) (xs : List (PlacedEntry (List ℕ))) : Type 0 where
   more : List ℕ
   path : Path (bytes_of xs) left more
@@ -194,7 +187,6 @@ size_of (x ∷ xs) =
 
 -- ---- starts
 
--- what stands behind a path stands in the table
 behind_is : (first : ℕ) (whole : List ℕ) (es : List (List ℕ)) (more : List ℕ) → Path es (drop first whole) more
     → drop (first + length (joined es)) whole ≡ more
 behind_is first whole es more path =
@@ -233,7 +225,6 @@ reached first whole o s =
           );
     }
 
--- and where a path leads to something, there is a start
 start_at : (first : ℕ) (whole : List ℕ) (es : List (List ℕ)) (more : List ℕ) → Path es (drop first whole) more
     → 0 < length more → IsStart first whole (first + length (joined es))
 start_at first whole es more path some =
@@ -248,7 +239,6 @@ start_at first whole es more path some =
       cut = record { each = All-from_recursion IsEntry es is.each; joined = sym run };
     }
 
--- an entry stands at a start exactly where it is the first there
 stands_first : (first : ℕ) (whole : List ℕ) (o : ℕ) (e : List ℕ) → StandsAt first whole o e
     → first_entry (drop o whole) ≡ Some e
 stands_first first whole o e s =
@@ -266,7 +256,6 @@ first_stands first whole o e start is =
     let here = first_says (drop o whole) e is in
     record { start = start; entry = here.entry; run = grind (arith, here.run) }
 
--- at a start an entry stands, or none
 stands_or_none : (first : ℕ) (whole : List ℕ) (o : ℕ) → IsStart first whole o
     → ((e : List ℕ) × StandsAt first whole o e) ⊎ (first_entry (drop o whole) ≡ None)
 stands_or_none first whole o start =
@@ -281,14 +270,13 @@ stands_or_none first whole o start =
 abbrev es_of : ℕ → List ℕ → List (List ℕ)
 es_of first whole = bytes_of (entries_of first whole)
 
--- the cut, by where the entries end
 cut_cases : (first : ℕ) (whole : List ℕ)
     → ((end_of_entries first whole < length whole) → cut_of first whole ≡ Some (end_of_entries first whole))
     × ((length whole ≤ end_of_entries first whole) → cut_of first whole ≡ None)
 unfolding cut_of
 cut_cases first whole = (λ less. grind (arith, nat_tests), λ most. grind (arith, nat_tests))
 
--- behind all entries there is a start at which none stands, or nothing
+-- after all entries there is a start at which none can begin, or nothing
 ends : (first : ℕ) (whole : List ℕ)
     → (IsStart first whole (end_of_entries first whole) × (first_entry (drop (end_of_entries first whole) whole) ≡ None)
     × (cut_of first whole ≡ Some (end_of_entries first whole)))
@@ -315,7 +303,6 @@ ends first whole =
           inr (record { each = All-from_recursion IsEntry es is.each; joined = filled }, (cut_cases first whole).1 most)
     ]
 
--- at one start at most no entry stands
 one_end : (first : ℕ) (whole : List ℕ) (o p : ℕ) → IsStart first whole o → first_entry (drop o whole) ≡ None
     → IsStart first whole p → first_entry (drop p whole) ≡ None → o ≡ p
 one_end first whole o p s none t nothing =
@@ -329,7 +316,6 @@ one_end first whole o p s none t nothing =
           other.path none nothing,
     )
 
--- and at none where the body has a cut
 cut_ends : (first : ℕ) (whole : List ℕ) (es : List (List ℕ)) (o : ℕ) → IsCut (drop first whole) es
     → IsStart first whole o → first_entry (drop o whole) ≡ None → ⊥
 cut_ends first whole es o cut s none =

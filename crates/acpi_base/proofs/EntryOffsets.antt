@@ -1,5 +1,5 @@
--- The entries that stand in a table: they lie one behind another within it, so at most one stands at an offset,
--- and whether one with a property does can be decided.
+-- The entries of a table follow one another within it, so at most one is at an offset, and whether one with a property is
+-- there can be decided.
 use Rattle.std.proofs.Common.{◌≡◌, ℕ, zero, suc, ◌+◌, ◌<◌, ◌≤◌, List, [], ◌∷◌, length, take, drop, Some, refl, sym, ◌∙◌, ap, subst, inl, inr, arith, length-drop}
 use Rattle.std.specs.Prelude.{◌⊎◌, ◌&&◌, Contains, slice_index, nat_le, sum_by}
 use Rattle.std.proofs.lemmas.Bool.{and_parts, leb-true, ltb-true, cases_lt}
@@ -11,7 +11,7 @@ use Rattle.acpi_base.proofs.Faults.Deciding.{Decided, decided_as, both, either, 
 use Rattle.acpi_base.proofs.Images.PresentBytes.{cases_Option}
 use Rattle.acpi_base.proofs.Elements.{no_element, first_or_later, element_of_map, element_decided, bounded}
 
--- ---- entries lie apart
+-- ---- entries do not overlap
 
 -- an entry lies between two offsets, and has at least two bytes
 record LiesWithin (from end : ℕ) (s : PlacedEntry (List ℕ)) : Type 0 where
@@ -19,12 +19,11 @@ record LiesWithin (from end : ℕ) (s : PlacedEntry (List ℕ)) : Type 0 where
   least : 2 ≤ length s.entry
   fits : s.offset + length s.entry ≤ end
 
--- these lie one behind another between two offsets
+-- these follow one another between two offsets
 AreSpread : ℕ → ℕ → List (PlacedEntry (List ℕ)) → Type 0
 AreSpread from end [] = Unit {0}
 AreSpread from end (s ∷ rest) = LiesWithin from end s × AreSpread (s.offset + length s.entry) end rest
 
--- the entry that some bytes begin with has at least two of them
 first_fits : (left e : List ℕ) → first_entry left ≡ Some e → (2 ≤ length e) × (length e ≤ length left)
 unfolding first_entry
 first_fits left e is =
@@ -61,7 +60,7 @@ lies_within from end (t ∷ rest) spread s h =
           record { behind = omega arith; least = behind.least; fits = behind.fits }
     ]
 
--- two entries are one, or the one stands behind the other
+-- two entries are the same, or one comes after the other
 abbrev AreApart : PlacedEntry (List ℕ) → PlacedEntry (List ℕ) → Type 0
 AreApart s t = (s ≡ t) ⊎ ((s.offset + length s.entry ≤ t.offset) ⊎ (t.offset + length t.entry ≤ s.offset))
 
@@ -87,7 +86,6 @@ all_spread : (first : ℕ) (whole : List ℕ) → AreSpread first (first + lengt
 unfolding entries_of
 all_spread first whole = are_spread (length whole) first (first + length (drop first whole)) (drop first whole) refl
 
--- an entry stands behind what is before the entries, has at least two bytes, and ends within the table
 pub entry_within : (first : ℕ) (whole : List ℕ) (o : ℕ) (e : List ℕ) → Stands (entries_of first whole) o e
     → (first ≤ o) × (2 ≤ length e) × (o + length e ≤ length whole)
 entry_within first whole o e stands =
@@ -95,12 +93,10 @@ entry_within first whole o e stands =
     (record { offset = o; entry = e }) stands in
     (lies.behind, lies.least, omega (arith, lies.behind, lies.least, lies.fits, length-drop first whole))
 
--- bytes that are no entry are left before the table's end
 pub cut_inside : (first : ℕ) (whole : List ℕ) (o : ℕ) → cut_of first whole ≡ Some o → o < length whole
 unfolding cut_of
 cut_inside first whole o is = grind (arith, cond_some, ltb-true)
 
--- two entries of a table are one, or the one stands behind the other
 pub entries_apart : (first : ℕ) (whole : List ℕ) (o p : ℕ) (e d : List ℕ) → Stands (entries_of first whole) o e
     → Stands (entries_of first whole) p d
     → ((o ≡ p) × (e ≡ d)) ⊎ ((o + length e ≤ p) ⊎ (p + length d ≤ o))
@@ -139,7 +135,6 @@ entries_below (suc n) offset left small s h k =
           ]
     ]
 
--- where each byte of a table is below 256, each of an entry is
 pub entry_below : (first : ℕ) (whole : List ℕ) → ((k : ℕ) → slice_index whole k < 256)
     → (o : ℕ) (e : List ℕ) → Stands (entries_of first whole) o e → (k : ℕ) → slice_index e k < 256
 unfolding entries_of
@@ -149,7 +144,6 @@ entry_below first whole small o e stands =
 
 -- ---- what entries say
 
--- the bytes of an entry that says this
 pub said_from : {E : Type 0} (read : List ℕ → E) (entries : List (PlacedEntry (List ℕ))) (o : ℕ) (v : E)
     → Stands (entries_read_by read entries) o v → (e : List ℕ) × Stands entries o e × (read e ≡ v)
 said_from {E} read entries o v stands =
@@ -161,14 +155,13 @@ said_from {E} read entries o v stands =
       ap (λ (s : PlacedEntry E). s.entry) found.2,
     )
 
--- an entry that says something begins before the end of the table
 pub said_inside : {E : Type 0} (read : List ℕ → E) (first : ℕ) (whole : List ℕ) (o : ℕ) (v : E)
     → Stands (entries_read_by read (entries_of first whole)) o v → o < length whole
 said_inside read first whole o v stands =
     let (e, here, is) = said_from read (entries_of first whole) o v stands in
     omega (arith, entry_within first whole o e here)
 
--- at most one entry stands at an offset
+-- at most one entry is at an offset
 abbrev pub AreOnes : {E : Type 0} → List (PlacedEntry E) → Type 0
 AreOnes {E} entries = (o : ℕ) (e d : E) → Stands entries o e → Stands entries o d → e ≡ d
 
@@ -185,7 +178,6 @@ one_said read first whole o v u one other =
 
 -- ---- what can be decided
 
--- whether an entry stands at an offset of which P holds
 pub stands_with_decided : {E : Type 0} (entries : List (PlacedEntry E)) (o : ℕ) (P : E → Type 0)
     → ((e : E) → Decided (P e)) → Decided (StandsWith entries o P)
 stands_with_decided entries o P decide =
@@ -193,25 +185,21 @@ stands_with_decided entries o P decide =
     (λ h. (record { offset = o; entry = h.0 }, h.1, (refl, h.2)))
     (element_decided entries (λ s. (s.offset ≡ o) × P s.entry) (λ s. both (same s.offset o) (decide s.entry)))
 
--- whether an entry with P stands somewhere
 pub somewhere_decided : {E : Type 0} (entries : List (PlacedEntry E)) (P : E → Type 0) → ((e : E) → Decided (P e))
     → Decided ((o : ℕ) × StandsWith entries o P)
 somewhere_decided entries P decide =
     decided_as (λ h. (h.0.offset, (h.0.entry, h.1, h.2))) (λ h. (record { offset = h.0; entry = h.1.0 }, h.1.1, h.1.2))
     (element_decided entries (λ s. P s.entry) (λ s. decide s.entry))
 
--- whether one of the kinds has a type
 pub type_decided : {E : Type 0} (kinds : List (EntryType E)) (type : ℕ) → Decided (IsTypeOf kinds type)
 type_decided [] type = inr (λ h. h)
 type_decided (k ∷ kinds) type = either (same type k.type) (type_decided kinds type)
 
--- whether the numbers that a fault does not use are 0
 pub unused_decided : (other point : ℕ) → Decided (AreUnused other point)
 unused_decided other point = both (same other 0) (same point 0)
 
 -- ---- of all entries
 
--- there is a number above every offset at which an entry stands, and above a number of each entry
 pub entries_bounded : {E : Type 0} (entries : List (PlacedEntry E)) (number : E → ℕ)
     → (most : ℕ) × ((o : ℕ) (e : E) → Stands entries o e → (o < most) × (number e < most))
 entries_bounded entries number =
@@ -229,7 +217,6 @@ said_with read P holds first whole small o e stands =
 
 -- ---- the cut
 
--- an entry ends at the end of all entries or before
 ends_before : (n offset : ℕ) (left : List ℕ) (o : ℕ) (e : List ℕ) → Stands (entries_from n offset left) o e
     → o + length e ≤ offset + sum_by (λ s. length s.entry) (entries_from n offset left)
 unfolding entries_from
@@ -253,7 +240,6 @@ ends_before (suc n) offset left o e stands =
           ]
     ]
 
--- the cut is behind every entry
 pub cut_behind : (first : ℕ) (whole : List ℕ) (cut o : ℕ) (e : List ℕ) → cut_of first whole ≡ Some cut
     → Stands (entries_of first whole) o e → o < cut
 unfolding cut_of end_of_entries entries_of

@@ -1,4 +1,4 @@
--- The entries of a table, one step at a time: what stands first from an offset on, and what behind it.
+-- The entries of a table, one step at a time: which one is first from an offset on, and which ones come after it.
 use Rattle.std.proofs.Common.{◌≡◌, ℕ, zero, suc, ◌+◌, ◌≤◌, List, [], ◌∷◌, length, drop, Some, None, refl, ap, ◌∙◌, sym, inl, inr, arith, length-drop}
 use Rattle.std.specs.Prelude.{slice_index}
 use Rattle.std.proofs.lemmas.Bool.Decides.{nat_tests}
@@ -8,7 +8,7 @@ use Rattle.std.proofs.lemmas.Option.{cond_some}
 use Rattle.acpi_base.specs.Entries.{IsEntry, PlacedEntry, first_entry, entries_from, entries_of, end_of_entries}
 use Rattle.acpi_base.proofs.Images.PresentBytes.{cases_Option}
 
--- the entry that bytes begin with is one, and fits them
+-- the entry that bytes begin with is an entry, and fits them
 record BeginsWith (left e : List ℕ) : Type 0 where
   entry : IsEntry e
   fits : length e ≤ length left
@@ -24,13 +24,11 @@ first_says left e is =
       fits = grind (arith, nat_tests, count);
     }
 
--- where no entry stands there are none
 from_none : (n offset : ℕ) (left : List ℕ) → first_entry left ≡ None → entries_from n offset left ≡ []
 unfolding entries_from
 from_none zero offset left none = refl
 from_none (suc n) offset left none = rw none refl
 
--- no bytes begin with none
 none_left : (left : List ℕ) → length left ≤ 0 → first_entry left ≡ None
 none_left left few =
     elim (cases_Option (first_entry left)) [
@@ -38,7 +36,6 @@ none_left left few =
       | inl (e, is) ↦ (let first = first_says left e is in absurd (omega (arith, first.entry.least, first.fits)))
     ]
 
--- no more entries are looked for than there are bytes
 enough : (n m offset : ℕ) (left : List ℕ) → length left ≤ n → length left ≤ m
     → entries_from n offset left ≡ entries_from m offset left
 unfolding entries_from
@@ -55,7 +52,6 @@ enough (suc n) (suc m) offset left few small =
           rw is (ap (λ (more : List (PlacedEntry (List ℕ))). record { offset = offset; entry = e } ∷ more) rest)
     ]
 
--- where one stands it is the first
 from_some : (n offset : ℕ) (left e : List ℕ) → length left ≤ n → first_entry left ≡ Some e
     → entries_from n offset left ≡ record { offset = offset; entry = e } ∷ entries_from n (offset + length e)
     (drop (length e) left)
@@ -71,7 +67,7 @@ from_some (suc n) offset left e few is =
 
 -- ---- of a table
 
--- no entry stands at an offset: there are none from there on
+-- no entry can begin at an offset: there are none from there on
 pub record IsEnd (start : ℕ) (whole : List ℕ) : Type 0 where
   pub none : entries_of start whole ≡ []
   pub end : end_of_entries start whole ≡ start
@@ -82,7 +78,7 @@ is_end start whole none =
     let nothing = from_none (length whole) start (drop start whole) none in
     record { none = nothing; end = rw nothing (omega arith) }
 
--- an entry stands at an offset: it is the first from there on, and the others stand behind it
+-- an entry is at an offset: it is the first from there on, and the others come after it
 pub record IsNext (start : ℕ) (whole e : List ℕ) : Type 0 where
   pub entry : IsEntry e
   pub fits : length e ≤ length (drop start whole)

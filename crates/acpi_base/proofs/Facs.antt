@@ -1,4 +1,4 @@
--- The faults of the FACS: each can be decided, excludes that it is valid, and where there is none it is valid.
+-- The faults of the FACS: each can be decided, and there is none exactly if the FACS is valid.
 use Rattle.std.proofs.Common.{◌≡◌, ◌^◌, ◌<◌, ℕ, List, Some, true, refl, sym, ◌∙◌, ap, subst, inr, arith}
 use Rattle.std.specs.Prelude.{◌≢◌, ◌%◌}
 use Rattle.std.proofs.lemmas.Bool.{both_ways}
@@ -23,19 +23,16 @@ use Rattle.acpi_base.proofs.Tables.Listed.{one_listed}
 
 -- ---- its address
 
--- a wide address is the number in its 8 bytes
 pub wide_is : (whole : List ℕ) (end offset address : ℕ) → wide_address whole end offset ≡ Some address
     → field whole offset 8 ≡ address
 unfolding wide_address
 wide_is whole end offset address e = grind (arith, cond_some)
 
--- the address of the FACS that a FADT of an image names fits
 address_fits : {m : Memory} {p : ℕ} {fadt : List ℕ} → IsImage m → IsFadt m p fadt → facs_address fadt < 2 ^ 64
 address_fits {m = m} {fadt = fadt} image is =
     let below_width = present_field_below m image is.a (length_of is.header) fadt is.table.present in
     grind (arith, cases_Option (wide_address fadt 140 132), wide_is fadt 140 132, below_width 132 8, below_width 36 4)
 
--- a fault of the FACS that a FADT names is at the address that is named, which is 0 for none
 named_place : (m : Memory) (fadt : List ℕ) (c : Code) (at : ℕ) → NamedFacsFault m fadt c at → at ≡ facs_address fadt
 named_place m fadt code.NoFacs at (full, zero, is) = is ∙ sym zero
 named_place m fadt code.FacsAlign at (named, is, loose) = is
@@ -50,7 +47,6 @@ place_fits {m} image c at (fadt, is, long, fault) = rw (named_place m fadt c at 
 
 -- ---- of the FACS that a FADT names
 
--- whether an address is named and is this one, with P
 there_with : (fadt : List ℕ) (at : ℕ) (P : Type 0) → Decided P
     → Decided ((facs_address fadt ≢ 0) × (at ≡ facs_address fadt) × P)
 there_with fadt at P decide = all3 (differs (facs_address fadt) 0) (same at (facs_address fadt)) decide
@@ -65,7 +61,6 @@ named_decided m fadt code.FacsLength at = there_with fadt at _ (frame.decided fa
 named_decided m fadt code.FacsOut at = there_with fadt at _ (frame.decided facs_frame m at question.Bytes)
 named_decided m fadt _ at = inr (λ fault. fault)
 
--- a FACS without a fault is valid
 named_without_fault : (m : Memory) (fadt : List ℕ)
     → ((c : Code) (at : ℕ) → stage_of c ≡ stage.Facs → ¬ NamedFacsFault m fadt c at) → HasValidFacs m fadt
 named_without_fault m fadt none = record { none = reduced; named = facs }
@@ -86,7 +81,6 @@ named_without_fault m fadt none = record { none = reduced; named = facs }
         (λ unsigned. none code.FacsSignature f refl (named, refl, (is.0, is.2.header_present, unsigned))) in
         (is.1, record { aligned = aligned; header = is.0; frame = is.2; signed = signed })
 
--- a fault excludes that the FACS is valid
 named_excludes : (m : Memory) (fadt : List ℕ) (c : Code) (at : ℕ) → NamedFacsFault m fadt c at → ¬ HasValidFacs m fadt
 named_excludes m fadt c at fault valid =
     by_code c (subst (λ (x : ℕ). NamedFacsFault m fadt c x) (named_place m fadt c at fault) fault)
@@ -104,25 +98,21 @@ named_excludes m fadt c at fault valid =
 
 -- ---- of a set's FACS
 
--- where the FADT is known, a fault of the FACS can be decided
 pub decided : (m : Memory) (p : ℕ) (fadt : IsValidFadt m p) (c : Code) (at : ℕ) → Decided (FacsFault m p c at)
 decided m p fadt c at =
     decided_as (λ h. (fadt.whole, fadt.fadt, fadt.valid.long, h))
     (λ h. rw (one_listed m p fadt_signature h.0 fadt.whole h.1 fadt.fadt) at h.3) (named_decided m fadt.whole c at)
 
--- and is at the address that it names
 pub place : (m : Memory) (p : ℕ) (fadt : IsValidFadt m p) (c : Code) (at : ℕ) → FacsFault m p c at
     → at ≡ facs_address fadt.whole
 place m p fadt c at (whole, is, long, fault) =
     named_place m whole c at fault ∙ ap facs_address (one_listed m p fadt_signature whole fadt.whole is fadt.fadt)
 
--- a FACS without a fault is valid
 pub valid_without_fault : (m : Memory) (p : ℕ) (fadt : IsValidFadt m p)
     → ((c : Code) (at : ℕ) → stage_of c ≡ stage.Facs → ¬ FacsFault m p c at) → IsValidFacs m p
 valid_without_fault m p fadt none whole is =
     rw (one_listed m p fadt_signature whole fadt.whole is fadt.fadt)
     (named_without_fault m fadt.whole (λ c at own fault. none c at own (fadt.whole, fadt.fadt, fadt.valid.long, fault)))
 
--- a fault excludes that the FACS is valid
 pub excludes : (m : Memory) (p : ℕ) (c : Code) (at : ℕ) → FacsFault m p c at → ¬ IsValidFacs m p
 excludes m p c at (fadt, is, long, fault) valid = named_excludes m fadt c at fault (valid fadt is)

@@ -1,4 +1,4 @@
--- The faults of the FADT: each can be decided, excludes that it is valid, and where there is none it is valid.
+-- The faults of the FADT: each can be decided, and there is none exactly if the FADT is valid.
 use Rattle.std.proofs.Common.{◌≡◌, ◌≤◌, ℕ, List, length, Some, None, true, false, refl, ap, inl, inr, arith}
 use Rattle.std.specs.Prelude.{◌⊎◌, ◌%◌}
 use Rattle.std.proofs.lemmas.Bool.{cases_eq}
@@ -34,7 +34,6 @@ table_decided whole code.ResetRegister at =
     all5 (at_most 116 (length whole)) (is_true (has_reset whole)) (at_most 129 (length whole)) wrong (same at 116)
 table_decided whole _ at = inr (λ fault. fault)
 
--- no fault of a FADT's bytes is at an offset past the reset register's
 table_place : (whole : List ℕ) (c : Code) (at : ℕ) → FadtTableFault whole c at → at ≤ 116
 table_place whole code.FadtShort at (short, place) = omega arith
 table_place whole code.PmEventLength at (long, full, wrong, place) = omega arith
@@ -44,7 +43,6 @@ table_place whole code.GpeLength at (long, full, place, odd) = omega (arith, pla
 table_place whole code.ResetRegister at (long, with, more, wrong, place) = omega arith
 table_place whole _ at fault = absurd fault
 
--- a FADT's bytes without a fault are valid
 table_without_fault : (whole : List ℕ) → ((c : Code) (at : ℕ) → stage_of c ≡ stage.Fadt → ¬ FadtTableFault whole c at)
     → IsValidFadtTable whole
 table_without_fault whole none = record { long = long; blocks = blocks; reset = reset }
@@ -82,7 +80,6 @@ table_without_fault whole none = record { long = long; blocks = blocks; reset = 
               (λ wrong. none code.ResetRegister 116 refl (long, with, more, inr (inr wrong), refl));
         }
 
--- a fault excludes that a FADT's bytes are valid
 table_excludes : (whole : List ℕ) (c : Code) (at : ℕ) → FadtTableFault whole c at → ¬ IsValidFadtTable whole
 table_excludes whole code.FadtShort at (short, place) valid = omega (arith, valid.long)
 table_excludes whole code.PmEventLength at (long, full, short, place) valid = omega (arith, (valid.blocks full).event)
@@ -99,12 +96,10 @@ table_excludes whole _ at fault valid = absurd fault
 
 -- ---- of a set's FADT
 
--- no fault of the FADT is at an offset past the reset register's
 pub place : (m : Memory) (p : ℕ) (c : Code) (at : ℕ) → FadtFault m p c at → at ≤ 116
 place m p c at (inl (none, is, zero)) = omega arith
 place m p c at (inr (whole, fadt, fault)) = table_place whole c at fault
 
--- where it is known whether there is a FADT, a fault of it can be decided
 pub decided : (m : Memory) (p : ℕ) (fadt : IsListedOrNone m p fadt_signature) (c : Code) (at : ℕ)
     → Decided (FadtFault m p c at)
 decided m p (None, none) c at =
@@ -120,7 +115,6 @@ decided m p (Some whole, fadt) c at =
     ])
     (table_decided whole c at)
 
--- a FADT without a fault is valid
 pub valid_without_fault : (m : Memory) (p : ℕ) (fadt : IsListedOrNone m p fadt_signature)
     → ((c : Code) (at : ℕ) → stage_of c ≡ stage.Fadt → ¬ FadtFault m p c at) → IsValidFadt m p
 valid_without_fault m p (None, lists_none) none = absurd (none code.NoFadt 0 refl (inl (lists_none, refl, refl)))
@@ -131,7 +125,6 @@ valid_without_fault m p (Some whole, fadt) none =
       valid = table_without_fault whole (λ c at own fault. none c at own (inr (whole, fadt, fault)));
     }
 
--- a fault excludes that the FADT is valid
 pub excludes : (m : Memory) (p : ℕ) (c : Code) (at : ℕ) → FadtFault m p c at → ¬ IsValidFadt m p
 excludes m p c at (inl (none, is, zero)) valid = none_and_listed none valid.fadt
 excludes m p c at (inr (whole, fadt, fault)) valid =

@@ -1,4 +1,4 @@
--- Faults, whatever they are faults of: what can be decided has a first fault or none, and the laws.
+-- Faults in general: what can be decided has a first fault or none, and the laws.
 pub mod Deciding
 pub mod FirstStages
 pub mod HoldsOrFault

@@ -1,5 +1,5 @@
--- The faults of a structure that says how long it is: each can be decided, where there is none it stands, and one that
--- stands has no other than a wrong sum.
+-- The faults of a structure whose header has its length: each can be decided; without one the structure is present, and one
+-- that is present can only have a wrong checksum.
 use Rattle.std.proofs.Common.{◌≡◌, ◌≤◌, ◌+◌, ℕ, List, length, take, sym, ◌∙◌, arith}
 use Rattle.std.specs.Prelude.{◌≢◌, false}
 use Rattle.acpi_base.specs.Frames.{frame_length, IsFrame, IsValidFrame, FrameFault}
@@ -30,7 +30,6 @@ decided f m a question.Sum =
     (λ header. both (at_most f.least (frame_length f header))
     (is_some_with (bytes_at m a (frame_length f header)) _ (λ whole. differs (byte_sum whole) 0))))
 
--- a structure whose bytes are present, as many as the least ones, stands
 pub stands : (f : Frame) (m : Memory) (a : ℕ) → ¬ FrameFault f m a question.Header → ¬ FrameFault f m a question.Length
     → ¬ FrameFault f m a question.Bytes → (header : List ℕ) × (whole : List ℕ) × IsFrame f m a header whole
 stands f m a in_header long present =
@@ -39,7 +38,6 @@ stands f m a in_header long present =
     let whole = not_none (bytes_at m a (frame_length f header.0)) (λ out. present (header.0, header.1, least, out)) in
     (header.0, whole.0, record { header_present = header.1; least = least; present = whole.1 })
 
--- and is valid if its sum is right
 pub valid_without_fault : (f : Frame) (m : Memory) (a : ℕ) → ¬ FrameFault f m a question.Header
     → ¬ FrameFault f m a question.Length → ¬ FrameFault f m a question.Bytes → ¬ FrameFault f m a question.Sum
     → IsValidFrame f m a
@@ -48,40 +46,35 @@ valid_without_fault f m a in_header long present zero =
     let zero_sum = not_other (byte_sum is.1) 0 (λ sum. zero (is.0, is.1, is.2, sum)) in
     record { header = is.0; whole = is.1; frame = is.2; zero_sum = zero_sum }
 
--- ---- a structure that stands
+-- ---- a structure that is present
 
--- it is one
 pub one_frame : {f : Frame} {m : Memory} {a : ℕ} {header whole header' whole' : List ℕ} → IsFrame f m a header whole
     → IsFrame f m a header' whole' → whole ≡ whole'
 one_frame {header = header} {whole} {header'} {whole'} one other =
     let same = same_value header header' one.header_present other.header_present in
     same_value whole whole' (rw same at one.present) other.present
 
--- it has as many bytes as its header says
 pub length_frame : {f : Frame} {m : Memory} {a : ℕ} {header whole : List ℕ} → IsFrame f m a header whole
     → length whole ≡ frame_length f header
 length_frame {f} {m} {a} {header} {whole} is = length-bytes_at m a (frame_length f header) whole is.present
 
--- which are its first
 pub header_is : {f : Frame} {m : Memory} {a : ℕ} {header whole : List ℕ} → IsFrame f m a header whole
     → f.header ≤ f.least → header ≡ take f.header whole
 header_is {f} {m} {a} {header} {whole} is fits =
     same_value header (take f.header whole) is.header_present
     (run_of-take (byte_of m) a (frame_length f header) f.header whole is.present (omega (arith, is.least)))
 
--- so the numbers in it are the same in all its bytes
 pub header_field : {f : Frame} {m : Memory} {a : ℕ} {header whole : List ℕ} → IsFrame f m a header whole
     → f.header ≤ f.least → (offset width : ℕ) → offset + width ≤ f.header
     → field whole offset width ≡ field header offset width
 header_field {f} {header = header} {whole = whole} is fits offset width inside =
     rw (header_is is fits) (sym (field-take whole f.header offset width inside))
 
--- and all its bytes say how many they are
 pub says_length : {f : Frame} {m : Memory} {a : ℕ} {header whole : List ℕ} → IsFrame f m a header whole
     → f.header ≤ f.least → f.length_at + 4 ≤ f.header → frame_length f whole ≡ length whole
 says_length {f} is fits inside = header_field is fits f.length_at 4 inside ∙ sym (length_frame is)
 
--- what a fault of a structure that stands says: it has another signature, or its sum is wrong
+-- a fault of a structure that is present: it has another signature, or its checksum is wrong
 abbrev pub StandsWrong : Question → List ℕ → List ℕ → Type 0
 StandsWrong (question.Signature signature) header whole = has_signature header signature ≡ false
 StandsWrong question.Sum header whole = byte_sum whole ≢ 0

@@ -1,4 +1,4 @@
--- The first fault of each code: it is one, it is there where there is a fault, and the first fault of an image is one.
+-- The first fault of each code: it is unique, it exists if there is a fault, and the first fault of an image is one.
 use Rattle.std.proofs.Common.{◌≡◌, ◌≤◌, List, [], ◌∷◌, refl, sym, subst, inl, inr, arith}
 use Rattle.acpi_base.specs.Memory.{Memory}
 use Rattle.acpi_base.specs.Policy.{PolicyValue}
@@ -21,12 +21,10 @@ use Rattle.acpi_base.proofs.Faults.Laws.{clean_or_first_fault}
 use Rattle.acpi_base.proofs.Faults.Order.{same_witness}
 use Rattle.acpi_base.proofs.Faults.Stages.{excludes, one_first}
 
--- no stage has a greater number than the last
 pub up_to_last : (s : Stage) → stage_number s ≤ stage_number stage.Leaves
 up_to_last stage.Rsdp = omega arith
 up_to_last _ = omega arith
 
--- the first of a stage is the first of its code
 least_of_code : (m : Memory) (q : PolicyValue) (w : Witness) (c : Code) → IsLeastOfStage (stage_of c) m q w
     → IsLeastOfCode c m q w
 least_of_code m q w code.GsiClash least = least
@@ -38,7 +36,6 @@ pub first_is_first_of_code : FirstIsFirstOfCode
 first_is_first_of_code m q w first =
     record { fault = first.fault; least = least_of_code m q w w.code first.least }
 
--- an image without a fault that comes first is clean
 clean_without : (m : Memory) (q : PolicyValue) → ((w : Witness) → ¬ IsFirstFault m q w) → IsClean m q
 clean_without m q none =
     elim (clean_or_first_fault m q stage.Leaves) [
@@ -46,7 +43,6 @@ clean_without m q none =
       | inr (w, first, _) ↦ absurd (none w first)
     ]
 
--- and a clean one has no fault
 without_fault : (m : Memory) (q : PolicyValue) → IsClean m q → (w : Witness) → ¬ Fault m q w
 without_fault m q clean w fault = excludes m q w (stage_of w.code) fault.holds (clean (stage_of w.code))
 
@@ -59,13 +55,11 @@ clean_without_firsts m q = (
   λ clean w first. without_fault m q clean w first.fault,
 )
 
--- a fault with one of the codes of overlaps is the first of its stage where it is the first of its code
 first_of_stage : (m : Memory) (q : PolicyValue) (w : Witness) (c : Code) → w.code ≡ c → Fault m q w
     → IsLeastOfStage (stage_of c) m q w → IsFirstOfStage (stage_of c) m q w
 first_of_stage m q w c is fault least =
     record { holds = subst (λ (d : Code). FaultOfStage (stage_of d) m q w) is fault; least = least }
 
--- two first faults of a code are one
 one_of_code : (m : Memory) (q : PolicyValue) (w v : Witness) (c : Code) → w.code ≡ c → v.code ≡ c → Fault m q w
     → Fault m q v → IsLeastOfCode c m q w → IsLeastOfCode c m q v → w ≡ v
 one_of_code m q w v code.GsiClash is also one other least too =
@@ -89,7 +83,6 @@ first_is_reported m q faults w are first = (are.all w).1 (first_is_first_of_code
 pub reported_are_faults : ReportedAreFaults
 reported_are_faults m q faults w are listed = ((are.all w).0 listed).fault
 
--- none is reported of an image exactly where it is clean
 none_or_some : (m : Memory) (q : PolicyValue) (faults : List Witness) → AreFirstFaults m q faults → IsClean m q
     → faults ≡ []
 none_or_some m q [] are clean = refl
@@ -104,7 +97,6 @@ none_reported m q faults are = (
 
 -- ---- advice
 
--- two that stand after each other neither way have the same numbers
 same_numbers : (a b : Advice) → NotAfter a b → NotAfter b a → (a.at ≡ b.at) × (a.other ≡ b.other) × (a.point ≡ b.point)
 same_numbers a b one other = (grind (arith, one, other), grind (arith, one, other), grind (arith, one, other))
 

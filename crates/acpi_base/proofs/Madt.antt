@@ -1,4 +1,4 @@
--- The MADT.
+-- Proofs about the MADT.
 pub mod Faults
 pub mod Interrupts
 pub mod Overrides

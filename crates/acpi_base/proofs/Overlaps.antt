@@ -1,4 +1,4 @@
--- The first overlap of ranges: there is one where two ranges hold some number, and there is only one.
+-- The first overlap of ranges: there is one if two ranges contain the same number, and only one.
 use Rattle.std.proofs.Common.{◌≡◌, ◌≢◌, ◌⊎◌, ℕ, suc, ◌+◌, ◌<◌, ◌≤◌, refl, sym, ◌∙◌, subst, inl, inr, List, arith}
 use Rattle.std.specs.Prelude.{Contains}
 use Rattle.std.proofs.lemmas.Bool.{cases_eq}
@@ -9,8 +9,8 @@ use Rattle.acpi_base.proofs.Faults.Least.{NoneOrFirst, ByNumber, first_by, first
 use Rattle.acpi_base.proofs.Elements.{bounded}
 use Rattle.acpi_base.proofs.EntryOffsets.{AreOnes, stands_with_decided}
 
--- finitely many ranges: those that stand at one offset and hold one number have one start; a range holds no number
--- before its start; whether it holds a number can be decided; and offsets and numbers are bounded
+-- finitely many ranges: those at one offset that contain one number have one start; a range contains no number before its
+-- start; whether it contains a number can be decided; and offsets and numbers are bounded
 pub record AreFiniteRanges (HoldsAt : ℕ → ℕ → ℕ → Type 0) : Type 0 where
   pub one_start : (o s t x : ℕ) → HoldsAt o s x → HoldsAt o t x → s ≡ t
   pub from_start : (o s x : ℕ) → HoldsAt o s x → s ≤ x
@@ -21,7 +21,7 @@ pub record AreFiniteRanges (HoldsAt : ℕ → ℕ → ℕ → Type 0) : Type 0 w
 
 -- ---- there is one
 
--- a range by where it stands and where it begins
+-- a range by its offset and its start
 record Range : Type 0 where
   offset : ℕ
   start : ℕ
@@ -30,7 +30,6 @@ record Range : Type 0 where
 abbrev IsEarlier : Range → Range → Type 0
 IsEarlier = ByNumber (λ r. r.start) (λ r u. r.offset ≤ u.offset)
 
--- there is no range of which P holds, or there is a first
 earliest : (P : ℕ → ℕ → Type 0) (n m : ℕ) → ((o s : ℕ) → P o s → (o < n) × (s < m)) → ((o s : ℕ) → Decided (P o s))
     → NoneOrFirst IsEarlier (λ r. P r.offset r.start)
 earliest P n m below decide =
@@ -40,7 +39,6 @@ earliest P n m below decide =
     (λ o. decided_as (λ here. (record { offset = o; start = s }, ((here, refl), refl)))
     (λ h. rw (← h.1.1) (rw (← h.1.0.1) h.1.0.0)) (decide o s)))
 
--- no two ranges hold x, or two do that are the first
 clash_at : {HoldsAt : ℕ → ℕ → ℕ → Type 0} → AreFiniteRanges HoldsAt → (x : ℕ)
     → ((o p : ℕ) → ¬ IsIntervalOverlap HoldsAt o p x)
     ⊎ ((at other : ℕ) × IsIntervalOverlap HoldsAt at other x
@@ -85,7 +83,6 @@ clash_at {HoldsAt} ranges x =
     below : (o s : ℕ) → HoldsAt o s x → (o < ranges.offsets) × (s < suc x)
     below o s holds = (omega (arith, ranges.within o s x holds), omega (arith, ranges.from_start o s x holds))
 
--- no number is present by two ranges, or there is a first overlap
 pub apart_or_first : {HoldsAt : ℕ → ℕ → ℕ → Type 0} → AreFiniteRanges HoldsAt
     → AreApart HoldsAt ⊎ ((at other point : ℕ) × IsFirstIntervalOverlap HoldsAt at other point)
 apart_or_first {HoldsAt} ranges =
@@ -115,7 +112,6 @@ apart_or_first {HoldsAt} ranges =
 
 -- ---- there is only one
 
--- the first of the two comes before every other range that holds the number
 before_others : {HoldsAt : ℕ → ℕ → ℕ → Type 0} {at other point : ℕ} → AreFiniteRanges HoldsAt
     → (f : IsFirstIntervalOverlap HoldsAt at other point)
     → (p u : ℕ) → HoldsAt p u point → p ≢ at → ComesBefore f.overlap.s at u p
@@ -130,7 +126,6 @@ before_others {HoldsAt} {at} {other} {point} ranges f p u holds apart =
       holds,
     )
 
--- two first overlaps at one number are of the same ranges
 same_two : {HoldsAt : ℕ → ℕ → ℕ → Type 0} {a b c d x : ℕ} → AreFiniteRanges HoldsAt
     → IsFirstIntervalOverlap HoldsAt a b x → IsFirstIntervalOverlap HoldsAt c d x → (a ≡ c) × (b ≡ d)
 same_two {HoldsAt} {a} {b} {c} {d} {x} ranges f g =
@@ -152,7 +147,6 @@ same_two {HoldsAt} {a} {b} {c} {d} {x} ranges f g =
       ),
     )
 
--- there is only one first overlap
 pub one_first : {HoldsAt : ℕ → ℕ → ℕ → Type 0} {a b c d x y : ℕ} → AreFiniteRanges HoldsAt
     → IsFirstIntervalOverlap HoldsAt a b x → IsFirstIntervalOverlap HoldsAt c d y → (a ≡ c) × (b ≡ d) × (x ≡ y)
 one_first {HoldsAt} {a} {b} {c} {d} {x} {y} ranges f g =
@@ -160,10 +154,10 @@ one_first {HoldsAt} {a} {b} {c} {d} {x} {y} ranges f g =
     let two = same_two ranges f (subst (λ (k : ℕ). IsFirstIntervalOverlap HoldsAt c d k) (sym point) g) in
     (two.0, two.1, point)
 
--- ---- ranges that entries say
+-- ---- the ranges of entries
 
--- what entries say are finitely many ranges, where at most one entry stands at an offset; `Says s x` of an entry says
--- that it has a range from s on that holds x, and `start` and `end` are where its range begins and ends
+-- the ranges of entries are finitely many, if at most one entry is at an offset; `Says s x` of an entry says that it has
+-- a range from s on that contains x, and `start` and `end` are where its range begins and ends
 pub ranges_of_entries : {E : Type 0} (entries : List (PlacedEntry E)) (Says : ℕ → ℕ → E → Type 0) (start end : E → ℕ)
     → AreOnes entries
     → ((s x : ℕ) (e : E) → Says s x e → (start e ≡ s) × (s ≤ x) × (x < end e))

@@ -1,4 +1,4 @@
--- What policies are made of.
+-- How the counts of a policy are stored.
 use Rattle.std.proofs.Common.{◌≡◌, ℕ, ◌==◌, ◌^◌, ◌<◌, ◌≤◌, ◌⊎◌, inl, inr, Bool, true, false, IsTrue, cond, List, [], ◌∷◌, Option, Some, None, unwrap_or, Result, Ok, Err, OnOk, OnErr, refl, sym, ap, subst, ◌∙◌, arith}
 use Rattle.std.specs.Ordering.{nat_cmp, is_eq}
 use Rattle.std.specs.Cmp.{nat_cmp_total, eq_by_cmp_equiv, unsigned_tied}
@@ -11,16 +11,13 @@ use Rattle.std.specs.FinMap.{FinMap, find, get, insert, from_entries, gets, get-
 -- what a map has at a key
 pub ruleset map_reads = (gets)
 
--- both kinds of map look a key up in the same way
 find_as_lookup : (a : ℕ) (es : List (ℕ × ℕ)) → find nat_cmp a es ≡ lookup (is_at (nat_cmp a)) es
 find_as_lookup a [] = refl
 find_as_lookup a (e ∷ es) = ap (cond (is_eq (nat_cmp a e.0)) (Some e.1)) (find_as_lookup a es)
 
--- what a policy has at an address is what its entries have there
 pub count_at : (es : List (ℕ × ℕ)) (a : ℕ) → get (from_entries {R = nat_cmp} es) a ≡ lookup (is_at (nat_cmp a)) es
 count_at es a = get-from_entries nat_cmp_total es a ∙ find_as_lookup a es
 
--- a count that is inserted among the entries is inserted in the map that they make
 pub count_inserted : (old new : BTreeMap ℕ ℕ) (a n : ℕ) → tree.Updates nat_cmp old new a (Some n)
     → from_entries {R = nat_cmp} new.entries ≡ insert (from_entries old.entries) a n
 count_inserted old new a n updates =
@@ -30,17 +27,15 @@ count_inserted old new a n updates =
     ∙ (λ i. cond ((eq_by_cmp_equiv nat_cmp_total).symm a q i) (Some n) (sym (count_at old.entries q) i))
     ∙ sym (get-insert nat_cmp_total (from_entries old.entries) a n q))
 
--- a count of a map with one more is the new one, or was there before
 new_or_old : (b : Bool) (n count : ℕ) (old : Option ℕ) → cond b (Some n) old ≡ Some count
     → (IsTrue b × (count ≡ n)) ⊎ (old ≡ Some count)
 new_or_old true n count old e = inl (refl, ap (λ o. unwrap_or o 0) (sym e))
 new_or_old false n count old e = inr e
 
--- addresses and counts are in the bounds that `IsPolicy` sets
+-- addresses and counts are within the bounds that `IsPolicy` sets
 abbrev AreBounded : FinMap nat_cmp ℕ → Type 0
 AreBounded m = (address count : ℕ) → get m address ≡ Some count → (address < 2 ^ 32) × (1 ≤ count) × (count ≤ 256)
 
--- with one more of these they still are
 still_bounded : (m : FinMap nat_cmp ℕ) (a n : ℕ) → a < 2 ^ 32 → 1 ≤ n → n ≤ 256 → AreBounded m
     → AreBounded (insert m a n)
 still_bounded m a n fits least most counts address count e =
@@ -53,7 +48,7 @@ still_bounded m a n fits least most counts address count e =
       get-insert nat_cmp_total m a n address,
     )
 
--- and so they are after an insertion that may have been refused
+-- addresses and counts stay within their bounds after an insertion, also if it was refused
 pub bounded_after : {E : Type 0} (old new : BTreeMap ℕ ℕ) (a n : ℕ) (result : Result (Option ℕ) E) → a < 2 ^ 32
     → 1 ≤ n → n ≤ 256
     → OnOk result (tree.Updates nat_cmp old new a (Some n)) → OnErr result (tree.IsUnchanged old new)
@@ -64,10 +59,9 @@ bounded_after old new a n (Ok _) fits least most updates _ counts =
 bounded_after old new a n (Err _) fits least most _ unchanged counts =
     subst (λ es. AreBounded (from_entries es)) (sym unchanged) counts
 
--- what adding a count needs
+-- for adding a count
 pub ruleset adding = (count_at, count_inserted, bounded_after)
 
--- a count that stands for an address, or the default, is in its bounds
 pub inputs_bounded : (es : List (ℕ × ℕ)) (default a : ℕ) → (1 ≤ default) × (default ≤ 256)
     → AreBounded (from_entries es)
     → (1 ≤ unwrap_or (lookup (is_at (nat_cmp a)) es) default)
@@ -79,5 +73,5 @@ inputs_bounded es default a fits counts = within (lookup (is_at (nat_cmp a)) es)
     within None e = fits
     within (Some n) e = ((counts a n e).1, (counts a n e).2)
 
--- what looking a count up needs
+-- for looking a count up
 pub ruleset looking = (count_at, inputs_bounded)

@@ -1,4 +1,4 @@
--- The PPTT.
+-- Proofs about the PPTT.
 pub mod CacheValues
 pub mod Chains
 pub mod Faults

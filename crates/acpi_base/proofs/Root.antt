@@ -1,4 +1,4 @@
--- The root and its slots.
+-- Proofs about the root table and its slots.
 pub mod Faults
 pub mod Lists
 pub mod Named

@@ -1,3 +1,3 @@
--- The RSDP.
+-- Proofs about the RSDP.
 pub mod Faults
 pub mod Naming

@@ -1,4 +1,4 @@
--- The faults of the SLIT: each can be decided, excludes that it is valid, and where there is none it is valid.
+-- The faults of the SLIT: each can be decided, and there is none exactly if it is valid.
 use Rattle.std.proofs.Common.{◌≡◌, ◌<◌, ◌≤◌, ◌+◌, ◌*◌, ℕ, List, length, refl, subst, inr, arith}
 use Rattle.std.proofs.lemmas.Nat.{mul-add-lt}
 use Rattle.std.proofs.lemmas.List.{get_or-drop}
@@ -15,7 +15,6 @@ use Rattle.acpi_base.proofs.Faults.Least.{some_below}
 size_decided : (c : SlitContents) → Decided (HasSlitSize c)
 size_decided c = same c.size (44 + c.count * c.count)
 
--- whether some cell at an offset has P
 cell_decided : (c : SlitContents) (at : ℕ) (P : ℕ → ℕ → Type 0) → ((i j : ℕ) → Decided (P i j))
     → Decided (SomeCell c at P)
 cell_decided c at P decide =
@@ -34,7 +33,6 @@ decided_at c _ at = inr (λ fault. fault)
 pub decided : (c : SlitContents) (fault : Code) (at other point : ℕ) → Decided (SlitFault c fault at other point)
 decided c fault at other point = all3 (decided_at c fault at) (same other 0) (same point 0)
 
--- a SLIT without a fault is valid
 pub valid_without_fault : (c : SlitContents)
     → ((fault : Code) (at other point : ℕ) → stage_of fault ≡ stage.Slit → ¬ SlitFault c fault at other point)
     → IsValidSlit c
@@ -56,7 +54,6 @@ valid_without_fault c none =
     size = not_other c.size (44 + c.count * c.count)
         (λ other. none code.SlitSize 36 0 0 refl ((long, other, refl), refl, refl))
 
--- a fault excludes that a SLIT is valid
 pub excludes : (c : SlitContents) (fault : Code) (at other point : ℕ) → SlitFault c fault at other point
     → ¬ IsValidSlit c
 excludes c code.SlitShort at other point ((short, is), _, _) valid = omega (arith, valid.size)
@@ -67,7 +64,6 @@ excludes c code.SlitLow at other point ((size, (i, j, cell, low)), _, _) valid =
     omega (arith, valid.least i j cell.row cell.column)
 excludes c _ at other point fault valid = fault.0
 
--- a cell lies within a table of the right size
 cell_within : (c : SlitContents) (i j at : ℕ) → HasSlitSize c → IsCell c i j at → at < c.size
 cell_within c i j at size cell = omega (arith, cell.place, mul-add-lt i c.count j c.count cell.row cell.column)
 
@@ -78,12 +74,10 @@ place_at c code.SlitDiagonal at (size, (i, j, cell, wrong)) = omega (arith, cell
 place_at c code.SlitLow at (size, (i, j, cell, low)) = omega (arith, cell_within c i j at size cell)
 place_at c _ at fault = absurd fault
 
--- the numbers of a fault are no greater than the table's length
 pub place : (c : SlitContents) (fault : Code) (at other point : ℕ) → SlitFault c fault at other point
     → (at ≤ c.size) × (other ≤ c.size) × (point ≤ c.size)
 place c fault at other point (wrong, no_other, no_point) = (place_at c fault at wrong, omega arith, omega arith)
 
--- which is its number of bytes
 pub slit_size : (whole : List ℕ) → (slit_contents whole).size ≡ length whole
 unfolding slit_contents
 slit_size whole = refl

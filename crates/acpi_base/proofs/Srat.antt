@@ -1,4 +1,4 @@
--- The SRAT.
+-- Proofs about the SRAT.
 pub mod DomainBytes
 pub mod Faults
 pub mod Ranges

@@ -1,4 +1,4 @@
--- System description tables.
+-- Proofs about system description tables.
 pub mod Faults
 pub mod Kinds
 pub mod Listed

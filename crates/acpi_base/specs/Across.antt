@@ -1,5 +1,5 @@
--- Rules across tables: the MADT's processors in the SRAT, the interrupt numbers that entries of the MADT name among those
--- that its I/O APICs serve, and the PPTT's leaves in the MADT.
+-- Rules across tables (ACPI 6.5, 5.2.12, 5.2.16, 5.2.30.1): the MADT's processors in the SRAT, the interrupt numbers that
+-- entries of the MADT name and those that its I/O APICs serve, and the PPTT's leaves in the MADT.
 use Rattle.std.specs.Prelude.{◌≡◌, ◌≢◌, ℕ, ◌<◌, ◌≤◌, true}
 use Rattle.acpi_base.specs.Number.{has_bit}
 use Rattle.acpi_base.specs.Policy.{PolicyValue}
@@ -46,7 +46,7 @@ HasIoApic c = (o : ℕ) × StandsWith c.entries o IsIoApic
 abbrev pub IsServed : PolicyValue → MadtContents → ℕ → Type 0
 IsServed q c g = (o start : ℕ) × Serves q c o start g
 
--- Stage 17: where there is an I/O APIC, each interrupt number that an override or an NMI source names is served by one.
+-- Stage 17: if there is an I/O APIC, each interrupt number that an override or an NMI source names is served by one.
 abbrev pub AreNamedServed : PolicyValue → MadtContents → Type 0
 AreNamedServed q c = HasIoApic c → (o g : ℕ) → StandsWith c.entries o (NamesGsi g) → IsServed q c g
 
@@ -66,7 +66,7 @@ IsLeaf id _ = ⊥
 abbrev pub IsUid : MadtContents → ℕ → Type 0
 IsUid madt uid = (o : ℕ) × StandsWith madt.entries o (HasUid uid)
 
--- Stage 18: where the PPTT's Revision is at least 2 and the MADT is wholly typed, the ID of each leaf is a UID.
+-- Stage 18: if the PPTT's Revision is at least 2 and entries of known types fill the MADT, the ID of each leaf is a UID.
 abbrev pub AreLeavesKnown : MadtContents → PpttContents → Type 0
 AreLeavesKnown madt pptt = 2 ≤ pptt.revision → IsWhollyTyped madt → (o id : ℕ) → StandsWith pptt.entries o (IsLeaf id) → IsUid madt id
 

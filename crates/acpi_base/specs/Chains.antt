@@ -1,24 +1,24 @@
--- Chains of offsets. `Names o p` says that one of a kind stands at o and names p, or none where p is 0: a processor
+-- Chains of offsets. `Names o p` says that an entry of one kind is at o and names p, or names none if p is 0: a processor
 -- node its Parent, a cache its Next Level (ACPI 6.5, 5.2.30).
 use Rattle.std.specs.Prelude.{◌≡◌, ◌≢◌, ◌⊎◌, ℕ, zero, suc, ◌+◌, ◌≤◌, List, [], ◌∷◌}
 
--- one of the kind stands at o
+-- an entry of the kind is at o
 abbrev pub IsAt : (ℕ → ℕ → Type 0) → ℕ → Type 0
 IsAt Names o = (p : ℕ) × Names o p
 
--- a step from o to p: o names p, which is not 0, and one of the kind stands there
+-- a step from o to p: o names p, which is not 0, and an entry of the kind is there
 pub record IsStep (Names : ℕ → ℕ → Type 0) (o p : ℕ) : Type 0 where
   pub names : Names o p
   pub some : p ≢ 0
   pub there : IsAt Names p
 
--- o names p, which is not 0, and none of the kind stands there
+-- o names p, which is not 0, and no entry of the kind is there
 pub record Dangles (Names : ℕ → ℕ → Type 0) (o p : ℕ) : Type 0 where
   pub names : Names o p
   pub some : p ≢ 0
   pub nowhere : ¬ IsAt Names p
 
--- whatever is named is 0, or one of the kind stands there
+-- whatever is named is 0, or an entry of the kind is there
 abbrev pub NoneDangles : (ℕ → ℕ → Type 0) → Type 0
 NoneDangles Names = (o p : ℕ) → Names o p → (p ≡ 0) ⊎ IsAt Names p
 
@@ -40,7 +40,7 @@ abbrev pub LeadsTo : (ℕ → ℕ → Type 0) → ℕ → ℕ → ℕ → Type 0
 LeadsTo Names zero o p = o ≡ p
 LeadsTo Names (suc steps) o p = (next : ℕ) × IsStep Names o next × LeadsTo Names steps next p
 
--- `lead` steps lead from o to an offset from which `round` steps lead back to it; together these are at most `most` steps
+-- `lead` steps lead from o to an offset from which `round` steps lead back to it; in all they are at most `most` steps
 pub record IsCycle (Names : ℕ → ℕ → Type 0) (most o lead round : ℕ) : Type 0 where
   pub there : ℕ
   pub once : LeadsTo Names lead o there
@@ -48,11 +48,11 @@ pub record IsCycle (Names : ℕ → ℕ → Type 0) (most o lead round : ℕ) : 
   pub some : 1 ≤ round
   pub fits : lead + round ≤ most
 
--- the chain from o on comes to a cycle within so many steps
+-- the chain from o on reaches a cycle within so many steps
 abbrev pub GoesRound : (ℕ → ℕ → Type 0) → ℕ → ℕ → Type 0
 GoesRound Names most o = (lead round : ℕ) × IsCycle Names most o lead round
 
--- each chain ends, or goes round within so many steps, and none does both
+-- each chain ends, or reaches a cycle within so many steps, and none does both
 pub record EndOrGoRound (Names : ℕ → ℕ → Type 0) (most : ℕ) : Type 0 where
   pub either : (o : ℕ) → IsAt Names o → Ends Names o ⊎ GoesRound Names most o
   pub apart : (o : ℕ) → Ends Names o → ¬ GoesRound Names most o

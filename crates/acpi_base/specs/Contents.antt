@@ -7,7 +7,7 @@ use Rattle.acpi_base.specs.Srat.{SratContents, srat_contents}
 use Rattle.acpi_base.specs.Slit.{SlitContents, slit_contents}
 use Rattle.acpi_base.specs.Pptt.{PpttContents, pptt_contents}
 
--- ---- P of what the table says, where the set lists it
+-- ---- P holds of what the table says, if the set lists it
 
 abbrev pub ForMadt : Memory → PolicyValue → (MadtContents → Type 0) → Type 0
 ForMadt m q P = ForListed m q.rsdp madt_signature (λ whole. P (madt_contents whole))
@@ -21,7 +21,7 @@ ForSlit m q P = ForListed m q.rsdp slit_signature (λ whole. P (slit_contents wh
 abbrev pub ForPptt : Memory → PolicyValue → (PpttContents → Type 0) → Type 0
 ForPptt m q P = ForListed m q.rsdp pptt_signature (λ whole. P (pptt_contents whole))
 
--- ---- the set lists the table, with P of what it says
+-- ---- the set lists the table, and P holds of what it says
 
 abbrev pub HasMadt : Memory → PolicyValue → (MadtContents → Type 0) → Type 0
 HasMadt m q P = HasListed m q.rsdp madt_signature (λ whole. P (madt_contents whole))

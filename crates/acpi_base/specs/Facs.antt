@@ -13,11 +13,11 @@ use Rattle.acpi_base.specs.declared.frame.Question.TheVariants as question
 abbrev pub facs_signature : List ℕ
 facs_signature = codes "FACS"
 
--- what is asked of a FACS beside its alignment; its header is its first 8 bytes
+-- the checks of a FACS besides its alignment; its header is its first 8 bytes
 abbrev pub facs_frame : Frame
 facs_frame = record { header = 8; length_at = 4; least = 64 }
 
--- a FACS stands at f: at a multiple of 64, with its signature, a Length of at least 64, and all its bytes
+-- a FACS is at f: at a multiple of 64, with its signature, a Length of at least 64, and all its bytes
 pub record IsFacs (m : Memory) (f : ℕ) (whole : List ℕ) : Type 0 where
   pub aligned : f % 64 ≡ 0
   pub header : List ℕ
@@ -29,13 +29,12 @@ pub record HasValidFacs (m : Memory) (fadt : List ℕ) : Type 0 where
   pub none : facs_address fadt ≡ 0 → is_reduced fadt ≡ true
   pub named : facs_address fadt ≢ 0 → (whole : List ℕ) × IsFacs m (facs_address fadt) whole
 
--- Stage 5: the FADT of the set, where there is one, has a valid FACS or needs none. Stage 4 refuses a FADT
--- of fewer than 116 bytes.
+-- Stage 5: the FADT of the set, if there is one, has a valid FACS or needs none. Stage 4 refuses a FADT of fewer than 116
+-- bytes.
 abbrev pub IsValidFacs : Memory → ℕ → Type 0
 IsValidFacs m p = (fadt : List ℕ) → IsFadt m p fadt → HasValidFacs m fadt
 
--- The faults of the FACS that a FADT names, by their code, and the address that each is reported at; 0 where
--- none is named.
+-- The faults of the FACS that a FADT names, by their code, and the address that each is reported at; 0 if none is named.
 abbrev pub NamedFacsFault : Memory → List ℕ → Code → ℕ → Type 0
 NamedFacsFault m fadt code.NoFacs at = (is_reduced fadt ≡ false) × (facs_address fadt ≡ 0) × (at ≡ 0)
 NamedFacsFault m fadt code.FacsAlign at = (facs_address fadt ≢ 0) × (at ≡ facs_address fadt) × (at % 64 ≢ 0)
@@ -45,6 +44,6 @@ NamedFacsFault m fadt code.FacsLength at = (facs_address fadt ≢ 0) × (at ≡ 
 NamedFacsFault m fadt code.FacsOut at = (facs_address fadt ≢ 0) × (at ≡ facs_address fadt) × FrameFault facs_frame m at question.Bytes
 NamedFacsFault m fadt _ at = ⊥
 
--- The faults of stage 5, by their code: they ask a FADT of at least 116 bytes.
+-- The faults of stage 5, by their code. Each requires a FADT of at least 116 bytes.
 abbrev pub FacsFault : Memory → ℕ → Code → ℕ → Type 0
 FacsFault m p fault at = (fadt : List ℕ) × IsFadt m p fadt × (116 ≤ length fadt) × NamedFacsFault m fadt fault at

@@ -18,7 +18,7 @@ pub record FieldPlace : Type 0 where
 abbrev pub place : ℕ → ℕ → FieldPlace
 place offset width = record { offset = offset; width = width }
 
--- the fields that are whole numbers of 1, 2 or 4 bytes, in the standard's order (table 5.9), from 0 on
+-- the fields that are numbers of 1, 2 or 4 bytes, in the standard's order (table 5.9), from 0 on
 abbrev pub fadt_places : List FieldPlace
 fadt_places =
     place 36 4 ∷  -- 0 FIRMWARE_CTRL
@@ -64,11 +64,11 @@ fadt_places =
     place 131 1 ∷  -- 40 minor version
     []
 
--- whether a field that ends before this offset lies wholly below the table's Length
+-- whether a field that ends before this offset lies completely within the table's Length
 abbrev pub has_field : List ℕ → ℕ → Bool
 has_field whole end = nat_le end (length whole)
 
--- the number in the field with this number, where the table is long enough to have it
+-- the number in the field with this number, if the table is long enough to have it
 unfoldable pub field_number : List ℕ → ℕ → Option ℕ
 field_number whole index =
     option_and_then
@@ -79,7 +79,7 @@ field_number whole index =
 unfoldable pub has_flag : List ℕ → ℕ → Bool
 has_flag whole bit = field whole 112 4 / 2 ^ bit % 2 == 1
 
--- HW_REDUCED_ACPI: the hardware lacks what the ACPI registers drive
+-- HW_REDUCED_ACPI: the ACPI hardware interface is not implemented
 abbrev pub is_reduced : List ℕ → Bool
 is_reduced whole = has_flag whole 20
 
@@ -89,13 +89,12 @@ has_reset whole = has_flag whole 10
 
 -- ---- addresses
 
--- the address of 8 bytes at `offset`, of a field that ends at `end`, where the table has that field and the
--- address is not 0
+-- the 8-byte address at `offset`, of a field that ends at `end`, if the table has that field and the address is not 0
 unfoldable pub wide_address : List ℕ → ℕ → ℕ → Option ℕ
 wide_address whole end offset =
     if has_field whole end && not (field whole offset 8 == 0) then Some (field whole offset 8) else None
 
--- an X_ address that is there and is not 0 wins over the field of 4 bytes
+-- an X_ address that is present and not 0 takes precedence over the field of 4 bytes
 abbrev pub address_of : List ℕ → ℕ → ℕ → ℕ → ℕ
 address_of whole end offset narrow = unwrap_or (wide_address whole end offset) (field whole narrow 4)
 
@@ -142,8 +141,7 @@ gas_parts =
 abbrev pub gas_values : GasValue → List PartValue
 gas_values v = Number v.space ∷ Number v.bit_width ∷ Number v.bit_offset ∷ Number v.access_size ∷ Number v.address ∷ []
 
--- what is said of a register block: nothing, a generic address, or a system I/O port and how many bytes it
--- has
+-- what a register block is: none, a generic address, or a system I/O port and its number of bytes
 pub data BlockValue : Type 0 where
   NoBlock : BlockValue
   GasBlock : GasValue → BlockValue
@@ -153,12 +151,11 @@ pub data BlockValue : Type 0 where
 abbrev pub block_lengths : List ℕ
 block_lengths = 88 ∷ 88 ∷ 89 ∷ 89 ∷ 90 ∷ 91 ∷ 92 ∷ 93 ∷ []
 
--- a port, where its address is not 0
+-- a port, if its address is not 0
 abbrev pub port_block : ℕ → ℕ → BlockValue
 port_block address bytes = if address == 0 then NoBlock else PortBlock address bytes
 
--- block k, in that order: the X_ structure where it is there and its address is not 0, else the port of
--- the field of 4 bytes
+-- block k, in that order: the X_ structure if it is present and its address is not 0, otherwise the port of the 4-byte field
 unfoldable pub block_value : List ℕ → ℕ → BlockValue
 block_value whole k =
     option_map_or
@@ -166,9 +163,9 @@ block_value whole k =
     (wide_address whole (160 + 12 * k) (152 + 12 * k))
     (port_block (field whole (56 + 4 * k) 4) (field whole (slice_index block_lengths k) 1))
 
--- ---- soundness
+-- ---- validity
 
--- the register blocks' lengths in bytes, asked where the hardware is not reduced (5.2.9)
+-- the register blocks' lengths in bytes, which apply if the hardware is not reduced (5.2.9)
 pub record HasBlockLengths (whole : List ℕ) : Type 0 where
   pub event : 4 ≤ field whole 88 1
   pub control : 2 ≤ field whole 89 1
@@ -176,8 +173,7 @@ pub record HasBlockLengths (whole : List ℕ) : Type 0 where
   pub gpe0 : field whole 92 1 % 2 ≡ 0
   pub gpe1 : field whole 93 1 % 2 ≡ 0
 
--- a reset register lies in system memory, system I/O or PCI configuration space, and is 8 bits at bit 0
--- (4.8.3.6)
+-- a reset register is in system memory, system I/O or PCI configuration space, and is 8 bits at bit 0 (4.8.3.6)
 pub record IsResetRegister (gas : GasValue) : Type 0 where
   pub space : gas.space ≤ 2
   pub width : gas.bit_width ≡ 8
@@ -217,7 +213,7 @@ FadtTableFault whole code.GpeLength at = (116 ≤ length whole) × (is_reduced w
 FadtTableFault whole code.ResetRegister at = (116 ≤ length whole) × (has_reset whole ≡ true) × (129 ≤ length whole) × IsNoResetRegister (gas_at whole 116) × (at ≡ 116)
 FadtTableFault whole _ at = ⊥
 
--- The faults of stage 4, by their code, and the offset that each is reported at; 0 where there is no FADT.
+-- The faults of stage 4, by their code, and the offset that each is reported at; 0 if there is no FADT.
 abbrev pub FadtFault : Memory → ℕ → Code → ℕ → Type 0
 FadtFault m p fault at =
     (HasNoFadt m p × (fault ≡ code.NoFadt) × (at ≡ 0))

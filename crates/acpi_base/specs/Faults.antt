@@ -24,11 +24,11 @@ use Rattle.acpi_base.specs.declared.verdict.Verdict.TheVariants.{Yes, No}
 
 -- The conditions of a stage's faults. Numbers that a fault does not use are 0.
 --   RSDP: at is the RSDP's address.
---   root: at is the RSDP's address or the root's.
+--   root table: at is the RSDP's address or the root table's.
 --   tables: at is the slot's number, other the table's address.
 --   FADT: at is an offset from its start, or 0.
 --   FACS: at is its address, or 0.
--- From stage 6 on the set lists the tables that the stage speaks of, and the numbers are as the table's faults say.
+-- From stage 6 on the set lists the tables that the stage is about, and the numbers are as the table's faults say.
 abbrev pub FaultCondition : Stage → Memory → PolicyValue → Witness → Type 0
 FaultCondition stage.Rsdp m q w = RsdpFault m q.rsdp w.code × (w.at ≡ q.rsdp) × (w.other ≡ 0) × (w.point ≡ 0)
 FaultCondition stage.Root m q w = RootFault m q.rsdp w.code w.at × (w.other ≡ 0) × (w.point ≡ 0)
@@ -66,9 +66,9 @@ order_of w = w.at ∷ code_number w.code ∷ w.other ∷ w.point ∷ []
 abbrev pub NotAfter : Witness → Witness → Type 0
 NotAfter w v = AreNotAfter (order_of w) (order_of v)
 
--- w comes first of its stage's faults: no other stands before it. The two stages of overlaps have an order of their own: w
--- names the least interrupt number that two I/O APICs serve, or the least address that two ranges cover that are compared,
--- and of those that hold it the first two, by where they start and then by where they stand.
+-- w comes first of its stage's faults. The two stages of overlaps have their own order: w has the lowest interrupt number
+-- that two I/O APICs serve, or the lowest address that two compared ranges contain, and names the first two that contain it,
+-- by start and then by offset.
 abbrev pub IsLeastOfStage : Stage → Memory → PolicyValue → Witness → Type 0
 IsLeastOfStage stage.Interrupts m q w = HasMadt m q (λ madt. IsFirstGsiClash q madt w.at w.other w.point)
 IsLeastOfStage stage.Ranges m q w = HasSrat m q (λ srat. IsFirstOverlap q.hotplug srat w.at w.other w.point)
@@ -80,7 +80,7 @@ pub record IsFirstFault (m : Memory) (q : PolicyValue) (w : Witness) : Type 0 wh
   pub earlier : CleanBefore (stage_of w.code) m q
   pub least : IsLeastOfStage (stage_of w.code) m q w
 
--- the verdict over the stages up to `last`: yes where they hold, else the first fault, of one of them
+-- the verdict on the stages up to `last`: yes if they hold, otherwise the first fault, of one of them
 abbrev pub IsVerdict : Stage → Memory → PolicyValue → Verdict → Type 0
 IsVerdict last m q Yes = CleanTo last m q
 IsVerdict last m q (No w) = IsFirstFault m q w × (stage_number (stage_of w.code) ≤ stage_number last)

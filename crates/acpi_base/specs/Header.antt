@@ -70,7 +70,7 @@ pub record FitsHeader (v : HeaderValue) : Type 0 where
   pub creator_id : v.creator_id < 2 ^ 32
   pub creator_revision : v.creator_revision < 2 ^ 32
 
--- what a header says beside its signature, length and checksum
+-- what a header says besides its signature, length and checksum
 pub record HeadValue : Type 0 where
   pub revision : ℕ
   pub oemid : List ℕ
@@ -92,7 +92,7 @@ head_of bytes =
       creator_revision = v.creator_revision;
     }
 
--- a whole header
+-- a complete header
 abbrev pub header_with : List ℕ → ℕ → ℕ → HeadValue → HeaderValue
 header_with signature size checksum head =
     record {

@@ -1,4 +1,4 @@
--- The laws of faults and of listed tables, over the definitions alone.
+-- The laws of faults and of listed tables, on the definitions alone.
 use Rattle.std.specs.Prelude.{◌≡◌, ◌^◌, ◌<◌, ◌≤◌, ◌⊎◌, ◌↔◌, ℕ, List}
 use Rattle.std.specs.List.{Contains}
 use Rattle.acpi_base.specs.Memory.{Memory, IsImage}
@@ -13,11 +13,11 @@ use Rattle.acpi_base.specs.declared.stage.Stage.{Stage}
 use Rattle.acpi_base.specs.declared.witness.Witness.{Witness}
 use Rattle.acpi_base.specs.declared.verdict.Verdict.{Verdict}
 
--- the three numbers are numbers of 64 bits
+-- the three numbers have 64 bits
 abbrev pub NumbersFit : Witness → Type 0
 NumbersFit w = (w.at < 2 ^ 64) × (w.other < 2 ^ 64) × (w.point < 2 ^ 64)
 
--- a fault of a stage up to `last` excludes that the stages up to `last` hold
+-- with a fault of a stage up to `last`, the stages up to `last` do not all hold
 abbrev pub FaultsExcludeClean : Type 0
 FaultsExcludeClean =
     (m : Memory) (q : PolicyValue) (w : Witness) (last : Stage) → Fault m q w → stage_number (stage_of w.code) ≤ stage_number last → ¬ CleanTo last m q
@@ -26,17 +26,17 @@ FaultsExcludeClean =
 abbrev pub FaultsFit : Type 0
 FaultsFit = (m : Memory) (q : PolicyValue) (w : Witness) → IsImage m → IsPolicy q → Fault m q w → NumbersFit w
 
--- the stages up to `last` hold, or one of them has a fault, whose numbers fit
+-- the stages up to `last` hold, or one of them has a fault, whose numbers have 64 bits
 abbrev pub CleanOrFaulty : Type 0
 CleanOrFaulty =
     (m : Memory) (q : PolicyValue) → IsImage m → IsPolicy q → (last : Stage) → CleanTo last m q ⊎ ((w : Witness) × Fault m q w × (stage_number (stage_of w.code) ≤ stage_number last) × NumbersFit w)
 
--- the stages up to `last` hold, or there is a first fault, of one of them
+-- the stages up to `last` hold, or one of them has the first fault
 abbrev pub CleanOrFirstFault : Type 0
 CleanOrFirstFault =
     (m : Memory) (q : PolicyValue) (last : Stage) → CleanTo last m q ⊎ ((w : Witness) × IsFirstFault m q w × (stage_number (stage_of w.code) ≤ stage_number last))
 
--- at most one fault is the first
+-- at most one fault is the first one
 abbrev pub OneFirstFault : Type 0
 OneFirstFault = (m : Memory) (q : PolicyValue) (w v : Witness) → IsFirstFault m q w → IsFirstFault m q v → w ≡ v
 
@@ -45,11 +45,11 @@ abbrev pub OneVerdict : Type 0
 OneVerdict =
     (last : Stage) (m : Memory) (q : PolicyValue) (one other : Verdict) → IsVerdict last m q one → IsVerdict last m q other → one ≡ other
 
--- the addresses that a root's bytes list are those that stand in its slots
+-- the addresses that a root table's bytes list are those in its slots
 abbrev pub RootsListSlots : Type 0
 RootsListSlots =
     (whole : List ℕ) (d a : ℕ) → IsSlotWidth d → Contains (listed_addresses whole d) a ↔ ((k : ℕ) × HasSlot whole d k a)
 
--- two faults have two texts
+-- two different faults have different texts
 abbrev pub TextsDiffer : Type 0
 TextsDiffer = (w v : Witness) → NumbersFit w → NumbersFit v → witness_line w ≡ witness_line v → w ≡ v

@@ -7,9 +7,9 @@ use Rattle.acpi_base.specs.declared.field.Value.TheVariants as value
 -- a part of a structure
 pub data Part : Type 0 where
   NumberOf : ℕ → Part  -- a little-endian number of so many bytes
-  BytesOf : ℕ → Part  -- so many bytes as they stand, such as a name
+  BytesOf : ℕ → Part  -- so many bytes as they are, such as a name
   Fixed : ℕ → Part  -- this byte in all structures of the kind, such as its type
-  Reserved : ℕ → Part  -- so many bytes that the standard reserves, which may be any
+  Reserved : ℕ → Part  -- so many bytes that the standard reserves, with any values
 
 -- the value of a number or of bytes; fixed and reserved parts have none
 pub data PartValue : Type 0 where
@@ -28,14 +28,14 @@ abbrev pub layout_size : List Part → ℕ
 layout_size [] = 0
 layout_size (part ∷ parts) = part_size part + layout_size parts
 
--- the values of the parts that stand one after another from an offset on
+-- the values of the parts that follow one another from an offset on
 abbrev pub values_at : ℕ → List Part → List ℕ → List PartValue
 values_at offset [] bytes = []
 values_at offset (NumberOf n ∷ parts) bytes = Number (field bytes offset n) ∷ values_at (offset + n) parts bytes
 values_at offset (BytesOf n ∷ parts) bytes = Bytes (take n (drop offset bytes)) ∷ values_at (offset + n) parts bytes
 values_at offset (part ∷ parts) bytes = values_at (offset + part_size part) parts bytes
 
--- from an offset on the fixed bytes of these parts stand in their places
+-- from an offset on the fixed bytes of these parts are in their places
 abbrev pub HasFixedAt : ℕ → List Part → List ℕ → Type 0
 HasFixedAt offset [] bytes = Unit {0}
 HasFixedAt offset (Fixed byte ∷ parts) bytes = (field bytes offset 1 ≡ byte) × HasFixedAt (offset + 1) parts bytes
@@ -51,7 +51,7 @@ pub record HasValues (parts : List Part) (bytes : List ℕ) (values : List PartV
   pub layout : IsOfLayout parts bytes
   pub same : values_at 0 parts bytes ≡ values
 
--- the bytes of a structure with these values; those that are reserved are 0
+-- the bytes of a structure with these values; reserved bytes are 0
 abbrev pub layout_bytes : List Part → List PartValue → List ℕ
 layout_bytes (NumberOf n ∷ parts) (Number x ∷ values) = number_bytes n x ++ layout_bytes parts values
 layout_bytes (BytesOf n ∷ parts) (Bytes text ∷ values) = text ++ layout_bytes parts values
@@ -59,7 +59,7 @@ layout_bytes (Fixed byte ∷ parts) values = number_bytes 1 byte ++ layout_bytes
 layout_bytes (Reserved n ∷ parts) values = replicate n 0 ++ layout_bytes parts values
 layout_bytes _ _ = []
 
--- there is a value for each part that has one, and it has the part's size
+-- there is a value of the right size for each part that has one
 abbrev pub FitLayout : List Part → List PartValue → Type 0
 FitLayout [] [] = Unit {0}
 FitLayout (NumberOf n ∷ parts) (Number x ∷ values) = (x < 256 ^ n) × FitLayout parts values

@@ -1,4 +1,4 @@
--- All that is wrong with an image, and not only its first fault.
+-- Everything that is wrong with an image: faults and advice.
 pub mod Advice
 pub mod FadtAdvice
 pub mod Findings

@@ -28,31 +28,31 @@ slit_signature = codes "SLIT"
 abbrev pub pptt_signature : List ℕ
 pptt_signature = codes "PPTT"
 
--- ---- the slots of a root's bytes
+-- ---- the slots of a root table's bytes
 
--- the numbers in the slots, of d bytes each, that lie wholly within a root's bytes
+-- the numbers in the slots, of d bytes each, that lie completely within a root table's bytes
 abbrev pub slot_numbers : List ℕ → ℕ → List ℕ
 slot_numbers whole d = map (λ k. field whole (36 + d * k) d) (range_with_len 0 ((length whole - 36) / d))
 
--- the addresses that a root's bytes list, in the order of their slots; 0 lists nothing
+-- the addresses that a root table's bytes list, in the order of their slots; 0 lists nothing
 unfoldable pub listed_addresses : List ℕ → ℕ → List ℕ
 listed_addresses whole d = filter (λ a. not (a == 0)) (slot_numbers whole d)
 
--- a is the first address with this signature in the slots, of d bytes each, of a root's bytes, in their
--- order: a present header is all that is asked there
+-- a is the first address in the slots, of d bytes each, of a root table's bytes, at which a header with this signature is
+-- present; nothing else is required there
 pub record IsFirstListed (m : Memory) (whole : List ℕ) (d : ℕ) (signature : List ℕ) (a : ℕ) : Type 0 where
   pub k : ℕ
   pub slot : HasSlot whole d k a
   pub signed : IsSigned m a signature
   pub none_before : (j b : ℕ) → j < k → HasSlot whole d j b → ¬ IsSigned m b signature
 
--- no slot, of d bytes each, of a root's bytes holds the address of a header with this signature
+-- no slot, of d bytes each, of a root table's bytes has the address of a header with this signature
 abbrev pub IsNoneListed : Memory → List ℕ → ℕ → List ℕ → Type 0
 IsNoneListed m whole d signature = (k a : ℕ) → HasSlot whole d k a → ¬ IsSigned m a signature
 
 -- ---- of a set
 
--- a is the first listed address with this signature of the root that the RSDP at p names
+-- a is the first listed address with this signature of the root table that the RSDP at p names
 pub record IsFirstTable (m : Memory) (p : ℕ) (signature : List ℕ) (a : ℕ) : Type 0 where
   pub r : ℕ
   pub d : ℕ
@@ -61,15 +61,14 @@ pub record IsFirstTable (m : Memory) (p : ℕ) (signature : List ℕ) (a : ℕ) 
   pub table : IsRootTable m r d whole
   pub first : IsFirstListed m whole d signature a
 
--- the first listed table with this signature of the set that the RSDP at p leads to: it is whole, and these
--- are its bytes
+-- the first listed table with this signature of the set that the RSDP at p leads to: it is complete, and these are its bytes
 pub record IsListedTable (m : Memory) (p : ℕ) (signature whole : List ℕ) : Type 0 where
   pub a : ℕ
   pub header : List ℕ
   pub first : IsFirstTable m p signature a
   pub table : IsTable m a header whole
 
--- P of the bytes of that table, where the set lists it
+-- P of the bytes of that table, if the set lists it
 abbrev pub ForListed : Memory → ℕ → List ℕ → (List ℕ → Type 0) → Type 0
 ForListed m p signature P = (whole : List ℕ) → IsListedTable m p signature whole → P whole
 
@@ -77,7 +76,7 @@ ForListed m p signature P = (whole : List ℕ) → IsListedTable m p signature w
 abbrev pub HasListed : Memory → ℕ → List ℕ → (List ℕ → Type 0) → Type 0
 HasListed m p signature P = (whole : List ℕ) × IsListedTable m p signature whole × P whole
 
--- the root that the RSDP at p names is a table, and lists no header with this signature
+-- the root table that the RSDP at p names is a table, and lists no header with this signature
 pub record ListsNone (m : Memory) (p : ℕ) (signature : List ℕ) : Type 0 where
   pub r : ℕ
   pub d : ℕ

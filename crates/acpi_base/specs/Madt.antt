@@ -1,5 +1,5 @@
--- The MADT (ACPI 6.5, 5.2.12): what its entries and the table say, and when it is valid. Offsets of fields are from the
--- start of the table or of the entry.
+-- The MADT (ACPI 6.5, 5.2.12): its entries and fields, and when it is valid. Offsets of fields are from the start of the
+-- table or of the entry.
 use Rattle.std.specs.Prelude.{◌≡◌, ◌≢◌, ℕ, ◌+◌, ◌/◌, ◌%◌, ◌^◌, ◌<◌, ◌≤◌, ◌⊎◌, List, [], ◌∷◌, length, slice_index, Option, Some, None, true, MatchOption}
 use Rattle.acpi_base.specs.Number.{field}
 use Rattle.acpi_base.specs.Policy.{PolicyValue, inputs_of, counts_as_enabled}
@@ -47,7 +47,7 @@ pub record NmiSourceValue : Type 0 where
 abbrev pub nmi_source : EntryType NmiSourceValue
 nmi_source = kind 3 8 (λ e. record { flags = field e 2 2; gsi = field e 4 4 })
 
--- Local APIC NMI (5.2.12.7); the UID FFh means all processors
+-- Local APIC NMI (5.2.12.7); the UID 0xFF means all processors
 pub record LocalNmiValue : Type 0 where
   pub uid : ℕ
   pub flags : ℕ
@@ -72,7 +72,7 @@ pub record X2apicValue : Type 0 where
 abbrev pub x2apic : EntryType X2apicValue
 x2apic = kind 9 16 (λ e. record { x2apic_id = field e 4 4; flags = field e 8 4; uid = field e 12 4 })
 
--- Local x2APIC NMI (5.2.12.13); the UID FFFFFFFFh means all processors
+-- Local x2APIC NMI (5.2.12.13); the UID 0xFFFFFFFF means all processors
 pub record X2apicNmiValue : Type 0 where
   pub flags : ℕ
   pub uid : ℕ
@@ -83,8 +83,8 @@ x2apic_nmi = kind 10 12 (λ e. record { flags = field e 2 2; uid = field e 4 4; 
 
 -- ---- entries
 
--- what an entry says: one of the above, which is called a typed entry, or any other bytes, also those of a type above
--- with another length
+-- what an entry says: one of the above, an entry of a known type, or any other bytes, also those of a type above with another
+-- length
 pub data MadtEntry : Type 0 where
   LocalApic : LocalApicValue → MadtEntry
   IoApic : IoApicValue → MadtEntry
@@ -115,8 +115,7 @@ madt_entry e = value_of_kind madt_kinds Opaque e
 
 -- ---- the table
 
--- what a MADT says: its length in bytes, the local APICs' address, its flags, its entries as far as they stand, and the
--- offset of the bytes behind them at which none stands
+-- what a MADT says: its length in bytes, the local APICs' address, its flags, its entries up to the cut, and the cut
 pub record MadtContents : Type 0 where
   pub size : ℕ
   pub address : ℕ
@@ -124,7 +123,7 @@ pub record MadtContents : Type 0 where
   pub entries : List (PlacedEntry MadtEntry)
   pub cut : Option ℕ
 
--- what the bytes of a MADT say; entries stand from 44 on
+-- what the bytes of a MADT say; the first entry is at 44
 unfoldable pub madt_contents : List ℕ → MadtContents
 madt_contents whole =
     record {
@@ -153,8 +152,8 @@ inti_flags _ = None
 abbrev pub HasReservedInti : MadtEntry → Type 0
 HasReservedInti e = MatchOption (inti_flags e) ⊥ IsReservedInti
 
--- an entry is valid: it has its type's length, or a type that none of the kinds has; an override is of the ISA bus; its
--- polarity and trigger mode are not reserved; and the interrupt numbers of an I/O APIC end at 2^32 or before
+-- an entry is valid: it has its type's length, or a type that is not known; an override is of the ISA bus; its polarity and
+-- trigger mode are not reserved; and the interrupt numbers of an I/O APIC end at 2^32 or before
 abbrev pub IsValidMadtEntry : PolicyValue → MadtEntry → Type 0
 IsValidMadtEntry q (IoApic v) = v.gsi_base + inputs_of q v.address ≤ 2 ^ 32
 IsValidMadtEntry q (Override v) = (v.bus ≡ 0) × (¬ IsReservedInti v.flags)
@@ -181,9 +180,9 @@ MadtEntryFault q code.ReservedInti e = HasReservedInti e
 MadtEntryFault q code.GsiPastEnd (IoApic v) = 2 ^ 32 < v.gsi_base + inputs_of q v.address
 MadtEntryFault q _ _ = ⊥
 
--- The faults of stage 6, by their code and numbers: `at` is 0 for a short table, else the offset of the entry or of the
--- bytes at which none stands; `other` is that of any earlier address override, and 0 for other codes. A table of fewer
--- than 44 bytes has no entries and no cut.
+-- The faults of stage 6, by their code and numbers: `at` is 0 for a short table, otherwise the entry's offset or the cut;
+-- `other` is the offset of any earlier address override, and 0 for other codes. A table of fewer than 44 bytes has no entries
+-- and no cut.
 abbrev pub MadtFault : PolicyValue → MadtContents → Code → ℕ → ℕ → ℕ → Type 0
 MadtFault q c code.MadtShort at other point = (c.size < 44) × (at ≡ 0) × AreUnused other point
 MadtFault q c code.MadtEntryCut at other point = (c.cut ≡ Some at) × AreUnused other point
@@ -197,7 +196,7 @@ abbrev pub ServesFrom : PolicyValue → ℕ → ℕ → MadtEntry → Type 0
 ServesFrom q start g (IoApic v) = (v.gsi_base ≡ start) × (start ≤ g) × (g < start + inputs_of q v.address)
 ServesFrom q start g _ = ⊥
 
--- such an entry stands at o
+-- such an entry is at o
 abbrev pub Serves : PolicyValue → MadtContents → ℕ → ℕ → ℕ → Type 0
 Serves q c o start g = StandsWith c.entries o (ServesFrom q start g)
 
@@ -250,7 +249,7 @@ NamesGsi g (Override v) = v.gsi ≡ g
 NamesGsi g (NmiSource v) = v.gsi ≡ g
 NamesGsi g _ = ⊥
 
--- the table has at least 44 bytes, and typed entries fill the rest of it
+-- the table has at least 44 bytes, and entries of known types fill the rest of it
 pub record IsWhollyTyped (c : MadtContents) : Type 0 where
   pub long : 44 ≤ c.size
   pub filled : c.cut ≡ None

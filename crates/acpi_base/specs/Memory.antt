@@ -26,7 +26,7 @@ pub record AreBytes (m : Memory) (a n : ℕ) (bytes : List ℕ) : Type 0 where
   pub count : length bytes ≡ n
   pub each : (k : ℕ) → k < n → byte_of m (a + k) ≡ Some (slice_index bytes k)
 
--- an element before the rest, if both are there
+-- an element before the rest, if both are present
 unfoldable pub cons_both : Option ℕ → Option (List ℕ) → Option (List ℕ)
 cons_both None rest = None
 cons_both (Some b) rest = option_map (λ bs. b ∷ bs) rest
@@ -36,8 +36,8 @@ unfoldable pub run_of : (ℕ → Option ℕ) → ℕ → ℕ → Option (List �
 run_of f a zero = Some []
 run_of f a (suc n) = cons_both (f a) (run_of f (a + 1) n)
 
--- the n bytes from a on, if all are there: the form that proofs compute with. `acpi_base::laws::present_bytes`
--- ties it to `Has` and `AreBytes`.
+-- the n bytes from a on, if all are present: the form that proofs compute with. `acpi_base::laws::present_bytes` relates it
+-- to `Has` and `AreBytes`.
 abbrev pub bytes_at : Memory → ℕ → ℕ → Option (List ℕ)
 bytes_at m a n = run_of (byte_of m) a n
 
@@ -46,11 +46,11 @@ unfoldable pub with_bytes : Memory → ℕ → List ℕ → Memory
 with_bytes m a [] = m
 with_bytes m a (b ∷ bs) = insert (with_bytes m (a + 1) bs) a b
 
--- the least of n numbers from a on at which f has something
+-- the lowest of n numbers from a on at which f has something
 unfoldable pub least_defined : (ℕ → Option ℕ) → ℕ → ℕ → Option ℕ
 least_defined f a zero = None
 least_defined f a (suc n) = if is_some (f a) then Some a else least_defined f (a + 1) n
 
--- the least of the n addresses from a on that has a byte
+-- the lowest of the n addresses from a on that has a byte
 abbrev pub first_present : Memory → ℕ → ℕ → Option ℕ
 first_present m a n = least_defined (byte_of m) a n

@@ -1,4 +1,4 @@
--- Numbers and sums of bytes.
+-- Little-endian numbers, sums of bytes and bits of flags.
 use Rattle.std.specs.Prelude.{ℕ, ◌/◌, ◌%◌, ◌^◌, Bool, List, drop, sum, ◌==◌}
 use Rattle.byteorder.specs.Endian.{little_bytes, little_number}
 
@@ -10,7 +10,7 @@ field bytes offset width = little_number width (drop offset bytes)
 unfoldable pub number_bytes : ℕ → ℕ → List ℕ
 number_bytes width number = little_bytes width number
 
--- the sum of the bytes modulo 256, which is 0 where a checksum is right (5.2.5.3, 5.2.6)
+-- the sum of the bytes modulo 256, which is 0 if a checksum is right (5.2.5.3, 5.2.6)
 unfoldable pub byte_sum : List ℕ → ℕ
 byte_sum bytes = sum bytes % 256
 

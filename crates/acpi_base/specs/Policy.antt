@@ -1,4 +1,4 @@
--- What a check is given beside the image.
+-- The settings of a check.
 use Rattle.std.specs.Prelude.{◌≡◌, ℕ, ◌^◌, ◌<◌, ◌≤◌, Bool, ◌||◌, Some, refl, unwrap_or, if◌then◌else◌}
 use Rattle.std.specs.Ordering.{nat_cmp}
 use Rattle.std.specs.Coded.{Coded, code_by, coded×, coded_ℕ}
@@ -28,7 +28,7 @@ new_policy rsdp default_inputs =
       processors = Enabled;
     }
 
--- the policy once this count was given for the I/O APIC at this address: the first count of an address stands
+-- the policy with this count for the I/O APIC at this address: if an address is repeated, the first count wins
 abbrev pub with_input : PolicyValue → ℕ → ℕ → PolicyValue
 with_input q address count =
     if contains_key q.inputs address then q else record q { inputs = insert q.inputs address count }

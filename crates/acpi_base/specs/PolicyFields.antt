@@ -1,4 +1,4 @@
--- How a policy's fields stand for its value.
+-- The value of a policy, by its fields.
 use Rattle.std.specs.FinMap.{from_entries}
 use Rattle.acpi_base.specs.Policy.{PolicyValue, IsPolicy}
 use Rattle.acpi_base.specs.declared.policy.Policy.TheInside.{Inside}

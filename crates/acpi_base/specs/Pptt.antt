@@ -1,5 +1,5 @@
--- The PPTT (ACPI 6.5, 5.2.30): its entries, what it says, and when that is valid. Offsets of fields are from the start
--- of the table or the entry; those that entries name are from the start of the table.
+-- The PPTT (ACPI 6.5, 5.2.30): its entries and fields, and when it is valid. Offsets of fields are from the start of the
+-- table or the entry; those that entries name are from the start of the table.
 use Rattle.std.specs.Prelude.{◌≡◌, ◌≢◌, ℕ, ◌+◌, ◌*◌, ◌/◌, ◌≤◌, Bool, List, length, map, slice_get, slice_index, Option, Some, None, ◌||◌, ◌==◌, if◌then◌else◌}
 use Rattle.std.specs.List.{range_with_len}
 use Rattle.acpi_base.specs.Number.{field}
@@ -58,8 +58,8 @@ cache24 = kind 1 24 cache_of
 abbrev pub cache28 : EntryType CacheValue
 cache28 = kind 1 28 cache_of
 
--- what an entry says: one of the above, which is a typed entry, or any other bytes, also those of type 0 or 1 with
--- another length
+-- what an entry says: one of the above, an entry of a known type, or any other bytes, also those of type 0 or 1 with another
+-- length
 pub data PpttEntry : Type 0 where
   Node : NodeValue → PpttEntry
   Cache : CacheValue → PpttEntry
@@ -73,12 +73,12 @@ has_node_form e = has_form e 0 (20 + 4 * resource_count e)
 unfoldable pub has_cache_form : List ℕ → Bool
 has_cache_form e = has_form e cache24.type cache24.size || has_form e cache28.type cache28.size
 
--- an entry is typed where it has one of these types and a length of that type
+-- an entry is of a known type if it has one of these types and a length of that type
 unfoldable pub pptt_entry : List ℕ → PpttEntry
 pptt_entry e =
     if has_node_form e then Node (node_of e) else if has_cache_form e then Cache (cache_of e) else Opaque e
 
--- an entry's type, whether it is typed or not
+-- an entry's type, whether it is of a known type or not
 abbrev pub pptt_type : PpttEntry → ℕ
 pptt_type (Node v) = 0
 pptt_type (Cache v) = 1
@@ -99,15 +99,14 @@ abbrev pub next_level_of : PpttEntry → Option ℕ
 next_level_of (Cache v) = Some v.next_level
 next_level_of _ = None
 
--- the entry is not typed though its type is one of the above: its length is another
+-- the entry's type is one of the above, but its length is another
 abbrev pub HasOtherPpttLength : PpttEntry → Type 0
 HasOtherPpttLength (Opaque e) = slice_index e 0 ≤ 1
 HasOtherPpttLength _ = ⊥
 
 -- ---- the table
 
--- what a PPTT says: its length in bytes, its Revision, its entries as far as they stand, and where bytes are left at
--- which none stands
+-- what a PPTT says: its length in bytes, its Revision, its entries up to the cut, and the cut
 pub record PpttContents : Type 0 where
   pub size : ℕ
   pub revision : ℕ
@@ -123,43 +122,43 @@ pptt_contents whole =
       cut = cut_of 36 whole;
     }
 
--- an entry stands at o of which `read` gives p
+-- an entry is at o of which `read` gives p
 abbrev pub Says : (PpttEntry → Option ℕ) → PpttContents → ℕ → ℕ → Type 0
 Says read c o p = (e : PpttEntry) × Stands c.entries o e × (read e ≡ Some p)
 
--- a node stands at o whose Parent is p
+-- a node is at o whose Parent is p
 abbrev pub NamesParent : PpttContents → ℕ → ℕ → Type 0
 NamesParent = Says parent_of
 
--- a node stands at o whose private resource j is at r
+-- a node is at o whose private resource j is at r
 abbrev pub NamesResource : PpttContents → ℕ → ℕ → ℕ → Type 0
 NamesResource c o j r = Says (resource_of j) c o r
 
--- a cache stands at o whose Next Level of Cache is p
+-- a cache is at o whose Next Level of Cache is p
 abbrev pub NamesNextLevel : PpttContents → ℕ → ℕ → Type 0
 NamesNextLevel = Says next_level_of
 
--- a node stands at o
+-- a node is at o
 abbrev pub IsNodeAt : PpttContents → ℕ → Type 0
 IsNodeAt c o = IsAt (NamesParent c) o
 
--- a cache stands at o
+-- a cache is at o
 abbrev pub IsCacheAt : PpttContents → ℕ → Type 0
 IsCacheAt c o = IsAt (NamesNextLevel c) o
 
--- an entry of another type than 0 stands at o, typed or not
+-- an entry of another type than 0 is at o, of a known type or not
 abbrev pub IsResourceAt : PpttContents → ℕ → Type 0
 IsResourceAt c o = (e : PpttEntry) × Stands c.entries o e × (pptt_type e ≢ 0)
 
--- ---- soundness
+-- ---- validity
 
 -- Stage 12: entries fill the table, and those of types 0 and 1 have a length of their type.
 pub record IsCutPptt (c : PpttContents) : Type 0 where
   pub filled : c.cut ≡ None
   pub lengths : (o : ℕ) (e : PpttEntry) → Stands c.entries o e → ¬ HasOtherPpttLength e
 
--- Stage 13: at each offset that an entry names, what it names stands. A Parent or Next Level of 0 names nothing; a private
--- resource of 0 is an offset, at which nothing stands.
+-- Stage 13: at each offset that an entry names, there is what it names. A Parent or Next Level of 0 names nothing; a private
+-- resource of 0 is an offset, at which there is nothing.
 pub record AreReferencesValid (c : PpttContents) : Type 0 where
   pub parents : NoneDangles (NamesParent c)
   pub resources : (o j r : ℕ) → NamesResource c o j r → IsResourceAt c r
@@ -198,7 +197,7 @@ ReferenceFault c code.DanglingResource at other point = NamesResource c at other
 ReferenceFault c code.DanglingCache at other point = Dangles (NamesNextLevel c) at other × (point ≡ 0)
 ReferenceFault c _ at other point = ⊥
 
--- no table of this size, its header counted, has more nodes, which have at least 20 bytes each
+-- a table of this size, with its header, has no more nodes, which have at least 20 bytes each
 abbrev pub most_nodes : PpttContents → ℕ
 most_nodes c = c.size / 20
 
@@ -207,24 +206,24 @@ abbrev pub most_caches : PpttContents → ℕ
 most_caches c = c.size / 24
 
 -- The fault of stage 14: from the node at `at` on the parents lead, after `other` steps, to a node from which `point` steps
--- lead back to it, perhaps more than once round.
+-- lead back to it, perhaps several times round the cycle.
 abbrev pub ParentFault : PpttContents → Code → ℕ → ℕ → ℕ → Type 0
 ParentFault c code.ParentCycle at other point = IsCycle (NamesParent c) (most_nodes c) at other point
 ParentFault c _ at other point = ⊥
 
--- The fault of stage 15: the same of a cache and its next levels.
+-- The fault of stage 15: the same for a cache and its next levels.
 abbrev pub CacheFault : PpttContents → Code → ℕ → ℕ → ℕ → Type 0
 CacheFault c code.CacheCycle at other point = IsCycle (NamesNextLevel c) (most_caches c) at other point
 CacheFault c _ at other point = ⊥
 
 -- ---- laws
 
--- where the references are valid, a chain of parents ends or comes to a cycle within as many steps as nodes fit
+-- if the references are valid, a chain of parents ends or reaches a cycle within as many steps as nodes fit
 abbrev pub ParentsEndOrGoRound : Type 0
 ParentsEndOrGoRound =
     (whole : List ℕ) → AreReferencesValid (pptt_contents whole) → EndOrGoRound (NamesParent (pptt_contents whole)) (most_nodes (pptt_contents whole))
 
--- the same of next levels and caches
+-- the same for next levels and caches
 abbrev pub CachesEndOrGoRound : Type 0
 CachesEndOrGoRound =
     (whole : List ℕ) → AreReferencesValid (pptt_contents whole) → EndOrGoRound (NamesNextLevel (pptt_contents whole)) (most_caches (pptt_contents whole))

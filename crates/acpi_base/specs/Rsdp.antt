@@ -1,4 +1,4 @@
--- The RSDP (ACPI 6.5, 5.2.5.3): what it says, and when it is valid. Offsets are from its start.
+-- The RSDP (ACPI 6.5, 5.2.5.3): its fields, and when it is valid. Offsets are from its start.
 use Rattle.std.specs.Prelude.{◌≡◌, ◌≢◌, ℕ, ◌≤◌, List, take, drop, Option, Some, None, true, false, nat_lt, if◌then◌else◌}
 use Rattle.std.specs.Option.{option_map, option_and_then}
 use Rattle.acpi_base.specs.Frames.{IsValidFrame, FrameFault}
@@ -14,7 +14,7 @@ use Rattle.acpi_base.specs.declared.frame.Question.TheVariants as question
 abbrev pub revision_of : List ℕ → ℕ
 revision_of head = field head 15 1
 
--- what is asked of the extended form beside what is asked of its first 20 bytes
+-- the checks of the extended form besides those of its first 20 bytes
 abbrev pub extended_frame : Frame
 extended_frame = record { header = 36; length_at = 20; least = 36 }
 
@@ -29,15 +29,14 @@ short_addresses head = record { rsdt = field head 16 4; xsdt = 0 }
 abbrev pub extended_addresses : List ℕ → Addresses
 extended_addresses prefix = record { rsdt = field prefix 16 4; xsdt = field prefix 24 8 }
 
--- what the RSDP at p names, where its 20 bytes are present, and in the extended form its 36; a short one
--- names no XSDT
+-- what the RSDP at p names, if its 20 bytes are present, and in the extended form its 36; a short one names no XSDT
 unfoldable pub addresses_at : Memory → ℕ → Option Addresses
 addresses_at m p =
     option_and_then
     (λ head. if nat_lt (revision_of head) 2 then Some (short_addresses head) else option_map extended_addresses (bytes_at m p 36))
     (bytes_at m p 20)
 
--- what an RSDP says: where it stands, its revision, its OEMID and the addresses that it names
+-- what an RSDP says: its address, its revision, its OEMID and the addresses that it names
 pub record RsdpValue : Type 0 where
   pub address : ℕ
   pub revision : ℕ
@@ -57,8 +56,7 @@ pub record IsRsdp (m : Memory) (p : ℕ) (v : RsdpValue) : Type 0 where
 abbrev pub IsExtended : Memory → ℕ → Type 0
 IsExtended m p = (head : List ℕ) × (bytes_at m p 20 ≡ Some head) × (2 ≤ revision_of head)
 
--- Stage 1: the 20 bytes at p are present, begin with the signature and sum to 0; the extended form is
--- valid whole.
+-- Stage 1: the 20 bytes at p are present, begin with the signature and sum to 0; the extended form is valid as well.
 pub record IsValidRsdp (m : Memory) (p : ℕ) : Type 0 where
   pub head : List ℕ
   pub head_present : bytes_at m p 20 ≡ Some head

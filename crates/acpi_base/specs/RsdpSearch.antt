@@ -4,7 +4,7 @@ use Rattle.acpi_base.specs.Memory.{Memory, bytes_at}
 use Rattle.acpi_base.specs.Number.{byte_sum}
 use Rattle.acpi_base.specs.Signature.{has_signature, rsdp_signature}
 
--- a multiple of 16 from E0000h to FFFF0h
+-- a multiple of 16 from 0xE0000 to 0xFFFF0
 pub record IsSearched (a : ℕ) : Type 0 where
   pub least : 0xe0000 ≤ a
   pub most : a ≤ 0xffff0
@@ -17,7 +17,7 @@ pub record LooksLikeRsdp (m : Memory) (a : ℕ) : Type 0 where
   pub signed : has_signature head rsdp_signature ≡ true
   pub zero_sum : byte_sum head ≡ 0
 
--- the search finds the RSDP at p, and at no lesser address
+-- the search finds the RSDP at p, and at no lower address
 pub record IsFound (m : Memory) (p : ℕ) : Type 0 where
   pub searched : IsSearched p
   pub looks : LooksLikeRsdp m p

@@ -1,4 +1,4 @@
--- The SLIT (ACPI 6.5, 5.2.17): what it says, and when that is valid. Offsets are from its start.
+-- The SLIT (ACPI 6.5, 5.2.17): its fields, and when it is valid. Offsets are from its start.
 use Rattle.std.specs.Prelude.{◌≡◌, ◌≢◌, ℕ, ◌+◌, ◌*◌, ◌<◌, ◌≤◌, List, length, drop, slice_index}
 use Rattle.acpi_base.specs.Number.{field}
 use Rattle.acpi_base.specs.declared.code.Code.{Code}
@@ -13,7 +13,7 @@ pub record SlitContents : Type 0 where
 unfoldable pub slit_contents : List ℕ → SlitContents
 slit_contents whole = record { size = length whole; count = field whole 36 8; cells = drop 44 whole }
 
--- a cell's place among the cells: row after row
+-- a cell's index: row after row
 abbrev pub cell_place : SlitContents → ℕ → ℕ → ℕ
 cell_place c i j = c.count * i + j
 
@@ -21,7 +21,7 @@ cell_place c i j = c.count * i + j
 abbrev pub distance : SlitContents → ℕ → ℕ → ℕ
 distance c i j = slice_index c.cells (cell_place c i j)
 
--- behind its first 44 bytes the table has a cell for each pair of a row and a column, and nothing else
+-- after its first 44 bytes the table has a cell for each pair of a row and a column, and nothing else
 abbrev pub HasSlitSize : SlitContents → Type 0
 HasSlitSize c = c.size ≡ 44 + c.count * c.count
 

@@ -1,5 +1,5 @@
--- The SRAT (ACPI 6.5, 5.2.16): what its entries and the table say, and when it is valid. Offsets of fields are from the
--- start of the table or of the entry.
+-- The SRAT (ACPI 6.5, 5.2.16): its entries and fields, and when it is valid. Offsets of fields are from the start of the
+-- table or of the entry.
 use Rattle.std.specs.Prelude.{◌≡◌, ℕ, suc, ◌+◌, ◌*◌, ◌^◌, ◌<◌, ◌≤◌, ◌⊎◌, Bool, true, false, List, [], ◌∷◌, length, slice_index, Option, Some, None}
 use Rattle.acpi_base.specs.Number.{field, has_bit}
 use Rattle.acpi_base.specs.Entries.{PlacedEntry, Stands, StandsWith, entries_of, cut_of, entries_read_by, EntryType, kind, kind_as, value_of_kind, IsTypeOf, AreUnused}
@@ -11,7 +11,7 @@ use Rattle.acpi_base.specs.declared.code.Code.TheVariants as code
 
 -- ---- kinds of entries
 
--- Processor Local APIC Affinity (5.2.16.1); bits 31:8 of the domain stand apart from bits 7:0
+-- Processor Local APIC Affinity (5.2.16.1); bits 31:8 of the domain are separate from bits 7:0
 pub record ApicDomainValue : Type 0 where
   pub domain : ℕ
   pub apic_id : ℕ
@@ -50,8 +50,8 @@ x2apic_domain = kind 2 24 (λ e. record { domain = field e 4 4; x2apic_id = fiel
 
 -- ---- entries
 
--- what an entry says: one of the above, which is called a typed entry, or any other bytes, also those of a type above
--- with another length
+-- what an entry says: one of the above, an entry of a known type, or any other bytes, also those of a type above with another
+-- length
 pub data SratEntry : Type 0 where
   ApicDomain : ApicDomainValue → SratEntry
   MemoryRange : MemoryValue → SratEntry
@@ -80,22 +80,20 @@ is_hot_pluggable flags = has_bit flags 1
 
 -- ---- the table
 
--- what an SRAT says: its length in bytes, its entries as far as they stand, and the offset of the bytes behind them at
--- which none stands
+-- what an SRAT says: its length in bytes, its entries up to the cut, and the cut
 pub record SratContents : Type 0 where
   pub size : ℕ
   pub entries : List (PlacedEntry SratEntry)
   pub cut : Option ℕ
 
--- what the bytes of an SRAT say; entries stand from 48 on
+-- what the bytes of an SRAT say; the first entry is at 48
 unfoldable pub srat_contents : List ℕ → SratContents
 srat_contents whole =
     record { size = length whole; entries = entries_read_by srat_entry (entries_of 48 whole); cut = cut_of 48 whole }
 
 -- ---- stage 9: each entry by itself
 
--- an entry is valid: it has its type's length, or a type that none of the kinds has, and an enabled range ends at 2^64 or
--- before
+-- an entry is valid: it has its type's length, or a type that is not known, and an enabled range ends at 2^64 or before
 abbrev pub IsValidSratEntry : SratEntry → Type 0
 IsValidSratEntry (MemoryRange v) = is_enabled v.flags ≡ true → v.base + v.size ≤ 2 ^ 64
 IsValidSratEntry (Opaque e) = ¬ IsTypeOf srat_kinds (slice_index e 0)
@@ -113,8 +111,8 @@ SratEntryFault code.SratEntryLength (Opaque e) = IsTypeOf srat_kinds (slice_inde
 SratEntryFault code.RangePastEnd (MemoryRange v) = (is_enabled v.flags ≡ true) × (2 ^ 64 < v.base + v.size)
 SratEntryFault _ _ = ⊥
 
--- The faults of stage 9, by their code and numbers: `at` is 0 for a short table, else the offset of the entry or of the
--- bytes at which none stands. A table of fewer than 48 bytes has no entries and no cut.
+-- The faults of stage 9, by their code and numbers: `at` is 0 for a short table, otherwise the entry's offset or the cut. A
+-- table of fewer than 48 bytes has no entries and no cut.
 abbrev pub SratFault : SratContents → Code → ℕ → ℕ → ℕ → Type 0
 SratFault c code.SratShort at other point = (c.size < 48) × (at ≡ 0) × AreUnused other point
 SratFault c code.SratEntryCut at other point = (c.cut ≡ Some at) × AreUnused other point
@@ -134,33 +132,32 @@ IsHotPluggable v = is_hot_pluggable v.flags ≡ true
 abbrev pub IsNotHotPluggable : MemoryValue → Type 0
 IsNotHotPluggable v = is_hot_pluggable v.flags ≡ false
 
--- the entry is an enabled range, of those that P holds of, that begins at `start` and covers the address x
+-- the entry is an enabled range with P that begins at `start` and contains the address x
 abbrev pub CoversFrom : (MemoryValue → Type 0) → ℕ → ℕ → SratEntry → Type 0
 CoversFrom P start x (MemoryRange v) = (is_enabled v.flags ≡ true) × P v × (v.base ≡ start) × (start ≤ x) × (x < start + v.size)
 CoversFrom P start x _ = ⊥
 
--- such an entry stands at o
+-- such an entry is at o
 abbrev pub Covers : (MemoryValue → Type 0) → SratContents → ℕ → ℕ → ℕ → Type 0
 Covers P c o start x = StandsWith c.entries o (CoversFrom P start x)
 
--- two enabled ranges that are compared both cover the address x: any two, or by kind, two that both are hot-pluggable or
--- both are not
+-- two compared enabled ranges contain the address x: any two, or with `Apart` two that both are hot-pluggable or both are not
 abbrev pub IsOverlap : HotPlug → SratContents → ℕ → ℕ → ℕ → Type 0
 IsOverlap Counted c o p x = IsIntervalOverlap (Covers IsAny c) o p x
 IsOverlap Apart c o p x = IsIntervalOverlap (Covers IsNotHotPluggable c) o p x ⊎ IsIntervalOverlap (Covers IsHotPluggable c) o p x
 
--- Stage 10: no address is covered by two enabled ranges that are compared.
+-- Stage 10: no address is in two enabled ranges that are compared.
 abbrev pub AreRangesApart : HotPlug → SratContents → Type 0
 AreRangesApart h c = (o p x : ℕ) → ¬ IsOverlap h c o p x
 
--- The fault of stage 10: the enabled ranges at `at` and `other` are compared and both cover the address `point`, which has 64
--- bits. Ranges that overlap share the greater of their bases, so they always share such an address.
+-- The fault of stage 10: the enabled ranges at `at` and `other` are compared and both contain the address `point`, which has
+-- 64 bits. Ranges that overlap share the greater of their bases, so they always share such an address.
 abbrev pub RangeFault : HotPlug → SratContents → Code → ℕ → ℕ → ℕ → Type 0
 RangeFault h c code.Overlap at other point = (point < 2 ^ 64) × IsOverlap h c at other point
 RangeFault h c _ at other point = ⊥
 
--- The fault of stage 10 that is reported. Where ranges are compared by kind, it is the first of one kind: of both kinds'
--- firsts the one with the lesser `point`, and at one `point` that of the ranges that are not hot-pluggable.
+-- The fault of stage 10 that is reported. With `Apart`, it is the first overlap of one of the two kinds, the one with the
+-- lower `point`; if both have the same `point`, that of the ranges that are not hot-pluggable.
 abbrev pub IsFirstOverlap : HotPlug → SratContents → ℕ → ℕ → ℕ → Type 0
 IsFirstOverlap Counted c at other point = IsFirstIntervalOverlap (Covers IsAny c) at other point
 IsFirstOverlap Apart c at other point =

@@ -1,4 +1,4 @@
--- The statements of the stages, and when an image is clean to a stage.
+-- The statements of the stages, and when an image is clean up to a stage.
 use Rattle.std.specs.Prelude.{ℕ, ◌<◌, ◌≤◌}
 use Rattle.acpi_base.specs.Memory.{Memory}
 use Rattle.acpi_base.specs.Policy.{PolicyValue}
@@ -17,12 +17,12 @@ use Rattle.acpi_base.specs.Across.{HaveOneDomain, AreNamedServed, AreLeavesKnown
 use Rattle.acpi_base.specs.declared.stage.Stage.{Stage}
 use Rattle.acpi_base.specs.declared.stage.Stage.TheVariants as stage
 
--- Stage 3: every listed table is whole and sums to 0.
+-- Stage 3: every listed table is complete and sums to 0.
 abbrev pub AreValidTables : Memory → ℕ → Type 0
 AreValidTables m p = (k a : ℕ) → IsSlot m p k a → IsValidTable m a
 
--- What a stage states. From stage 6 on a stage holds of a set that does not list a table that it speaks of, or whose first
--- one with the signature is not whole.
+-- What a stage states. From stage 6 on a stage holds if the set does not list a table that it is about, or if the first one
+-- with the signature is not complete.
 abbrev pub Holds : Stage → Memory → PolicyValue → Type 0
 Holds stage.Rsdp m q = IsValidRsdp m q.rsdp
 Holds stage.Root m q = IsValidRoot m q.rsdp

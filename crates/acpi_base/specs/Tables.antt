@@ -13,12 +13,11 @@ use Rattle.acpi_base.specs.declared.frame.Question.TheVariants as question
 abbrev pub length_of : List ℕ → ℕ
 length_of header = field header 4 4
 
--- what is asked of a table
+-- the checks of a table
 abbrev pub table_frame : Frame
 table_frame = record { header = 36; length_at = 4; least = 36 }
 
--- a table stands at a: its 36 header bytes are present, its Length is at least 36, and its Length bytes
--- are present
+-- a table is at a: its 36 header bytes are present, its Length is at least 36, and its Length bytes are present
 abbrev pub IsTable : Memory → ℕ → List ℕ → List ℕ → Type 0
 IsTable m a header whole = IsFrame table_frame m a header whole
 
@@ -28,7 +27,7 @@ pub record IsSigned (m : Memory) (a : ℕ) (signature : List ℕ) : Type 0 where
   pub header_present : bytes_at m a 36 ≡ Some header
   pub signed : has_signature header signature ≡ true
 
--- a table stands at a whose bytes sum to 0
+-- a table is at a whose bytes sum to 0
 abbrev pub IsValidTable : Memory → ℕ → Type 0
 IsValidTable m a = IsValidFrame table_frame m a
 

@@ -12,7 +12,7 @@ abbrev pub counted_code : {T : Type 0} → Coded T → Coded (CountedDevice T)
 counted_code {T} code =
     code_by (T × ℕ) (coded× code coded_ℕ) (λ t. (t.inner, t.failures)) (λ p. record { inner = p.0; failures = p.1 }) (λ _. refl)
 
--- the highest count: from there on every call is a failure, and the count stays
+-- the highest count: from there on every call fails, and the count stays
 abbrev pub last_count : ℕ
 last_count = 2 ^ 64 - 1
 

@@ -129,8 +129,8 @@ pub enum Code {
     LeafUnknown,
 }
 
-/// Each code with its stage and its name, in the order of their numbers. It is read through a slice: `ROWS[index]` copies
-/// all rows at each call, which took 3 % of `lint` on firmware.
+/// Each code with its stage and its name, in the order of their numbers. It is read through a slice: `ROWS[index]`
+/// copies all rows at each call, which took 3 % of `lint` on firmware.
 const ROWS: [(Code, Stage, &str); Code::COUNT] = [
     (Code::RsdpOut, Stage::Rsdp, "RsdpOut"),
     (Code::RsdpSignature, Stage::Rsdp, "RsdpSignature"),

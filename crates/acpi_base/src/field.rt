@@ -187,7 +187,7 @@ pub fn put_values(out: &mut [u8], values: &[Value<'_>])
     }
 }
 
-/// Whether the bytes begin with the whole signature.
+/// Whether the bytes begin with the signature.
 #[tactic(auto, unfolding(crate::specs::Signature::has_signature))]
 pub fn is_signed(bytes: &[u8], signature: &[u8]) -> bool
     ensures { result ≡ has_signature bytes.now signature.now }

@@ -1,10 +1,10 @@
-//! Structures that say how long they are.
+//! Structures whose header has their length.
 
-/// What is asked of a structure that says how long it is: the extended form of the RSDP, the root table, a listed
+/// The requirements on a structure whose header has its length: the extended form of the RSDP, the root table, a listed
 /// table and the FACS (ACPI 6.5, 5.2.5.3, 5.2.6 and 5.2.10).
 #[derive(Clone, Copy, Debug)]
 pub struct Frame {
-    /// How many bytes its header has, which is read before its length is known.
+    /// How many bytes its header has. The header is read before the length is known.
     pub header: u32,
     /// The offset of Length in the header, a number of 4 bytes.
     pub length_at: u32,
@@ -35,7 +35,7 @@ impl Frame {
     };
 }
 
-/// The questions about such a structure, in their order.
+/// The checks of such a structure, in their order.
 #[derive(Clone, Copy, Debug, PartialEq, Eq)]
 pub enum Question {
     /// Whether all bytes of the header are present.

@@ -118,7 +118,8 @@ impl Image {
         ensures err { OnErr result (self.new ≡ self.old) }
         ensures nothing { length bytes.now ≡ 0 → IsOk result }
     {
-        // The refusal comes first, also for no bytes: once the fields are read, the proof has the invariant at each exit.
+        // The refusal comes first, also for no bytes: once the fields are read, the proof has the invariant at each
+        // exit.
         if let Some(fault) = refusal(&self.segments, base, bytes.len() as u64) {
             return Err(fault);
         }
@@ -129,9 +130,9 @@ impl Image {
         Ok(())
     }
 
-    /// States that each address of the image is below 2^64 and each of its bytes below 256. A caller with a reference to an
-    /// image calls this if its proof needs these bounds: they are ensured when an image is made, and a reference does not
-    /// carry them. Does nothing at run time, and takes no memory.
+    /// States that each address of the image is below 2^64 and each of its bytes below 256. A caller with a reference
+    /// to an image calls this if its proof needs these bounds: they are ensured when an image is made, and a reference
+    /// does not carry them. Does nothing at run time, and takes no memory.
     pub fn numbers_fit(&self)
         ensures fit { IsImage self.now }
     {
@@ -147,8 +148,8 @@ impl Image {
         self.segments.byte_at(address)
     }
 
-    /// Returns the `count` bytes from an address on, or `None` if one of these addresses has no byte. The bytes may have
-    /// been added in several calls. For a count of 0 it returns no bytes, at any address. Takes no memory.
+    /// Returns the `count` bytes from an address on, or `None` if one of these addresses has no byte. The bytes may
+    /// have been added in several calls. For a count of 0 it returns no bytes, at any address. Takes no memory.
     #[tactic(auto, using(crate::proofs::Images::RunMemory::bytes_at_present_by))]
     pub fn window(&self, address: u64, count: u64) -> Option<&[u8]>
         ensures bytes { option_map (λ bytes. bytes.now) result ≡ bytes_at self.now address count }
@@ -157,9 +158,9 @@ impl Image {
         self.segments.window(address, count)
     }
 
-    /// Returns the sum modulo 256 of the `count` bytes from an address on, or `None` if one of these addresses has no byte.
-    /// It is 0 if a checksum is right, and for a count of 0, at any address. However many bytes there are, fewer than 256
-    /// of them are read. Takes no memory.
+    /// Returns the sum modulo 256 of the `count` bytes from an address on, or `None` if one of these addresses has no
+    /// byte. It is 0 if a checksum is right, and for a count of 0, at any address. However many bytes there are, fewer
+    /// than 256 of them are read. Takes no memory.
     #[tactic(auto, using(crate::proofs::Images::RunMemory::bytes_at_present_by))]
     pub fn window_sum(&self, address: u64, count: u64) -> Option<u8>
         ensures { result ≡ option_map byte_sum (bytes_at self.now address count) }

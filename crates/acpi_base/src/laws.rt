@@ -104,7 +104,7 @@ pub fn machine_reads_lines()
     ensures pieces { RunGoesOn }
 {}
 
-/// A fault in a prefix of an image text is the fault of the whole text.
+/// A fault in a prefix of an image text is the fault of the complete text.
 #[tactic(auto, using(crate::proofs::Texts::ByteMachine::prefix_is_decided))]
 pub fn prefix_decides()
     ensures { PrefixDecides }

@@ -1,11 +1,11 @@
 //! The base of all parts of the ACPI table checker: images of a machine's memory, the text that they are read from,
 //! the codes of faults, and the definitions of a valid set of tables.
 //!
-//! - `Image`: bytes at 64-bit addresses. `DraftImage` builds one from pieces in any order. `read_image` and `parse_image`
+//! - `Image`: bytes at 64-bit addresses. `DraftImage` builds one from pieces in any order. `read_image`, `parse_image`
 //!   read one from image text, `ImageText` from such a text in pieces, and `written_text::image_text` writes it.
 //! - `sum`, `find_rsdp`: a checksum, and the search for the RSDP.
 //! - `field`: numbers and bytes at an offset in a table, read and written.
-//! - `Frame`, `Question`: what is asked of a structure that says how long it is.
+//! - `Frame`, `Question`: the checks of a structure whose header has its length.
 //! - `Code`, `Stage`, `Witness`, `Verdict`: what can be wrong, in which part of the check, where, and the
 //!   result of a check. `witness_text` and `verdict_text` write them.
 //! - `Rule`, `Advice`: what is probably wrong but is not a fault, and where. `advice_text` writes it.

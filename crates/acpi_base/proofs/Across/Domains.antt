@@ -1,5 +1,5 @@
--- The fault of processors in two domains: it can be decided, excludes that each has one domain, and where there is none
--- each has one; how far its numbers reach.
+-- The fault of processors in two domains: it can be decided, and there is none exactly if each has one domain; the bounds of
+-- its numbers.
 use Rattle.std.proofs.Common.{◌≡◌, ◌≢◌, ℕ, ◌^◌, ◌<◌, List, length, refl, sym, subst, inl, inr, arith}
 use Rattle.std.specs.Prelude.{slice_index}
 use Rattle.std.proofs.lemmas.Bool.{cases_order}
@@ -25,13 +25,12 @@ processor_of (ApicDomain v) = v.apic_id
 processor_of (X2apicDomain v) = v.x2apic_id
 processor_of _ = 0
 
--- and that domain
+-- the domain in which an entry puts its processor
 domain_of : SratEntry → ℕ
 domain_of (ApicDomain v) = v.domain
 domain_of (X2apicDomain v) = v.domain
 domain_of _ = 0
 
--- they are the numbers with which it does
 put_as : (e : SratEntry) (i d : ℕ) → PutsIn i d e → (processor_of e ≡ i) × (domain_of e ≡ d)
 unfolding processor_of domain_of
 put_as (ApicDomain v) i d puts = (puts.0, puts.1)
@@ -43,7 +42,6 @@ puts_decided i d (ApicDomain v) = all3 (same v.apic_id i) (same v.domain d) (is_
 puts_decided i d (X2apicDomain v) = all3 (same v.x2apic_id i) (same v.domain d) (is_true (is_enabled v.flags))
 puts_decided i d _ = inr (λ h. h)
 
--- whether an entry at an offset puts a processor in a domain with P
 put_decided : (c : SratContents) (o i : ℕ) (P : ℕ → Type 0) → ((d : ℕ) → Decided (P d))
     → Decided ((d : ℕ) × PutsAt c o i d × P d)
 put_decided c o i P decide =
@@ -52,7 +50,6 @@ put_decided c o i P decide =
     (stands_with_decided c.entries o (λ e. PutsIn i (domain_of e) e × P (domain_of e))
     (λ e. both (puts_decided i (domain_of e) e) (decide (domain_of e))))
 
--- where one entry stands at an offset, it puts a processor in one domain
 one_put : (c : SratContents) → AreOnes c.entries → (o i d f : ℕ) → PutsAt c o i d → PutsAt c o i f → d ≡ f
 one_put c ones o i d f one other =
     let is = ones o one.0 other.0 one.1 other.1 in
@@ -76,7 +73,6 @@ decided p madt srat code.TwoDomains at other point =
     (put_decided srat at point _ (λ d. put_decided srat other point (λ f. d ≢ f) (λ f. differs d f))))
 decided p madt srat _ at other point = inr (λ fault. fault)
 
--- without a fault each processor has one domain
 pub one_domain_without_fault : (p : Processors) (madt : MadtContents) (whole : List ℕ)
     → ((fault : Code) (at other point : ℕ) → stage_of fault ≡ stage.Domains
     → ¬ DomainFault p madt (srat_contents whole) fault at other point)
@@ -90,14 +86,13 @@ one_domain_without_fault p madt whole none i enabled o r d f one other =
       | inr (inr more) ↦ none code.TwoDomains o r i refl (enabled, d, f, one, other, more, differ)
     ])
 
--- a fault excludes that each has one
 pub excludes : (p : Processors) (madt : MadtContents) (srat : SratContents) (fault : Code) (at other point : ℕ)
     → DomainFault p madt srat fault at other point → ¬ HaveOneDomain p madt srat
 excludes p madt srat code.TwoDomains at other point (enabled, d, f, one, two, _, differ) valid =
     differ (valid point enabled at other d f one two)
 excludes p madt srat _ at other point fault valid = fault
 
--- ---- how far its numbers reach
+-- ---- the bounds of its numbers
 
 pub bounded : (p : Processors) (madt : MadtContents) (srat : SratContents)
     → (most : ℕ) × ((fault : Code) (at other point : ℕ) → DomainFault p madt srat fault at other point
@@ -114,12 +109,10 @@ bounded p madt srat = (all.0, place)
         (here.0, omega arith, omega (arith, put_as e point d puts))
     place _ at other point fault = absurd fault
 
--- the number of a processor has 32 bits
 processor_fits : (e : List ℕ) → ((k : ℕ) → slice_index e k < 256) → processor_of (srat_entry e) < 256 ^ 4
 unfolding srat_entry processor_of
 processor_fits e small = grind (arith, field_below e small 3 1, field_below e small 8 4)
 
--- the offsets lie within the SRAT, and the number of the processor has 32 bits
 pub fits : (p : Processors) (madt : MadtContents) (whole : List ℕ) → ((k : ℕ) → slice_index whole k < 256)
     → (fault : Code) (at other point : ℕ) → DomainFault p madt (srat_contents whole) fault at other point
     → (at < length whole) × (other < length whole) × (point < 256 ^ 4)

@@ -1,5 +1,5 @@
--- The fault of leaves of the PPTT that no processor of the MADT has as its UID: it can be decided, excludes that all
--- are known, and where there is none all are; how far its numbers reach.
+-- The fault of leaves of the PPTT that no processor of the MADT has as its UID: it can be decided, and there is none exactly
+-- if all leaves are known; the bounds of its numbers.
 use Rattle.std.proofs.Common.{◌≡◌, ℕ, ◌^◌, ◌<◌, List, length, refl, subst, inl, inr, arith}
 use Rattle.std.specs.Prelude.{slice_index}
 use Rattle.acpi_base.specs.Number.{has_bit}
@@ -18,12 +18,10 @@ use Rattle.acpi_base.proofs.EntryOffsets.{stands_with_decided, somewhere_decided
 
 -- ---- decided, and what the fault excludes
 
--- whether an entry is not typed
 opaque_decided : (e : MadtEntry) → Decided ((bytes : List ℕ) × (e ≡ Opaque bytes))
 opaque_decided (Opaque bytes) = inl (bytes, refl)
 opaque_decided _ = inr (λ h. let is = h.1 in absurd cc)
 
--- whether typed entries fill the MADT
 typed_decided : (c : MadtContents) → Decided (IsWhollyTyped c)
 typed_decided c =
     decided_as (λ h. record { long = h.0; filled = h.1; typed = λ o e stands. h.2 (o, (Opaque e, stands, (e, refl))) })
@@ -56,7 +54,6 @@ decided madt pptt code.LeafUnknown at other point =
     (same other 0)
 decided madt pptt _ at other point = inr (λ fault. fault)
 
--- without a fault each leaf is known
 pub leaves_known_without_fault : (madt : MadtContents) (pptt : PpttContents)
     → ((fault : Code) (at other point : ℕ) → stage_of fault ≡ stage.Leaves → ¬ LeafFault madt pptt fault at other point)
     → AreLeavesKnown madt pptt
@@ -67,21 +64,19 @@ leaves_known_without_fault madt pptt none recent typed o id leaf =
           absurd (none code.LeafUnknown o 0 id refl (recent, typed, leaf, unknown, refl))
     ]
 
--- a fault excludes that each is
 pub excludes : (madt : MadtContents) (pptt : PpttContents) (fault : Code) (at other point : ℕ)
     → LeafFault madt pptt fault at other point → ¬ AreLeavesKnown madt pptt
 excludes madt pptt code.LeafUnknown at other point (recent, typed, leaf, unknown, _) valid =
     unknown (valid recent typed at point leaf)
 excludes madt pptt _ at other point fault valid = fault
 
--- ---- how far its numbers reach
+-- ---- the bounds of its numbers
 
 -- the ID of a node
 id_of : PpttEntry → ℕ
 id_of (Node v) = v.id
 id_of _ = 0
 
--- it is that of a leaf
 leaf_is : (e : PpttEntry) (id : ℕ) → IsLeaf id e → id_of e ≡ id
 unfolding id_of
 leaf_is (Node v) id leaf = leaf.2
@@ -102,12 +97,10 @@ bounded madt pptt = (all.0, place)
         (here.0, omega arith, omega (arith, leaf_is e point leaf))
     place _ at other point fault = absurd fault
 
--- an ID has 32 bits
 id_fits : (e : List ℕ) → ((k : ℕ) → slice_index e k < 256) → id_of (pptt_entry e) < 256 ^ 4
 unfolding pptt_entry id_of
 id_fits e small = grind (arith, field_below e small 12 4)
 
--- the offset lies within the PPTT, and the ID has 32 bits
 pub fits : (madt : MadtContents) (whole : List ℕ) → ((k : ℕ) → slice_index whole k < 256)
     → (fault : Code) (at other point : ℕ) → LeafFault madt (pptt_contents whole) fault at other point
     → (at < length whole) × (other < length whole) × (point < 256 ^ 4)

@@ -1,5 +1,5 @@
--- The fault of interrupt numbers that no I/O APIC serves: it can be decided, excludes that all are served, and where
--- there is none all are; how far its numbers reach.
+-- The fault of interrupt numbers that no I/O APIC serves: it can be decided, and there is none exactly if all are served; the
+-- bounds of its numbers.
 use Rattle.std.proofs.Common.{◌≡◌, ℕ, ◌+◌, ◌^◌, ◌<◌, List, length, refl, inl, inr, arith}
 use Rattle.std.specs.Prelude.{slice_index}
 use Rattle.acpi_base.specs.Entries.{Stands}
@@ -26,7 +26,6 @@ names_decided g (Override v) = same v.gsi g
 names_decided g (NmiSource v) = same v.gsi g
 names_decided g _ = inr (λ h. h)
 
--- whether an entry serves an interrupt number
 serves_decided : (q : PolicyValue) (g : ℕ) (e : MadtEntry) → Decided ((start : ℕ) × ServesFrom q start g e)
 serves_decided q g (IoApic v) =
     decided_as (λ h. (v.gsi_base, h)) (λ h. (refl, omega (arith, h.1), omega (arith, h.1)))
@@ -46,7 +45,6 @@ decided q c code.GsiNowhere at other point =
     (same other 0)
 decided q c _ at other point = inr (λ fault. fault)
 
--- without a fault each interrupt number that is named is served
 pub named_served_without_fault : (q : PolicyValue) (c : MadtContents)
     → ((fault : Code) (at other point : ℕ) → stage_of fault ≡ stage.Served → ¬ ServedFault q c fault at other point)
     → AreNamedServed q c
@@ -57,13 +55,12 @@ named_served_without_fault q c none some o g names =
           absurd (none code.GsiNowhere o 0 g refl (some, names, nowhere, refl))
     ]
 
--- a fault excludes that each is
 pub excludes : (q : PolicyValue) (c : MadtContents) (fault : Code) (at other point : ℕ)
     → ServedFault q c fault at other point → ¬ AreNamedServed q c
 excludes q c code.GsiNowhere at other point (some, names, nowhere, _) valid = nowhere (valid some at point names)
 excludes q c _ at other point fault valid = fault
 
--- ---- how far its numbers reach
+-- ---- the bounds of its numbers
 
 -- the interrupt number that an entry names
 gsi_of : MadtEntry → ℕ
@@ -71,7 +68,6 @@ gsi_of (Override v) = v.gsi
 gsi_of (NmiSource v) = v.gsi
 gsi_of _ = 0
 
--- it is the one that is named
 named_is : (e : MadtEntry) (g : ℕ) → NamesGsi g e → gsi_of e ≡ g
 unfolding gsi_of
 named_is (Override v) g is = is
@@ -93,12 +89,10 @@ bounded q c = (all.0, place)
         (here.0, omega arith, omega (arith, named_is e point names))
     place _ at other point fault = absurd fault
 
--- an interrupt number has 32 bits
 gsi_fits : (e : List ℕ) → ((k : ℕ) → slice_index e k < 256) → gsi_of (madt_entry e) < 256 ^ 4
 unfolding madt_entry gsi_of
 gsi_fits e small = grind (arith, field_below e small 4 4)
 
--- the offset lies within the MADT, and the interrupt number has 32 bits
 pub fits : (q : PolicyValue) (whole : List ℕ) → ((k : ℕ) → slice_index whole k < 256)
     → (fault : Code) (at other point : ℕ) → ServedFault q (madt_contents whole) fault at other point
     → (at < length whole) × (other < length whole) × (point < 256 ^ 4)

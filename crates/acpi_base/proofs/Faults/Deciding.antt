@@ -1,4 +1,4 @@
--- What can be decided, and what its failing says.
+-- What can be decided, and what follows if it does not hold.
 use Rattle.std.proofs.Common.{◌≡◌, ℕ, ◌<◌, ◌≤◌, Option, Some, None, refl, ap, subst, inl, inr, arith}
 use Rattle.std.proofs.lemmas.Option.{none-some, same_Some}
 use Rattle.std.specs.Prelude.{◌⊎◌, ◌≢◌, Bool, true, false}
@@ -56,22 +56,18 @@ is_true b = elim (cases_Bool b) [ inl t ↦ inl t | inr f ↦ inr (λ t. both_wa
 pub is_false : (b : Bool) → Decided (b ≡ false)
 is_false b = elim (cases_Bool b) [ inl t ↦ inr (λ f. both_ways b f t) | inr f ↦ inl f ]
 
--- whether there is no value
 pub is_none : {X : Type 0} (o : Option X) → Decided (o ≡ None)
 is_none None = inl refl
 is_none (Some x) = inr (λ none. none_and_some none refl)
 
--- whether there is a value
 pub is_some : {X : Type 0} (o : Option X) → Decided ((x : X) × (o ≡ Some x))
 is_some (Some x) = inl (x, refl)
 is_some None = inr (λ h. none-some h.0 h.1)
 
--- whether there is a value and it is this number
 pub is_some_number : (o : Option ℕ) (k : ℕ) → Decided (o ≡ Some k)
 is_some_number None k = inr (λ is. none-some k is)
 is_some_number (Some j) k = decided_as (λ is. ap Some is) (λ is. same_Some j k is) (same j k)
 
--- whether there is a value with P of it
 pub is_some_with : {X : Type 0} (o : Option X) (P : X → Type 0) → ((x : X) → Decided (P x))
     → Decided ((x : X) × (o ≡ Some x) × P x)
 is_some_with o P decide =
@@ -84,7 +80,6 @@ is_some_with o P decide =
           ]
     ]
 
--- what is not below is at least, what does not differ is the same, and what is not false is true
 pub not_below : (a b : ℕ) → ¬ (a < b) → b ≤ a
 not_below a b fails = elim (cases_lt a b) [ inl less ↦ absurd (fails less) | inr most ↦ most ]
 

@@ -1,4 +1,4 @@
--- Stages 1 to 5: what is shown of each where those before it hold.
+-- Stages 1 to 5: the facts about each, if those before it hold.
 use Rattle.std.proofs.Common.{ℕ, ◌+◌, ◌*◌, ◌<◌, List, length, refl, subst, inl, inr, arith}
 use Rattle.acpi_base.specs.Memory.{Memory}
 use Rattle.acpi_base.specs.Number.{field}

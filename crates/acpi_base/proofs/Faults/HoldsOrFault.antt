@@ -1,4 +1,4 @@
--- What is shown of a stage, and that it then holds or has a first fault.
+-- The facts to be shown about a stage, from which it follows that it holds or has a first fault.
 use Rattle.std.proofs.Common.{◌≡◌, ℕ, ◌<◌, ap, subst, inl, inr}
 use Rattle.std.specs.Prelude.{◌⊎◌}
 use Rattle.acpi_base.specs.Memory.{Memory}
@@ -13,8 +13,8 @@ use Rattle.acpi_base.proofs.Faults.Deciding.{Decided, decided_as, both, same}
 use Rattle.acpi_base.proofs.Faults.Least.{IsFirstInOrder, first_witness, witness}
 use Rattle.acpi_base.proofs.Faults.Numbers.{same_stage}
 
--- what is shown of a statement and of its faults, which have codes of the stage: their numbers are below a bound, each
--- can be decided, and where there is none the statement is true
+-- the facts about a statement and its faults, which have codes of the stage: their numbers are bounded, each can be
+-- decided, and without one the statement is true
 pub record AreJudged (s : Stage) (Valid : Type 0) (IsFault : Code → ℕ → ℕ → ℕ → Type 0) : Type 0 where
   pub bound : ℕ
   pub fit : (c : Code) (at other point : ℕ) → IsFault c at other point
@@ -22,7 +22,7 @@ pub record AreJudged (s : Stage) (Valid : Type 0) (IsFault : Code → ℕ → �
   pub decided : (c : Code) (at other point : ℕ) → Decided (IsFault c at other point)
   pub holds : ((c : Code) (at other point : ℕ) → stage_of c ≡ s → ¬ IsFault c at other point) → Valid
 
--- the same of a stage of a set
+-- the same for a stage of a set
 abbrev pub IsJudged : Stage → Memory → PolicyValue → Type 0
 IsJudged s m q = AreJudged s (Holds s m q) (λ c at other point. FaultCondition s m q (witness c at other point))
 
@@ -35,7 +35,6 @@ pub record IsFirstOfStage (s : Stage) (m : Memory) (q : PolicyValue) (w : Witnes
 abbrev pub HoldsOrHasFirst : Stage → Memory → PolicyValue → Type 0
 HoldsOrHasFirst s m q = Holds s m q ⊎ ((w : Witness) × IsFirstOfStage s m q w)
 
--- a stage whose faults are judged holds, or one of them stands before all others
 pub least_fault : (s : Stage) (m : Memory) (q : PolicyValue) → IsJudged s m q
     → Holds s m q ⊎ ((w : Witness) × IsFirstInOrder NotAfter (FaultOfStage s m q) w)
 least_fault s m q judged =
@@ -52,7 +51,6 @@ least_fault s m q judged =
         (λ fault. (ap stage_number fault.own, fault.holds))
         (both (same (stage_number (stage_of w.code)) (stage_number s)) (judged.decided w.code w.at w.other w.point))
 
--- where it stands before all others, it is the first in the order of all stages but two
 pub holds_or_has_first : {s : Stage} {m : Memory} {q : PolicyValue}
     → (((w : Witness) → ((v : Witness) → FaultOfStage s m q v → NotAfter w v) → IsLeastOfStage s m q w))
     → IsJudged s m q → HoldsOrHasFirst s m q
@@ -62,7 +60,6 @@ holds_or_has_first {s} {m} {q} same_order judged =
       | inr (w, first) ↦ inr (w, record { holds = first.holds; least = same_order w first.least })
     ]
 
--- the first fault of a stage is that of a set whose earlier stages hold
 pub first_of_set : {s : Stage} {m : Memory} {q : PolicyValue} {w : Witness} → CleanBefore s m q → IsFirstOfStage s m q w
     → IsFirstFault m q w
 first_of_set {s} {m} {q} {w} clean first =

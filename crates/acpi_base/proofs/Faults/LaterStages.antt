@@ -1,4 +1,4 @@
--- Stages 6 to 18: what is shown of each where those before it hold.
+-- Stages 6 to 18: the facts about each, if those before it hold.
 use Rattle.std.proofs.Common.{◌≡◌, ℕ, ◌+◌, ◌<◌, ◌≤◌, List, length, Some, None, refl, inl, inr, arith}
 use Rattle.acpi_base.specs.Memory.{Memory}
 use Rattle.acpi_base.specs.Policy.{PolicyValue}
@@ -31,13 +31,12 @@ use Rattle.acpi_base.proofs.Across.Domains as domains
 use Rattle.acpi_base.proofs.Across.Served as served
 use Rattle.acpi_base.proofs.Across.Leaves as leaves
 
--- where the root and the tables are valid it is known what a set lists first with a signature
 known : (s : Stage) (m : Memory) (q : PolicyValue) (signature : List ℕ) → CleanBefore s m q → 3 < stage_number s
     → IsListedOrNone m q.rsdp signature
 known s m q signature clean later =
     listed_or_none m q.rsdp signature (clean stage.Root (omega arith)) (clean stage.Tables (omega arith))
 
--- a statement is judged whose faults' numbers are no greater than some number
+-- a statement is judged if its faults' numbers are at most some number
 judged_to : {s : Stage} {Valid : Type 0} {IsFault : Code → ℕ → ℕ → ℕ → Type 0} (most : ℕ)
     → ((c : Code) (at other point : ℕ) → IsFault c at other point → (at ≤ most) × (other ≤ most) × (point ≤ most))
     → ((c : Code) (at other point : ℕ) → Decided (IsFault c at other point))
@@ -153,7 +152,7 @@ leaves_judged m q clean =
     (leaves.decided (madt_contents madt) (pptt_contents pptt))
     (leaves.leaves_known_without_fault (madt_contents madt) (pptt_contents pptt))))
 
--- ---- stages with an order of their own
+-- ---- stages with their own order
 
 pub interrupts_settled : (m : Memory) (q : PolicyValue) → CleanBefore stage.Interrupts m q
     → HoldsOrHasFirst stage.Interrupts m q

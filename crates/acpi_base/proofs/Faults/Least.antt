@@ -1,4 +1,5 @@
--- What holds of nothing, or of a first: by a number, by several in turn, and of witnesses by their four.
+-- Least elements: what can be decided holds of nothing, or of a first one, in the order of one number, of several, or of
+-- witnesses.
 use Rattle.std.proofs.Common.{◌≡◌, ℕ, zero, suc, ◌+◌, ◌<◌, ◌≤◌, length, refl, sym, ◌∙◌, subst, inl, inr, arith}
 use Rattle.std.specs.Prelude.{◌⊎◌}
 use Rattle.std.proofs.lemmas.Bool.{cases_lt, cases_order}
@@ -14,7 +15,6 @@ pub record IsLeast (P : ℕ → Type 0) (k : ℕ) : Type 0 where
   pub holds : P k
   pub none_below : (j : ℕ) → j < k → ¬ P j
 
--- where P can be decided, it holds of no number below n, or of a least one
 pub least_below : (P : ℕ → Type 0) → ((k : ℕ) → Decided (P k)) → (n : ℕ)
     → ((k : ℕ) → k < n → ¬ P k) ⊎ ((k : ℕ) × (k < n) × IsLeast P k)
 least_below P decide zero = inl (λ k below. absurd (omega arith))
@@ -31,7 +31,6 @@ least_below P decide (suc n) = more P n (least_below P decide n) (decide n)
               subst (λ x. ¬ P x) (omega arith) not_here
         ])
 
--- whether P holds of some number below n
 pub some_below : (n : ℕ) (P : ℕ → Type 0) → ((k : ℕ) → Decided (P k)) → Decided ((k : ℕ) × (k < n) × P k)
 some_below n P decide =
     elim (least_below P decide n) [
@@ -39,7 +38,6 @@ some_below n P decide =
       | inr (k, inside, least) ↦ inl (k, inside, least.holds)
     ]
 
--- there is a number above those that a function has below n
 pub bounded : (f : ℕ → ℕ) (n : ℕ) → (most : ℕ) × ((k : ℕ) → k < n → f k < most)
 bounded f zero = (0, λ k below. absurd (omega arith))
 bounded f (suc n) = more f n (bounded f n)
@@ -48,7 +46,7 @@ bounded f (suc n) = more f n (bounded f n)
         → (most : ℕ) × ((k : ℕ) → k < suc n → f k < most)
     more f n rest = (rest.0 + f n + 1, λ k below. grind (arith, cases_lt k n, rest.1 k))
 
--- P holds of x, and x stands after nothing of which it holds
+-- P holds of x, and of nothing that comes before x
 pub record IsFirstInOrder {X : Type 0} (Order : X → X → Type 0) (P : X → Type 0) (x : X) : Type 0 where
   pub holds : P x
   pub least : (y : X) → P y → Order x y
@@ -56,7 +54,7 @@ pub record IsFirstInOrder {X : Type 0} (Order : X → X → Type 0) (P : X → T
 abbrev pub NoneOrFirst : {X : Type 0} → (X → X → Type 0) → (X → Type 0) → Type 0
 NoneOrFirst {X = X} Order P = ((x : X) → ¬ P x) ⊎ ((x : X) × IsFirstInOrder Order P x)
 
--- the order by a number, and where it is the same by another order
+-- the order by a number, and if it is the same by another order
 abbrev pub ByNumber : {X : Type 0} → (X → ℕ) → (X → X → Type 0) → X → X → Type 0
 ByNumber f Later x y = (f x < f y) ⊎ ((f x ≡ f y) × Later x y)
 
@@ -64,7 +62,6 @@ ByNumber f Later x y = (f x < f y) ⊎ ((f x ≡ f y) × Later x y)
 abbrev At : {X : Type 0} → (X → ℕ) → (X → Type 0) → ℕ → X → Type 0
 At f P k x = P x × (f x ≡ k)
 
--- what has a first or none at each number, and none from a number on, has a first or none
 pub first_by : {X : Type 0} (f : X → ℕ) (Later : X → X → Type 0) (P : X → Type 0) (n : ℕ) → ((x : X) → P x → f x < n)
     → ((k : ℕ) → NoneOrFirst Later (At f P k)) → NoneOrFirst (ByNumber f Later) P
 first_by {X} f Later P n below each =
@@ -92,7 +89,6 @@ first_by {X} f Later P n below each =
         → P y → ByNumber f Later x y
     after k x first y none here = grind (arith, cases_order (f x) (f y), first.holds.1, first.least y, none)
 
--- and by the last number alone
 pub first_at : {X : Type 0} (f : X → ℕ) (P : X → Type 0) (n : ℕ) → ((x : X) → P x → f x < n)
     → ((k : ℕ) → Decided ((x : X) × At f P k x)) → NoneOrFirst (λ x y. f x ≤ f y) P
 first_at {X} f P n below decide =
@@ -111,7 +107,6 @@ first_at {X} f P n below decide =
 abbrev pub witness : Code → ℕ → ℕ → ℕ → Witness
 witness c at other point = record { code = c; at = at; other = other; point = point }
 
--- a witness is its four parts
 pub same_parts : {c d : Code} {a b a' b' a'' b'' : ℕ} → c ≡ d → a ≡ b → a' ≡ b' → a'' ≡ b''
     → witness c a a' a'' ≡ witness d b b' b''
 same_parts code at other point = cc
@@ -139,7 +134,6 @@ WithOther P a c o = At (λ w. w.other) (WithCode P a c) o
 abbrev WithPoint : (Witness → Type 0) → ℕ → ℕ → ℕ → ℕ → Witness → Type 0
 WithPoint P a c o p = At (λ w. w.point) (WithOther P a c o) p
 
--- what can be decided of each witness can be decided of four numbers
 decide_numbers : (P : Witness → Type 0) → ((w : Witness) → Decided (P w)) → (a c o p : ℕ)
     → Decided ((w : Witness) × WithPoint P a c o p w)
 decide_numbers P decide a c o p =
@@ -155,7 +149,6 @@ decide_numbers P decide a c o p =
           ]
     ]
 
--- what can be decided of each witness, and holds of none with a number from n on, holds of none or of a first
 pub first_witness : (P : Witness → Type 0) (n : ℕ) → ((w : Witness) → P w → (w.at < n) × (w.other < n) × (w.point < n))
     → ((w : Witness) → Decided (P w)) → NoneOrFirst NotAfter P
 first_witness P n below decide =

@@ -1,4 +1,4 @@
--- What is shown of each table with a signature is shown of the one that a set lists first.
+-- Facts about each table with a signature are facts about the one that a set lists first.
 use Rattle.std.proofs.Common.{ℕ, ◌^◌, ◌<◌, List, length, Some, None, subst, inr, arith}
 use Rattle.std.specs.Prelude.{slice_index}
 use Rattle.acpi_base.specs.Memory.{Memory, IsImage}
@@ -12,19 +12,16 @@ use Rattle.acpi_base.proofs.Faults.HoldsOrFault.{AreJudged}
 use Rattle.acpi_base.proofs.Tables.Listed.{IsListedOrNone, none_and_listed, one_listed}
 use Rattle.acpi_base.proofs.Frames.{length_frame}
 
--- a fault of the table that is listed first is one of this table
 pub of_listed : {m : Memory} {p : ℕ} {signature whole : List ℕ} (P : List ℕ → Type 0)
     → IsListedTable m p signature whole → HasListed m p signature P → P whole
 of_listed {m} {p} {signature} {whole} P is (bytes, also, holds) =
     subst P (one_listed m p signature bytes whole also is) holds
 
--- and what is true of it is true of each that is listed first
 pub for_listed : {m : Memory} {p : ℕ} {signature whole : List ℕ} (P : List ℕ → Type 0)
     → IsListedTable m p signature whole → P whole → ForListed m p signature P
 for_listed {m} {p} {signature} {whole} P is holds bytes also =
     subst P (one_listed m p signature whole bytes is also) holds
 
--- what is shown of each table is shown of the one that is listed first
 pub listed_judged : (s : Stage) (m : Memory) (p : ℕ) (signature : List ℕ) (Valid : List ℕ → Type 0)
     (IsFault : List ℕ → Code → ℕ → ℕ → ℕ → Type 0) → IsListedOrNone m p signature
     → ((whole : List ℕ) → IsListedTable m p signature whole → AreJudged s (Valid whole) (IsFault whole))
@@ -49,7 +46,6 @@ listed_judged s m p signature Valid IsFault (Some whole, is) each =
           (judged.holds (λ c at other point own fault. none c at other point own (whole, is, fault)));
     }
 
--- the bytes of a listed table are below 256, and fewer than 2^32
 pub listed_fits : {m : Memory} {p : ℕ} {signature whole : List ℕ} → IsImage m → IsListedTable m p signature whole
     → ((k : ℕ) → slice_index whole k < 256) × (length whole < 2 ^ 32)
 listed_fits {m} {whole = whole} image listed =

@@ -14,11 +14,11 @@ use Rattle.acpi_base.specs.declared.stage.Stage.{Stage}
 use Rattle.acpi_base.specs.declared.stage.Stage.TheVariants as stage
 use Rattle.acpi_base.proofs.Images.PresentBytes.{cases_Option, none_and_some}
 
--- the codes by their numbers; the first also stands at 0, which is no code's number
+-- the codes by their numbers; at 0, which is no code's number, is the first code
 abbrev pub codes_by_number : List Code
 codes_by_number = code.RsdpOut ∷ all_codes
 
--- the stages by their numbers; the first also stands at 0, which is no stage's number
+-- the stages by their numbers; at 0, which is no stage's number, is the first stage
 abbrev pub stages_by_number : List Stage
 stages_by_number =
     stage.Rsdp ∷
@@ -26,35 +26,28 @@ stages_by_number =
     stage.Interrupts ∷ stage.Overrides ∷ stage.Srat ∷ stage.Ranges ∷ stage.Slit ∷ stage.Pptt ∷
     stage.References ∷ stage.Parents ∷ stage.Caches ∷ stage.Domains ∷ stage.Served ∷ stage.Leaves ∷ []
 
--- a code stands at its number
 pub code_at_number : (c : Code) → slice_get codes_by_number (code_number c) ≡ Some c
 code_at_number code.RsdpOut = refl
 code_at_number _ = refl
 
--- a stage stands at its number
 pub stage_at_number : (s : Stage) → slice_get stages_by_number (stage_number s) ≡ Some s
 stage_at_number stage.Rsdp = refl
 stage_at_number _ = refl
 
--- two codes with one number are one
 pub same_code : (c d : Code) → code_number c ≡ code_number d → c ≡ d
 same_code c d e = grind (arith, same_Some, code_at_number c, code_at_number d)
 
--- two stages with one number are one
 pub same_stage : (s t : Stage) → stage_number s ≡ stage_number t → s ≡ t
 same_stage s t e = grind (arith, same_Some, stage_at_number s, stage_at_number t)
 
--- the numbers of codes end with the last one's
 pub code_below : (c : Code) → code_number c ≤ length all_codes
 code_below code.RsdpOut = omega arith
 code_below _ = omega arith
 
--- they begin at 1
 pub code_from : (c : Code) → 1 ≤ code_number c
 code_from code.RsdpOut = omega arith
 code_from _ = omega arith
 
--- a rule stands at its number, from 101 on
 rule_at_number : (r : Rule) → slice_get all_rules (rule_number r - 101) ≡ Some r
 rule_at_number rule.ListedTwice = refl
 rule_at_number _ = refl
@@ -67,18 +60,15 @@ pub rule_below : (r : Rule) → rule_number r < 101 + length all_rules
 rule_below rule.ListedTwice = omega arith
 rule_below _ = omega arith
 
--- two rules with one number are one
 pub same_rule : (r s : Rule) → rule_number r ≡ rule_number s → r ≡ s
 same_rule r s same =
     same_Some r s
     (sym (rule_at_number r) ∙ ap (λ (n : ℕ). slice_get all_rules (n - 101)) same ∙ rule_at_number s)
 
--- those of stages begin at 1
 pub stage_from_1 : (s : Stage) → 0 < stage_number s
 stage_from_1 stage.Rsdp = omega arith
 stage_from_1 _ = omega arith
 
--- what stands in a list at its own number has a number or has not
 with_number : {X : Type 0} (number : X → ℕ) (rows : List X) → ((x : X) → slice_get rows (number x) ≡ Some x) → (n : ℕ)
     → ((x : X) × (number x ≡ n)) ⊎ ((x : X) → number x ≡ n → ⊥)
 with_number number rows at n =
@@ -92,10 +82,8 @@ with_number number rows at n =
           ]
     ]
 
--- a code has this number or none has
 pub code_with_number : (n : ℕ) → ((c : Code) × (code_number c ≡ n)) ⊎ ((c : Code) → code_number c ≡ n → ⊥)
 code_with_number = with_number code_number codes_by_number code_at_number
 
--- a stage has this number or none has
 pub stage_with_number : (n : ℕ) → ((s : Stage) × (stage_number s ≡ n)) ⊎ ((s : Stage) → stage_number s ≡ n → ⊥)
 stage_with_number = with_number stage_number stages_by_number stage_at_number

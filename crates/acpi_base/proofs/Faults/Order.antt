@@ -8,7 +8,6 @@ use Rattle.acpi_base.specs.declared.witness.Witness.{Witness}
 use Rattle.acpi_base.proofs.Faults.Least.{same_parts}
 use Rattle.acpi_base.proofs.Faults.Numbers.{same_code}
 
--- two witnesses of which neither stands after the other are one
 pub same_witness : (w v : Witness) → NotAfter w v → NotAfter v w → w ≡ v
 same_witness w v one other =
     let at : w.at ≡ v.at = omega (arith, one, other) in
@@ -17,7 +16,6 @@ same_witness w v one other =
     let point : w.point ≡ v.point = omega (arith, one, other) in
     same_parts (same_code w.code v.code number) at second point
 
--- two that have the same last numbers go by their place and then by their code's number
 pub not_after : (w v : Witness) → (w.at < v.at) ⊎ ((w.at ≡ v.at) × (code_number w.code ≤ code_number v.code))
     → w.other ≡ v.other → w.point ≡ v.point → NotAfter w v
 not_after w v (inl before) other point = inl before

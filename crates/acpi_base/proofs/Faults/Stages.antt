@@ -1,4 +1,4 @@
--- Stage after stage: each holds or has a first fault, a fault excludes that its stage holds, and its numbers fit.
+-- All stages: each holds or has a first fault, with a fault it does not hold, and the numbers of its faults have 64 bits.
 use Rattle.std.proofs.Common.{◌≡◌, ℕ, zero, suc, ◌+◌, ◌<◌, ◌≤◌, sym, ◌∙◌, ap, subst, inl, inr, arith}
 use Rattle.std.specs.Prelude.{◌⊎◌}
 use Rattle.std.proofs.lemmas.Bool.{cases_lt}
@@ -41,7 +41,6 @@ use Rattle.acpi_base.proofs.Across.Domains as domains
 use Rattle.acpi_base.proofs.Across.Served as served
 use Rattle.acpi_base.proofs.Across.Leaves as leaves
 
--- where the stages before it hold, a stage holds or has a first fault
 pub holds_or_first : (s : Stage) (m : Memory) (q : PolicyValue) → CleanBefore s m q → HoldsOrHasFirst s m q
 holds_or_first stage.Rsdp m q clean = holds_or_has_first (λ w least. least) (first.rsdp_judged m q)
 holds_or_first stage.Root m q clean = holds_or_has_first (λ w least. least) (first.root_judged m q clean)
@@ -62,7 +61,6 @@ holds_or_first stage.Domains m q clean = holds_or_has_first (λ w least. least) 
 holds_or_first stage.Served m q clean = holds_or_has_first (λ w least. least) (later.served_judged m q clean)
 holds_or_first stage.Leaves m q clean = holds_or_has_first (λ w least. least) (later.leaves_judged m q clean)
 
--- a fault of a stage excludes that the stage holds
 pub excludes : (m : Memory) (q : PolicyValue) (w : Witness) (s : Stage) → FaultCondition s m q w → ¬ Holds s m q
 excludes m q w stage.Rsdp fault = rsdp.excludes m q.rsdp w.code fault.0
 excludes m q w stage.Root fault = root.excludes m q.rsdp w.at w.code fault.0
@@ -98,7 +96,6 @@ excludes m q w stage.Leaves (whole, is, (bytes, also, fault)) =
     λ all. leaves.excludes (madt_contents whole) (pptt_contents bytes) w.code w.at w.other w.point fault
     (all whole is bytes also)
 
--- two first faults of a stage are one
 pub one_first : (s : Stage) (m : Memory) (q : PolicyValue) (w v : Witness) → IsFirstOfStage s m q w
     → IsFirstOfStage s m q v → w ≡ v
 one_first stage.Interrupts m q w v one other =
@@ -117,7 +114,7 @@ one_first stage.Ranges m q w v one other =
     same_parts (codes w one.holds ∙ sym (codes v other.holds)) numbers.0 numbers.1 numbers.2
 one_first _ m q w v one other = same_witness w v (one.least v other.holds) (other.least w one.holds)
 
--- ---- the numbers of a fault fit
+-- ---- the numbers of a fault have 64 bits
 
 pub fits : (m : Memory) (q : PolicyValue) (w : Witness) → IsImage m → IsPolicy q → (s : Stage) → FaultCondition s m q w
     → NumbersFit w
@@ -198,7 +195,6 @@ HasFirst m q n = (w : Witness) × IsFirstFault m q w × (stage_number (stage_of 
 abbrev CleanBelow : Memory → PolicyValue → ℕ → Type 0
 CleanBelow m q n = (s : Stage) → stage_number s < n → Holds s m q
 
--- the stages with numbers up to n hold, or one of them has the first fault
 pub clean_or_first : (m : Memory) (q : PolicyValue) (n : ℕ) → CleanBelow m q (n + 1) ⊎ HasFirst m q n
 clean_or_first m q zero = inl (λ s less. absurd (omega (arith, stage_from_1 s)))
 clean_or_first m q (suc n) =

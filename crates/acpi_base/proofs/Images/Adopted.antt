@@ -1,4 +1,4 @@
--- Pieces that came in the order of their addresses: their bytes lie in the store as they do in an image.
+-- Pieces that came in the order of their addresses: their bytes are in the store as they are in an image.
 use Rattle.std.proofs.Common.{◌≡◌, inl, inr, ℕ, ◌+◌, ◌-◌, ◌<◌, ◌≤◌, List, [], ◌∷◌, ◌++◌, length, get_or, take, drop, refl, sym, ap, subst, ◌∙◌, arith, length-drop}
 use Rattle.std.specs.Prelude.{Ok}
 use Rattle.std.specs.List.{AllByRecursion}
@@ -18,13 +18,12 @@ use Rattle.acpi_base.proofs.Images.Holders.{has_or_not, has_outside, memory_perm
 use Rattle.acpi_base.proofs.Images.RunMemory.{image_of, image_with}
 use Rattle.acpi_base.proofs.Images.Stores.{all_weaker, of_all, run_ends}
 
--- ---- one piece more
+-- ---- one more piece
 
 -- pieces that are apart, from `next` on
 abbrev pub AreApartFrom : List Piece → ℕ → Type 0
 AreApartFrom ps next = AreSegmentsApart ps × AllByRecursion (λ p. next ≤ p.0) ps
 
--- the piece before those at the end
 pub one_more : (ps : List Piece) (i : ℕ) (d : Piece) (next : ℕ) → 0 < i → i ≤ length ps
     → AllByRecursion (λ p. 0 < p.1.len) ps → end_at (get_or ps (i - 1) d) < next → AreApartFrom (drop i ps) next
     → AreApartFrom (drop (i - 1) ps) (get_or ps (i - 1) d).0
@@ -54,7 +53,6 @@ none_below [] x all = refl
 none_below (p ∷ ps) x all =
     (let none = has_outside x p (inl all.0) in let rest = none_below ps x all.1 in omega arith)
 
--- no address comes twice
 apart_once : (ps : List Piece) → AreSegmentsApart ps → (x : ℕ) → holder_count ps x < 2
 apart_once [] apart x = omega arith
 apart_once (p ∷ ps) apart x = elim (has_or_not x p) [
@@ -66,7 +64,6 @@ apart_once (p ∷ ps) apart x = elim (has_or_not x p) [
   | inr y ↦ (let none = y.0 in let rest = apart_once ps apart.2 x in omega arith)
 ]
 
--- they hold what their runs do
 pub apart_joined : (store : List ℕ) (ps : List Piece) → AreDrafted store ps → AreSegmentsApart ps
     → all_added empty (runs_in store ps) ≡ Ok (memory_of (runs_in store ps))
 apart_joined store ps drafted apart = all_joined store ps drafted.lies (apart_once ps apart)
@@ -132,7 +129,6 @@ pub adopted_laid : (store : List ℕ) (ps qs : List Piece) (base : ℕ) (v : Spa
 adopted_laid store ps qs base v e bytes drafted apart =
     laid store ps base v bytes (subst (AreDrafted store) e drafted) (subst AreSegmentsApart e apart)
 
--- what the pieces hold, in their order, and in that of a search
 pub adopted_same : (store : List ℕ) (ps qs : List Piece) (base : ℕ) (v : Span) → qs ≡ ps ++ (base, v) ∷ []
     → AreDrafted store qs → AreSegmentsApart qs
     → all_added empty (runs_in store qs) ≡ Ok (memory_in_store store ps base v.start)

@@ -1,4 +1,4 @@
--- Pieces that come one after the other: what they hold, and that they stay in order.
+-- Pieces that came one after another: their bytes, and that they stay in order.
 use Rattle.std.proofs.Common.{◌≡◌, inr, ℕ, zero, suc, ◌+◌, ◌-◌, ◌^◌, ◌<◌, ◌≤◌, Bool, true, false, cond, List, [], ◌∷◌, ◌++◌, length, get_or, take, drop, slice_set, Option, Some, None, is_some, refl, sym, ap, subst, ◌∙◌, arith, length-append, length-drop, add-zero}
 use Rattle.std.specs.Prelude.{Result, Ok, Err}
 use Rattle.std.specs.Option.{option_map_or, option_or}
@@ -34,7 +34,6 @@ pub on_ok_last : {A E : Type 0} → (x : Result A E) → on_ok x (λ a. Ok a) �
 on_ok_last (Ok a) = refl
 on_ok_last (Err e) = refl
 
--- no bytes are added
 pub added_nothing : (x : Result Memory ℕ) (a : ℕ) (bytes : List ℕ) → length bytes ≡ 0
     → x ≡ on_ok x (λ m. added m a bytes)
 unfolding with_bytes least_defined
@@ -42,7 +41,6 @@ added_nothing (Ok m) a [] none = refl
 added_nothing (Ok m) a (b ∷ bytes) none = absurd (omega arith)
 added_nothing (Err x) a bytes none = refl
 
--- more runs come
 pub all_added-append : (m : Memory) (rs ts : List Run)
     → all_added m (rs ++ ts) ≡ on_ok (all_added m rs) (λ n. all_added n ts)
 unfolding all_added
@@ -92,7 +90,6 @@ least_defined-same f g a zero same = refl
 least_defined-same f g a (suc n) same =
     grind (arith, same a (omega arith), least_defined-same f g (a + 1) n (λ x l. same x (omega arith)))
 
--- bytes are added in two parts
 pub added-append : (m : Memory) (a : ℕ) (xs ys : List ℕ)
     → added m a (xs ++ ys) ≡ on_ok (added m a xs) (λ n. added n (a + length xs) ys)
 added-append m a xs ys =
@@ -131,14 +128,12 @@ unfolding AreContiguous
 contiguous-push [] from to n a v e s l = (omega arith, omega arith)
 contiguous-push (p ∷ ps) from to n a v e s l = (e.0, contiguous-push ps (from + p.1.len) to n a v e.1 s l)
 
--- the last one ends where the store does
 pub contiguous-last : (ps : List Piece) (p : Piece) (from to : ℕ) → AreContiguous (ps ++ p ∷ []) from to
     → p.1.start + p.1.len ≡ to
 unfolding AreContiguous
 contiguous-last [] p from to e = (let first = e.0 in let last = e.1 in omega arith)
 contiguous-last (q ∷ ps) p from to e = contiguous-last ps p (from + q.1.len) to e.1
 
--- and may take more bytes
 pub contiguous-grow : (ps : List Piece) (p : Piece) (from to n : ℕ) (v : Span) → AreContiguous (ps ++ p ∷ []) from to
     → v.start ≡ p.1.start → v.len ≡ p.1.len + n → AreContiguous (ps ++ (p.0, v) ∷ []) from (to + n)
 unfolding AreContiguous
@@ -147,7 +142,7 @@ contiguous-grow (q ∷ ps) p from to n v e s l = (e.0, contiguous-grow ps p (fro
 
 -- ---- what has come
 
--- a piece more
+-- one more piece
 pub opened_draft : (store new more : List ℕ) (ps qs : List Piece) (a : ℕ) (v : Span) → AreDrafted store ps
     → new ≡ store ++ more → qs ≡ ps ++ (a, v) ∷ [] → v.start ≡ length store → v.len ≡ length more
     → all_added empty (runs_in new qs) ≡ on_ok (all_added empty (runs_in store ps)) (λ m. added m a more)

@@ -1,4 +1,4 @@
--- What pieces that come one after the other make: an image, or the first address that comes twice.
+-- What pieces that came one after another make: an image, or the first address that comes twice.
 use Rattle.std.proofs.Common.{◌≡◌, ◌⊎◌, inl, inr, ℕ, ◌+◌, ◌-◌, ◌<◌, ◌≤◌, List, [], ◌∷◌, length, take, drop, Option, Some, None, IsSome, refl, sym, ap, subst, ◌∙◌, arith}
 use Rattle.std.specs.Prelude.{Ok, Err, MatchOption, MatchResult, Result}
 use Rattle.std.specs.Result.{IsErrAnd}
@@ -35,7 +35,7 @@ added_some m a bytes k h some before =
     ap (λ o. option_map_or (λ x. Err x) o (Ok (with_bytes m a bytes)))
     (first_of_at (byte_of m) a (length bytes) k h some before)
 
--- a memory holds the addresses that have come, each of them once
+-- a memory has the addresses that have come, each of them once
 record Knows (m : Memory) (c : ℕ → ℕ) : Type 0 where
   few : (y : ℕ) → c y < 2
   some : (y : ℕ) → 0 < c y → IsSome (byte_of m y)
@@ -84,7 +84,6 @@ knows_more store n m c p l lies known few = record {
 
 -- ---- the first address that comes twice
 
--- of pieces that come later nothing has come
 later_cut : (ps : List Piece) (from to s y : ℕ) → AreContiguous ps from to → s ≤ from
     → holder_count (cut_all s ps) y ≡ 0
 unfolding AreContiguous
@@ -145,7 +144,7 @@ fault_from store n m c (p ∷ ps) from to s x l lies row known once twice =
 
 -- ---- no address comes twice
 
--- what the memory is then
+-- the memory in this case
 record IsJoined (store : List ℕ) (m : Memory) (ps : List Piece) : Type 0 where
   memory : Memory
   is : all_added m (runs_in store ps) ≡ Ok memory
@@ -195,7 +194,6 @@ all_joined store ps lies once =
     or_none : (x : Option ℕ) → option_or x None ≡ x
     or_none x = grind arith
 
--- where the first bytes of the store have no address twice, and with the next byte one
 pub fault_is : (store : List ℕ) (ps qs : List Piece) (x : ℕ) → AreDrafted store ps → IsPermutation ps qs
     → IsFirstTwice qs x
     → all_added empty (runs_in store ps) ≡ Err x
@@ -204,7 +202,6 @@ fault_is store ps qs x drafted moved (s, once, twice) =
     knows_nothing
     (λ y. omega (arith, once_permuted s ps qs moved once y)) (omega (arith, twice_permuted (s + 1) ps qs x moved twice))
 
--- where all bytes have no address twice
 pub none_twice : (store : List ℕ) (ps qs : List Piece) → AreDrafted store ps → IsPermutation ps qs
     → IsOnceBefore qs (length store)
     → (y : ℕ) → holder_count ps y < 2
@@ -213,7 +210,6 @@ none_twice store ps qs drafted moved once = λ y.
     let few = once_permuted (length store) ps qs moved once y in
     omega arith
 
--- what follows in each case
 pub match_weaker : (o : Option ℕ) {P P' : Type 0} {Q Q' : ℕ → Type 0} → (P → P') → ((x : ℕ) → Q x → Q' x)
     → MatchOption o P Q
     → MatchOption o P' Q'
@@ -232,7 +228,7 @@ found_in_copy value store ps others qs found is drafted same copied judged =
     ∙ ap (λ s. all_added empty (runs_in s qs)) (sym same) ∙ twice)
     judged
 
--- pieces in the order of their addresses, no two of which have an address
+-- pieces in the order of their addresses, no two of which have an address in common
 pub record AreJudged (store : List ℕ) (ps qs : List Piece) : Type 0 where
   pub rising : AreSortedDisjoint qs
   pub lies : AllByRecursion (LiesBefore (length store)) qs
@@ -253,7 +249,6 @@ are_judged store ps qs drafted moved sorted once =
       same = all_joined store ps drafted.lies once ∙ ap (λ m. Ok m) (sym (memory_permuted store ps qs moved disjoint));
     }
 
--- a refusal is passed on
 pub told_on : {U : Type 0} (P : U → Type 0) (r : Result U ImageFault) (e : ImageFault) (present : Result Memory ℕ)
     → IsErrAnd r (λ f. f ≡ e) → IsLayoutRefusal present e → MatchResult r P (IsLayoutRefusal present)
 told_on P (Ok x) e present is told = absurd is

@@ -1,4 +1,4 @@
--- How many pieces have an address, and what the pieces hold there.
+-- How many pieces have an address, and what they have there.
 use Rattle.std.proofs.Common.{◌≡◌, ◌⊎◌, inl, inr, ℕ, zero, suc, ◌+◌, ◌<◌, ◌≤◌, List, [], ◌∷◌, ◌++◌, length, get_or, Option, Some, None, refl, sym, ap, ◌∙◌, arith}
 use Rattle.std.specs.Option.{option_or}
 use Rattle.std.specs.List.{AllByRecursion, sum_by}
@@ -24,7 +24,6 @@ pub has_outside : (x : ℕ) (p : Piece) → (x < p.0) ⊎ (end_at p ≤ x) → h
 has_outside x p (inl l) = grind (arith, nat_tests)
 has_outside x p (inr l) = grind (arith, nat_tests)
 
--- it has the address, or not
 pub has_or_not : (x : ℕ) (p : Piece) → ((holds_at x p ≡ 1) × (p.0 ≤ x) × (x < end_at p))
     ⊎ ((holds_at x p ≡ 0) × ((x < p.0) ⊎ (end_at p ≤ x)))
 has_or_not x p = elim (cases_lt x p.0) [
@@ -36,7 +35,6 @@ has_or_not x p = elim (cases_lt x p.0) [
   ]
 ]
 
--- what it holds, where it has the address or not
 pub holds_none : (store : List ℕ) (n : ℕ) (p : Piece) (x : ℕ) → n ≤ length store → LiesBefore n p → holds_at x p ≡ 0
     → byte_in (run_in store p) x ≡ None
 holds_none store n p x l lies none =
@@ -48,14 +46,12 @@ holds_none store n p x l lies none =
 
 -- ---- many pieces
 
--- an address that no piece has is not present
 pub lookup_none : (store : List ℕ) (n : ℕ) (ps : List Piece) (x : ℕ) → n ≤ length store
     → AllByRecursion (LiesBefore n) ps → holder_count ps x ≡ 0 → lookup (runs_in store ps) x ≡ None
 lookup_none store n [] x l lies none = refl
 lookup_none store n (p ∷ ps) x l lies none =
     rw (holds_none store n p x l lies.0 (omega arith)) (lookup_none store n ps x l lies.1 (omega arith))
 
--- a piece more at the end
 pub holder_count-push : (ps : List Piece) (p : Piece) (x : ℕ)
     → holder_count (ps ++ p ∷ []) x ≡ holder_count ps x + holds_at x p
 holder_count-push [] p x = omega arith
@@ -79,12 +75,10 @@ code-injective None (Some b) e = absurd (let no : 0 ≡ suc b = e in omega arith
 code-injective (Some a) None e = absurd (let no : suc a ≡ 0 = e in omega arith)
 code-injective (Some a) (Some b) e = (let up : suc a ≡ suc b = e in let same : a ≡ b = omega arith in ap Some same)
 
--- how many pieces have an address, as a sum
 holder_count-sum : (ps : List Piece) (x : ℕ) → holder_count ps x ≡ sum_by (holds_at x) ps
 holder_count-sum [] x = refl
 holder_count-sum (p ∷ ps) x = ap (λ n. holds_at x p + n) (holder_count-sum ps x) ∙ sym (sum_by-cons (holds_at x) p ps)
 
--- what is present, as a sum
 lookup-sum : (store : List ℕ) (n : ℕ) (ps : List Piece) (x : ℕ) → n ≤ length store → AllByRecursion (LiesBefore n) ps
     → holder_count ps x ≤ 1
     → sum_by (λ p. code (byte_in (run_in store p) x)) ps ≡ code (lookup (runs_in store ps) x)
@@ -133,7 +127,7 @@ memory_permuted store ps qs moved s =
     ∙ lookup-sum store (length store) ps x (omega arith) s.lies (s.once x))
     ∙ sym (byte_of_memory_of (runs_in store ps) x))
 
--- ---- sorted by their bases, they rise
+-- ---- sorted by their bases, the pieces rise
 
 holders_at : (ps : List Piece) (k : ℕ) (d : Piece) (x : ℕ) → k < length ps → holds_at x (get_or ps k d) ≡ 1
     → 0 < holder_count ps x

@@ -1,4 +1,4 @@
--- Bytes that are put among segments: the segments before them, the bytes, and those behind them make one list.
+-- Bytes that are put among segments: the segments before them, the bytes, and the segments after them make one list.
 use Rattle.std.proofs.Common.{◌≡◌, inl, inr, ℕ, zero, suc, ◌+◌, ◌<◌, ◌≤◌, List, [], ◌∷◌, length, get_or, take, drop, Option, None, IsSome, refl, ap, ◌∙◌, arith, length-drop}
 use Rattle.std.specs.Option.{option_or}
 use Rattle.std.specs.List.{AllByRecursion}
@@ -40,7 +40,6 @@ rising_dropped (p ∷ ps) zero apart =
 rising_dropped [] (suc i) apart = tt
 rising_dropped (p ∷ ps) (suc i) apart = rising_dropped ps i apart.2
 
--- what is taken and what is dropped hold what the whole list does
 lookup_parts : (store : List ℕ) (ps : List Piece) (i x : ℕ)
     → lookup (runs_in store ps) x ≡ option_or (lookup (runs_in store (take i ps)) x)
     (lookup (runs_in store (drop i ps)) x)
@@ -50,7 +49,7 @@ lookup_parts store (p ∷ ps) (suc i) x = grind (arith, lookup_parts store ps i 
 
 -- ---- where the bytes go
 
--- the segments before a place end before n addresses from a on, and the others begin behind them
+-- the segments before an index end before n addresses from a on, and the others begin after them
 pub record Parts (s : Segments) (a n i : ℕ) : Type 0 where
   pub low_rising : AreSortedDisjoint (take i s.ended.items)
   pub low_lies : AllByRecursion (LiesBefore (length s.store)) (take i s.ended.items)
@@ -62,7 +61,6 @@ pub record Parts (s : Segments) (a n i : ℕ) : Type 0 where
   pub high_end : AllByRecursion (λ p. end_at p ≤ s.base) (drop i s.ended.items)
   pub last_begin : s.start < length s.store → a + n ≤ s.base
 
--- where the bytes find nothing present, the ended segments hold nothing there
 gap_in_ended : (s : Segments) (a b x : ℕ) → IsGap (runs_of s) a b → a ≤ x → x < b
     → lookup (runs_in s.store s.ended.items) x ≡ None
 gap_in_ended s a b x gap l h = (let none = gap x l h in grind arith)
@@ -113,7 +111,7 @@ parts_at s a n i valid low some gap within place =
       | inr m ↦ m
     ]
 
--- ---- what all hold together
+-- ---- all of them together
 
 -- the bytes are put in where nothing was present
 pub put_among : (s : Segments) (a i : ℕ) (bs : List ℕ) (m0 m1 m2 m3 : Memory) → IsGap (runs_of s) a (a + length bs)
@@ -143,6 +141,5 @@ put_among s a i bs m0 m1 m2 m3 gap e0 e1 e2 e3 = same_memory _ _ (λ x.
         → (IsSome new → option_or last all ≡ None) → left ≡ right
     composed new last low high all b0 b1 b2 b3 was left right p q r t u v w z free = grind arith
 
--- the same where no segment is open
 pub put_last : (s : Segments) (m : Memory) → length s.store ≤ s.start → m ≡ with_bytes m s.base (drop s.start s.store)
 put_last s m none = no_bytes m s.base (drop s.start s.store) (ap length (drop_all s.start s.store none))

@@ -1,4 +1,4 @@
--- Bytes that an image holds, and the numbers in them.
+-- Bytes of an image, and the numbers in them.
 use Rattle.std.proofs.Common.{◌≡◌, ℕ, zero, suc, ◌+◌, ◌-◌, ◌^◌, ◌<◌, ◌≤◌, List, [], length, take, drop, Option, Some, None, refl, sym, ◌∙◌, subst, inl, inr, arith}
 use Rattle.std.specs.Prelude.{◌⊎◌, slice_index}
 use Rattle.std.proofs.lemmas.List.{get_or-drop, drop-take}
@@ -8,24 +8,19 @@ use Rattle.acpi_base.specs.Memory.{Memory, IsImage, byte_of, bytes_at, run_of}
 use Rattle.acpi_base.specs.Number.{field}
 use Rattle.acpi_base.proofs.Images.ByteRuns.{run_of-split, run_of-count}
 
--- there is a value or none
 pub cases_Option : {X : Type 0} (o : Option X) → ((x : X) × (o ≡ Some x)) ⊎ (o ≡ None)
 cases_Option (Some x) = inl (x, refl)
 cases_Option None = inr refl
 
--- where there is a value there is not none
 pub none_and_some : {X : Type 0} {o : Option X} {x : X} → o ≡ None → o ≡ Some x → ⊥
 none_and_some {x = x} none some = none-some x (sym none ∙ some)
 
--- a value is one
 pub same_value : {X : Type 0} {o : Option X} (x y : X) → o ≡ Some x → o ≡ Some y → x ≡ y
 same_value x y e f = same_Some x y (sym e ∙ f)
 
--- the n bytes from an address on are n
 pub length-bytes_at : (m : Memory) (a n : ℕ) (bytes : List ℕ) → bytes_at m a n ≡ Some bytes → length bytes ≡ n
 length-bytes_at m a n bytes e = run_of-count (byte_of m) a n bytes e
 
--- each byte of an image is below 256
 pub bytes_below : (m : Memory) → IsImage m → (a n : ℕ) (bytes : List ℕ) → bytes_at m a n ≡ Some bytes → (k : ℕ)
     → slice_index bytes k < 256
 unfolding run_of
@@ -36,19 +31,16 @@ bytes_below m image a (suc n) bytes e (suc k) =
     let parts = run_of-split (byte_of m) a n bytes e in
     grind (arith, parts.4, bytes_below m image (a + 1) n parts.1 parts.3 k)
 
--- a number in so many bytes below 256
 pub field_below : (bytes : List ℕ) → ((k : ℕ) → slice_index bytes k < 256) → (offset width : ℕ)
     → field bytes offset width < 256 ^ width
 unfolding field
 field_below bytes below offset width =
     little_from-lt 0 width (drop offset bytes) (λ k. grind (arith, get_or-drop offset bytes k 0, below (offset + k)))
 
--- a number in so many bytes of an image
 pub present_field_below : (m : Memory) → IsImage m → (a n : ℕ) (bytes : List ℕ) → bytes_at m a n ≡ Some bytes
     → (offset width : ℕ) → field bytes offset width < 256 ^ width
 present_field_below m image a n bytes present = field_below bytes (bytes_below m image a n bytes present)
 
--- a number in a prefix of some bytes is the same in all of them
 pub field-take : (bytes : List ℕ) (n offset width : ℕ) → offset + width ≤ n
     → field (take n bytes) offset width ≡ field bytes offset width
 unfolding field

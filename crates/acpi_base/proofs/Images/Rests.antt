@@ -13,7 +13,6 @@ use Rattle.acpi_base.proofs.Images.ByteRuns.{run_of-from_each, run_of-split, run
 
 -- ---- the rest of a segment
 
--- what is left of the run that is reached
 pub rest_of_run : (rs : List Run) (a : ℕ) (r : Run) (bytes : List ℕ) → IsRunAt rs a r
     → bytes ≡ drop (a - r.base) r.bytes → IsRest rs a bytes
 rest_of_run rs a r bytes reached is =
@@ -35,7 +34,6 @@ rest_of_run rs a r bytes reached is =
       ];
     }
 
--- where the address is not present, there are none
 pub no_rest : (rs : List Run) (a : ℕ) → lookup rs a ≡ None → IsRest rs a []
 unfolding run_of
 no_rest rs a none = record {
@@ -43,7 +41,6 @@ no_rest rs a none = record {
   none_behind = (let here : a + 0 ≡ a = omega arith in ap (lookup rs) here ∙ none);
 }
 
--- what is left of a piece behind its first bytes
 pub rest_in : (store : List ℕ) (start len far k : ℕ) → start + len ≤ length store → k ≡ min far len
     → take (len - k) (drop (start + k) store) ≡ drop far (take len (drop start store))
 rest_in store start len far k fits is =
@@ -63,12 +60,10 @@ rest_in store start len far k fits is =
           ∙ ap (λ (n : ℕ). drop far (take n (drop start store))) parts
     ]
 
--- the first of the bytes is the one at the address
 pub rest_first : (rs : List Run) (a : ℕ) (bytes : List ℕ) → IsRest rs a bytes → slice_get bytes 0 ≡ lookup rs a
 rest_first rs a [] rest = (let here : a + 0 ≡ a = omega arith in sym (sym (ap (lookup rs) here) ∙ rest.none_behind))
 rest_first rs a (b ∷ bs) rest = grind (arith, run_of-split (lookup rs) a (length bs) (b ∷ bs) rest.present)
 
--- they begin with all that can be had from the address on
 pub windows_of_rest : (rs : List Run) (a : ℕ) (bytes : List ℕ) → IsRest rs a bytes → (n : ℕ)
     → run_of (lookup rs) a n ≡ cond (nat_lt (length bytes) n) None (Some (take n bytes))
 windows_of_rest rs a bytes rest n =
@@ -82,12 +77,10 @@ module _ (rs : List Run) (a : ℕ) (store : List ℕ) (start len : ℕ) (fits : 
   count : length (take len (drop start store)) ≡ len
   count = (let long = length-drop start store in length-take-le len (drop start store) (omega arith))
 
-  -- more than these cannot be had
   pub part_short : (n : ℕ) → len < n → None ≡ run_of (lookup rs) a n
   part_short n short =
       sym (run_of_none (lookup rs) a n (length (take len (drop start store))) (omega (arith, count)) rest.none_behind)
 
-  -- fewer lie in the store where they do
   pub part_present : (n : ℕ) → n ≤ len → Some (take n (drop start store)) ≡ run_of (lookup rs) a n
   part_present n within =
       sym (run_of-take (lookup rs) a (length (take len (drop start store))) n (take len (drop start store)) rest.present

@@ -1,4 +1,4 @@
--- What a run holds, and what an image holds once bytes are put in.
+-- What a run has, and what an image has once bytes are put in.
 use Rattle.std.proofs.lemmas.Grind.{common_steps}
 use Rattle.std.proofs.Common.{◌≡◌, ℕ, zero, suc, ◌+◌, ◌-◌, ◌<◌, ◌≤◌, ◌⊎◌, cond, List, [], ◌∷◌, length, get_or, take, drop, slice_get, slice_index, Some, None, IsSome, is_some, refl, ap, ◌∙◌, arith, drop-cons}
 use Rattle.std.specs.Prelude.{◌==◌}
@@ -12,32 +12,25 @@ use Rattle.std.proofs.lemmas.Option.{slice_get_past, slice_get-get_or}
 use Rattle.acpi_base.specs.Memory.{Memory, byte_of, run_of, with_bytes, cons_both}
 use Rattle.acpi_base.specs.Image.Runs.{Run, byte_in, end_of, lookup, memory_of, run_at}
 
--- from its base on, a run holds its bytes
 pub present_from : (r : Run) (a : ℕ) → r.base ≤ a → byte_in r a ≡ slice_get r.bytes (a - r.base)
 present_from r a h = grind (arith, nat_tests)
 
--- below its base and from its end on, a run holds nothing
 pub present_none : (r : Run) (a : ℕ) → (a < r.base) ⊎ (end_of r ≤ a) → byte_in r a ≡ None
 present_none r a h = grind (arith, cases_lt, nat_tests, slice_get_past)
 
--- between these it holds a byte
 pub present_at : (r : Run) (a : ℕ) → r.base ≤ a → a < end_of r → byte_in r a ≡ Some (get_or r.bytes (a - r.base) 0)
 present_at r a l h = present_from r a l ∙ slice_get-get_or r.bytes (a - r.base) 0 (omega arith)
 
--- and so something
 pub present_some : (r : Run) (a : ℕ) → r.base ≤ a → a < end_of r → IsSome (byte_in r a)
 present_some r a l h = ap is_some (present_at r a l h)
 
--- where a run holds something, the address is in it
 pub present_inside : (r : Run) (a : ℕ) → IsSome (byte_in r a) → (r.base ≤ a) × (a < end_of r)
 present_inside r a s = grind (arith, cases_lt, present_none)
 
--- a run that starts with b is b, and then the rest
 pub byte_in-cons : (a b : ℕ) (bs : List ℕ) (x : ℕ)
     → byte_in (run_at a (b ∷ bs)) x ≡ cond (x == a) (Some b) (byte_in (run_at (a + 1) bs) x)
 byte_in-cons a b bs x = grind (arith, cases_lt)
 
--- an empty run holds nothing
 pub byte_in-nil : (a x : ℕ) → byte_in (run_at a []) x ≡ None
 byte_in-nil a x = grind arith
 
@@ -45,15 +38,12 @@ byte_in-nil a x = grind arith
 same_number : (x a : ℕ) → eq_by_cmp nat_cmp x a ≡ (x == a)
 same_number x a = grind (arith, nat_tests)
 
--- what an image with one byte put in at a has at an address
 pub byte_of-insert : (m : Memory) (a b x : ℕ) → byte_of (insert m a b) x ≡ cond (x == a) (Some b) (byte_of m x)
 byte_of-insert m a b x = get-insert nat_cmp_total m a b x ∙ ap (λ t. cond t (Some b) (byte_of m x)) (same_number x a)
 
--- what an image with the byte at a taken out has at an address
 pub byte_of-remove : (m : Memory) (a x : ℕ) → byte_of (remove m a) x ≡ cond (x == a) None (byte_of m x)
 byte_of-remove m a x = get-remove nat_cmp_total m a x ∙ ap (λ t. cond t None (byte_of m x)) (same_number x a)
 
--- what an image with bytes put in from a on has at an address
 pub byte_of-with_bytes : (m : Memory) (a : ℕ) (bs : List ℕ) (x : ℕ)
     → byte_of (with_bytes m a bs) x ≡ option_or (byte_in (run_at a bs) x) (byte_of m x)
 unfolding with_bytes
@@ -61,13 +51,11 @@ byte_of-with_bytes m a [] x = rw (byte_in-nil a x) refl
 byte_of-with_bytes m a (b ∷ bs) x =
     grind (arith, byte_of-insert (with_bytes m (a + 1) bs) a b x, byte_of-with_bytes m (a + 1) bs x, byte_in-cons)
 
--- the memory of runs holds what they hold
 pub byte_of_memory_of : (rs : List Run) (x : ℕ) → byte_of (memory_of rs) x ≡ lookup rs x
 byte_of_memory_of [] x = get-empty nat_cmp x
 byte_of_memory_of (r ∷ rs) x =
     byte_of-with_bytes (memory_of rs) r.base r.bytes x ∙ ap (option_or (byte_in r x)) (byte_of_memory_of rs x)
 
--- the bytes of a run from an address on
 pub run_of_present : (r : Run) (a n : ℕ) → r.base ≤ a → a + n ≤ end_of r
     → run_of (byte_in r) a n ≡ Some (take n (drop (a - r.base) r.bytes))
 unfolding run_of cons_both
@@ -77,12 +65,10 @@ run_of_present r a (suc n) l h =
 
 -- ---- after bytes were put in
 
--- at their addresses, the bytes that were put in
 pub byte_of-with_bytes_within : (m : Memory) (a : ℕ) (bs : List ℕ) (x : ℕ) → a ≤ x → x < a + length bs
     → byte_of (with_bytes m a bs) x ≡ Some (slice_index bs (x - a))
 byte_of-with_bytes_within m a bs x l h = byte_of-with_bytes m a bs x ∙ rw (present_at (run_at a bs) x l h) refl
 
--- at all others, what was there
 pub byte_of-with_bytes_outside : (m : Memory) (a : ℕ) (bs : List ℕ) (x : ℕ) → (x < a) ⊎ (a + length bs ≤ x)
     → byte_of (with_bytes m a bs) x ≡ byte_of m x
 byte_of-with_bytes_outside m a bs x h = byte_of-with_bytes m a bs x ∙ rw (present_none (run_at a bs) x h) refl

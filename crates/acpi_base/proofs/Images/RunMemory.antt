@@ -14,13 +14,11 @@ use Rattle.acpi_base.proofs.Images.RunBytes.{present_inside, present_from, prese
 use Rattle.acpi_base.proofs.Images.Searches.{nothing_present}
 use Rattle.std.proofs.lemmas.Bool.Decides.{nat_tests}
 
--- each of the bytes is below 256
 each_byte : (bs : List ℕ) (i b : ℕ) → AllByRecursion (λ x. x < 256) bs → slice_get bs i ≡ Some b → b < 256
 each_byte [] i b h e = absurd (cc)
 each_byte (x ∷ xs) zero b h e = grind (arith, h.0)
 each_byte (x ∷ xs) (suc i) b h e = each_byte xs i b h.1 e
 
--- what whole runs hold is a byte, at an address of 64 bits
 lookup_byte : (rs : List Run) (a b : ℕ) → AllByRecursion IsComplete rs → lookup rs a ≡ Some b → (a < 2 ^ 64) × (b < 256)
 lookup_byte [] a b w e = absurd (cc)
 lookup_byte (r ∷ rs) a b w e =
@@ -33,26 +31,21 @@ lookup_byte (r ∷ rs) a b w e =
       lookup_byte rs a b w.1,
     )
 
--- whole runs make an image
 pub image_of : (rs : List Run) → AllByRecursion IsComplete rs → IsImage (memory_of rs)
 image_of rs t = grind (arith, lookup_byte, byte_of_memory_of)
 
--- what pieces in a store hold is what their runs do
 pub byte_of_present_by : (store : List ℕ) (ps : List Piece) (base begin x : ℕ)
     → byte_of (memory_in_store store ps base begin) x ≡ lookup (all_runs store ps base begin) x
 byte_of_present_by store ps base begin x = byte_of_memory_of (all_runs store ps base begin) x
 
--- a window on an image is one on its runs
 pub bytes_at_present_by : (store : List ℕ) (ps : List Piece) (base begin a n : ℕ)
     → bytes_at (memory_in_store store ps base begin) a n ≡ run_of (lookup (all_runs store ps base begin)) a n
 bytes_at_present_by store ps base begin a n = λ i. run_of (λ x. byte_of_present_by store ps base begin x i) a n
 
--- the least present address of an image is that of its runs
 pub first_present_by : (store : List ℕ) (ps : List Piece) (base begin a n : ℕ)
     → first_present (memory_in_store store ps base begin) a n ≡ least_defined (lookup (all_runs store ps base begin)) a n
 first_present_by store ps base begin a n = λ i. least_defined (λ x. byte_of_present_by store ps base begin x i) a n
 
--- an image stays one with bytes put in that fit
 pub image_with : (m : Memory) (a : ℕ) (bs : List ℕ) → IsImage m → a + length bs ≤ 2 ^ 64
     → ((k : ℕ) → get_or bs k 0 < 256) → IsImage (with_bytes m a bs)
 image_with m a bs image fits bytes = record {
@@ -67,27 +60,24 @@ image_with m a bs image fits bytes = record {
   );
 }
 
--- images with the same byte at each address are the same
 pub same_memory : (m n : Memory) → ((x : ℕ) → byte_of m x ≡ byte_of n x) → m ≡ n
 same_memory m n h = same_map nat_cmp_total nat_cmp-IsAntisymmetric m n h
 
--- no bytes are never refused
+-- adding no bytes is never refused
 pub no_refusal : (f : ℕ → Option ℕ) (a n : ℕ) → a < 2 ^ 64 → n ≡ 0
     → None ≡ cond (nat_lt (2 ^ 64) (a + n)) (Some PastEnd) (option_map (λ x. Twice x) (least_defined f a n))
 unfolding least_defined
 no_refusal f a zero l e = grind (arith, le-ltb)
 no_refusal f a (suc n) l e = absurd (omega arith)
 
--- no bytes change nothing
 pub no_bytes : (m : Memory) (a : ℕ) (bs : List ℕ) → length bs ≡ 0 → m ≡ with_bytes m a bs
 unfolding with_bytes
 no_bytes m a [] e = refl
 no_bytes m a (b ∷ bs) e = absurd (omega arith)
 
--- what is not refused fits, and finds nothing present
 pub fits_unless : (t : Bool) (o : Option ℕ) → cond t (Some PastEnd) (option_map (λ x. Twice x) o) ≡ None
     → (t ≡ false) × (o ≡ None)
 fits_unless t o e = grind arith
 
--- what adding bytes to an image needs
+-- for adding bytes to an image
 pub ruleset adding = (first_present_by, fits_unless, nothing_present, nat_tests, no_refusal, no_bytes)

@@ -11,13 +11,11 @@ use Rattle.acpi_base.proofs.Images.RunBytes.{present_none, present_some}
 use Rattle.acpi_base.proofs.Images.ByteRuns.{first_of_at, first_of_none}
 use Rattle.acpi_base.proofs.Images.Stores.{all_from, of_all, all_weaker, run_ends, none_present, base_present}
 
--- where nothing is first, there is nothing
 pub nothing_present : (f : ℕ → Option ℕ) (a n x : ℕ) → least_defined f a n ≡ None → a ≤ x → x < a + n → f x ≡ None
 unfolding least_defined
 nothing_present f a zero x e l h = absurd (omega arith)
 nothing_present f a (suc n) x e l h = grind (arith, cases_lt a x, nothing_present f (a + 1) n x)
 
--- the first is the one behind a gap
 pub first_next : (f : ℕ → Option ℕ) (a n b : ℕ) → a ≤ b → b < a + n → IsSome (f b)
     → ((x : ℕ) → a ≤ x → x < b → f x ≡ None) → Some b ≡ least_defined f a n
 first_next f a n b l m some gap =
@@ -25,7 +23,6 @@ first_next f a n b l m some gap =
     sym (first_of_at f a n (b - a) (omega arith) (subst (λ x. IsSome (f x)) (sym same) some)
     (λ j h. gap (a + j) (omega arith) (omega arith)) ∙ ap Some same)
 
--- or there is none
 pub first_never : (f : ℕ → Option ℕ) (a n : ℕ) → ((x : ℕ) → a ≤ x → x < a + n → f x ≡ None) → None ≡ least_defined f a n
 first_never f a n gap = sym (first_of_none f a n (λ k h. gap (a + k) (omega arith) (omega arith)))
 
@@ -34,7 +31,6 @@ pub ruleset first_in_gap = (first_next, first_never)
 
 -- ---- the order of the segments
 
--- bases rise
 pub bases_rise : (ps : List Piece) (i k : ℕ) (d : Piece) → AreSegmentsApart ps → i ≤ k → k < length ps
     → (get_or ps i d).0 ≤ (get_or ps k d).0
 bases_rise [] i k d apart l h = absurd (omega arith)
@@ -43,7 +39,6 @@ bases_rise (p ∷ ps) zero (suc k) d apart l h = (let behind = of_all _ ps k d a
 bases_rise (p ∷ ps) (suc i) zero d apart l h = absurd (omega arith)
 bases_rise (p ∷ ps) (suc i) (suc k) d apart l h = bases_rise ps i k d apart.2 (omega arith) (omega arith)
 
--- no segment is empty
 pub filled : (ps : List Piece) (i : ℕ) (d : Piece) → AreSegmentsApart ps → i < length ps → 0 < (get_or ps i d).1.len
 filled [] i d apart h = absurd (omega arith)
 filled (p ∷ ps) zero d apart h = apart.0
@@ -51,7 +46,7 @@ filled (p ∷ ps) (suc i) d apart h = filled ps i d apart.2 (omega arith)
 
 -- ---- the last segment that begins at an address or before it
 
--- from the address on, to its end, no other segment holds anything
+-- from the address on, to its end, no other segment has anything
 reached_ended : (store : List ℕ) (n : ℕ) (ps : List Piece) (i a x : ℕ) (d : Piece) → n ≤ length store
     → AllByRecursion (LiesBefore n) ps → AreSegmentsApart ps
     → i < length ps → IsPartitionPoint ps a (i + 1) → a ≤ x → (x ≤ a) ⊎ (x ≤ end_at (get_or ps i d))
@@ -70,17 +65,15 @@ reached_ended store n (p ∷ ps) (suc i) a x d l lies apart h place from to =
     from to in
     grind (arith, run_ends store p n l lies.0, present_none (run_in store p) x, rest)
 
--- the open segment is empty, or begins behind the address
+-- the open segment is empty, or begins after the address
 abbrev pub IsBehind : List ℕ → ℕ → ℕ → ℕ → Type 0
 IsBehind store base begin a = (length store ≤ begin) ⊎ (a < base)
 
--- then it holds nothing there
 behind_none : (store : List ℕ) (base begin x : ℕ) → IsBehind store base begin x
     → byte_in (run_at base (drop begin store)) x ≡ None
 behind_none store base begin x behind =
     grind (arith, behind, length-drop begin store, cases_lt x base, present_none (run_at base (drop begin store)) x)
 
--- from the base of the open segment on, nothing else is present
 pub reached_open : (store : List ℕ) (ps : List Piece) (base begin a : ℕ) → AreSegments store ps base begin → base ≤ a
     → IsRunAt (all_runs store ps base begin) a (run_at base (drop begin store))
 reached_open store ps base begin a laid low =
@@ -92,7 +85,7 @@ reached_open store ps base begin a laid low =
         (all_weaker _ _ ps (λ p below. inl (omega arith)) laid.below) in
         grind (arith, none)
 
--- the segment before the place is the one that is reached, where the open one begins behind the address
+-- if the open segment begins after the address, the segment before the index is the one that is reached
 pub reached : (store : List ℕ) (ps : List Piece) (base begin a i : ℕ) (d : Piece) → AreSegments store ps base begin
     → IsBehind store base begin a → i < length ps
     → IsPartitionPoint ps a (i + 1) → IsRunAt (all_runs store ps base begin) a (run_in store (get_or ps i d))
@@ -108,13 +101,11 @@ reached store ps base begin a i d laid behind h place = record {
         → lookup (all_runs store ps base begin) x ≡ byte_in (run_in store (get_or ps i d)) x
     all x l m none = rw none (reached_ended store begin ps i a x d laid.within laid.lies laid.apart h place l m)
 
--- the piece of the open run
 pub open_run : (store : List ℕ) (base begin n : ℕ) → n ≡ length store - begin
     → run_in store (base, record { start = begin; len = n }) ≡ run_at base (drop begin store)
 open_run store base begin n e =
     (let long = length-drop begin store in ap (run_at base) (take_all n (drop begin store) (omega arith)))
 
--- its bytes lie in the store
 pub lies_inside : (store : List ℕ) (ps : List Piece) (base begin i : ℕ) (p : Piece) → AreSegments store ps base begin
     → i < length ps → p ≡ get_or ps i p
     → p.1.start + p.1.len ≤ length store
@@ -124,7 +115,6 @@ lies_inside store ps base begin i p laid h is =
     let low = lies.0 in
     omega arith
 
--- no segment is reached
 pub none_reached : (store : List ℕ) (ps : List Piece) (base begin a : ℕ) → AreSegments store ps base begin
     → IsBehind store base begin a → IsPartitionPoint ps a 0
     → lookup (all_runs store ps base begin) a ≡ None
@@ -132,9 +122,8 @@ none_reached store ps base begin a laid behind place =
     rw (behind_none store base begin a behind)
     (none_present store begin ps a laid.within laid.lies (all_from _ ps (λ k d l. inr (place.1 k d (omega arith) l))))
 
--- ---- the next segment behind an address that is not present
+-- ---- the next segment after an address that is not present
 
--- what begins at the address or before it has ended there
 pub ended_at : (store : List ℕ) (n : ℕ) (ps : List Piece) (k a : ℕ) (d : Piece) → n ≤ length store
     → AllByRecursion (LiesBefore n) ps
     → lookup (runs_in store ps) a ≡ None → k < length ps → (get_or ps k d).0 ≤ a → end_at (get_or ps k d) ≤ a
@@ -145,7 +134,7 @@ ended_at store n (p ∷ ps) (suc k) a d l lies none h begins =
     let rest : lookup (runs_in store ps) a ≡ None = grind arith in
     ended_at store n ps k a d l lies.1 rest (omega arith) begins
 
--- nothing is present up to the base of the segment at the place
+-- nothing is present up to the base of the segment at the index
 gap_ended : (store : List ℕ) (n : ℕ) (ps : List Piece) (a b i x : ℕ) → n ≤ length store
     → AllByRecursion (LiesBefore n) ps → lookup (runs_in store ps) a ≡ None
     → IsPartitionPoint ps a i → ((k : ℕ) (d : Piece) → i ≤ k → k < length ps → b ≤ (get_or ps k d).0) → a ≤ x → x < b
@@ -156,7 +145,7 @@ gap_ended store n ps a b i x l lies none place above from to =
       | inr m ↦ inr (let low = above k d m h in omega arith)
     ]))
 
--- the next one has ended
+-- the next segment is an ended one
 pub next_ended : (store : List ℕ) (ps : List Piece) (base begin a i : ℕ) (d : Piece) → AreSegments store ps base begin
     → lookup (all_runs store ps base begin) a ≡ None
     → IsPartitionPoint ps a i → i < length ps
@@ -178,7 +167,7 @@ next_ended store ps base begin a i d laid none place h =
     bases_of k e m o =
         (let rise = bases_rise ps i k e laid.apart m o in let same = get_or_default ps i d e h in rw same rise)
 
--- the open one is next
+-- the open segment is the next
 pub next_open : (store : List ℕ) (ps : List Piece) (base begin a : ℕ) → AreSegments store ps base begin
     → lookup (all_runs store ps base begin) a ≡ None
     → IsPartitionPoint ps a (length ps) → a < base → begin < length store
@@ -195,7 +184,7 @@ next_open store ps base begin a laid none place low some =
           (λ k e m o. absurd (omega arith)) from to),
     )
 
--- there is none
+-- there is no next segment
 pub no_next : (store : List ℕ) (ps : List Piece) (base begin a : ℕ) → AreSegments store ps base begin
     → lookup (all_runs store ps base begin) a ≡ None
     → IsPartitionPoint ps a (length ps) → (base ≤ a) ⊎ (length store ≤ begin) → (x : ℕ) → a ≤ x

@@ -1,4 +1,4 @@
--- Segments that are laid behind one another: what they hold, and that they stay in order.
+-- Segments that are laid one after another: what they have, and that they stay in order.
 use Rattle.std.proofs.Common.{◌≡◌, ◌⊎◌, inl, inr, ℕ, ◌+◌, ◌-◌, ◌^◌, ◌<◌, ◌≤◌, List, [], ◌∷◌, ◌++◌, length, get_or, take, drop, Option, None, refl, sym, ap, subst, ◌∙◌, arith, length-append, length-drop}
 use Rattle.std.specs.Option.{option_or}
 use Rattle.std.specs.List.{AllByRecursion}
@@ -16,20 +16,17 @@ use Rattle.acpi_base.proofs.Images.Stores.{all_weaker, run_ends, runs_in_more, n
 use Rattle.acpi_base.proofs.Images.RunMemory.{same_memory, no_bytes, image_with}
 use Rattle.acpi_base.proofs.Images.Holders.{all_push}
 
--- ---- more bytes behind those of the open piece
+-- ---- more bytes after those of the open piece
 
--- a run of two parts holds what the parts hold
 pub byte_in-append : (a : ℕ) (xs ys : List ℕ) (x : ℕ)
     → byte_in (run_at a (xs ++ ys)) x ≡ option_or (byte_in (run_at a xs) x) (byte_in (run_at (a + length xs) ys) x)
 byte_in-append a [] ys x = grind (arith, byte_in-nil)
 byte_in-append a (b ∷ xs) ys x = grind (arith, byte_in-cons, byte_in-append (a + 1) xs ys x)
 
--- two runs that do not overlap never hold the same address
 pub never_both : (r s : Run) (x : ℕ) → (end_of r ≤ s.base) ⊎ (end_of s ≤ r.base)
     → (byte_in r x ≡ None) ⊎ (byte_in s x ≡ None)
 never_both r s x e = grind (arith, cases_lt, present_none)
 
--- bytes that are put in are put in one part after the other
 pub with_bytes-append : (m : Memory) (a : ℕ) (xs ys : List ℕ)
     → with_bytes m a (xs ++ ys) ≡ with_bytes (with_bytes m a xs) (a + length xs) ys
 with_bytes-append m a xs ys = same_memory _ _ (λ x.
@@ -79,7 +76,7 @@ apart_pushed [] q apart below some = (some, tt, tt)
 apart_pushed (p ∷ ps) q apart below some =
     (apart.0, all_push _ ps q apart.1 below.0, apart_pushed ps q apart.2 below.1 some)
 
--- a piece behind others holds its part
+-- a piece after others has its part
 lookup_pushed : (store : List ℕ) (n : ℕ) (ps : List Piece) (q : Piece) (x : ℕ) → n ≤ length store
     → AllByRecursion (LiesBefore n) ps → AllByRecursion (λ p. end_at p < q.0) ps
     → lookup (runs_in store (ps ++ q ∷ [])) x ≡ option_or (byte_in (run_in store q) x) (lookup (runs_in store ps) x)
@@ -152,7 +149,6 @@ moved_laid store ps old base begin none later fits s = record {
   image = subst IsImage (sym (moved_present store ps old base begin none)) s.image;
 }
 
--- no segments hold nothing
 pub nothing_laid : (store : List ℕ) (ps : List Piece) → store ≡ [] → ps ≡ [] → AreSegments store ps 0 0
 nothing_laid store ps e f = rw (e, f) (record {
   apart = tt;
@@ -175,7 +171,7 @@ nothing_present_by store ps e f = rw (e, f) (sym (no_bytes empty 0 [] refl))
 
 -- ---- piece by piece
 
--- the rest of the pieces of a store is still to come, and f is what is present once all have
+-- the rest of the pieces of a store is still to be taken, and f is what is present once all are
 pub record IsLeft (store : List ℕ) (f : ℕ → Option ℕ) (s : Segments) (rest : List Piece) : Type 0 where
   pub valid : IsValid s
   pub rising : AreSortedDisjoint rest
@@ -183,7 +179,6 @@ pub record IsLeft (store : List ℕ) (f : ℕ → Option ℕ) (s : Segments) (re
   pub behind : AllByRecursion (λ p. end_in s ≤ p.0) rest
   pub whole : (x : ℕ) → option_or (byte_of (memory_in s) x) (lookup (runs_in store rest) x) ≡ f x
 
--- behind its end, segments hold nothing
 past_end : (s : Segments) (x : ℕ) → IsValid s → end_in s ≤ x → byte_of (memory_in s) x ≡ None
 past_end s x valid past =
     let store = s.store in
@@ -195,7 +190,7 @@ past_end s x valid past =
     byte_of_memory_of (all_runs store s.ended.items s.base s.start) x
     ∙ rw (present_none (run_at s.base (drop s.start store)) x (inr (omega arith))) none
 
--- the next of the pieces has come
+-- the next piece is taken
 pub left_more : (store : List ℕ) (f : ℕ → Option ℕ) (s t : Segments) (p : Piece) (rest : List Piece) (bytes : List ℕ)
     → IsLeft store f s (p ∷ rest)
     → bytes ≡ take p.1.len (drop p.1.start store) → IsValid t → memory_in t ≡ with_bytes (memory_in s) p.0 bytes
@@ -224,11 +219,10 @@ left_more store f s t p rest bytes left same valid present_is end_is =
         → option_or now later ≡ option_or old (option_or new later)
     swapped now new old later e clear = grind arith
 
--- an element and those behind it are left
 drop_read : (ps : List Piece) (i : ℕ) (p : Piece) → i < length ps → p ≡ get_or ps i p → drop i ps ≡ p ∷ drop (i + 1) ps
 drop_read ps i p h is = drop_more ps i p h ∙ ap (λ q. q ∷ drop (i + 1) ps) (sym is)
 
--- the same in a list
+-- the same, in a list
 pub left_next : (store : List ℕ) (f : ℕ → Option ℕ) (s t : Segments) (ps : List Piece) (i : ℕ) (p : Piece)
     (bytes : List ℕ) → IsLeft store f s (drop i ps)
     → i < length ps → p ≡ get_or ps i p → bytes ≡ take p.1.len (drop p.1.start store) → IsValid t
@@ -238,7 +232,7 @@ left_next store f s t ps i p bytes left h is same valid present_is end_is =
     left_more store f s t p (drop (i + 1) ps) bytes (subst (IsLeft store f s) (drop_read ps i p h is) left) same valid
     present_is end_is
 
--- what taking the next one needs
+-- the conditions for taking the next one
 pub record IsNext (store : List ℕ) (s : Segments) (p : Piece) : Type 0 where
   pub behind : end_in s ≤ p.0
   pub inside : p.1.start + p.1.len ≤ length store
@@ -251,7 +245,6 @@ next_left store f s ps i p left h is =
     let first = subst (IsLeft store f s) (drop_read ps i p h is) left in
     record { behind = first.behind.0; inside = first.lies.0.0; fits = first.lies.0.1 }
 
--- it ends where the segments do then
 pub next_ends : (store : List ℕ) (s : Segments) (p : Piece) (bytes : List ℕ) (end : ℕ) → IsNext store s p
     → bytes ≡ take p.1.len (drop p.1.start store)
     → end ≡ p.0 + length bytes → end ≡ end_at p

@@ -1,4 +1,4 @@
--- What the pieces in a store hold.
+-- The bytes of the pieces in a store.
 use Rattle.std.proofs.Common.{◌≡◌, ◌⊎◌, ℕ, zero, suc, ◌<◌, ◌≤◌, List, [], ◌∷◌, ◌++◌, length, get_or, drop, None, IsSome, refl, arith, length-drop}
 use Rattle.std.specs.List.{AllByRecursion}
 use Rattle.std.proofs.lemmas.List.{take-append-le, drop-append-le, length-take-le}
@@ -8,20 +8,17 @@ use Rattle.acpi_base.proofs.Images.RunBytes.{present_none, present_some}
 
 -- ---- all pieces of a list
 
--- what holds at each place holds of all
 pub all_from : (P : Piece → Type 0) (ps : List Piece) → ((k : ℕ) (d : Piece) → k < length ps → P (get_or ps k d))
     → AllByRecursion P ps
 all_from P [] h = tt
 all_from P (p ∷ ps) h = (h 0 p (omega arith), all_from P ps (λ k d l. h (suc k) d (omega arith)))
 
--- what holds of all holds at each place
 pub of_all : (P : Piece → Type 0) (ps : List Piece) (k : ℕ) (d : Piece) → AllByRecursion P ps → k < length ps
     → P (get_or ps k d)
 of_all P [] k d all h = absurd (omega arith)
 of_all P (p ∷ ps) zero d all h = all.0
 of_all P (p ∷ ps) (suc k) d all h = of_all P ps k d all.1 (omega arith)
 
--- what follows from it holds of all
 pub all_weaker : (P Q : Piece → Type 0) (ps : List Piece) → ((p : Piece) → P p → Q p) → AllByRecursion P ps
     → AllByRecursion Q ps
 all_weaker P Q [] weaker all = tt
@@ -29,7 +26,6 @@ all_weaker P Q (p ∷ ps) weaker all = (weaker p all.0, all_weaker P Q ps weaker
 
 -- ---- runs in a store
 
--- the run of a piece ends where the piece does
 pub run_ends : (store : List ℕ) (p : Piece) (n : ℕ) → n ≤ length store → LiesBefore n p
     → end_of (run_in store p) ≡ end_at p
 run_ends store p n l lies =
@@ -37,7 +33,6 @@ run_ends store p n l lies =
     let low = lies.0 in
     omega (arith, length-take-le p.1.len (drop p.1.start store) (omega arith))
 
--- what comes behind in the store changes no run
 pub runs_in_more : (store more : List ℕ) (n : ℕ) (ps : List Piece) → n ≤ length store → AllByRecursion (LiesBefore n) ps
     → runs_in (store ++ more) ps ≡ runs_in store ps
 runs_in_more store more n [] l lies = refl
@@ -50,7 +45,6 @@ runs_in_more store more n (p ∷ ps) l lies =
       runs_in_more store more n ps l lies.1,
     ) refl
 
--- where each piece has ended, or begins later, nothing is present
 pub none_present : (store : List ℕ) (n : ℕ) (ps : List Piece) (x : ℕ) → n ≤ length store → AllByRecursion (LiesBefore n) ps
     → AllByRecursion (λ p. (end_at p ≤ x) ⊎ (x < p.0)) ps → lookup (runs_in store ps) x ≡ None
 none_present store n [] x l lies clear = refl
@@ -63,7 +57,6 @@ none_present store n (p ∷ ps) x l lies clear =
       none_present store n ps x l lies.1 clear.1,
     )
 
--- a piece with something in it holds its base
 pub base_present : (store : List ℕ) (n : ℕ) (ps : List Piece) (k : ℕ) (d : Piece) → n ≤ length store
     → AllByRecursion (LiesBefore n) ps
     → k < length ps → 0 < (get_or ps k d).1.len → IsSome (lookup (runs_in store ps) (get_or ps k d).0)

@@ -1,4 +1,4 @@
--- Running sums: sums of parts, and what more bytes leave as it is.
+-- Running sums: sums of parts, and what stays when more bytes are appended.
 use Rattle.std.proofs.Common.{◌≡◌, inl, inr, ℕ, ◌+◌, ◌*◌, ◌-◌, ◌/◌, ◌%◌, ◌<◌, ◌≤◌, List, [], ◌∷◌, ◌++◌, length, take, drop, get_or, sum, refl, sym, ap, subst, ◌∙◌, arith, length-append}
 use Rattle.std.proofs.lemmas.Bool.{cases_lt}
 use Rattle.std.proofs.lemmas.List.{take-take, drop-take, take-append-le, get_or-take, get_or_append_left, get_or-append_right, length-take-le}
@@ -22,7 +22,6 @@ added x y z e = omega arith
 taken : (x y z : ℕ) → x ≡ y + z → (x % 256 + (256 - y % 256)) % 256 ≡ z % 256
 taken x y z e = omega arith
 
--- bytes, and those behind them
 pub sum_both : (bytes : List ℕ) (k n : ℕ)
     → (byte_sum (take k bytes) + byte_sum (take n (drop k bytes))) % 256 ≡ byte_sum (take (k + n) bytes)
 unfolding byte_sum
@@ -35,7 +34,6 @@ unfolding byte_sum
 between bytes k n =
     taken (sum (take (k + n) bytes)) (sum (take k bytes)) (sum (take n (drop k bytes))) (sum_more k n bytes)
 
--- the bytes between two places
 pub sum_between : (bytes : List ℕ) (k n a b : ℕ) → a ≡ byte_sum (take (k + n) bytes) → b ≡ byte_sum (take k bytes)
     → (a + (256 - b)) % 256 ≡ byte_sum (take n (drop k bytes))
 sum_between bytes k n a b e f =
@@ -43,7 +41,6 @@ sum_between bytes k n a b e f =
     ∙ ap (λ y. (byte_sum (take (k + n) bytes) + (256 - y)) % 256) f
     ∙ between bytes k n
 
--- the bytes before a place: whole blocks, and a rest
 pub sum_to : (bytes : List ℕ) (k end a b : ℕ) → k ≡ end / 128 → a ≡ byte_sum (take (128 * k) bytes)
     → b ≡ byte_sum (take (end - k * 128) (drop (k * 128) bytes)) → (a + b) % 256 ≡ byte_sum (take end bytes)
 sum_to bytes k end a b at e f =
@@ -58,7 +55,6 @@ pub no_sum : (bytes : List ℕ) (k : ℕ) → k ≡ 0 → 0 ≡ byte_sum (take (
 unfolding byte_sum
 no_sum bytes k e = subst (λ n. 0 ≡ sum (take (128 * n) bytes) % 256) (sym e) refl
 
--- the sum of one block more
 pub sum_next : (bytes : List ℕ) (k a b : ℕ) → a ≡ byte_sum (take (128 * k) bytes)
     → b ≡ byte_sum (take (k * 128 + 128 - k * 128) (drop (k * 128) bytes))
     → (a + b) % 256 ≡ byte_sum (take (128 * (k + 1)) bytes)
@@ -74,7 +70,6 @@ sum_next bytes k a b e f =
 
 -- ---- running sums
 
--- a running sum more
 pub sums_pushed : (sums new bytes : List ℕ) (k t : ℕ) → new ≡ sums ++ t ∷ [] → length sums ≡ k
     → t ≡ byte_sum (take (128 * (k + 1)) bytes) → AreSums sums bytes → AreSums new bytes
 sums_pushed sums new bytes k t e long is each =
@@ -88,13 +83,11 @@ sums_pushed sums new bytes k t e long is each =
           ∙ ap (λ n. byte_sum (take (128 * (n + 1)) bytes)) (sym at))
     ])
 
--- the bytes before a place stay where more follow
 pub sums_kept : (sums bytes more : List ℕ) → HasAllSums sums bytes → AreSums sums (bytes ++ more)
 sums_kept sums bytes more all = λ k l.
     let count = all.count in
     all.each k l ∙ ap byte_sum (sym (take-append-le (128 * (k + 1)) bytes more (omega arith)))
 
--- the bytes that followed are gone again
 pub sums_cut : (sums bytes more : List ℕ) (n : ℕ) → n ≡ length bytes → AreSums sums (bytes ++ more)
     → length bytes / 128 ≤ length sums
     → HasAllSums (take (n / 128) sums) (take n (bytes ++ more))

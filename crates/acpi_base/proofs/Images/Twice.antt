@@ -1,4 +1,4 @@
--- Where the first bytes of a store have an address twice.
+-- When the first bytes of a store have an address twice.
 use Rattle.std.proofs.Common.{◌≡◌, inl, inr, ℕ, zero, suc, ◌+◌, ◌-◌, ◌<◌, ◌≤◌, min, List, [], ◌∷◌, ◌++◌, length, get_or, take, refl, sym, ap, subst, ◌∙◌, arith}
 use Rattle.std.specs.List.{AllByRecursion, sum_by}
 use Rattle.std.specs.List.Sorted.{IsPermutation, IsNonDecreasingBy}
@@ -11,13 +11,12 @@ use Rattle.acpi_base.specs.Image.Pieces.{Piece, LiesBefore}
 use Rattle.acpi_base.proofs.Images.Holders.{has_or_not, has_outside, has_within, holder_count-push}
 use Rattle.acpi_base.proofs.Images.Stores.{all_from, of_all}
 
--- ---- pieces one after the other
+-- ---- pieces one after another
 
 cut_all-push : (s : ℕ) (ps : List Piece) (q : Piece) → cut_all s (ps ++ q ∷ []) ≡ cut_all s ps ++ cut s q ∷ []
 cut_all-push s [] q = refl
 cut_all-push s (p ∷ ps) q = ap (λ qs. cut s p ∷ qs) (cut_all-push s ps q)
 
--- one piece more is counted
 count_more : (s : ℕ) (ps : List Piece) (i : ℕ) (d : Piece) (x : ℕ) → i < length ps
     → holder_count (cut_all s (take (i + 1) ps)) x
     ≡ holder_count (cut_all s (take i ps)) x + holds_at x (cut s (get_or ps i d))
@@ -26,7 +25,6 @@ count_more s ps i d x h =
     ∙ ap (λ qs. holder_count qs x) (cut_all-push s (take i ps) (get_or ps i d))
     ∙ holder_count-push (cut_all s (take i ps)) (cut s (get_or ps i d)) x
 
--- of all pieces at least as many have an address as of the first ones
 count_first : (s : ℕ) (ps : List Piece) (i x : ℕ)
     → holder_count (cut_all s (take i ps)) x ≤ holder_count (cut_all s ps) x
 count_first s [] zero x = omega arith
@@ -40,7 +38,7 @@ none_cut s q x e = elim (has_or_not x (cut s q)) [
   | inr y ↦ y.0
 ]
 
--- what the scan knows of the first i pieces
+-- the facts about the first i pieces in the scan
 pub record IsScanned (ps : List Piece) (s i end : ℕ) : Type 0 where
   pub once : (x : ℕ) → holder_count (cut_all s (take i ps)) x < 2
   pub behind : (x : ℕ) → end ≤ x → holder_count (cut_all s (take i ps)) x ≡ 0
@@ -66,7 +64,6 @@ one_less : (P : Piece → Type 0) (ps : List Piece) (i : ℕ) → AllByRecursion
 one_less P ps i all =
     (let next : i + 1 ≡ suc i = omega arith in all_fewer P ps i (subst (λ n. AllByRecursion P (take n ps)) next all))
 
--- a piece of which nothing has come
 pub scanned_skip : (ps : List Piece) (s i end : ℕ) (d : Piece) → i < length ps
     → min (get_or ps i d).1.len (s - (get_or ps i d).1.start) ≡ 0 → IsScanned ps s i end → IsScanned ps s (i + 1) end
 scanned_skip ps s i end d h e scanned = record {
@@ -79,7 +76,6 @@ scanned_skip ps s i end d h e scanned = record {
       omega arith);
 }
 
--- one that begins at the end of all before it, or behind
 pub scanned_more : (ps : List Piece) (s i end next : ℕ) (d : Piece) → i < length ps → end ≤ (get_or ps i d).0
     → next ≡ (get_or ps i d).0 + min (get_or ps i d).1.len (s - (get_or ps i d).1.start) → IsScanned ps s i end
     → IsScanned ps s (i + 1) next
@@ -108,7 +104,7 @@ scanned_more ps s i end next d h low e scanned =
         subst (λ (p : Piece). p.0 ≤ x) (get_or-take (i + 1) ps i d (omega arith))
         (of_all (λ p. p.0 ≤ x) (take (i + 1) ps) i d all (omega arith))
 
--- one that begins before that
+-- a piece that begins before the end of those before it
 pub scanned_twice : (ps : List Piece) (s i end : ℕ) (d : Piece) → IsNonDecreasingBy (λ (p : Piece). p.0) ps
     → i < length ps
     → 0 < min (get_or ps i d).1.len (s - (get_or ps i d).1.start) → (get_or ps i d).0 < end → IsScanned ps s i end
@@ -128,7 +124,7 @@ pub scanned_all : (ps : List Piece) (s i end : ℕ) → length ps ≤ i → IsSc
 scanned_all ps s i end h scanned =
     λ x. subst (λ qs. holder_count (cut_all s qs) x < 2) (take_all i ps h) (scanned.once x)
 
--- ---- of no bytes, of all, and in another order
+-- ---- no bytes, all bytes, and another order
 
 pub none_before : (ps : List Piece) → IsOnceBefore ps 0
 none_before ps = λ x. (let none = none_of ps x in omega arith)
@@ -162,13 +158,11 @@ whole_cut s p x l = elim (has_or_not x p) [
   ]) in omega arith)
 ]
 
--- once all bytes have come, the pieces are whole
 pub count_all : (s : ℕ) (ps : List Piece) (x : ℕ) → AllByRecursion (LiesBefore s) ps
     → holder_count (cut_all s ps) x ≡ holder_count ps x
 count_all s [] x lies = refl
 count_all s (p ∷ ps) x lies = (let here = whole_cut s p x lies.0.0 in let rest = count_all s ps x lies.1 in omega arith)
 
--- where no address comes twice before the end, some byte has come
 pub some_come : (ps : List Piece) (s x : ℕ) → ComesTwice ps s x → 0 < s
 some_come ps s x twice = elim (cases_lt 0 s) [
   | inl some ↦ some

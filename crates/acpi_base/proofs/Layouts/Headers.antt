@@ -1,23 +1,19 @@
--- Headers: what was written is read back, whatever stands behind it.
+-- Headers: what was written is read back, whatever follows it.
 use Rattle.std.proofs.Common.{rules, ◌≡◌, ℕ, ◌+◌, List, ◌++◌, length, drop, refl, sym, ◌∙◌, length-append, arith}
 use Rattle.acpi_base.specs.Header.{HeaderValue, header_of, header_parts, header_values, header_bytes, FitsHeader, HeadValue, head_of, header_with}
 use Rattle.acpi_base.specs.Layouts.{values_at, FitLayout}
 use Rattle.acpi_base.proofs.Layouts.RoundTrip.{values_at-layout_bytes, drop-layout_bytes, length-layout_bytes}
 
--- the fields by offset are the values of the parts
 pub values_at-header_of : (bytes : List ℕ) → values_at 0 header_parts bytes ≡ header_values (header_of bytes)
 unfolding header_of
 values_at-header_of bytes = refl
 
--- each part's value has the part's size
 FitLayout-header : (v : HeaderValue) → FitsHeader v → FitLayout header_parts (header_values v)
 FitLayout-header v fits = search rules
 
--- the values of the parts say one header
 pub one_header_values : (one other : HeaderValue) → header_values one ≡ header_values other → one ≡ other
 one_header_values one other same = search rules
 
--- what was written is read back
 pub header_of-header_bytes : (v : HeaderValue) (rest : List ℕ) → FitsHeader v → header_of (header_bytes v ++ rest) ≡ v
 unfolding header_bytes
 header_of-header_bytes v rest fits =
@@ -25,7 +21,6 @@ header_of-header_bytes v rest fits =
     (sym (values_at-header_of (header_bytes v ++ rest)) ∙ values_at-layout_bytes header_parts (header_values v) rest
     (FitLayout-header v fits))
 
--- what a table says beside signature, length and checksum is what it was made of
 pub head_of-header_bytes : (signature : List ℕ) (size checksum : ℕ) (head : HeadValue) (rest : List ℕ)
     → FitsHeader (header_with signature size checksum head)
     → head_of (header_bytes (header_with signature size checksum head) ++ rest) ≡ head
@@ -36,7 +31,6 @@ pub length-header_bytes : (v : HeaderValue) → FitsHeader v → length (header_
 unfolding header_bytes
 length-header_bytes v fits = length-layout_bytes header_parts (header_values v) (FitLayout-header v fits)
 
--- behind the header comes the body
 pub drop-header_bytes : (v : HeaderValue) (rest : List ℕ) → FitsHeader v → drop 36 (header_bytes v ++ rest) ≡ rest
 unfolding header_bytes
 drop-header_bytes v rest fits = drop-layout_bytes header_parts (header_values v) rest (FitLayout-header v fits)

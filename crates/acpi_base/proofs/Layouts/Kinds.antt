@@ -1,4 +1,4 @@
--- What follows of the layout of a kind of entry.
+-- What follows from the layout of a kind of entry.
 use Rattle.std.proofs.Common.{◌≡◌, ℕ, ◌+◌, true, List, [], ◌∷◌, ◌++◌, length, replicate, refl, sym, ap, ◌∙◌, subst, arith, length-append}
 use Rattle.std.specs.Prelude.{slice_index}
 use Rattle.std.proofs.lemmas.List.{get_or-drop, length-replicate}
@@ -9,7 +9,6 @@ use Rattle.acpi_base.specs.Layouts.{Part, NumberOf, BytesOf, Fixed, Reserved, Pa
 use Rattle.acpi_base.specs.Entries.{kind_as, IsEntryOf}
 use Rattle.acpi_base.specs.KindLayouts.{AreByteValues, are_numbers, HaveNumbers, KindLayout, IsLaidOut, parts_of, bytes_of, LaysOut, KeepsKind}
 
--- a number of one byte is the byte
 pub byte_field : (bytes : List ℕ) (k : ℕ) → field bytes k 1 ≡ slice_index bytes k
 unfolding field
 byte_field bytes k = grind (arith, get_or-drop k bytes 0 0)
@@ -23,7 +22,6 @@ none_fixed (Reserved n ∷ parts) offset e are = none_fixed parts (offset + n) e
 none_fixed (BytesOf n ∷ parts) offset e are = absurd (cc)
 none_fixed (Fixed byte ∷ parts) offset e are = absurd (cc)
 
--- those of bytes have their widths
 numbers_fit : (parts : List Part) (offset : ℕ) (e : List ℕ) → AreByteValues e → are_numbers parts ≡ true
     → FitLayout parts (values_at offset parts e)
 numbers_fit [] offset e low are = tt
@@ -33,7 +31,6 @@ numbers_fit (Reserved n ∷ parts) offset e low are = numbers_fit parts (offset 
 numbers_fit (BytesOf n ∷ parts) offset e low are = absurd (cc)
 numbers_fit (Fixed byte ∷ parts) offset e low are = absurd (cc)
 
--- how many bytes are written
 length-numbers : (parts : List Part) (values : List PartValue) → HaveNumbers parts values
     → length (layout_bytes parts values) ≡ layout_size parts
 length-numbers [] [] have = refl
@@ -60,7 +57,6 @@ length-numbers (Fixed byte ∷ parts) _ have = absurd have
 -- ---- the layout of a kind
 
 module _ {V : Type 0} (l : KindLayout V) (laid : IsLaidOut l) where
-  -- bytes of the kind's type and length are of the layout
   formed_by : (e : List ℕ) → length e ≡ l.kind.size → slice_index e 0 ≡ l.kind.type → slice_index e 1 ≡ l.kind.size
       → IsOfLayout (parts_of l) e
   formed_by e count typed said =
@@ -86,7 +82,6 @@ module _ {V : Type 0} (l : KindLayout V) (laid : IsLaidOut l) where
         same = sym (laid.agrees e is.count low) ∙ ap l.values is.value;
       }
 
-  -- so it is the layout of values of the program
   pub lays_out : {S : Type 0} (say : S → V) → LaysOut l.kind (parts_of l) (λ s. l.values (say s)) (λ _. Unit {0}) say
   lays_out say =
       record {
@@ -95,7 +90,6 @@ module _ {V : Type 0} (l : KindLayout V) (laid : IsLaidOut l) where
         formed = λ e count typed said. (formed_by e count typed said, tt);
       }
 
-  -- and what an entry says is said by the bytes that are written for it, which are as many
   pub written : (e : List ℕ) → length e ≡ l.kind.size → length (bytes_of l (l.kind.read e)) ≡ l.kind.size
   written e count =
       let v = l.kind.read e in
@@ -117,7 +111,6 @@ module _ {V : Type 0} (l : KindLayout V) (laid : IsLaidOut l) where
       (numbers_fit l.rest 2 e low laid.numbers) in
       reads_by (bytes_of l v) v (HasValues-layout_bytes (parts_of l) (l.values v) (laid.typed, (laid.sized, fit)))
 
-  -- also as one of the entries of a table
   pub keeps : {E : Type 0} (variant : V → E) (write : E → List ℕ) → ((v : V) → write (variant v) ≡ bytes_of l v)
       → KeepsKind write (kind_as variant l.kind)
   keeps variant write same =

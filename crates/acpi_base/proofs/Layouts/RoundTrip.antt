@@ -1,4 +1,4 @@
--- Structures of a fixed layout: what was written is read back, whatever stands behind it.
+-- Structures of a fixed layout: what was written is read back, whatever follows it.
 use Rattle.std.proofs.Common.{◌≡◌, ℕ, ◌+◌, ◌^◌, ◌<◌, List, [], ◌∷◌, ◌++◌, length, drop, replicate, refl, sym, ap, ◌∙◌, append_assoc, append-nil, length-append, arith}
 use Rattle.std.proofs.Math.Seq.{drop-drop}
 use Rattle.std.proofs.lemmas.List.{drop_at, length-replicate, take_at}
@@ -7,12 +7,10 @@ use Rattle.byteorder.specs.Numbers.{little_number-reads_back, length-bytes_low_f
 use Rattle.acpi_base.specs.Number.{field, number_bytes}
 use Rattle.acpi_base.specs.Layouts.{Part, NumberOf, BytesOf, Fixed, Reserved, PartValue, Number, Bytes, layout_size, values_at, HasFixedAt, HasValues, layout_bytes, FitLayout}
 
--- a number has as many bytes as its width
 pub length-number_bytes : (n x : ℕ) → length (number_bytes n x) ≡ n
 unfolding number_bytes
 length-number_bytes n x = length-bytes_low_first 0 n x
 
--- a structure has its layout's size
 pub length-layout_bytes : (parts : List Part) (values : List PartValue) → FitLayout parts values
     → length (layout_bytes parts values) ≡ layout_size parts
 length-layout_bytes [] [] fit = refl
@@ -26,13 +24,11 @@ length-layout_bytes (Reserved n ∷ parts) values fit =
     grind (arith, length-append, length-replicate {A = ℕ} n 0, length-layout_bytes parts values fit)
 length-layout_bytes _ _ fit = absurd fit
 
--- what stands behind a part of n bytes
 past : (offset n : ℕ) (bytes here rest : List ℕ) → drop offset bytes ≡ here ++ rest → length here ≡ n
     → drop (offset + n) bytes ≡ rest
 past offset n bytes here rest stands counted =
     sym (drop-drop n offset bytes) ∙ ap (drop n) stands ∙ drop_at here rest n counted
 
--- the number that stands at an offset
 pub number_there : (offset n x : ℕ) (bytes rest : List ℕ) → drop offset bytes ≡ number_bytes n x ++ rest → x < 256 ^ n
     → field bytes offset n ≡ x
 unfolding field number_bytes
@@ -42,7 +38,6 @@ number_there offset n x bytes rest stands fits = ap (little_number n) stands ∙
 abbrev HasValuesAt : ℕ → List Part → List PartValue → List ℕ → Type 0
 HasValuesAt offset parts values bytes = (values_at offset parts bytes ≡ values) × HasFixedAt offset parts bytes
 
--- what is written at an offset is read there
 read_there : (offset : ℕ) (parts : List Part) (values : List PartValue) (bytes rest : List ℕ) → FitLayout parts values
     → drop offset bytes ≡ layout_bytes parts values ++ rest → HasValuesAt offset parts values bytes
 read_there offset [] [] bytes rest fit stands = (refl, tt)
@@ -71,19 +66,16 @@ read_there offset (Reserved n ∷ parts) values bytes rest fit stands =
     (past offset n bytes (replicate n 0) (layout_bytes parts values ++ rest) here (length-replicate {A = ℕ} n 0))
 read_there offset _ _ bytes rest fit stands = absurd fit
 
--- the values that were written are read back, whatever stands behind them
 pub values_at-layout_bytes : (parts : List Part) (values : List PartValue) (rest : List ℕ) → FitLayout parts values
     → values_at 0 parts (layout_bytes parts values ++ rest) ≡ values
 values_at-layout_bytes parts values rest fit =
     (read_there 0 parts values (layout_bytes parts values ++ rest) rest fit refl).0
 
--- what stands behind is found there
 pub drop-layout_bytes : (parts : List Part) (values : List PartValue) (rest : List ℕ) → FitLayout parts values
     → drop (layout_size parts) (layout_bytes parts values ++ rest) ≡ rest
 drop-layout_bytes parts values rest fit =
     drop_at (layout_bytes parts values) rest (layout_size parts) (length-layout_bytes parts values fit)
 
--- what was written is a structure with the values
 pub HasValues-layout_bytes : (parts : List Part) (values : List PartValue) → FitLayout parts values
     → HasValues parts (layout_bytes parts values) values
 HasValues-layout_bytes parts values fit =

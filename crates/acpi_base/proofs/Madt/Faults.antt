@@ -1,5 +1,4 @@
--- The faults of a MADT's entries by themselves: each can be decided, excludes that it is valid, and where there is none
--- it is valid.
+-- The faults of a MADT's entries by themselves: each can be decided, and there is none exactly if the MADT is valid.
 use Rattle.std.proofs.Common.{◌≡◌, ℕ, ◌+◌, ◌^◌, ◌<◌, ◌≤◌, List, length, refl, inl, inr, arith}
 use Rattle.std.specs.Prelude.{Option, Some, None, slice_index, MatchOption}
 use Rattle.std.proofs.lemmas.Bool.{cases_order}
@@ -14,14 +13,12 @@ use Rattle.acpi_base.proofs.Faults.Deciding.{Decided, both, all3, all4, either, 
 use Rattle.acpi_base.proofs.Images.PresentBytes.{cases_Option, none_and_some}
 use Rattle.acpi_base.proofs.EntryOffsets.{AreOnes, cut_inside, one_said, said_inside, stands_with_decided, type_decided, unused_decided}
 
--- ---- where entries stand
+-- ---- the entries
 
--- at most one entry stands at an offset
 pub ones : (whole : List ℕ) → AreOnes (madt_contents whole).entries
 unfolding madt_contents
 ones whole = one_said madt_entry 44 whole
 
--- an entry begins before the end of the table
 pub inside : (whole : List ℕ) (o : ℕ) (e : MadtEntry) → Stands (madt_contents whole).entries o e → o < length whole
 unfolding madt_contents
 inside whole = said_inside madt_entry 44 whole
@@ -46,7 +43,6 @@ entry_fault_decided q code.ReservedInti e = flags_decided (inti_flags e)
 entry_fault_decided q code.GsiPastEnd (IoApic v) = below (2 ^ 32) (v.gsi_base + inputs_of q v.address)
 entry_fault_decided q _ _ = inr (λ h. h)
 
--- an entry without a fault is valid
 valid_entry : (q : PolicyValue) (e : MadtEntry) → ¬ MadtEntryFault q code.MadtEntryLength e
     → ¬ MadtEntryFault q code.OverrideBus e → ¬ MadtEntryFault q code.ReservedInti e
     → ¬ MadtEntryFault q code.GsiPastEnd e → IsValidMadtEntry q e
@@ -61,7 +57,6 @@ inti_excludes q (IoApic v) wrong valid = wrong
 inti_excludes q (Opaque e) wrong valid = wrong
 inti_excludes q _ wrong valid = valid wrong
 
--- a fault excludes that an entry is valid
 pub entry_excludes : (q : PolicyValue) (fault : Code) (e : MadtEntry) → MadtEntryFault q fault e
     → ¬ IsValidMadtEntry q e
 entry_excludes q code.MadtEntryLength (Opaque e) wrong valid = valid wrong
@@ -86,7 +81,6 @@ decided q whole fault at other point =
     both (stands_with_decided (madt_contents whole).entries at (MadtEntryFault q fault) (entry_fault_decided q fault))
     (unused_decided other point)
 
--- a MADT without a fault is valid
 pub valid_without_fault : (q : PolicyValue) (whole : List ℕ)
     → ((fault : Code) (at other point : ℕ) → stage_of fault ≡ stage.Madt
     → ¬ MadtFault q (madt_contents whole) fault at other point) → IsValidMadt q (madt_contents whole)
@@ -117,7 +111,6 @@ valid_without_fault q whole none =
           | inr (inr more) ↦ absurd (none code.SecondAddressOverride o p 0 refl (one, other, more, refl))
         ]
 
--- a fault excludes that a MADT is valid
 pub excludes : (q : PolicyValue) (c : MadtContents) (fault : Code) (at other point : ℕ)
     → MadtFault q c fault at other point → ¬ IsValidMadt q c
 excludes q c code.MadtShort at other point (short, is, _) valid = omega (arith, short, valid.long)
@@ -127,7 +120,6 @@ excludes q c code.SecondAddressOverride at other point (one, earlier, before, _)
 excludes q c fault at other point here valid =
     (let (e, stands, wrong) = here.0 in entry_excludes q fault e wrong (valid.entries at e stands))
 
--- its numbers are no greater than the table's length
 pub place : (q : PolicyValue) (whole : List ℕ) (fault : Code) (at other point : ℕ)
     → MadtFault q (madt_contents whole) fault at other point
     → (at ≤ length whole) × (other ≤ length whole) × (point ≤ length whole)

@@ -1,5 +1,4 @@
--- Overrides that clash in a MADT: each fault can be decided, excludes that overrides agree, and where there is none
--- they do.
+-- Overrides that clash in a MADT: each fault can be decided, and there is none exactly if overrides agree.
 use Rattle.std.proofs.Common.{◌≡◌, ℕ, ◌<◌, List, length, refl, sym, ◌∙◌, inl, inr, arith}
 use Rattle.std.specs.Prelude.{◌≢◌, slice_index}
 use Rattle.std.proofs.lemmas.Bool.{cases_order}
@@ -35,12 +34,10 @@ decided whole code.OverrideClash at other point =
     (λ e. stands_with_decided (madt_contents whole).entries other (Disagree point e) (disagree_decided point e))))
 decided whole _ at other point = inr (λ fault. fault)
 
--- one entry gives a Source one interrupt number
 one_number : (e : MadtEntry) (source g h : ℕ) → Overrides source g e → Overrides source h e → g ≡ h
 one_number (Override v) source g h one other = sym one.1 ∙ other.1
 one_number _ source g h one other = absurd one
 
--- where no two clash they agree
 pub agree_without_fault : (whole : List ℕ)
     → ((fault : Code) (at other point : ℕ) → stage_of fault ≡ stage.Overrides
     → ¬ OverrideFault (madt_contents whole) fault at other point)
@@ -55,14 +52,13 @@ agree_without_fault whole none o p source g h one other =
           (λ differ. none code.OverrideClash o p source refl (g, h, one, other, more, differ))
     ]
 
--- a fault excludes that they agree
 pub excludes : (c : MadtContents) (fault : Code) (at other point : ℕ) → OverrideFault c fault at other point
     → ¬ DoOverridesAgree c
 excludes c code.OverrideClash at other point (g, h, one, earlier, before, differ) agree =
     differ (agree at other point g h one earlier)
 excludes c _ at other point fault agree = fault
 
--- ---- how far the numbers of a fault reach
+-- ---- the bounds of a fault's numbers
 
 source_of : MadtEntry → ℕ
 source_of (Override v) = v.source
@@ -73,7 +69,6 @@ unfolding source_of
 source_is (Override v) source g here = here.0
 source_is _ source g here = absurd here
 
--- there is a number above those of each fault
 pub bounded : (whole : List ℕ)
     → (most : ℕ) × ((fault : Code) (at other point : ℕ) → OverrideFault (madt_contents whole) fault at other point
     → (at < most) × (other < most) × (point < most))
@@ -90,12 +85,10 @@ bounded whole = (all.0, place)
         (here.0, omega arith, omega (arith, source_is e point g says))
     place _ at other point fault = absurd fault
 
--- a Source is one byte
 source_fits : (e : List ℕ) → ((k : ℕ) → slice_index e k < 256) → source_of (madt_entry e) < 256
 unfolding source_of madt_entry
 source_fits e small = grind (arith, field_below e small 3 1)
 
--- the offsets of a fault lie within the table, and its Source is below 256
 pub fits : (whole : List ℕ) → ((k : ℕ) → slice_index whole k < 256) → (fault : Code) (at other point : ℕ)
     → OverrideFault (madt_contents whole) fault at other point
     → (at < length whole) × (other < length whole) × (point < 256)

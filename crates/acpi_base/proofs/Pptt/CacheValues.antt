@@ -1,4 +1,4 @@
--- What a cache says has the values of its bytes, of which there are 24 or, with an ID, 28.
+-- A cache has the values of its bytes, of which there are 24 or, with an ID, 28.
 use Rattle.std.proofs.Common.{◌≡◌, ℕ, List, [], ◌∷◌, length, refl, ap}
 use Rattle.std.specs.Prelude.{Option, Some, None}
 use Rattle.acpi_base.specs.Number.{field}
@@ -16,7 +16,7 @@ cache_values v =
     ∷ Number v.line_size
     ∷ id_values v.id
 
--- the numbers in an entry, and others behind them
+-- the numbers in an entry, and others after them
 abbrev cache_read : List ℕ → List PartValue → List PartValue
 cache_read e others =
     Number (field e 4 4) ∷ Number (field e 8 4) ∷ Number (field e 12 4) ∷ Number (field e 16 4) ∷ Number

@@ -1,5 +1,5 @@
--- The faults of a PPTT's chains of parents and of next levels: each can be decided and excludes that all end, and where
--- there is none all end.
+-- The faults of a PPTT's chains of parents and of next levels: each can be decided, and there is none exactly if all chains
+-- end.
 use Rattle.std.proofs.Common.{◌≡◌, ℕ, ◌≤◌, List, length, refl, inr, arith}
 use Rattle.acpi_base.specs.Codes.{stage_of}
 use Rattle.acpi_base.specs.Pptt.{parent_of, next_level_of, pptt_contents, NamesParent, NamesNextLevel, AreReferencesValid, DoParentsEnd, DoCachesEnd, ParentFault, CacheFault, most_nodes, most_caches, ParentsEndOrGoRound, CachesEndOrGoRound}
@@ -10,7 +10,7 @@ use Rattle.acpi_base.proofs.Faults.Deciding.{Decided}
 use Rattle.acpi_base.proofs.Chains.{ends_or_round, end_without_cycle, cycle_excludes, cycle_begins, cycle_decided}
 use Rattle.acpi_base.proofs.Pptt.Places.{size_is, inside, naming, nodes_numbered, caches_numbered}
 
--- ---- ends or goes round
+-- ---- a chain ends or reaches a cycle
 
 pub parents_end_or_go_round : ParentsEndOrGoRound
 parents_end_or_go_round whole valid = ends_or_round _ _ (naming whole parent_of) (nodes_numbered whole) valid.parents
@@ -19,7 +19,7 @@ pub caches_end_or_go_round : CachesEndOrGoRound
 caches_end_or_go_round whole valid =
     ends_or_round _ _ (naming whole next_level_of) (caches_numbered whole) valid.next_levels
 
--- what the law `chains_end_or_go_round` says
+-- the law `chains_end_or_go_round`
 pub ruleset chain_laws = (parents_end_or_go_round, caches_end_or_go_round)
 
 -- ---- parents
@@ -29,7 +29,6 @@ pub parents_decided : (whole : List ℕ) (fault : Code) (at other point : ℕ)
 parents_decided whole code.ParentCycle at other point = cycle_decided _ (naming whole parent_of) _ at other point
 parents_decided whole _ at other point = inr (λ fault. fault)
 
--- where none goes round, all end
 pub parents_without_fault : (whole : List ℕ) → AreReferencesValid (pptt_contents whole)
     → ((fault : Code) (at other point : ℕ) → stage_of fault ≡ stage.Parents
     → ¬ ParentFault (pptt_contents whole) fault at other point) → DoParentsEnd (pptt_contents whole)
@@ -37,14 +36,12 @@ parents_without_fault whole valid none =
     end_without_cycle _ _ (naming whole parent_of) (nodes_numbered whole) valid.parents
     (λ o lead round. none code.ParentCycle o lead round refl)
 
--- a fault excludes that all end
 pub parents_excludes : (whole : List ℕ) (fault : Code) (at other point : ℕ)
     → ParentFault (pptt_contents whole) fault at other point → ¬ DoParentsEnd (pptt_contents whole)
 parents_excludes whole code.ParentCycle at other point cycle =
     cycle_excludes _ (naming whole parent_of) _ at other point cycle
 parents_excludes whole _ at other point fault = λ _. fault
 
--- its numbers are no greater than the table's length
 pub parents_place : (whole : List ℕ) (fault : Code) (at other point : ℕ)
     → ParentFault (pptt_contents whole) fault at other point
     → (at ≤ length whole) × (other ≤ length whole) × (point ≤ length whole)
@@ -62,7 +59,6 @@ pub caches_decided : (whole : List ℕ) (fault : Code) (at other point : ℕ)
 caches_decided whole code.CacheCycle at other point = cycle_decided _ (naming whole next_level_of) _ at other point
 caches_decided whole _ at other point = inr (λ fault. fault)
 
--- where none goes round, all end
 pub caches_without_fault : (whole : List ℕ) → AreReferencesValid (pptt_contents whole)
     → ((fault : Code) (at other point : ℕ) → stage_of fault ≡ stage.Caches
     → ¬ CacheFault (pptt_contents whole) fault at other point) → DoCachesEnd (pptt_contents whole)
@@ -70,14 +66,12 @@ caches_without_fault whole valid none =
     end_without_cycle _ _ (naming whole next_level_of) (caches_numbered whole) valid.next_levels
     (λ o lead round. none code.CacheCycle o lead round refl)
 
--- a fault excludes that all end
 pub caches_excludes : (whole : List ℕ) (fault : Code) (at other point : ℕ)
     → CacheFault (pptt_contents whole) fault at other point → ¬ DoCachesEnd (pptt_contents whole)
 caches_excludes whole code.CacheCycle at other point cycle =
     cycle_excludes _ (naming whole next_level_of) _ at other point cycle
 caches_excludes whole _ at other point fault = λ _. fault
 
--- its numbers are no greater than the table's length
 pub caches_place : (whole : List ℕ) (fault : Code) (at other point : ℕ)
     → CacheFault (pptt_contents whole) fault at other point
     → (at ≤ length whole) × (other ≤ length whole) × (point ≤ length whole)

@@ -1,5 +1,4 @@
--- The faults of a PPTT's entries and of what they name: each can be decided, excludes that they are valid, and where
--- there is none they are valid.
+-- The faults of a PPTT's entries and of their references: each can be decided, and there is none exactly if they are valid.
 use Rattle.std.proofs.Common.{◌≡◌, ℕ, ◌+◌, ◌<◌, ◌≤◌, List, [], ◌∷◌, zero, suc, length, Some, refl, inl, inr, arith}
 use Rattle.std.specs.Prelude.{slice_index, slice_get}
 use Rattle.std.proofs.lemmas.Bool.{cases_eq}
@@ -33,7 +32,6 @@ pub cut_decided : (whole : List ℕ) (fault : Code) (at other point : ℕ)
     → Decided (PpttFault (pptt_contents whole) fault at other point)
 cut_decided whole fault at other point = all3 (cut_decided_at whole fault at) (same other 0) (same point 0)
 
--- a PPTT without a fault of its entries is cut
 pub cut_without_fault : (c : PpttContents)
     → ((fault : Code) (at other point : ℕ) → stage_of fault ≡ stage.Pptt → ¬ PpttFault c fault at other point)
     → IsCutPptt c
@@ -46,7 +44,6 @@ cut_without_fault c none =
       lengths = λ o e stands other. none code.PpttEntryLength o 0 0 refl ((e, stands, other), refl, refl);
     }
 
--- a fault excludes that it is cut
 pub cut_excludes : (c : PpttContents) (fault : Code) (at other point : ℕ) → PpttFault c fault at other point
     → ¬ IsCutPptt c
 cut_excludes c code.PpttEntryCut at other point (is, _, _) valid = none_and_some valid.filled is
@@ -59,14 +56,13 @@ cut_place_at whole code.PpttEntryCut at is = cut_inside 36 whole at is
 cut_place_at whole code.PpttEntryLength at (e, stands, wrong) = inside whole at e stands
 cut_place_at whole _ at fault = absurd fault
 
--- its numbers are no greater than the table's length
 pub cut_place : (whole : List ℕ) (fault : Code) (at other point : ℕ)
     → PpttFault (pptt_contents whole) fault at other point
     → (at ≤ length whole) × (other ≤ length whole) × (point ≤ length whole)
 cut_place whole fault at other point (wrong, no_other, no_point) =
     (omega (arith, cut_place_at whole fault at wrong), omega arith, omega arith)
 
--- ---- what they name
+-- ---- references
 
 dangles_decided : (Names : ℕ → ℕ → Type 0) → IsNaming Names → (o p : ℕ) → Decided (Dangles Names o p)
 dangles_decided Names naming o p =
@@ -98,7 +94,6 @@ references_decided whole code.DanglingCache at other point =
     both (dangles_decided (NamesNextLevel (pptt_contents whole)) (naming whole next_level_of) at other) (same point 0)
 references_decided whole _ at other point = inr (λ fault. fault)
 
--- where no reference dangles they are valid
 pub references_without_fault : (whole : List ℕ)
     → ((fault : Code) (at other point : ℕ) → stage_of fault ≡ stage.References
     → ¬ ReferenceFault (pptt_contents whole) fault at other point)
@@ -118,7 +113,6 @@ references_without_fault whole none =
           (λ o p dangles. none code.DanglingCache o p 0 refl (dangles, refl));
     }
 
--- a fault excludes that they are valid
 pub references_excludes : (c : PpttContents) (fault : Code) (at other point : ℕ) → ReferenceFault c fault at other point
     → ¬ AreReferencesValid c
 references_excludes c code.DanglingParent at other point (dangles, _) valid =
@@ -129,7 +123,7 @@ references_excludes c code.DanglingCache at other point (dangles, _) valid =
     dangles_excludes (NamesNextLevel c) at other dangles valid.next_levels
 references_excludes c _ at other point fault valid = fault
 
--- ---- how far their numbers reach
+-- ---- the bounds of their numbers
 
 total : List ℕ → ℕ
 total [] = 0
@@ -141,7 +135,7 @@ in_total [] j r is = absurd cc
 in_total (x ∷ xs) zero r is = grind arith
 in_total (x ∷ xs) (suc j) r is = omega (arith, in_total xs j r is)
 
--- no number in what an entry names is greater
+-- the largest number that an entry names
 reach : PpttEntry → ℕ
 reach (Node v) = v.parent + (length v.resources + total v.resources)
 reach (Cache v) = v.next_level

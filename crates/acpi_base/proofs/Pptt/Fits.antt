@@ -1,4 +1,4 @@
--- What a PPTT's entries name are numbers of 32 bits, so the numbers of its faults fit.
+-- The numbers in a PPTT's entries have 32 bits, so the numbers of its faults have 64.
 use Rattle.std.proofs.Common.{◌≡◌, ℕ, ◌+◌, ◌*◌, ◌^◌, ◌<◌, List, length, Some, arith}
 use Rattle.std.specs.Prelude.{slice_index, slice_get}
 use Rattle.std.proofs.lemmas.Bool.{cond_both}
@@ -52,7 +52,6 @@ entry_fits : (whole : List ℕ) → ((k : ℕ) → slice_index whole k < 256) �
 unfolding pptt_contents
 entry_fits whole small o e stands = said_with pptt_entry NamesFit names_fit 36 whole small o e stands
 
--- a fault of a reference is at an offset within the table, and its other numbers are of 32 bits
 pub references_fit : (whole : List ℕ) → ((k : ℕ) → slice_index whole k < 256) → (fault : Code) (at other point : ℕ)
     → ReferenceFault (pptt_contents whole) fault at other point
     → (at < length whole) × (other < 256 ^ 4) × (point < 256 ^ 4)

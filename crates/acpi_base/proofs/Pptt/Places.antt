@@ -1,4 +1,4 @@
--- Where entries stand in a PPTT, and what can be decided of those that stand at an offset.
+-- The offsets of a PPTT's entries, and what can be decided about the entry at an offset.
 use Rattle.std.proofs.Common.{◌≡◌, ℕ, ◌+◌, ◌*◌, ◌/◌, ◌<◌, ◌≤◌, true, List, length, refl, subst, Option, Some, inl, inr, arith}
 use Rattle.std.specs.Prelude.{◌⊎◌, ◌≢◌}
 use Rattle.std.proofs.lemmas.Bool.{and_parts, or_cases, eqb-true, cond_both}
@@ -10,7 +10,7 @@ use Rattle.acpi_base.proofs.EntryOffsets.{AreOnes, said_from, said_inside, one_s
 
 -- ---- how long entries are
 
--- an entry has at least so many bytes
+-- the minimum length of an entry
 abbrev pub least_size : PpttEntry → ℕ
 least_size (Node v) = 20
 least_size (Cache v) = 24
@@ -39,9 +39,8 @@ entry_size e least =
     cond_both (has_node_form e) _ _ (λ x. least_size x ≤ length e) (node_size e)
     (λ _. cond_both (has_cache_form e) _ _ (λ x. least_size x ≤ length e) (cache_size e) (λ _. least))
 
--- ---- where they stand
+-- ---- where they are
 
--- the bytes of an entry
 bytes_at : (whole : List ℕ) (o : ℕ) (e : PpttEntry) → Stands (pptt_contents whole).entries o e
     → (bytes : List ℕ) × Stands (entries_of 36 whole) o bytes × (least_size e ≤ length bytes)
 unfolding pptt_contents
@@ -53,19 +52,16 @@ bytes_at whole o e stands =
           (entry_size bytes (entry_within 36 whole o bytes here).1),
     )
 
--- an entry ends within the table
 within : (whole : List ℕ) (o : ℕ) (e : PpttEntry) → Stands (pptt_contents whole).entries o e
     → o + least_size e ≤ length whole
 within whole o e stands =
     let (bytes, here, size) = bytes_at whole o e stands in
     omega (arith, entry_within 36 whole o bytes here)
 
--- and begins there
 pub inside : (whole : List ℕ) (o : ℕ) (e : PpttEntry) → Stands (pptt_contents whole).entries o e → o < length whole
 unfolding pptt_contents
 inside whole = said_inside pptt_entry 36 whole
 
--- two entries stand at one offset, or one stands behind the other
 apart : (whole : List ℕ) (o p : ℕ) (e d : PpttEntry) → Stands (pptt_contents whole).entries o e
     → Stands (pptt_contents whole).entries p d
     → (o ≡ p) ⊎ ((o + least_size e ≤ p) ⊎ (p + least_size d ≤ o))
@@ -74,17 +70,14 @@ apart whole o p e d one other =
     let (others, there, more) = bytes_at whole p d other in
     grind (arith, entries_apart 36 whole o p bytes others here there)
 
--- at most one entry stands at an offset
 pub ones : (whole : List ℕ) → AreOnes (pptt_contents whole).entries
 unfolding pptt_contents
 ones whole = one_said pptt_entry 36 whole
 
--- its size is its number of bytes
 pub size_is : (whole : List ℕ) → (pptt_contents whole).size ≡ length whole
 unfolding pptt_contents
 size_is whole = refl
 
--- what has a Parent has at least 20 bytes, and what has a Next Level of Cache at least 24
 node_long : (e : PpttEntry) (p : ℕ) → parent_of e ≡ Some p → 20 ≤ least_size e
 node_long (Node v) p is = omega arith
 node_long _ p is = absurd cc
@@ -93,7 +86,7 @@ cache_long : (e : PpttEntry) (p : ℕ) → next_level_of e ≡ Some p → 24 ≤
 cache_long (Cache v) p is = omega arith
 cache_long _ p is = absurd cc
 
--- nodes, and caches, have numbers of their own: their offsets in units of their least size
+-- the number of a node or a cache is its offset in units of its minimum length
 pub nodes_numbered : (whole : List ℕ)
     → IsNumbered (NamesParent (pptt_contents whole)) (most_nodes (pptt_contents whole))
 nodes_numbered whole =
@@ -134,12 +127,10 @@ caches_numbered whole =
 
 -- ---- what can be decided
 
--- whether something that a node may refer to stands at an offset
 pub resource_decided : (whole : List ℕ) (o : ℕ) → Decided (IsResourceAt (pptt_contents whole) o)
 resource_decided whole o =
     stands_with_decided (pptt_contents whole).entries o (λ e. pptt_type e ≢ 0) (λ e. differs (pptt_type e) 0)
 
--- at most one offset is read of what stands at an offset, and whether one is can be decided
 pub naming : (whole : List ℕ) (read : PpttEntry → Option ℕ) → IsNaming (Says read (pptt_contents whole))
 naming whole read =
     record {

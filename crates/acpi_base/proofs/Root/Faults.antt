@@ -1,4 +1,4 @@
--- The faults of the root: each can be decided, excludes that it is valid, and where there is none it is valid.
+-- The faults of the root table: each can be decided, and there is none exactly if it is valid.
 use Rattle.std.proofs.Common.{◌≡◌, ◌<◌, ◌^◌, ◌+◌, ℕ, List, Some, refl, sym, ap, subst, inl, inr, arith}
 use Rattle.std.specs.Prelude.{◌-◌, ◌%◌}
 use Rattle.std.proofs.lemmas.Bool.{both_ways}
@@ -19,7 +19,7 @@ use Rattle.acpi_base.proofs.Root.Named.{one_root, root_or_none, no_root_and_root
 use Rattle.acpi_base.proofs.Frames as frame
 use Rattle.acpi_base.proofs.Frames.{length_frame, stands_wrong}
 
--- ---- of the root at a place
+-- ---- of the root table at an address
 
 table_decided : (m : Memory) (r d : ℕ) (c : Code) → Decided (RootTableFault m r d c)
 table_decided m r d code.RootHeaderOut = frame.decided table_frame m r question.Header
@@ -33,7 +33,6 @@ table_decided m r d code.RootRagged =
 table_decided m r d code.RootSum = frame.decided table_frame m r question.Sum
 table_decided m r d _ = inr (λ fault. fault)
 
--- a root table without a fault is valid
 table_without_fault : (m : Memory) (r d : ℕ) → ((c : Code) → stage_of c ≡ stage.Root → ¬ RootTableFault m r d c)
     → (whole : List ℕ) × IsValidRootTable m r d whole
 table_without_fault m r d none =
@@ -53,7 +52,6 @@ table_without_fault m r d none =
       },
     )
 
--- a fault excludes that the root table is valid
 table_excludes : (m : Memory) (r d : ℕ) (whole : List ℕ) (c : Code) → RootTableFault m r d c
     → ¬ IsValidRootTable m r d whole
 table_excludes m r d whole code.RootHeaderOut fault valid = stands_wrong question.Header fault valid.table.table
@@ -67,9 +65,8 @@ table_excludes m r d whole code.RootRagged (header, present, least, ragged) vali
 table_excludes m r d whole code.RootSum fault valid = stands_wrong question.Sum fault valid.table.table valid.zero_sum
 table_excludes m r d whole _ fault valid = absurd fault
 
--- ---- of the root that an RSDP names
+-- ---- of the root table that an RSDP names
 
--- where the RSDP is readable, a fault of its root can be decided
 pub decided : (m : Memory) (p : ℕ) (named : Addresses) → addresses_at m p ≡ Some named → (c : Code) (at : ℕ)
     → Decided (RootFault m p c at)
 decided m p named read c at =
@@ -93,7 +90,6 @@ decided m p named read c at =
     here r d root e other fault =
         (let same = one_root m p at e r d other root in (same.0, rw (same.0, same.1) at fault))
 
--- and its faults are at one place
 pub bounded : (m : Memory) (p : ℕ) (named : Addresses) → addresses_at m p ≡ Some named
     → (n : ℕ) × ((c : Code) (at : ℕ) → RootFault m p c at → at < n)
 bounded m p named read =
@@ -116,7 +112,6 @@ bounded m p named read =
       )
     ]
 
--- a readable RSDP's root without a fault is valid
 pub valid_without_fault : (m : Memory) (p : ℕ) (named : Addresses) → addresses_at m p ≡ Some named
     → ((c : Code) (at : ℕ) → stage_of c ≡ stage.Root → ¬ RootFault m p c at) → IsValidRoot m p
 valid_without_fault m p named read none =
@@ -127,14 +122,12 @@ valid_without_fault m p named read none =
           record { r = r; d = d; whole = valid.0; root = root; valid = valid.1 }
     ]
 
--- a fault excludes that the root is valid
 pub excludes : (m : Memory) (p at : ℕ) (c : Code) → RootFault m p c at → ¬ IsValidRoot m p
 excludes m p at c (inl (none, is, place)) valid = no_root_and_root none valid.root
 excludes m p at c (inr (d, root, fault)) valid =
     let same = one_root m p at d valid.r valid.d root valid.root in
     table_excludes m valid.r valid.d valid.whole c (rw (same.0, same.1) at fault) valid.valid
 
--- the address that a fault of the root is at fits
 pub place_fits : {m : Memory} {p at : ℕ} {c : Code} → p < 2 ^ 64 → IsImage m → RootFault m p c at → at < 2 ^ 64
 place_fits fits image (inl (none, is, place)) = omega arith
 place_fits fits image (inr (d, root, fault)) = root_fits image root

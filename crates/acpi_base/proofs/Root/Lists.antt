@@ -1,4 +1,4 @@
--- The addresses that a root's bytes list are those in its slots.
+-- The addresses that a root table's bytes list are those in its slots.
 use Rattle.std.proofs.Common.{◌≡◌, ◌<◌, ◌≤◌, ◌+◌, ◌-◌, ◌*◌, ℕ, zero, suc, List, ◌∷◌, length, map, true, false, cond, refl, sym, ◌∙◌, ap, inl, inr, arith}
 use Rattle.std.specs.Prelude.{◌≢◌, ◌/◌, ◌==◌, not, Bool, filter}
 use Rattle.std.specs.List.{Contains, range_with_len}
@@ -13,7 +13,7 @@ use Rattle.acpi_base.proofs.Elements.{first_or_later}
 abbrev some : ℕ → Bool
 some a = not (a == 0)
 
--- a number that a function has at n numbers from one on
+-- a number that a function has at one of n numbers
 record IsAmong (f : ℕ → ℕ) (start n a : ℕ) : Type 0 where
   k : ℕ
   least : start ≤ k
@@ -77,7 +77,6 @@ contained f start (suc n) a here =
           ]
     ]
 
--- the slots that lie wholly within a root's bytes are as many as their width says
 inside : (whole : List ℕ) (d k : ℕ) → IsSlotWidth d → k < (length whole - 36) / d → 36 + d * (k + 1) ≤ length whole
 inside whole d k width below = grind (arith, width)
 

@@ -1,4 +1,4 @@
--- The faults of the RSDP: each can be decided, excludes that it is valid, and where there is none it is valid.
+-- The faults of the RSDP: each can be decided, and there is none exactly if it is valid.
 use Rattle.std.proofs.Common.{◌≡◌, ◌≤◌, ℕ, List, Some, refl, inr, arith}
 use Rattle.acpi_base.specs.Frames.{IsValidFrame}
 use Rattle.acpi_base.specs.Memory.{Memory, bytes_at}
@@ -15,7 +15,6 @@ use Rattle.acpi_base.proofs.Faults.Deciding.{Decided, both, at_most, differs, is
 use Rattle.acpi_base.proofs.Frames as frame
 use Rattle.acpi_base.proofs.Frames.{stands_wrong}
 
--- whether the RSDP is of the extended form
 is_extended : (m : Memory) (p : ℕ) → Decided (IsExtended m p)
 is_extended m p = is_some_with (bytes_at m p 20) _ (λ head. at_most 2 (revision_of head))
 
@@ -29,7 +28,6 @@ decided m p code.RsdpLongOut = both (is_extended m p) (frame.decided extended_fr
 decided m p code.RsdpExtendedSum = both (is_extended m p) (frame.decided extended_frame m p question.Sum)
 decided m p _ = inr (λ fault. fault)
 
--- an RSDP without a fault is valid
 pub valid_without_fault : (m : Memory) (p : ℕ) → ((c : Code) → stage_of c ≡ stage.Rsdp → ¬ RsdpFault m p c)
     → IsValidRsdp m p
 valid_without_fault m p none =
@@ -58,12 +56,10 @@ valid_without_fault m p none =
         (λ short. none code.RsdpLength refl (is, short)) (λ out. none code.RsdpLongOut refl (is, out))
         (λ sum. none code.RsdpExtendedSum refl (is, sum))
 
--- a valid RSDP of the extended form is valid whole
 extended_part : {m : Memory} {p : ℕ} → IsValidRsdp m p → IsExtended m p → IsValidFrame extended_frame m p
 extended_part valid (head, present, more) =
     valid.extended (rw (same_value head valid.head present valid.head_present) at more)
 
--- a fault excludes that the RSDP is valid
 pub excludes : (m : Memory) (p : ℕ) (c : Code) → RsdpFault m p c → ¬ IsValidRsdp m p
 excludes m p code.RsdpOut out valid = none_and_some out valid.head_present
 excludes m p code.RsdpSignature (head, present, unsigned) valid = grind (arith, same_value, valid.head_present, valid.signed)

@@ -1,4 +1,4 @@
--- What an RSDP names: it is read in one of two forms, and its numbers fit.
+-- What an RSDP names: it is read in one of two forms, and its numbers fit their fields.
 use Rattle.std.proofs.Common.{◌≡◌, ℕ, ◌^◌, ◌<◌, ◌≤◌, List, Some, inl, inr, arith}
 use Rattle.std.specs.Prelude.{◌⊎◌}
 use Rattle.std.proofs.lemmas.Bool.{cases_lt}
@@ -9,14 +9,12 @@ use Rattle.acpi_base.specs.Frames.{IsFrame}
 use Rattle.acpi_base.proofs.Frames.{header_field}
 use Rattle.acpi_base.proofs.Images.PresentBytes.{cases_Option, present_field_below}
 
--- an RSDP is read in the short form or in the extended one
 pub how_read : (m : Memory) (p : ℕ) (named : Addresses) → addresses_at m p ≡ Some named
     → ((head : List ℕ) × (bytes_at m p 20 ≡ Some head) × (named ≡ short_addresses head))
     ⊎ ((prefix : List ℕ) × (bytes_at m p 36 ≡ Some prefix) × (named ≡ extended_addresses prefix))
 unfolding addresses_at
 how_read m p named read = grind (arith, cases_Option (bytes_at m p 20), cases_Option (bytes_at m p 36), same_Some)
 
--- a valid RSDP is readable
 pub valid_read : (m : Memory) (p : ℕ) → IsValidRsdp m p → (named : Addresses) × (addresses_at m p ≡ Some named)
 unfolding addresses_at
 valid_read m p valid =
@@ -28,7 +26,6 @@ valid_read m p valid =
       )
     ]
 
--- an RSDP of the extended form names what its bytes say, if they are all present
 pub extended_named : {m : Memory} {p : ℕ} {header whole : List ℕ} (head : List ℕ) → bytes_at m p 20 ≡ Some head
     → 2 ≤ revision_of head → IsFrame extended_frame m p header whole
     → addresses_at m p ≡ Some (extended_addresses whole)
@@ -37,7 +34,6 @@ extended_named head present more is =
     let same = header_field is (omega arith) in
     grind (arith, present, is.header_present, same 16 4 (omega arith), same 24 8 (omega arith))
 
--- the addresses that an RSDP of an image names fit their fields
 pub named_fit : (m : Memory) → IsImage m → (p : ℕ) (named : Addresses) → addresses_at m p ≡ Some named
     → (named.rsdt < 2 ^ 32) × (named.xsdt < 2 ^ 64)
 named_fit m image p named read =

@@ -1,4 +1,4 @@
--- The domain of a processor with a local APIC in its four bytes, which do not all stand together.
+-- The four bytes of the domain of a processor with a local APIC, which are not all consecutive.
 use Rattle.std.proofs.Common.{rules, ◌≡◌, ℕ, ◌+◌, ◌*◌, ◌<◌, List, [], ◌∷◌, sym, arith}
 use Rattle.std.specs.Prelude.{◌/◌, ◌%◌, slice_index}
 use Rattle.std.proofs.lemmas.List.{get_or-drop}
@@ -7,7 +7,7 @@ use Rattle.acpi_base.proofs.Images.PresentBytes.{field_below}
 use Rattle.acpi_base.specs.Layouts.{PartValue, Number}
 use Rattle.acpi_base.specs.Srat.{ApicDomainValue, apic_domain}
 
--- the values of the parts behind type and length: bits 7:0 of the domain; bits 15:8, 23:16 and 31:24 in their places
+-- the values of the parts after type and length: bits 7:0 of the domain; bits 15:8, 23:16 and 31:24 in their places
 abbrev apic_domain_values : ApicDomainValue → List PartValue
 apic_domain_values v =
     Number (v.domain % 256) ∷ Number v.apic_id ∷ Number v.flags ∷ Number v.eid ∷ Number (v.domain / 256 % 256)
@@ -22,7 +22,6 @@ apic_domain_read e =
     Number (field e 2 1) ∷ Number (field e 3 1) ∷ Number (field e 4 4) ∷ Number (field e 8 1) ∷ Number
     (field e 9 1) ∷ Number (field e 10 1) ∷ Number (field e 11 1) ∷ Number (field e 12 4) ∷ []
 
--- a number of three bytes
 three_bytes : (e : List ℕ) (k : ℕ) → field e k 3 ≡ field e k 1 + 256 * field e (k + 1) 1 + 65536 * field e (k + 2) 1
 unfolding field
 three_bytes e k =
@@ -35,7 +34,7 @@ three_bytes e k =
       get_or-drop (k + 2) e 0 0,
     )
 
--- the bytes of a number of four
+-- the bytes of a number of four bytes
 record AreBytesOf (d a b c e : ℕ) : Type 0 where
   first : a ≡ d % 256
   second : b ≡ d / 256 % 256

@@ -1,5 +1,4 @@
--- The faults of an SRAT's entries by themselves: each can be decided, excludes that it is valid, and where none is
--- there it is valid.
+-- The faults of an SRAT's entries by themselves: each can be decided, and there is none exactly if the SRAT is valid.
 use Rattle.std.proofs.Common.{◌≡◌, ℕ, ◌+◌, ◌^◌, ◌≤◌, List, length, refl, inl, inr, arith}
 use Rattle.std.specs.Prelude.{slice_index}
 use Rattle.acpi_base.specs.Codes.{stage_of}
@@ -19,14 +18,12 @@ entry_fault_decided code.RangePastEnd (MemoryRange v) =
     both (is_true (is_enabled v.flags)) (below (2 ^ 64) (v.base + v.size))
 entry_fault_decided _ _ = inr (λ h. h)
 
--- an entry without a fault is valid
 valid_entry : (e : SratEntry) → ¬ SratEntryFault code.SratEntryLength e → ¬ SratEntryFault code.RangePastEnd e
     → IsValidSratEntry e
 valid_entry (MemoryRange v) size past = λ enabled. not_below (2 ^ 64) (v.base + v.size) (λ more. past (enabled, more))
 valid_entry (Opaque e) size past = size
 valid_entry _ size past = tt
 
--- a fault excludes that an entry is valid
 pub entry_excludes : (fault : Code) (e : SratEntry) → SratEntryFault fault e → ¬ IsValidSratEntry e
 entry_excludes code.SratEntryLength (Opaque e) wrong valid = valid wrong
 entry_excludes code.RangePastEnd (MemoryRange v) (enabled, past) valid = omega (arith, past, valid enabled)
@@ -44,7 +41,6 @@ decided whole fault at other point =
     both (stands_with_decided (srat_contents whole).entries at (SratEntryFault fault) (entry_fault_decided fault))
     (unused_decided other point)
 
--- an SRAT without a fault is valid
 pub valid_without_fault : (whole : List ℕ)
     → ((fault : Code) (at other point : ℕ) → stage_of fault ≡ stage.Srat
     → ¬ SratFault (srat_contents whole) fault at other point)
@@ -62,7 +58,6 @@ valid_without_fault whole none =
           (λ wrong. none code.RangePastEnd o 0 0 refl ((e, stands, wrong), (refl, refl)));
     }
 
--- a fault excludes that an SRAT is valid
 pub excludes : (c : SratContents) (fault : Code) (at other point : ℕ) → SratFault c fault at other point
     → ¬ IsValidSrat c
 excludes c code.SratShort at other point (short, is, _) valid = omega (arith, short, valid.long)
@@ -70,7 +65,6 @@ excludes c code.SratEntryCut at other point (is, _) valid = none_and_some valid.
 excludes c fault at other point here valid =
     (let (e, stands, wrong) = here.0 in entry_excludes fault e wrong (valid.entries at e stands))
 
--- its numbers are no greater than the table's length
 pub place : (whole : List ℕ) (fault : Code) (at other point : ℕ) → SratFault (srat_contents whole) fault at other point
     → (at ≤ length whole) × (other ≤ length whole) × (point ≤ length whole)
 unfolding srat_contents

@@ -1,5 +1,5 @@
--- The ranges of addresses of an SRAT: no two that must be apart cover one address, or there is a first address and two
--- that do.
+-- The ranges of addresses of an SRAT: no two that are compared contain one address, or there is a first address and two that
+-- do.
 use Rattle.std.proofs.Common.{◌≡◌, ◌⊎◌, ℕ, ◌+◌, ◌^◌, ◌<◌, ◌≤◌, List, length, refl, inl, inr, arith}
 use Rattle.std.proofs.lemmas.Bool.{cases_lt}
 use Rattle.acpi_base.specs.Overlaps.{IsIntervalOverlap, AreApart, IsFirstIntervalOverlap}
@@ -16,7 +16,7 @@ use Rattle.acpi_base.proofs.EntryOffsets.{AreOnes, one_said, said_inside}
 
 -- ---- ranges of one kind
 
--- the first address of a range, and the one behind the last
+-- the first address of a range, and the one after the last
 first_address : SratEntry → ℕ
 first_address (MemoryRange v) = v.base
 first_address _ = 0
@@ -25,33 +25,28 @@ end_of_range : SratEntry → ℕ
 end_of_range (MemoryRange v) = v.base + v.size
 end_of_range _ = 0
 
--- an entry covers addresses from its first one up to its end
 covers : (P : MemoryValue → Type 0) (s x : ℕ) (e : SratEntry) → CoversFrom P s x e
     → (first_address e ≡ s) × (s ≤ x) × (x < end_of_range e)
 unfolding first_address end_of_range
 covers P s x (MemoryRange v) h = (h.2, h.3, omega (arith, h.2, h.4))
 covers P s x _ h = absurd h
 
--- whether it covers an address can be decided, where P can
 covers_decided : (P : MemoryValue → Type 0) → ((v : MemoryValue) → Decided (P v)) → (s x : ℕ) (e : SratEntry)
     → Decided (CoversFrom P s x e)
 covers_decided P decide s x (MemoryRange v) =
     all5 (is_true (is_enabled v.flags)) (decide v) (same v.base s) (at_most s x) (below x (s + v.size))
 covers_decided P decide s x _ = inr (λ h. h)
 
--- at most one entry stands at an offset
 pub ones : (whole : List ℕ) → AreOnes (srat_contents whole).entries
 unfolding srat_contents
 ones whole = one_said srat_entry 48 whole
 
--- those of which P holds are finitely many
 ranges : (P : MemoryValue → Type 0) → ((v : MemoryValue) → Decided (P v)) → (whole : List ℕ)
     → AreFiniteRanges (Covers P (srat_contents whole))
 ranges P decide whole =
     ranges_of_entries (srat_contents whole).entries (CoversFrom P) first_address end_of_range (ones whole) (covers P)
     (covers_decided P decide)
 
--- and so are all of them, those that are hot-pluggable, and those that are not
 all_ranges : (whole : List ℕ) → AreFiniteRanges (Covers IsAny (srat_contents whole))
 all_ranges whole = ranges IsAny (λ v. inl tt) whole
 
@@ -61,25 +56,22 @@ hot_ranges whole = ranges IsHotPluggable (λ v. is_true (is_hot_pluggable v.flag
 other_ranges : (whole : List ℕ) → AreFiniteRanges (Covers IsNotHotPluggable (srat_contents whole))
 other_ranges whole = ranges IsNotHotPluggable (λ v. is_false (is_hot_pluggable v.flags)) whole
 
--- in a valid SRAT an address that is covered is below 2^64
 covered_below : (P : MemoryValue → Type 0) (s x : ℕ) (e : SratEntry) → IsValidSratEntry e → CoversFrom P s x e
     → x < 2 ^ 64
 covered_below P s x (MemoryRange v) valid h = omega (arith, valid h.0, h.2, h.4)
 covered_below P s x _ valid h = absurd h
 
--- and so is one that two ranges cover
 clash_below : (P : MemoryValue → Type 0) (c : SratContents) → IsValidSrat c → (at other point : ℕ)
     → IsIntervalOverlap (Covers P c) at other point → point < 2 ^ 64
 clash_below P c valid at other point overlap =
     let (e, stands, h) = overlap.one_holds in
     covered_below P overlap.s point e (valid.entries at e stands) h
 
--- an entry begins within the table
 inside : (whole : List ℕ) (o : ℕ) (e : SratEntry) → Stands (srat_contents whole).entries o e → o < length whole
 unfolding srat_contents
 inside whole = said_inside srat_entry 48 whole
 
--- ---- ranges that must be apart
+-- ---- ranges that are compared
 
 -- an overlap that is reported
 abbrev FirstOverlap : HotPlug → SratContents → Type 0
@@ -89,7 +81,6 @@ FirstOverlap h c = (at other point : ℕ) × IsFirstOverlap h c at other point
 abbrev FirstOf : (MemoryValue → Type 0) → SratContents → Type 0
 FirstOf P c = (at other point : ℕ) × IsFirstIntervalOverlap (Covers P c) at other point
 
--- of the first clashes of the two kinds one is reported
 joined : (c : SratContents) → AreApart (Covers IsNotHotPluggable c) ⊎ FirstOf IsNotHotPluggable c
     → AreApart (Covers IsHotPluggable c) ⊎ FirstOf IsHotPluggable c
     → AreRangesApart Apart c ⊎ FirstOverlap Apart c
@@ -105,35 +96,30 @@ joined c (inr (at, other, point, first)) (inr (at', other', point', first')) =
       | inr most ↦ inr (at, other, point, inl (first, λ o p x overlap. omega (arith, first'.least o p x overlap)))
     ]
 
--- ranges are apart as they must be, or there is an overlap that is reported
 apart_or_overlap : (h : HotPlug) (whole : List ℕ) → AreRangesApart h (srat_contents whole)
     ⊎ FirstOverlap h (srat_contents whole)
 apart_or_overlap Counted whole = apart_or_first (all_ranges whole)
 apart_or_overlap Apart whole =
     joined (srat_contents whole) (apart_or_first (other_ranges whole)) (apart_or_first (hot_ranges whole))
 
--- what is reported is an overlap
 pub is_overlap : (h : HotPlug) (c : SratContents) (at other point : ℕ) → IsFirstOverlap h c at other point
     → IsOverlap h c at other point
 is_overlap Counted c at other point first = first.overlap
 is_overlap Apart c at other point (inl (first, _)) = inl first.overlap
 is_overlap Apart c at other point (inr (first, _)) = inr first.overlap
 
--- an overlap is a clash of ranges of some kind
 of_kind : {Q : Type 0} (h : HotPlug) (c : SratContents) (at other point : ℕ) → IsOverlap h c at other point
     → ((P : MemoryValue → Type 0) → IsIntervalOverlap (Covers P c) at other point → Q) → Q
 of_kind Counted c at other point overlap from = from IsAny overlap
 of_kind Apart c at other point (inl overlap) from = from IsNotHotPluggable overlap
 of_kind Apart c at other point (inr overlap) from = from IsHotPluggable overlap
 
--- the overlap that is reported of a valid SRAT is a fault
 pub is_fault : (h : HotPlug) (c : SratContents) → IsValidSrat c → (at other point : ℕ)
     → IsFirstOverlap h c at other point → RangeFault h c code.Overlap at other point
 is_fault h c valid at other point first =
     let overlap = is_overlap h c at other point first in
     (of_kind h c at other point overlap (λ P overlap. clash_below P c valid at other point overlap), overlap)
 
--- no address of a valid SRAT is covered by two ranges that must be apart, or there is a fault that is reported
 pub settled : (h : HotPlug) (whole : List ℕ) → IsValidSrat (srat_contents whole)
     → AreRangesApart h (srat_contents whole)
     ⊎ ((at other point : ℕ) × IsFirstOverlap h (srat_contents whole) at other point
@@ -145,7 +131,6 @@ settled h whole valid =
           inr (at, other, point, first, is_fault h (srat_contents whole) valid at other point first)
     ]
 
--- only one fault is reported
 pub one_first : (h : HotPlug) (whole : List ℕ) (at other point at' other' point' : ℕ)
     → IsFirstOverlap h (srat_contents whole) at other point → IsFirstOverlap h (srat_contents whole) at' other' point'
     → (at ≡ at') × (other ≡ other') × (point ≡ point')
@@ -159,19 +144,16 @@ one_first Apart whole at other point at' other' point' (inl one) (inr two) =
 one_first Apart whole at other point at' other' point' (inr one) (inl two) =
     absurd (omega (arith, one.1 at' other' point' two.0.overlap, two.1 at other point one.0.overlap))
 
--- a fault excludes that ranges are apart
 pub excludes : (h : HotPlug) (c : SratContents) (fault : Code) (at other point : ℕ)
     → RangeFault h c fault at other point → ¬ AreRangesApart h c
 excludes h c code.Overlap at other point (below, overlap) apart = apart at other point overlap
 excludes h c _ at other point fault apart = fault
 
--- its code is `Overlap`
 pub code_is : (h : HotPlug) (c : SratContents) (fault : Code) (at other point : ℕ) → RangeFault h c fault at other point
     → fault ≡ code.Overlap
 code_is h c code.Overlap at other point overlap = refl
 code_is h c _ at other point fault = absurd fault
 
--- the offsets of a fault lie within the table, and its address is below 2^64
 pub fits : (h : HotPlug) (whole : List ℕ) (fault : Code) (at other point : ℕ)
     → RangeFault h (srat_contents whole) fault at other point
     → (at < length whole) × (other < length whole) × (point < 2 ^ 64)

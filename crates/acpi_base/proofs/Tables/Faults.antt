@@ -1,4 +1,4 @@
--- The faults of a listed table: each can be decided, excludes that it is valid, and where there is none it is valid.
+-- The faults of a listed table: each can be decided, and there is none exactly if the table is valid.
 use Rattle.std.proofs.Common.{◌≡◌, ℕ, List, length, arith, refl, inr}
 use Rattle.std.proofs.lemmas.List.{take-take}
 use Rattle.acpi_base.specs.Memory.{Memory}
@@ -13,7 +13,6 @@ use Rattle.acpi_base.specs.declared.stage.Stage.TheVariants as stage
 use Rattle.acpi_base.proofs.Faults.Deciding.{Decided}
 use Rattle.acpi_base.proofs.Frames as frame
 
--- a table has the signature of its header
 pub signed_table : (m : Memory) (a : ℕ) (header whole signature : List ℕ) → IsTable m a header whole
     → length signature ≡ 4 → has_signature whole signature ≡ has_signature header signature
 unfolding has_signature
@@ -27,14 +26,12 @@ decided m a code.TableOut = frame.decided table_frame m a question.Bytes
 decided m a code.TableSum = frame.decided table_frame m a question.Sum
 decided m a _ = inr (λ fault. fault)
 
--- a table without a fault is valid
 pub valid_without_fault : (m : Memory) (a : ℕ) → ((c : Code) → stage_of c ≡ stage.Tables → ¬ TableFault m a c)
     → IsValidTable m a
 valid_without_fault m a none =
     frame.valid_without_fault table_frame m a (none code.TableHeaderOut refl) (none code.TableLength refl)
     (none code.TableOut refl) (none code.TableSum refl)
 
--- a fault excludes that the table is valid
 pub excludes : (m : Memory) (a : ℕ) (c : Code) → TableFault m a c → ¬ IsValidTable m a
 excludes m a code.TableHeaderOut fault valid = stands_wrong question.Header fault valid.frame
 excludes m a code.TableLength fault valid = stands_wrong question.Length fault valid.frame

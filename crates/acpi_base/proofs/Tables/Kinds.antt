@@ -1,4 +1,4 @@
--- A table is of one kind.
+-- A table is of at most one kind.
 use Rattle.std.proofs.Common.{◌≡◌, ℕ, List, length, take, true, cond, refl, sym, ap, ◌∙◌}
 use Rattle.std.specs.Prelude.{nat_eq}
 use Rattle.std.specs.Cmp.Lexicographic.{same_text}
@@ -9,7 +9,6 @@ use Rattle.acpi_base.specs.TableKinds.{signature_of}
 use Rattle.acpi_base.specs.declared.table_kind.TableKind.{TableKind}
 use Rattle.acpi_base.specs.declared.table_kind.TableKind.TheVariants as kind
 
--- the kind with a signature, if it is one's
 kind_signed : List ℕ → TableKind
 kind_signed signature =
     cond (starts_with nat_eq signature fadt_signature) kind.Fadt
@@ -25,7 +24,6 @@ signed_kind kind.Srat = refl
 signed_kind kind.Slit = refl
 signed_kind kind.Pptt = refl
 
--- each signature has four bytes
 pub length-signature_of : (kind : TableKind) → length (signature_of kind) ≡ 4
 length-signature_of kind.Fadt = refl
 length-signature_of kind.Madt = refl
@@ -33,7 +31,6 @@ length-signature_of kind.Srat = refl
 length-signature_of kind.Slit = refl
 length-signature_of kind.Pptt = refl
 
--- it is the first four of a table of the kind
 first_four : (bytes : List ℕ) (kind : TableKind) → has_signature bytes (signature_of kind) ≡ true
     → signature_of kind ≡ take 4 bytes
 unfolding has_signature
@@ -41,7 +38,6 @@ first_four bytes kind is =
     same_text (signature_of kind) (take (length (signature_of kind)) bytes) (sym is)
     ∙ ap (λ n. take n bytes) (length-signature_of kind)
 
--- so a table is of one kind
 pub one_kind : (bytes : List ℕ) (one other : TableKind) → has_signature bytes (signature_of one) ≡ true
     → has_signature bytes (signature_of other) ≡ true → one ≡ other
 one_kind bytes one other is also =

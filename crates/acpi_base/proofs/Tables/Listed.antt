@@ -1,4 +1,4 @@
--- The first listed table with a signature: there is one or none, and it is one.
+-- The first listed table with a signature: there is one or none, and only one.
 use Rattle.std.proofs.Common.{◌≡◌, ◌<◌, ℕ, List, length, Some, None, Option, subst, inl, inr, arith}
 use Rattle.std.specs.Prelude.{◌⊎◌}
 use Rattle.std.proofs.lemmas.Bool.{cases_order}
@@ -14,16 +14,15 @@ use Rattle.acpi_base.proofs.Root.Named.{of_root, root_width}
 use Rattle.acpi_base.proofs.Root.Slots.{one_slot, root_slot, slot_below, slot_or_none}
 use Rattle.acpi_base.proofs.Frames.{one_frame}
 
--- ---- in the slots of a root's bytes
+-- ---- in the slots of a root table's bytes
 
--- a header is present at an address with the signature, or is not
 signed_or_not : (m : Memory) (a : ℕ) (signature : List ℕ) → Decided (IsSigned m a signature)
 signed_or_not m a signature =
     decided_as (λ h. record { header = h.0; header_present = h.1; signed = h.2 })
     (λ h. (h.header, h.header_present, h.signed))
     (is_some_with (bytes_at m a 36) _ (λ header. is_true (has_signature header signature)))
 
--- slot k holds the address of a header with the signature
+-- slot k has the address of a header with the signature
 record IsSignedSlot (m : Memory) (whole : List ℕ) (d : ℕ) (signature : List ℕ) (k : ℕ) : Type 0 where
   a : ℕ
   slot : HasSlot whole d k a
@@ -40,7 +39,6 @@ signed_slot_or_not m whole d signature k =
           (signed_or_not m a signature)
     ]
 
--- no slot holds the address of a header with the signature, or there is a first that does
 pub first_listed_or_none : (m : Memory) (whole : List ℕ) (d : ℕ) (signature : List ℕ) → IsSlotWidth d
     → IsNoneListed m whole d signature ⊎ ((a : ℕ) × IsFirstListed m whole d signature a)
 first_listed_or_none m whole d signature width =
@@ -62,7 +60,6 @@ first_listed_or_none m whole d signature width =
           )
     ]
 
--- the first address with a signature in a root's slots is one
 pub one_first_listed : (m : Memory) (whole : List ℕ) (d : ℕ) (signature : List ℕ) (a b : ℕ)
     → IsFirstListed m whole d signature a → IsFirstListed m whole d signature b → a ≡ b
 one_first_listed m whole d signature a b one other =
@@ -72,20 +69,17 @@ one_first_listed m whole d signature a b one other =
       | inr (inr more) ↦ absurd (one.none_before other.k b more other.slot other.signed)
     ]
 
--- where no slot holds the address of a header with the signature, none is the first
 pub none_and_first_listed : {m : Memory} {whole : List ℕ} {d : ℕ} {signature : List ℕ} {a : ℕ}
     → IsNoneListed m whole d signature → IsFirstListed m whole d signature a → ⊥
 none_and_first_listed {a = a} none first = none first.k a first.slot first.signed
 
 -- ---- of a set
 
--- the first listed table of a set is the first listed in its root's bytes
 pub listed_of_root : {m : Memory} {p r d : ℕ} {whole signature : List ℕ} {a : ℕ} → IsRoot m p r d
     → IsRootTable m r d whole → IsFirstTable m p signature a → IsFirstListed m whole d signature a
 listed_of_root {m} {signature = signature} {a = a} root table first =
     of_root (λ x bytes. IsFirstListed m bytes x signature a) first.root root first.table table first.first
 
--- a set lists one table with a signature first
 pub one_listed : (m : Memory) (p : ℕ) (signature whole whole' : List ℕ) → IsListedTable m p signature whole
     → IsListedTable m p signature whole' → whole ≡ whole'
 one_listed m p signature whole whole' one other =
@@ -94,12 +88,10 @@ one_listed m p signature whole whole' one other =
     (listed_of_root first.root first.table one.first) first.first in
     one_frame (subst (λ (b : ℕ). IsTable m b one.header whole) same one.table) other.table
 
--- where a set lists none there is none
 pub none_and_listed : {m : Memory} {p : ℕ} {signature whole : List ℕ} → ListsNone m p signature
     → IsListedTable m p signature whole → ⊥
 none_and_listed none listed = none_and_first_listed none.none (listed_of_root none.root none.table listed.first)
 
--- what a root's slots list first is what the set lists
 pub listed_in_root : {m : Memory} {p r d a : ℕ} {bytes signature header whole : List ℕ} → IsRoot m p r d
     → IsRootTable m r d bytes → IsFirstListed m bytes d signature a → IsTable m a header whole
     → IsListedTable m p signature whole
@@ -116,11 +108,10 @@ pub none_in_root : {m : Memory} {p r d : ℕ} {bytes signature : List ℕ} → I
 none_in_root {r = r} {d = d} {bytes = bytes} root table none =
     record { r = r; d = d; root_bytes = bytes; root = root; table = table; none = none }
 
--- it is known what a set lists first with a signature
+-- whether a set lists a table with a signature is known, and which one it lists first
 abbrev pub IsListedOrNone : Memory → ℕ → List ℕ → Type 0
 IsListedOrNone m p signature = (listed : Option (List ℕ)) × IsListed m p signature listed
 
--- a set whose root and tables are valid lists a first table with a signature or none
 pub listed_or_none : (m : Memory) (p : ℕ) (signature : List ℕ) → IsValidRoot m p → AreValidTables m p
     → IsListedOrNone m p signature
 listed_or_none m p signature root tables =

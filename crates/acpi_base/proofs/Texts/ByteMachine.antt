@@ -1,4 +1,4 @@
--- Reading a text byte by byte is reading it by lines.
+-- Reading a text byte by byte gives the same as reading it by lines.
 use Rattle.std.proofs.Common.{◌≡◌, ℕ, ◌+◌, List, [], ◌∷◌, ◌++◌, length, refl, sym, ap, ◌∙◌, arith, eqb, if◌then◌else◌, length-append}
 use Rattle.std.proofs.lemmas.Bool.Decides.{nat_tests}
 use Rattle.std.specs.Prelude.{Result, Ok, Err}
@@ -7,35 +7,30 @@ use Rattle.acpi_base.specs.Text.TextMachine.{ReaderState, Going, Stopped, initia
 use Rattle.acpi_base.specs.declared.text.TextFault.{TextFault}
 use Rattle.acpi_base.specs.declared.text.TextFault.TheVariants as text
 
--- a text may come in pieces
 pub run_append : (s : ReaderState) (xs ys : List ℕ) → run s (xs ++ ys) ≡ run (run s xs) ys
 unfolding run
 run_append s [] ys = refl
 run_append s (b ∷ xs) ys = run_append (step s b) xs ys
 
--- a machine that has stopped stays so
 pub run_stopped : (fault : TextFault) (bytes : List ℕ) → run (Stopped fault) bytes ≡ Stopped fault
 unfolding run
 run_stopped fault [] = refl
 run_stopped fault (b ∷ rest) = run_stopped fault rest
 
--- what a line says moves no count of bytes
 pub take_line_keeps : (r : Reading) (n : ℕ) (said : Line) (s : Reading) → take_line r n said ≡ Ok s
     → s.through ≡ r.through
 take_line_keeps r n said s e = grind (arith)
 
--- where reading stands within a line, of which these bytes have come
+-- the state within a line of which these bytes have come, by the result of reading the lines before
 abbrev pub after : Result Reading TextFault → List ℕ → ReaderState
 after (Ok r) line = if is_too_long (length line) (r.through + length line) then Stopped text.TooLong else Going r line
 after (Err fault) line = Stopped fault
 
--- a byte ends the line or goes onto it
 pub step_after : (r : Reading) (line : List ℕ) (b : ℕ)
     → step (after (Ok r) line) b ≡ (if eqb b 10 then after (read_line r line 1) [] else after (Ok r) (line ++ b ∷ []))
 unfolding read_line
 step_after r line b = grind (arith, nat_tests, length-append, take_line_keeps)
 
--- the machine stands where reading by lines does
 pub run_after : (x : Result Reading TextFault) (line bytes : List ℕ)
     → run (after x line) bytes ≡ after (on_ok x (λ r. read_lines r (ended_lines_from line bytes)))
     (last_line_from line bytes)
@@ -45,36 +40,30 @@ run_after (Ok r) line [] = refl
 run_after (Ok r) line (b ∷ rest) =
     grind (arith, step_after, run_after (read_line r line 1) [] rest, run_after (Ok r) (line ++ b ∷ []) rest)
 
--- a whole text
 pub run_reads_text : (bytes : List ℕ) → text_result (run initial_state bytes) ≡ read_text bytes
 unfolding read_line
 run_reads_text bytes = grind (arith, nat_tests, run_after (Ok start) [] bytes)
 
--- a prefix of a text
 pub run_reads_prefix : (bytes : List ℕ) → prefix_result (run initial_state bytes) ≡ read_prefix bytes
 run_reads_prefix bytes = grind (arith, run_after (Ok start) [] bytes)
 
--- only the stopped machine stands for a fault
 stands_stopped : (s : ReaderState) (fault : TextFault) → prefix_result s ≡ Err fault → s ≡ Stopped fault
 stands_stopped s fault e = grind (arith)
 
--- a prefix at which the machine has stopped is refused with the same fault
 pub refused_where_stopped : (bytes : List ℕ) (fault : TextFault) → run initial_state bytes ≡ Stopped fault
     → IsRefusedPrefix bytes fault
 refused_where_stopped bytes fault stops = sym (run_reads_prefix bytes) ∙ ap prefix_result stops
 
--- the machine has stopped at a prefix that is refused
 pub stopped_where_refused : (bytes : List ℕ) (fault : TextFault) → IsRefusedPrefix bytes fault
     → run initial_state bytes ≡ Stopped fault
 stopped_where_refused bytes fault refused =
     stands_stopped (run initial_state bytes) fault (run_reads_prefix bytes ∙ refused)
 
--- a fault in a prefix of a text is the whole text's
 pub prefix_is_decided : (bytes more : List ℕ) (fault : TextFault) → IsRefusedPrefix bytes fault
     → IsRefused (bytes ++ more) fault
 prefix_is_decided bytes more fault refused =
     sym (run_reads_text (bytes ++ more))
     ∙ (rw (run_append initial_state bytes more, stopped_where_refused bytes fault refused, run_stopped) refl)
 
--- what the law `machine_reads_lines` says
+-- the law `machine_reads_lines`
 pub ruleset machine_laws = (run_reads_text, run_reads_prefix, refused_where_stopped, stopped_where_refused, run_append)

@@ -1,4 +1,4 @@
--- What data makes of an image, byte by byte: where each byte stands, and that the image has it there.
+-- What data makes of an image, byte by byte: the address of each byte, and that the image has it there.
 use Rattle.std.proofs.Common.{◌≡◌, ◌⊎◌, inl, inr, ℕ, zero, suc, ◌+◌, ◌-◌, ◌^◌, ◌<◌, ◌≢◌, List, [], ◌∷◌, ◌++◌, length, refl, sym, ap, subst, ◌∙◌, arith}
 use Rattle.std.proofs.lemmas.Bool.{cases_eq, le-ltb, ltb-false}
 use Rattle.std.proofs.lemmas.Bool.Decides.{nat_tests}
@@ -13,13 +13,13 @@ use Rattle.acpi_base.proofs.Images.ByteRuns.{first_of_none}
 use Rattle.acpi_base.proofs.Images.RunBytes.{byte_of-insert, byte_of-with_bytes, byte_of-with_bytes_outside}
 use Rattle.acpi_base.proofs.Texts.DataPlaces.{first_then, first_here}
 
--- ---- what bytes that stand somewhere make of an image
+-- ---- an image with bytes added at given addresses
 
--- the image has a byte, or data that `place` places has it
+-- the image has a byte, or data has it at the address that `place` gives
 abbrev pub Given : (ℕ → Option ℕ) → List ℕ → Memory → ℕ → ℕ → Type 0
 Given place bytes m a b = (byte_of m a ≡ Some b) ⊎ ((n : ℕ) × (place n ≡ Some a) × (slice_get bytes n ≡ Some b))
 
--- data of which `place` says where each byte stands makes the image f of m
+-- data with the addresses that `place` gives makes the image f of m
 pub record Makes (place : ℕ → Option ℕ) (bytes : List ℕ) (m f : Memory) : Type 0 where
   pub stands : (n : ℕ) → n < length bytes → IsSome (place n)
   pub below : (n a : ℕ) → place n ≡ Some a → a < 2 ^ 64
@@ -27,7 +27,7 @@ pub record Makes (place : ℕ → Option ℕ) (bytes : List ℕ) (m f : Memory) 
   pub free : (n a : ℕ) → place n ≡ Some a → byte_of m a ≡ None
   pub image : (a b : ℕ) → (byte_of f a ≡ Some b) ↔ Given place bytes m a b
 
--- ---- one byte more, which stands at a
+-- ---- one more byte, at a
 
 here : (m : Memory) (a b : ℕ) → byte_of (insert m a b) a ≡ Some b
 here m a b = grind (arith, nat_tests, byte_of-insert m a b a)
@@ -35,12 +35,12 @@ here m a b = grind (arith, nat_tests, byte_of-insert m a b a)
 other : (m : Memory) (a b x : ℕ) → x ≢ a → byte_of (insert m a b) x ≡ byte_of m x
 other m a b x h = grind (arith, nat_tests, byte_of-insert m a b x)
 
--- the first byte stands at a, and the rest as `later` says
+-- the first byte is at a, and the rest as `later` says
 abbrev place_then : ℕ → (ℕ → Option ℕ) → ℕ → Option ℕ
 place_then a later zero = Some a
 place_then a later (suc n) = later n
 
--- the byte can stand in the image as well
+-- the byte can be in the image as well
 into : (a b : ℕ) (later : ℕ → Option ℕ) (rest : List ℕ) (m : Memory) (x c : ℕ) → byte_of m a ≡ None
     → Given (place_then a later) (b ∷ rest) m x c → Given later rest (insert m a b) x c
 into a b later rest m x c free (inl e) = grind (arith, cases_eq x a, other m a b x)

@@ -1,4 +1,4 @@
--- Facts on lines that are data as a whole, with neither a comment nor a CR.
+-- Lines that are only data, with neither a comment nor a CR.
 use Rattle.std.proofs.Common.{◌≡◌, ◌≢◌, ℕ, zero, suc, ◌+◌, ◌-◌, ◌*◌, ◌<◌, ◌≤◌, if◌then◌else◌, List, [], ◌∷◌, ◌++◌, length, get_or, drop, Some, None, Option, Bool, refl, sym, ap, ◌∙◌, arith, true, false}
 use Rattle.std.specs.Prelude.{◌==◌}
 use Rattle.std.specs.Option.{option_map_or}
@@ -15,11 +15,9 @@ pub blank_read : (bytes rest : List ℕ) → data_from bytes None (32 ∷ rest) 
 unfolding data_from digit_of
 blank_read bytes rest = refl
 
--- the next byte of a line
 next_byte : (line : List ℕ) (i j : ℕ) → j ≡ i + 1 → i < length line → drop i line ≡ get_or line i 0 ∷ drop j line
 next_byte line i j next within = drop_more line i 0 within ∙ ap (λ (n : ℕ). get_or line i 0 ∷ drop n line) (sym next)
 
--- the next two bytes of a line
 next_two : (line : List ℕ) (i j : ℕ) → j ≡ i + 2 → j ≤ length line
     → drop i line ≡ get_or line i 0 ∷ get_or line (i + 1) 0 ∷ drop j line
 next_two line i j next within =
@@ -27,7 +25,7 @@ next_two line i j next within =
     ∙ ap (λ (xs : List ℕ). get_or line i 0 ∷ xs)
     (next_byte line (i + 1) j (omega (arith, next)) (omega (arith, next, within)))
 
--- a line goes on behind a pair and a blank
+-- a line goes on after a pair and a blank
 pub pair_passed : (line bytes : List ℕ) (byte i j : ℕ) → j ≡ i + 3 → j ≤ length line
     → ((before rest : List ℕ) → data_from before None (get_or line i 0 ∷ get_or line (i + 1) 0 ∷ rest) ≡ data_from
     (before ++ byte ∷ []) None rest)
@@ -41,7 +39,7 @@ pair_passed line bytes byte i j three within pair space =
     ∙ ap (λ (b : ℕ). data_from (bytes ++ byte ∷ []) None (b ∷ drop j line)) space
     ∙ blank_read (bytes ++ byte ∷ []) (drop j line)
 
--- a line ends behind its last pair
+-- a line ends after its last pair
 pub last_pair : (line bytes : List ℕ) (byte i : ℕ) → length line ≡ i + 2
     → ((before rest : List ℕ) → data_from before None (get_or line i 0 ∷ get_or line (i + 1) 0 ∷ rest) ≡ data_from
     (before ++ byte ∷ []) None rest)
@@ -54,14 +52,13 @@ last_pair line bytes byte i ends pair =
 
 -- ---- lines of data alone
 
--- a byte that is neither a digit nor blank makes the line bad
 refused : (c : ℕ) → digit_of c ≡ None → is_blank c ≡ false → (bytes : List ℕ) (high : Option ℕ) (rest : List ℕ)
     → data_from bytes high (c ∷ rest) ≡ Bad
 unfolding data_from
 refused c none full bytes None rest = rw (none, full) refl
 refused c none full bytes (Some h) rest = rw none refl
 
--- what is left of data is data
+-- the rest of data is data
 record IsRest (rest all : List ℕ) : Type 0 where
   bytes : List ℕ
   high : Option ℕ
@@ -87,7 +84,6 @@ rest_of b rest bytes (Some h) all e =
       | None ↦ λ f. absurd (cc)
     ] e
 
--- so such a byte stands nowhere in data
 absent : (c : ℕ) → digit_of c ≡ None → is_blank c ≡ false → (line bytes : List ℕ) (high : Option ℕ) (all : List ℕ)
     → data_from bytes high line ≡ Data all
     → (k : ℕ) → k < length line → get_or line k 0 ≢ c
@@ -100,14 +96,12 @@ absent c none full (b ∷ rest) bytes high all e (suc k) within =
     let r = rest_of b rest bytes high all e in
     absent c none full rest r.bytes r.high all r.is k (omega arith)
 
--- what every byte fails is found at the end
 unfound : (p : ℕ → Bool) (line : List ℕ) → ((k : ℕ) → k < length line → p (get_or line k 0) ≡ false)
     → before_first p line ≡ line
 unfound p line fails =
     let found = position_or_len_is p line (length line) 0 (omega arith) fails (λ past. absurd (omega (arith, past))) in
     take_all (position_or_len p line) line (omega (arith, found))
 
--- a line of data alone has neither a comment nor a CR
 no_cr : (line all : List ℕ) → data_from [] None line ≡ Data all → 0 < length line → without_cr line ≡ line
 unfolding digit_of
 no_cr line all e some =
@@ -128,7 +122,6 @@ no_digit : digit_of 64 ≡ None
 unfolding digit_of
 no_digit = refl
 
--- leading blanks are passed
 blanks_passed : (line all : List ℕ) → data_from [] None line ≡ Data all → 0 < length all
     → form_of (skip_blanks line) ≡ Data all
 unfolding form_of skip_blanks data_from
@@ -145,7 +138,6 @@ unfolding data_from
 some_bytes [] all e some = grind (arith)
 some_bytes (b ∷ rest) all e some = omega arith
 
--- a line of data alone says this data
 pub data_alone : (line all : List ℕ) → data_from [] None line ≡ Data all → 0 < length all → line_of line ≡ Data all
 unfolding line_of
 data_alone line all e some =

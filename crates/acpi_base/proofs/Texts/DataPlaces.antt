@@ -1,4 +1,4 @@
--- The address at which a byte of a text's data stands, found line by line.
+-- The address of each byte of a text's data, found line by line.
 use Rattle.std.proofs.Common.{◌≡◌, ◌⊎◌, inl, inr, ℕ, zero, suc, ◌+◌, ◌-◌, ◌<◌, List, [], ◌∷◌, ◌++◌, length, refl, sym, ap, subst, arith, if◌then◌else◌, length-append}
 use Rattle.std.proofs.lemmas.Bool.{cases_lt, lt-ltb, le-ltb}
 use Rattle.std.specs.Prelude.{Option, None, Some, nat_lt, ◌↔◌}
@@ -7,11 +7,11 @@ use Rattle.std.specs.List.{Contains}
 use Rattle.acpi_base.specs.Text.ImageText.{Line, Blank, Address, Data, Bad}
 use Rattle.acpi_base.specs.Text.TextMeaning.{data_of, all_data, IsDataByteAt}
 
--- the first bytes stand from an address on, and the rest as `later` says
+-- the first bytes are at an address and the following ones, and the rest as `later` says
 abbrev pub first_then : Option ℕ → ℕ → (ℕ → Option ℕ) → ℕ → Option ℕ
 first_then next count later n = if nat_lt n count then option_map (λ a. a + n) next else later (n - count)
 
--- where byte n of the lines' data stands, if anywhere; `next` is the next address before them
+-- the address of byte n of the lines' data, if it has one; `next` is the next address before them
 abbrev pub place_of : Option ℕ → List Line → ℕ → Option ℕ
 place_of next [] n = None
 place_of next (Blank ∷ rest) n = place_of next rest n
@@ -80,12 +80,11 @@ place_from_stands lines n a s = grind (arith, place_behind, place_inside)
 
 -- ---- and back
 
--- the lines with the next address said before them
+-- the lines with the next address given before them
 abbrev said_next : Option ℕ → List Line → List Line
 said_next None lines = lines
 said_next (Some address) lines = Address address ∷ lines
 
--- a line that says no address comes before a block
 block_more : (line : Line) (block : List Line) → ((other : ℕ) → line ≡ Address other → ⊥) → NoAddress block
     → NoAddress (line ∷ block)
 block_more line block here rest other (zero, h, e) = here other e
@@ -96,7 +95,6 @@ stands_at : (lines before block after : List Line) (n a address k : ℕ)
     → n ≡ length (all_data before) + k → a ≡ address + k → IsDataByteAt lines n a
 stands_at lines before block after n a address k split none within byte place = grind (arith)
 
--- one more line before all others
 line_before : (line : Line) (lines : List Line) (n k a : ℕ) → n ≡ length (data_of line) + k → IsDataByteAt lines k a
     → IsDataByteAt (line ∷ lines) n a
 line_before line lines n k a q s =
@@ -105,7 +103,7 @@ line_before line lines n k a q s =
     stands_at _ (line ∷ s.before) s.block s.after n a s.address s.k (ap (λ x. line ∷ x) s.split) s.no_other s.within
     byte s.place
 
--- one more line right behind the address that is said first
+-- one more line directly after the first address line
 line_behind : (line : Line) (address later : ℕ) (lines : List Line) (n k a : ℕ)
     → ((other : ℕ) → line ≡ Address other → ⊥) → n ≡ length (data_of line) + k → later ≡ address + length (data_of line)
     → IsDataByteAt (Address later ∷ lines) k a → IsDataByteAt (Address address ∷ line ∷ lines) n a

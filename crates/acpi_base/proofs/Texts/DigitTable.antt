@@ -5,29 +5,26 @@ use Rattle.std.proofs.lemmas.Bool.{and_parts}
 use Rattle.std.proofs.lemmas.Bool.Decides.{nat_tests}
 use Rattle.acpi_base.specs.Text.ImageText.{digit_of}
 
--- an entry says a digit's value, or 255 for no digit
+-- an entry is a digit's value, or 255 for no digit
 says : ℕ → Option ℕ → Bool
 says x None = x == 255
 says x (Some d) = (x == d) && nat_lt d 16
 
--- the entries from k on say what the bytes from k on are
+-- the entries from k on are right for the bytes from k on
 agrees : ℕ → List ℕ → Bool
 agrees k [] = true
 agrees k (x ∷ xs) = says x (digit_of k) && agrees (suc k) xs
 
--- an entry below 16 is the digit's value
 small : (x : ℕ) (digit : Option ℕ) → says x digit ≡ true → x < 16 → Some x ≡ digit
 unfolding says
 small x None e l = absurd (grind (arith, nat_tests))
 small x (Some d) e l = grind (arith, nat_tests, and_parts (x == d) (nat_lt d 16) e)
 
--- any other stands for no digit
 large : (x : ℕ) (digit : Option ℕ) → says x digit ≡ true → 16 ≤ x → None ≡ digit
 unfolding says
 large x None e l = refl
 large x (Some d) e l = absurd (grind (arith, nat_tests, and_parts (x == d) (nat_lt d 16) e))
 
--- each entry of a table that agrees says what its byte is
 says_at : (xs : List ℕ) (k i n : ℕ) → agrees k xs ≡ true → i < length xs → n ≡ k + i
     → says (get_or xs i 0) (digit_of n) ≡ true
 unfolding agrees
@@ -55,12 +52,10 @@ table = 255 ∷ 255 ∷ 255 ∷ 255 ∷ 255 ∷ 255 ∷ 255 ∷ 255 ∷ 255 ∷ 
     ∷ 255 ∷ 255 ∷ 255 ∷ 255 ∷ 255 ∷ 255 ∷ 255 ∷ 255 ∷ 255 ∷ 255 ∷ 255 ∷ 255 ∷ 255 ∷ 255 ∷ 255 ∷ 255 ∷ 255 ∷ 255 ∷ 255
     ∷ 255 ∷ 255 ∷ 255 ∷ []
 
--- it agrees with the digits
 table_agrees : agrees 0 table ≡ true
 unfolding agrees says digit_of
 table_agrees = refl
 
--- what the table says of a digit, and of any other byte
 pub is_digit : (byte : ℕ) → byte < 256 → get_or table byte 0 < 16 → Some (get_or table byte 0) ≡ digit_of byte
 is_digit byte low digit =
     small (get_or table byte 0) (digit_of byte) (says_at table 0 byte byte table_agrees low (omega arith)) digit

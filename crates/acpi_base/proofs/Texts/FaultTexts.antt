@@ -1,4 +1,4 @@
--- The texts of faults: their words, and that two faults have two texts.
+-- The texts of faults: their words, and that different faults have different texts.
 use Rattle.std.proofs.Common.{◌≡◌, ℕ, ◌^◌, ◌+◌, ◌<◌, ◌==◌, Bool, true, false, cond, List, [], ◌∷◌, ◌++◌, IsTrue, ◌↔◌, refl, sym, ap, ◌∙◌, append_assoc, subst, inl, inr, arith}
 use Rattle.std.specs.Prelude.{◌&&◌, decimal}
 use Rattle.std.specs.Fmt.{digits}
@@ -18,7 +18,6 @@ use Rattle.acpi_base.proofs.Texts.HexTexts.{hex_reads_back, hex_has_no_blank}
 
 -- ---- words
 
--- a text with a blank has one
 pub has_blank : (word rest : List ℕ) → list_all is_no_blank (word ++ (32 ∷ rest)) ≡ true → ⊥
 has_blank word rest none =
     (let all = sym (list_all-append is_no_blank word (32 ∷ rest)) ∙ none in by (list_all is_no_blank word) all)
@@ -27,7 +26,6 @@ has_blank word rest none =
     by true e = cc
     by false e = cc
 
--- a word does not begin with one
 blank_in : (c : ℕ) (word : List ℕ) → c ≡ 32 → list_all is_no_blank (c ∷ word) ≡ true → ⊥
 blank_in c word blank all =
     (let none : list_all is_no_blank (32 ∷ word) ≡ true =
@@ -37,7 +35,6 @@ rest_of : (a b : Bool) → (a && b) ≡ true → b ≡ true
 rest_of true b e = e
 rest_of false b e = absurd cc
 
--- what stands before the first blank is one word
 pub one_word : (word rest other left : List ℕ) → list_all is_no_blank word ≡ true → list_all is_no_blank other ≡ true
     → word ++ (32 ∷ rest) ≡ other ++ (32 ∷ left) → (word ≡ other) × (rest ≡ left)
 one_word [] rest [] left p q e = (refl, cc)
@@ -67,7 +64,6 @@ unfolding number_among same
 name_numbers code.RsdpOut = refl
 name_numbers _ = refl
 
--- two codes with one name are one
 pub same_name : (c d : Code) → code_name c ≡ code_name d → c ≡ d
 same_name c d e = same_code c d (sym (name_numbers c) ∙ ap (number_among codes_by_number) e ∙ name_numbers d)
 
@@ -80,7 +76,7 @@ unfolding digits
 stage_has_no_blank code.RsdpOut = refl
 stage_has_no_blank _ = refl
 
--- where no code with a lower number begins a text so, nor this one, none up to it does
+-- if no code with a lower number begins a text so, nor this one, none up to it does
 pub none_up_to : (stage name : List ℕ) (code : Code) (n : ℕ) (test : Bool) → code_number code ≡ n
     → (IsTrue test ↔ IsHead stage name code) → test ≡ false
     → ((c : Code) → code_number c < n → ¬ IsHead stage name c) → (c : Code) → code_number c < n + 1
@@ -100,13 +96,13 @@ same_hex m n p q e =
     (let ds : digits 16 false m ≡ digits 16 false n = cc in
     sym (hex_reads_back m p) ∙ ap (hex_number 0) ds ∙ hex_reads_back n q)
 
--- ---- the whole line
+-- ---- the complete line
 
 -- a fault's stage in decimal
 abbrev pub stage_word : Witness → List ℕ
 stage_word w = decimal (stage_number (stage_of w.code))
 
--- behind the stage, the name and the first number
+-- the text after the stage, the name and the first number
 pub behind_at : Witness → List ℕ
 behind_at w = hex_text w.other ++ (32 ∷ hex_text w.point)
 
@@ -120,7 +116,6 @@ line_is : (w : Witness) → witness_line w ≡ stage_word w ++ (32 ∷ behind_st
 unfolding witness_line behind_stage behind_name behind_at
 line_is w = simp append_assoc
 
--- a fault's text begins with its stage, and so on
 pub stage_first : (text stage rest : List ℕ) (w : Witness) → text ≡ witness_line w → list_all is_no_blank stage ≡ true
     → text ≡ stage ++ (32 ∷ rest) → (stage ≡ stage_word w) × (rest ≡ behind_stage w)
 stage_first text stage rest w line whole is =
@@ -145,7 +140,6 @@ unfolding behind_at
 others_last text other point w fits line whole is =
     one_word other point (hex_text w.other) (hex_text w.point) whole (hex_has_no_blank w.other fits.1) (sym is ∙ line)
 
--- each of these has a blank
 pub line_has_blank : (text : List ℕ) (w : Witness) → text ≡ witness_line w → list_all is_no_blank text ≡ true → ⊥
 line_has_blank text w line none =
     has_blank (stage_word w) (behind_stage w)
@@ -167,7 +161,7 @@ unfolding behind_at
 at_has_blank_behind text w line none =
     has_blank (hex_text w.other) (hex_text w.point) (subst (λ (t : List ℕ). list_all is_no_blank t ≡ true) line none)
 
--- so its words are these
+-- its words are these
 pub record WordsOf (w : Witness) (stage name at other point : List ℕ) : Type 0 where
   pub stage_is : stage ≡ stage_word w
   pub name_is : name ≡ code_name w.code
@@ -184,13 +178,11 @@ words_of {text} {stage} {name} {at} {other} {point} w fits words line =
     let others = others_last _ other point w fits ats.1 words.other_whole refl in
     record { stage_is = stages.0; name_is = names.0; at_is = ats.0; other_is = others.0; point_is = others.1 }
 
--- and these words make its text
 pub line_of : {text stage name at other point : List ℕ} (w : Witness) → AreWords text stage name at other point
     → WordsOf w stage name at other point → text ≡ witness_line w
 unfolding behind_stage behind_name behind_at
 line_of w words of = words.joined ∙ rw (of.stage_is, of.name_is, of.at_is, of.other_is, of.point_is) (sym (line_is w))
 
--- a fault's text has them
 words_of_line : (w : Witness) → NumbersFit w
     → AreWords (witness_line w) (stage_word w) (code_name w.code) (hex_text w.at) (hex_text w.other) (hex_text w.point)
 unfolding behind_stage behind_name behind_at

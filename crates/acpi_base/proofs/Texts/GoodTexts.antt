@@ -184,7 +184,6 @@ rest_from r (line ∷ ended) last f short fits g =
     let more = rest_from one.0 ended last f (All-tail IsShort line (ended ++ last ∷ []) short) (omega arith) one.3 in
     (more.0, rw one.1 more.1, more.2)
 
--- the lines are as long as the text
 total_length : (line bytes : List ℕ)
     → total (ended_lines_from line bytes) + length (last_line_from line bytes) ≡ length line + length bytes
 unfolding ended_lines_from last_line_from
@@ -203,13 +202,13 @@ valid_lines (line ∷ lines) good = (
   valid_lines lines (λ c. good (suc c.0, omega (arith, c.1), c.2)),
 )
 
--- ---- and so the text means what it means
+-- ---- reading gives what the text means
 
 pub a_value : (o : Option ℕ) → IsSome o → (a : ℕ) × (o ≡ Some a)
 a_value None h = absurd (cc)
 a_value (Some a) h = (a, refl)
 
--- nothing is in the image before the text
+-- the image is empty before the text
 given_first : (place : ℕ → Option ℕ) (bytes : List ℕ) (a b : ℕ) → Given place bytes (empty {R = nat_cmp}) a b
     → (n : ℕ) × (place n ≡ Some a) × (slice_get bytes n ≡ Some b)
 given_first place bytes a b (inl e) = absurd (grind (arith, get-empty {X = ℕ} nat_cmp a))

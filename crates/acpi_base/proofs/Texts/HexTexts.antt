@@ -43,7 +43,6 @@ spell-append (suc k) n rest =
           ∙ ap (λ x. x ++ rest) (sym (spell_next k n [] large ∙ spell-append k (n / 16) (last_digit n ∷ [])))
     ]
 
--- the bound on their count does not matter once it is large enough
 spell_enough : (j k n : ℕ) (rest : List ℕ) → n < 16 ^ suc j → n < 16 ^ suc k
     → spell (suc j) n rest ≡ spell (suc k) n rest
 spell_enough zero k n rest p q = spell_last zero n rest (omega arith) ∙ sym (spell_last k n rest (omega arith))
@@ -56,11 +55,9 @@ spell_enough (suc j) (suc k) n rest p q =
           (omega arith) ∙ sym (spell_next (suc k) n rest large)
     ]
 
--- a number below 16 has one
 pub hex_last : (n : ℕ) → n < 16 → digits 16 false n ≡ digit_glyph false n ∷ []
 hex_last n small = sym (whole n) ∙ spell_last 63 n [] small ∙ ap (λ (d : ℕ). digit_glyph false d ∷ []) (omega arith)
 
--- a greater one has those of a sixteenth, and one more
 pub hex_next : (n : ℕ) → 16 ≤ n → n < 2 ^ 64
     → digits 16 false n ≡ digits 16 false (n / 16) ++ (digit_glyph false (n % 16) ∷ [])
 hex_next n large fits =
@@ -86,7 +83,6 @@ module _ (P : ℕ → List ℕ → Type 0) (one : (n : ℕ) → n < 16 → P n (
 
 -- ---- they are read back
 
--- a digit has its value, and is no blank
 glyph_is : (d : ℕ) → d < 16 → (unwrap_or (digit_of (digit_glyph false d)) 0 ≡ d)
     × (is_no_blank (digit_glyph false d) ≡ true)
 unfolding digit_of
@@ -109,7 +105,6 @@ glyph_is (suc (suc (suc (suc (suc (suc (suc (suc (suc (suc (suc (suc (suc (suc (
 glyph_is (suc (suc (suc (suc (suc (suc (suc (suc (suc (suc (suc (suc (suc (suc (suc (suc d)))))))))))))))) small =
     absurd (omega arith)
 
--- the number that digits spell with one more behind them
 hex_number-push : (value : ℕ) (ds : List ℕ) (c : ℕ)
     → hex_number value (ds ++ (c ∷ [])) ≡ 16 * hex_number value ds + unwrap_or (digit_of c) 0
 unfolding hex_number
@@ -133,7 +128,6 @@ hex_has_no_blank n fits =
     (λ m ds large here. list_all-append is_no_blank ds (last_digit m ∷ [])
     ∙ (let last = (glyph_is (m % 16) (omega arith)).1 in rw (here, last) refl)) n fits
 
--- one of 64 bits has at most 16
 pub length-hex : (n : ℕ) → n < 2 ^ 64 → length (digits 16 false n) ≤ 16
 length-hex n fits =
     hex_by_digits (λ m ds. (j : ℕ) → 0 < j → m < 16 ^ j → length ds ≤ j) (λ m small j some below. omega arith) more n
@@ -158,19 +152,16 @@ push_same (x ∷ xs) (y ∷ ys) a b e =
     let same = push_same xs ys a b tails in
     ((let rest = same.0 in cc), same.1)
 
--- the digits of a number below 16 are one
 only_digit : {text front : List ℕ} {last n : ℕ} → text ≡ front ++ (last ∷ []) → n < 16 → text ≡ digits 16 false n
     → (front ≡ []) × (last ≡ digit_glyph false n)
 only_digit {front = front} {last} {n} ends small is =
     push_same front [] last (digit_glyph false n) (sym ends ∙ is ∙ hex_last n small)
 
--- those of a greater one end so
 last_of_digits : {text front : List ℕ} {last n : ℕ} → text ≡ front ++ (last ∷ []) → 16 ≤ n → n < 2 ^ 64
     → text ≡ digits 16 false n → (front ≡ digits 16 false (n / 16)) × (last ≡ digit_glyph false (n % 16))
 last_of_digits {front = front} {last} {n} ends large fits is =
     push_same front (digits 16 false (n / 16)) last (digit_glyph false (n % 16)) (sym ends ∙ is ∙ hex_next n large fits)
 
--- a number has a digit
 pub some_digit : (n : ℕ) → n < 2 ^ 64 → 0 < length (digits 16 false n)
 some_digit n fits =
     hex_by_digits (λ _ ds. 0 < length ds) (λ m small. omega arith)
@@ -205,7 +196,7 @@ spells_other text front last digit n ends large fits is other = (
       (other ((last_of_digits ends large fits line).1 ∙ sym is)),
 )
 
--- ---- what stands before the digits
+-- ---- what comes before the digits
 
 begins : (rest : List ℕ) → starts_with nat_eq (codes "0x" ++ rest) (codes "0x") ≡ true
 begins rest = refl

@@ -18,27 +18,23 @@ use Rattle.acpi_base.specs.declared.text.image_text.line_parser.LineParser.{Line
 use Rattle.acpi_base.specs.declared.text.TextFault.TheVariants as text
 use Rattle.acpi_base.proofs.Texts.ByteMachine.{run_append, run_reads_text, run_reads_prefix, refused_where_stopped, prefix_is_decided}
 
--- ---- what a text is refused with is a fault of the text: no failed read, and not being out of memory
+-- ---- what a text is refused with is a fault of the text: neither a failed read nor out of memory
 
--- a fault in what a line says
 own_said : (r : Reading) (n : ℕ) (said : Line) (fault : TextFault) → take_line r n said ≡ Err fault
     → is_of_text fault ≡ true
 own_said r n said fault e = grind arith
 
--- a fault of a line
 own_line : (r : Reading) (line : List ℕ) (ending : ℕ) (fault : TextFault) → read_line r line ending ≡ Err fault
     → is_of_text fault ≡ true
 unfolding read_line
 own_line r line ending fault e = grind (arith, own_said)
 
--- a fault of lines that have ended
 own_lines : (r : Reading) (lines : List (List ℕ)) (fault : TextFault) → read_lines r lines ≡ Err fault
     → is_of_text fault ≡ true
 unfolding read_lines
 own_lines r [] fault e = absurd (cc)
 own_lines r (line ∷ rest) fault e = grind (arith, own_line, λ (s : Reading). own_lines s rest fault)
 
--- the fault of a text
 pub refusals_are_own : (bytes : List ℕ) (fault : TextFault) → IsRefused bytes fault → is_of_text fault ≡ true
 refusals_are_own bytes fault refused = grind (arith, own_line, own_lines)
 
@@ -46,11 +42,10 @@ refusals_are_own bytes fault refused = grind (arith, own_line, own_lines)
 
 -- ---- a text that is refused
 
--- no text is refused with a failed read
 never_read : (bytes : List ℕ) → IsRefused bytes text.Read → ⊥
 never_read bytes refused = (let own = refusals_are_own bytes text.Read refused in absurd (cc))
 
--- a fault of a prefix is why a text is refused
+-- a fault of a prefix is a reason to refuse the text
 pub prefix_refused : (bytes : List ℕ) (left : Option (List ℕ)) (fault : TextFault)
     → (fault ≡ text.Memory) ⊎ IsRefusedPrefix bytes fault → IsRefusal bytes left fault
 prefix_refused bytes left (text.BadLine line) (inl e) = absurd (cc)
@@ -67,7 +62,6 @@ prefix_refused bytes left text.Read (inl e) = absurd (cc)
 prefix_refused bytes left text.Read (inr e) = absurd (never_read (bytes ++ []) (prefix_is_decided bytes [] text.Read e))
 prefix_refused bytes left text.Memory e = tt
 
--- a fault of the whole text is, where it has been read to its end
 pub text_refused : (bytes : List ℕ) (left : Option (List ℕ)) (fault : TextFault) → IsAtEnd left
     → (fault ≡ text.Memory) ⊎ IsRefused bytes fault → IsRefusal bytes left fault
 text_refused bytes left (text.BadLine line) end (inl e) = absurd (cc)
@@ -86,13 +80,12 @@ text_refused bytes left text.Memory end e = tt
 
 -- ---- what the reader has brought
 
--- nothing at first
 pub nothing_brought : (left : Option (List ℕ)) (standing : ReaderState) → standing ≡ initial_state
     → Consumes left left [] → HasRead left left standing 0
 unfolding run
 nothing_brought left standing is none = record { text = []; consumed = none; long = refl; stands = sym is }
 
--- a piece more
+-- one more piece
 pub more_brought : (before middle left : Option (List ℕ)) (old new : ReaderState) (count more all : ℕ) (piece : List ℕ)
     → HasRead before middle old count
     → Consumes middle left piece → length piece ≡ more → run old piece ≡ new → all ≡ count + more
@@ -104,7 +97,6 @@ more_brought before middle left old new count more all piece b consumed long is 
   stands = run_append initial_state b.text piece ∙ ap (λ s. run s piece) b.stands ∙ is;
 }
 
--- no more has come than a text may have
 pub brought_fits : (buffer : LineBuffer) (count : ℕ) → IsLineBuffer buffer → byte_count buffer ≡ count
     → count ≤ max_text
 brought_fits buffer count valid counted =
@@ -112,7 +104,6 @@ brought_fits buffer count valid counted =
     let fits = bounds.1 in
     omega arith
 
--- a fault that is no failed read leaves the count as it is
 same_count : (old new : ℕ) (fault : TextFault) → new ≡ old → (fault ≡ text.Read → ⊥) → CountsRead old new fault
 same_count old new (text.BadLine line) same other = same
 same_count old new (text.NoAddress line) same other = same
@@ -130,7 +121,7 @@ HasReturned before left result =
     (bytes : List ℕ) × Consumes before left bytes × (length bytes ≤ max_text + 1)
     × MatchResult result (λ image. IsAtEnd left × IsText bytes image) (IsRefusal bytes left)
 
--- what the reader has brought is the whole text
+-- what the reader has brought is the complete text
 is_judged : (left : Option (List ℕ)) (standing : ReaderState) (bytes : List ℕ) (result : Result Memory TextFault)
     → run initial_state bytes ≡ standing → IsAtEnd left
     → IfOk result (EndsAs standing) → IfErr result (Refuses (text_result standing))
@@ -141,9 +132,8 @@ is_judged left standing bytes (Err fault) is end ok (inl memory) = text_refused 
 is_judged left standing bytes (Err fault) is end ok (inr refused) =
     text_refused bytes left fault end (inr (sym (run_reads_text bytes) ∙ ap text_result is ∙ refused.0))
 
--- ---- a whole text
+-- ---- a complete text
 
--- what comes after it is not asked
 whole_read : (bytes : List ℕ) (start end : ReaderState) → start ≡ initial_state → run start bytes ≡ end
     → text_result end ≡ read_text bytes
 whole_read bytes start end first is =
@@ -169,7 +159,7 @@ returned_whole before middle left standing count result b fits consumed end ok e
     let long = all.long in
     (all.text, all.consumed, omega arith, is_judged left standing all.text result all.stands end ok err)
 
--- no failed read is among what the end of a text is refused with
+-- a text that has ended is not refused with a failed read
 pub count_whole : (before middle : Option (List ℕ)) (standing : ReaderState) (count old new : ℕ)
     (result : Result Memory TextFault) → HasRead before middle standing count → new ≡ old
     → IfErr result (Refuses (text_result standing))
@@ -181,7 +171,7 @@ count_whole before middle standing count old new (Err fault) b same (inr refused
     same_count old new fault same
     (λ e. never_read b.text (sym (run_reads_text b.text) ∙ ap text_result b.stands ∙ refused.0 ∙ ap Err e))
 
--- the machine stops at what has come, of which the buffer has no more
+-- the machine stops in what has come, of which the buffer has no more
 pub stopped_in_buffer : (standing : ReaderState) (count : ℕ) (buffer behind : List ℕ) (told fault : TextFault)
     → count ≤ length buffer → fault ≡ told
     → (told ≡ text.Memory) ⊎ (run standing (take count (buffer ++ behind)) ≡ Stopped told)
@@ -195,7 +185,7 @@ stopped_in_buffer standing count buffer behind told fault bound same stopped =
     (take-append-le count buffer behind bound)
     stopped)
 
--- the machine stops at what has come
+-- the machine stops in what has come
 pub returned_fault : (before middle left : Option (List ℕ)) (standing : ReaderState) (count more : ℕ) (piece : List ℕ)
     (fault : TextFault) → HasRead before middle standing count
     → Consumes middle left piece → length piece ≡ more → count + more ≤ max_text + 1
@@ -229,13 +219,12 @@ count_fault before middle left standing count old new piece fault b consumed sam
     same_count old new fault same
     (λ e. never_read (all.text ++ []) (prefix_is_decided all.text [] text.Read (refused ∙ ap Err e)))
 
--- a failed read is counted
 pub count_read : (d : Result Memory ℕ) (old middle new : ℕ) → middle ≡ old → CountsFailure middle new
     → CountsRead old new (told d text.Read)
 count_read (Ok m) old middle new same failed = subst (λ (n : ℕ). CountsFailure n new) same failed
 count_read (Err address) old middle new same failed = inr (subst (λ (n : ℕ). CountsFailure n new) same failed)
 
--- a read has failed: that is told, unless an address came twice before
+-- a read has failed: this is reported, unless an address came twice before
 pub returned_read : (before middle left : Option (List ℕ)) (p : LineParser) (d : Result Memory ℕ) (line : List ℕ)
     (count : ℕ) → HasRead before middle (state_with (judged_by p d) line) count → count ≤ max_text → Keeps middle left
     → HasReturned before left (Err (told d text.Read))

@@ -16,7 +16,6 @@ use Rattle.acpi_base.specs.declared.text.TextFault.TheVariants.{TooLong, Twice}
 use Rattle.acpi_base.specs.declared.text.TextFault.TheVariants as fault
 use Rattle.acpi_base.proofs.Texts.ByteMachine.{after, step_after, run_stopped}
 
--- a machine that goes on has met no line that is too long
 pub going : (r : Reading) (line : List ℕ) → is_too_long (length line) (r.through + length line) ≡ false
     → Going r line ≡ after (Ok r) line
 going r line short = rw short refl
@@ -36,7 +35,6 @@ run_to_end r line (b ∷ rest) (suc n) l before at =
     ∙ run_to_end r (line ++ b ∷ []) rest n (omega arith) (λ k h. before (suc k) (omega arith)) at
     ∙ ap (λ whole. run (after (read_line r whole 1) []) (drop (suc n) rest)) (append_assoc line (b ∷ []) (take n rest))
 
--- what has no LF goes onto the line
 pub run_on : (r : Reading) (line text : List ℕ) → ((k : ℕ) → k < length text → get_or text k 0 ≢ 10)
     → run (after (Ok r) line) text ≡ after (Ok r) (line ++ text)
 unfolding run
@@ -49,11 +47,10 @@ run_on r line (b ∷ rest) free =
 
 -- ---- a line that has not ended
 
--- what is not too long is within both bounds
 pub short_bounds : (n through : ℕ) → is_too_long n through ≡ false → (n ≤ max_line) × (through ≤ max_text)
 short_bounds n through short = grind (arith, nat_tests)
 
--- more of it is kept where it fits
+-- more of the line is kept if it fits
 kept_going : (r : Reading) (line part : List ℕ) → is_too_long (length line) (r.through + length line) ≡ false
     → ((k : ℕ) → k < length part → get_or part k 0 ≢ 10)
     → length line + length part ≤ max_line → r.through + length line + length part ≤ max_text
@@ -62,7 +59,7 @@ kept_going r line part short free line_fits text_fits =
     ap (λ s. run s part) (going r line short) ∙ run_on r line part free
     ∙ sym (going r (line ++ part) (grind (arith, nat_tests, length-append line part)))
 
--- and stops the machine where it does not
+-- and stops the machine if it does not
 kept_too_long : (r : Reading) (line part : List ℕ) → is_too_long (length line) (r.through + length line) ≡ false
     → ((k : ℕ) → k < length part → get_or part k 0 ≢ 10)
     → (max_line < length line + length part) ⊎ (max_text < r.through + length line + length part)
@@ -72,7 +69,7 @@ kept_too_long r line part short free far =
     grind (arith, nat_tests, length-append line part) in
     ap (λ s. run s part) (going r line short) ∙ run_on r line part free ∙ rw long refl
 
--- the same, where an address may have come twice
+-- the same, if an address may have come twice
 pub kept : (p : LineParser) (line part : List ℕ) → is_too_long (length line) (p.through + length line) ≡ false
     → ((k : ℕ) → k < length part → get_or part k 0 ≢ 10)
     → length line + length part ≤ max_line → p.through + length line + length part ≤ max_text
@@ -90,7 +87,6 @@ pub kept_refused : (p : LineParser) (line part : List ℕ) → is_too_long (leng
 kept_refused p line part short free far (Ok m) = kept_too_long (reading_with p m) line part short free far
 kept_refused p line part short free far (Err address) = run_stopped (Twice address) part
 
--- memory has run out, and an address may have come twice before
 kept_memory : (p : LineParser) (line part : List ℕ) (d : Result Memory ℕ) (stop : TextFault) → stop ≡ fault.Memory
     → (told d stop ≡ fault.Memory) ⊎ (run (state_with (judged_by p d) line) part ≡ Stopped (told d stop))
 kept_memory p line part (Ok m) stop memory = inl memory
@@ -103,13 +99,11 @@ pub not_kept : {A : Type 0} (p : LineParser) (line part : List ℕ) (d : Result 
 not_kept p line part d (Ok x) memory = tt
 not_kept p line part d (Err stop) memory = kept_memory p line part d stop memory
 
--- a fault of a line counts only where no address came twice before
 pub refuses_told : (p : LineParser) (d : Result Memory ℕ) (f : Reading → Result Reading TextFault) (stop : TextFault)
     → ((m : Memory) → Refuses (f (reading_with p m)) stop) → Refuses (on_ok (judged_by p d) f) (told d stop)
 refuses_told p (Ok m) f stop refuses = refuses m
 refuses_told p (Err address) f stop refuses = inr (refl, refl)
 
--- a line of too many bytes is refused
 pub line_too_long : (r : Reading) (line part : List ℕ) (ending : ℕ) → max_line < length line + length part
     → read_line r (line ++ part) ending ≡ Err TooLong
 unfolding read_line
@@ -117,7 +111,6 @@ line_too_long r line part ending far = grind (arith, nat_tests, length-append li
 
 -- ---- lines that end
 
--- a state within a line that is not too long
 standing : (p : LineParser) (line : List ℕ) → is_too_long (length line) (p.through + length line) ≡ false
     → (d : Result Memory ℕ) → state_with (judged_by p d) line ≡ after (judged_by p d) line
 standing p line short (Ok m) = going (reading_with p m) line short
@@ -130,7 +123,7 @@ run_past_end : (x : Result Reading TextFault) (line text : List ℕ) (n : ℕ) �
 run_past_end (Ok r) line text n l before at = run_to_end r line text n l before at
 run_past_end (Err stop) line text n l before at = run_stopped stop text ∙ sym (run_stopped stop (drop (suc n) text))
 
--- the machine goes on behind an LF from where the line was read
+-- after an LF the machine goes on from where the line was read
 pub line_passed : (p q : LineParser) (d e : Result Memory ℕ) (line text : List ℕ) (n : ℕ) (rest : List ℕ)
     → is_too_long (length line) (p.through + length line) ≡ false → n < length text
     → ((k : ℕ) → k < n → get_or text k 0 ≢ 10) → get_or text n 0 ≡ 10
@@ -144,7 +137,7 @@ line_passed p q d e line text n rest short l before at read fits same =
     ∙ ap (λ t. run t (drop (suc n) text)) (sym (standing q [] (grind (arith, nat_tests)) e))
     ∙ ap (run (state_with (judged_by q e) [])) (sym same)
 
--- and stops where it was refused
+-- and stops if the line was refused
 pub line_refused : (p : LineParser) (d : Result Memory ℕ) (line text : List ℕ) (n : ℕ) (stop : TextFault)
     → is_too_long (length line) (p.through + length line) ≡ false → n < length text
     → ((k : ℕ) → k < n → get_or text k 0 ≢ 10) → get_or text n 0 ≡ 10
@@ -157,7 +150,6 @@ line_refused p d line text n stop short l before at (inr refused) = inr (
     ∙ ap (λ x. run (after x []) (drop (suc n) text)) refused.0
     ∙ run_stopped stop (drop (suc n) text))
 
--- what the end of the text gives
 pub ended : (x : Result Reading TextFault) (line : List ℕ)
     → text_result (state_with x line) ≡ on_ok x (λ r. read_line r line 0)
 ended (Ok r) line = refl

@@ -1,4 +1,4 @@
--- Facts on what one line of an image text says, and on where it ends.
+-- What one line of an image text says, and where it ends.
 use Rattle.std.proofs.Common.{◌≡◌, ℕ, ◌+◌, ◌*◌, ◌^◌, ◌<◌, ◌≤◌, List, [], ◌∷◌, ◌++◌, length, get_or, drop, refl, arith, eqb, if◌then◌else◌, true, false, length-append}
 use Rattle.std.proofs.lemmas.List.{drop_more}
 use Rattle.std.proofs.lemmas.List.Edits.{between_more}
@@ -7,24 +7,20 @@ use Rattle.std.specs.Prelude.{slice_range, None, Some, Option, Bool}
 use Rattle.std.specs.Option.{option_map_or}
 use Rattle.acpi_base.specs.Text.ImageText.{Data, Bad, digit_of, is_blank, skip_blanks, without_cr, without_comment, form_of, line_of, address_line_of, data_from}
 
--- a slice and the element after it
 pub slice_range_more : (xs : List ℕ) (a i : ℕ) → a ≤ i → i < length xs
     → slice_range xs a (i + 1) ≡ slice_range xs a i ++ get_or xs i 0 ∷ []
 slice_range_more xs a i low high = between_more xs a i 0 low high
 
--- the first of the elements that are left
 pub drop_here : (xs : List ℕ) (i : ℕ) → i < length xs → drop i xs ≡ get_or xs i 0 ∷ drop (i + 1) xs
 drop_here xs i within = drop_more xs i 0 within
 
--- one element more was passed
+-- for one more element that was passed
 pub ruleset one_more = (slice_range_more, drop_here)
 
--- fewer than 16 hex digits leave room for one more
 pub power_fits : (i : ℕ) → i < 16 → 16 ^ i * 16 ≤ 2 ^ 64
 power_fits i few = let most : 16 ^ i ≤ 16 ^ 15 =
     pow-le-pow_right {n = 16} (omega arith) {i = i} {j = 15} (omega arith) in omega arith
 
--- the bytes of a data line begin with those so far, and have one more where a pair has begun
 data_from_grows : (line bytes : List ℕ) (high : Option ℕ) (all : List ℕ) → data_from bytes high line ≡ Data all
     → length bytes + option_map_or (λ h. 1) high 0 ≤ length all
 unfolding data_from
@@ -34,14 +30,12 @@ data_from_grows (b ∷ rest) bytes high all e =
     let second = λ (c : ℕ). data_from_grows rest (bytes ++ c ∷ []) None all in
     grind (arith, length-append, data_from_grows rest bytes None all, first, second)
 
--- what begins with no blank has data of at least one byte
 full_some : (at : Bool) (digit : Option ℕ) (rest all : List ℕ)
     → (if at then address_line_of rest else option_map_or (λ high. data_from [] (Some high) rest) digit Bad) ≡ Data all
     → 0 < length all
 unfolding address_line_of
 full_some at digit rest all e = grind (arith, λ (h : ℕ). data_from_grows rest [] (Some h) all)
 
--- what is left of a data line has at least one byte
 rest_some : (line all : List ℕ) → form_of (skip_blanks line) ≡ Data all → 0 < length all
 unfolding form_of skip_blanks data_from
 rest_some [] all e = absurd (cc)
@@ -52,7 +46,6 @@ rest_some (b ∷ rest) all e =
       | false ↦ λ full f. full_some (eqb b 64) (digit_of b) rest all (rw full at f)
     ] refl e
 
--- a data line has at least one byte
 pub data_some : (line all : List ℕ) → line_of line ≡ Data all → 0 < length all
 unfolding line_of
 data_some line all e = rest_some (without_comment (without_cr line)) all e

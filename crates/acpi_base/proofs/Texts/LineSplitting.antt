@@ -1,4 +1,4 @@
--- The lines of a text are what stands between its LFs.
+-- The lines of a text are the parts between its LFs.
 use Rattle.std.proofs.Common.{◌≡◌, ℕ, ◌<◌, List, [], ◌∷◌, ◌++◌, length, get_or, refl, sym, ap, subst, ◌∙◌, arith, append_assoc, eqb, false, inl, inr}
 use Rattle.std.proofs.lemmas.Bool.{cases_eq, ne_eqb}
 use Rattle.std.proofs.lemmas.Bool.Decides.{nat_tests}
@@ -14,7 +14,7 @@ use Rattle.acpi_base.specs.Text.TextMeaning.{text_lines, AreLines}
 abbrev IsLine : List ℕ → Type 0
 IsLine line = All (λ b. eqb b 10 ≡ false) line
 
--- the lines from a prefix of the first on are what stands between LFs, and have none
+-- the lines from a prefix of the first on are the parts between LFs, and have no LF
 lines_are_parts : (line bytes : List ℕ) → IsLine line
     → (ended_lines_from line bytes ++ last_line_from line bytes ∷ [] ≡ slice_split (λ b. eqb b 10) (line ++ bytes))
     × All IsLine (ended_lines_from line bytes ++ last_line_from line bytes ∷ [])
@@ -35,7 +35,6 @@ lines_are_parts line (b ∷ rest) whole =
           (lines_are_parts (line ++ b ∷ []) rest (All-push (λ b. eqb b 10 ≡ false) line b whole test))
     ]
 
--- lines that are joined by LFs stand between them
 parts_of_join : (lines : List (List ℕ)) → 0 < length lines → All IsLine lines
     → slice_split (λ b. eqb b 10) (join_with_byte 10 lines) ≡ lines
 parts_of_join [] some whole = absurd (omega arith)
@@ -45,16 +44,13 @@ parts_of_join (line ∷ next ∷ lines) some whole =
     ∙ ap (λ parts. line ∷ parts) (parts_of_join (next ∷ lines) (omega arith)
     (All-tail IsLine line (next ∷ lines) whole))
 
--- what is a line has no LF
 has_no_lf : (line : List ℕ) → IsLine line → ¬ Contains line 10
 has_no_lf line whole = grind (arith, nat_tests)
 
--- what has no LF is a line
 is_line : (line : List ℕ) → (¬ Contains line 10) → IsLine line
 is_line line free = All-from_get_or (λ b. eqb b 10 ≡ false) line 0 (λ i h.
     ne_eqb (get_or line i 0) 10 (λ e. free (subst (Contains line) e (Contains-get_or line i 0 h))))
 
--- the lines of a text are what stands between its LFs, and nothing else is
 pub lines_mean : (bytes : List ℕ) (lines : List (List ℕ)) → (text_lines bytes ≡ lines) ↔ AreLines bytes lines
 lines_mean bytes lines =
     let cut = lines_are_parts [] bytes (All-nil _) in (

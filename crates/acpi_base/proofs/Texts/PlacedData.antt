@@ -70,7 +70,6 @@ form_has next line bytes found (Err fault) is has = λ memory.
     let facts = has memory in
     record { bytes = bytes; spells = sym is ∙ ap (λ f. line_with f bytes) facts.0; room = facts.1 }
 
--- the same of a line for whose bytes there was no memory
 pub data_has : (next : Option ℕ) (line : List ℕ) (count : ℕ) → IsData (line_of line) count → HasRoom next count
     → HasRoomFor next line
 data_has next line count spelled room = record {
@@ -87,7 +86,7 @@ pub laid_out : (p : LineParser) (d : Result Memory ℕ) (n : ℕ) (fault : Image
 laid_out p d n fault (inl present) memory = (reading_with p present.0, ap (judged_by p) present.2)
 laid_out p d n fault (inr present) memory = (let twice = ap (data_fault n) present.1 in absurd (cc))
 
--- or at the last line
+-- or for the last line
 pub ended_there : {A : Type 0} (P : Type 0) (x y : Result Reading TextFault) (result : Result A TextFault) → x ≡ y
     → IfErr result (λ fault. fault ≡ refusal.Memory → (r : Reading) × (y ≡ Ok r))
     → IfErr result (λ fault. fault ≡ refusal.Memory → P ⊎ ((r : Reading) × (x ≡ Ok r)))
@@ -96,7 +95,7 @@ ended_there P x y (Err fault) same faultless = λ memory. let good = faultless m
 
 -- ---- lines that end
 
--- what comes up to the first LF is the first line, after what came of it before
+-- what comes up to the first LF ends the first line
 first_line_from : (line text : List ℕ) (n : ℕ) → n < length text → ((k : ℕ) → k < n → get_or text k 0 ≢ 10)
     → get_or text n 0 ≡ 10
     → (ended_lines_from line text ≡ (line ++ take n text) ∷ ended_lines (drop (suc n) text))
@@ -109,7 +108,6 @@ first_line_from line (b ∷ rest) (suc n) l before at =
     rw (other, ← append_assoc line (b ∷ []) (take n rest))
     (first_line_from (line ++ b ∷ []) rest n (omega arith) (λ k h. before (suc k) (omega arith)) at)
 
--- a text without an LF is one line
 pub only_line_from : (line text : List ℕ) → ((k : ℕ) → k < length text → get_or text k 0 ≢ 10)
     → (ended_lines_from line text ≡ []) × (last_line_from line text ≡ line ++ text)
 unfolding ended_lines_from last_line_from
@@ -119,13 +117,11 @@ only_line_from line (b ∷ rest) free =
     rw (other, ← append_assoc line (b ∷ []) rest)
     (only_line_from (line ++ b ∷ []) rest (λ k h. free (suc k) (omega arith)))
 
--- no lines more
 no_more : (x : Result Reading TextFault) → on_ok x (λ r. read_lines r []) ≡ x
 unfolding read_lines
 no_more (Ok r) = refl
 no_more (Err fault) = refl
 
--- a line, and then more
 one_more_line : (x : Result Reading TextFault) (line : List ℕ) (lines : List (List ℕ))
     → on_ok x (λ r. read_lines r (line ∷ lines)) ≡ on_ok (on_ok x (λ r. read_line r line 1)) (λ r. read_lines r lines)
 unfolding read_lines
@@ -169,7 +165,6 @@ goes_on_behind first x y whole text n rest on l before at read same =
       });
     }
 
--- at the line itself
 pub found_here : (x : Result Reading TextFault) (text : List ℕ) (n : ℕ) → n < length text
     → ((k : ℕ) → k < n → get_or text k 0 ≢ 10) → get_or text n 0 ≡ 10 → IsPlacedData x (take n text) 1
     → HasPlacedData x text
@@ -186,7 +181,6 @@ found_here x text n l before at placed =
       placed = subst (λ z. IsPlacedData z (take n text) 1) (sym (no_more x)) placed;
     }
 
--- at the last line
 pub found_last : (x y : Result Reading TextFault) (text last : List ℕ) → last ≡ last_line text
     → on_ok x (λ r. read_lines r (ended_lines text)) ≡ y → IsPlacedData y last 0 → HasPlacedData x text
 found_last x y text last same read placed = record {
@@ -199,7 +193,6 @@ found_last x y text last same read placed = record {
   placed = subst (λ z. IsPlacedData z last 0) (sym read) placed;
 }
 
--- behind the last LF
 pub goes_on_last : (first x : Result Reading TextFault) (whole text : List ℕ) → GoesOn first whole x text
     → ((k : ℕ) → k < length text → get_or text k 0 ≢ 10)
     → (text ≡ last_line whole) × (on_ok first (λ r. read_lines r (ended_lines whole)) ≡ x)
@@ -209,7 +202,7 @@ goes_on_last first x whole text on free =
       sym on.lines ∙ ap (λ lines. on_ok x (λ r. read_lines r lines)) only.0 ∙ no_more x,
     )
 
--- ---- a whole text
+-- ---- a complete text
 
 -- its ended lines, and then the last one
 pub whole_text : (first behind : Result Reading TextFault) (text last : List ℕ) → first ≡ Ok start
@@ -220,7 +213,7 @@ whole_text first behind text last is same read =
     ∙ ap (λ x. on_ok x (λ r. read_line r (last_line text) 0)) read
     ∙ ap (λ line. on_ok behind (λ r. read_line r line 0)) (sym same)
 
--- where memory runs out at its end
+-- if memory runs out at its end
 whole_runs_out : (first behind : Result Reading TextFault) (text last : List ℕ) → first ≡ Ok start
     → last ≡ last_line text → on_ok first (λ r. read_lines r (ended_lines text)) ≡ behind
     → IsPlacedData behind last 0 ⊎ ((r : Reading) × (on_ok behind (λ r. read_line r last 0) ≡ Ok r)) → MayRunOut text

@@ -6,18 +6,18 @@ use Rattle.acpi_base.specs.declared.image.ImageFault.TheVariants.{PastEnd, Twice
 use Rattle.acpi_base.specs.declared.image.ImageFault.TheVariants as fault
 use Rattle.acpi_base.specs.Memory.{Memory, first_present, with_bytes}
 
--- the bytes would pass the address 2^64 - 1, or the least of their addresses that is present already
+-- why the bytes cannot be added: they would pass the address 2^64 - 1, or this is the lowest of their addresses that is present
 abbrev pub add_refusal : Memory → ℕ → List ℕ → Option ImageFault
 add_refusal m base bytes =
     if nat_lt (2 ^ 64) (base + length bytes)
     then Some PastEnd
     else option_map (λ address. Twice address) (first_present m base (length bytes))
 
--- the memory with these bytes put in, or the least of their addresses that it holds already
+-- the memory with these bytes put in, or the lowest of their addresses that it has already
 abbrev pub added : Memory → ℕ → List ℕ → Result Memory ℕ
 added m base bytes = option_map_or (λ address. Err address) (first_present m base (length bytes)) (Ok (with_bytes m base bytes))
 
--- why runs that come to this give no image: an address comes twice, or none does and memory ran out
+-- why the runs that give this result make no image: an address comes twice, or none does and memory ran out
 abbrev pub IsLayoutRefusal : Result Memory ℕ → ImageFault → Type 0
 IsLayoutRefusal present refusal =
     ((m : Memory) × (refusal ≡ fault.Memory) × (present ≡ Ok m))

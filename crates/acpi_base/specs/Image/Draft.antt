@@ -1,4 +1,4 @@
--- Pieces of an image in the order in which they arrive; repeated addresses are looked for at the end.
+-- Pieces of an image in the order in which they came; repeated addresses are looked for at the end.
 use Rattle.std.specs.Prelude.{◌≡◌, ℕ, ◌+◌, ◌-◌, ◌<◌, ◌≤◌, min, List, [], ◌∷◌, length, slice_index_or, nat_lt, if◌then◌else◌, Result, Ok}
 use Rattle.std.specs.List.{AllByRecursion}
 use Rattle.acpi_base.specs.Memory.{Memory}
@@ -7,7 +7,7 @@ use Rattle.acpi_base.specs.Image.Pieces.{Piece, LiesBefore, end_at}
 use Rattle.acpi_base.specs.Image.Runs.{Run}
 use Rattle.acpi_base.specs.Text.ImageText.{on_ok}
 
--- 1 where the piece has the address, and else 0
+-- 1 if the piece has the address, otherwise 0
 abbrev pub holds_at : ℕ → Piece → ℕ
 holds_at x p = if nat_lt x p.0 then 0 else (if nat_lt x (end_at p) then 1 else 0)
 
@@ -27,12 +27,12 @@ unfoldable pub all_added : Memory → List Run → Result Memory ℕ
 all_added m [] = Ok m
 all_added m (r ∷ rs) = on_ok (added m r.base r.bytes) (λ n. all_added n rs)
 
--- the pieces' bytes follow one another in the store, from one place to another
+-- the pieces' bytes follow one another in the store, from one index to another
 unfoldable pub AreContiguous : List Piece → ℕ → ℕ → Type 0
 AreContiguous [] from to = from ≡ to
 AreContiguous (p ∷ ps) from to = (p.1.start ≡ from) × AreContiguous ps (from + p.1.len) to
 
--- pieces with something in them, whose bytes are the store's in the order in which they came
+-- pieces that are not empty, whose bytes are the store's in the order in which they came
 pub record AreDrafted (store : List ℕ) (ps : List Piece) : Type 0 where
   pub filled : AllByRecursion (λ p. 0 < p.1.len) ps
   pub lies : AllByRecursion (LiesBefore (length store)) ps
@@ -42,7 +42,7 @@ pub record AreDrafted (store : List ℕ) (ps : List Piece) : Type 0 where
 abbrev pub EndsAt : List Piece → ℕ → Type 0
 EndsAt ps a = (0 < length ps) × ((d : Piece) → end_at (slice_index_or ps (length ps - 1) d) ≡ a)
 
--- what is left of a piece where only the first s bytes of the store have come
+-- the part of a piece that lies in the first s bytes of the store
 abbrev pub cut : ℕ → Piece → Piece
 cut s p = (p.0, record { start = p.1.start; len = min p.1.len (s - p.1.start) })
 
@@ -50,7 +50,7 @@ abbrev pub cut_all : ℕ → List Piece → List Piece
 cut_all s [] = []
 cut_all s (p ∷ ps) = cut s p ∷ cut_all s ps
 
--- of the first s bytes of the store no two have one address
+-- no two of the first s bytes of the store have one address
 abbrev pub IsOnceBefore : List Piece → ℕ → Type 0
 IsOnceBefore ps s = (x : ℕ) → holder_count (cut_all s ps) x < 2
 

@@ -1,15 +1,15 @@
--- Pieces of an image whose bytes lie in one store.
+-- Pieces of an image, whose bytes are in one store.
 use Rattle.std.specs.Prelude.{ℕ, ◌+◌, ◌^◌, ◌<◌, ◌≤◌, List, [], ◌∷◌, take, drop}
 use Rattle.std.specs.List.{AllByRecursion}
 use Rattle.acpi_base.specs.declared.image.span.Span.{Span}
 use Rattle.acpi_base.specs.Memory.{Memory}
 use Rattle.acpi_base.specs.Image.Runs.{Run, run_at, memory_of}
 
--- the first address of a piece, and where its bytes lie
+-- the first address of a piece, and where its bytes are
 abbrev pub Piece : Type 0
 Piece = ℕ × Span
 
--- the address behind the last one
+-- the address after the last one
 abbrev pub end_at : Piece → ℕ
 end_at p = p.0 + p.1.len
 

@@ -1,4 +1,4 @@
--- What an image holds: runs of bytes, the bytes from an address on, and running sums.
+-- The bytes of an image: as runs, from an address on, and with running sums.
 use Rattle.std.specs.Prelude.{◌≡◌, ℕ, List, length, take, Some, None, nat_lt, if◌then◌else◌, ◌+◌, ◌*◌, ◌/◌, ◌<◌, slice_index, ◌-◌, ◌^◌, ◌≤◌, [], ◌∷◌, slice_get, Option}
 use Rattle.acpi_base.specs.Memory.{Memory, bytes_at, with_bytes}
 use Rattle.acpi_base.specs.Number.{byte_sum}
@@ -8,8 +8,8 @@ use Rattle.std.specs.FinMap.{empty}
 
 -- ---- the bytes of an image from an address on
 
--- these are the bytes from a on, up to the first address without one: the n bytes from there on are their first n, and
--- are not all present if they are fewer
+-- these are the bytes from a on, up to the first address without one: n bytes are present from a on exactly if these are at
+-- least n, and then they are the first n of these
 abbrev pub AreBytesFrom : Memory → ℕ → List ℕ → Type 0
 AreBytesFrom m a bytes = (n : ℕ) → bytes_at m a n ≡ (if nat_lt (length bytes) n then None else Some (take n bytes))
 
@@ -19,12 +19,12 @@ AreBytesFrom m a bytes = (n : ℕ) → bytes_at m a n ≡ (if nat_lt (length byt
 abbrev pub AreSums : List ℕ → List ℕ → Type 0
 AreSums sums bytes = (k : ℕ) → k < length sums → slice_index sums k ≡ byte_sum (take (128 * (k + 1)) bytes)
 
--- and there is one for each whole 128 bytes
+-- and there is one for each full 128 bytes
 pub record HasAllSums (sums bytes : List ℕ) : Type 0 where
   pub count : length sums ≡ length bytes / 128
   pub each : AreSums sums bytes
 
--- ---- what an image holds, as runs of bytes
+-- ---- the bytes of an image as runs
 
 -- bytes, from an address on
 pub record Run : Type 0 where
@@ -34,7 +34,7 @@ pub record Run : Type 0 where
 abbrev pub run_at : ℕ → List ℕ → Run
 run_at a bs = record { base = a; bytes = bs }
 
--- the address behind the last one
+-- the address after the last one
 abbrev pub end_of : Run → ℕ
 end_of r = r.base + length r.bytes
 
@@ -42,17 +42,17 @@ end_of r = r.base + length r.bytes
 abbrev pub byte_in : Run → ℕ → Option ℕ
 byte_in r a = if nat_lt a r.base then None else slice_get r.bytes (a - r.base)
 
--- the byte that the first run to hold an address has there
+-- the byte that the first run with an address has there
 abbrev pub lookup : List Run → ℕ → Option ℕ
 lookup [] a = None
 lookup (r ∷ rs) a = option_or (byte_in r a) (lookup rs a)
 
--- all that the runs hold
+-- all bytes of the runs
 abbrev pub memory_of : List Run → Memory
 memory_of [] = empty
 memory_of (r ∷ rs) = with_bytes (memory_of rs) r.base r.bytes
 
--- a run with something in it, of bytes, below the address 2^64
+-- a run that is not empty, of bytes, below the address 2^64
 pub record IsComplete (r : Run) : Type 0 where
   pub filled : 0 < length r.bytes
   pub fits : end_of r ≤ 2 ^ 64

@@ -11,7 +11,7 @@ abbrev pub AreSegmentsApart : List Piece → Type 0
 AreSegmentsApart [] = Unit {0}
 AreSegmentsApart (p ∷ ps) = (0 < p.1.len) × AllByRecursion (λ q. end_at p < q.0) ps × AreSegmentsApart ps
 
--- segments in their order, and behind them the open one
+-- segments in their order, and after them the open one
 pub record AreSegments (store : List ℕ) (ps : List Piece) (base begin : ℕ) : Type 0 where
   pub apart : AreSegmentsApart ps
   pub below : AllByRecursion (λ p. end_at p < base) ps
@@ -29,21 +29,21 @@ memory_in s = memory_in_store s.store s.ended.items s.base s.start
 abbrev pub IsValid : Segments → Type 0
 IsValid s = AreSegments s.store s.ended.items s.base s.start
 
--- the address behind the open segment
+-- the address after the open segment
 abbrev pub end_in : Segments → ℕ
 end_in s = s.base + (length s.store - s.start)
 
--- the pieces before the place begin at the address or before it, the others behind it
+-- the pieces before the index begin at the address or before it, the others after it
 abbrev pub IsPartitionPoint : List Piece → ℕ → ℕ → Type 0
 IsPartitionPoint ps a i = AllWithin (λ p. p.0 ≤ a) ps 0 i × AllWithin (λ p. a < p.0) ps i (length ps)
 
--- what the runs hold at an address, and from there on to the end of the run r, is what r holds
+-- what the runs have at an address, and from there on to the end of the run r, is what r has
 pub record IsRunAt (rs : List Run) (a : ℕ) (r : Run) : Type 0 where
   pub begins : r.base ≤ a
   pub here : lookup rs a ≡ byte_in r a
   pub further : (x : ℕ) → a ≤ x → x ≤ end_of r → lookup rs x ≡ byte_in r x
 
--- the runs hold nothing at these addresses
+-- the runs have nothing at these addresses
 abbrev pub IsGap : List Run → ℕ → ℕ → Type 0
 IsGap rs a b = (x : ℕ) → a ≤ x → x < b → lookup rs x ≡ None
 

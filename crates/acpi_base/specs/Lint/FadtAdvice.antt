@@ -1,4 +1,4 @@
--- Advice on the FADT (5.2.9). Offsets are from its start; `at` is a field's.
+-- Advice on the FADT (ACPI 6.5, 5.2.9). Offsets are from its start; `at` is a field's.
 use Rattle.std.specs.Prelude.{◌≡◌, ◌≢◌, ℕ, ◌+◌, ◌*◌, ◌<◌, ◌≤◌, ◌⊎◌, List, length, nat_le, false, if◌then◌else◌}
 use Rattle.acpi_base.specs.Number.{field}
 use Rattle.acpi_base.specs.Across.{HasIoApic, IsServed}
@@ -7,17 +7,17 @@ use Rattle.acpi_base.specs.Fadt.{is_reduced, gas_at}
 use Rattle.acpi_base.specs.Madt.{MadtEntry, Override, OverrideValue, MadtContents}
 use Rattle.acpi_base.specs.Policy.{PolicyValue}
 
--- how many bytes a FADT of this Revision has at least, those of all its fields; 0 below Revision 3, of which nothing is asked
+-- the minimum length of a FADT of this Revision, that of all its fields; 0 below Revision 3, which has no minimum here
 abbrev pub fields_length : ℕ → ℕ
 fields_length revision =
     if nat_le 6 revision then 276 else if nat_le 5 revision then 268 else if nat_le 3 revision then 244 else 0
 
--- the table is shorter than its Revision has fields: `other` is its Length, `point` that length
+-- the table is shorter than the fields of its Revision: `other` is its Length, `point` their length
 abbrev pub IsFadtOfRevision : List ℕ → ℕ → ℕ → ℕ → Type 0
 IsFadtOfRevision whole at other point =
     (at ≡ 4) × (other ≡ length whole) × (point ≡ fields_length (field whole 8 1)) × (length whole < point)
 
--- the field of 4 bytes at `narrow` and that of 8 bytes at `wide` are both there and not 0, and differ: they say `other` and
+-- the 4-byte field at `narrow` and the 8-byte one at `wide` are both present and not 0, and differ: they are `other` and
 -- `point`
 pub record DoFieldsDiffer (whole : List ℕ) (narrow wide other point : ℕ) : Type 0 where
   pub narrow_there : narrow + 4 ≤ length whole
@@ -36,8 +36,8 @@ IsFacsDiffers whole at other point = (at ≡ 36) × DoFieldsDiffer whole 36 132 
 abbrev pub IsDsdtDiffers : List ℕ → ℕ → ℕ → ℕ → Type 0
 IsDsdtDiffers whole at other point = (at ≡ 40) × DoFieldsDiffer whole 40 140 other point
 
--- register block k, from 0 to 7: the field of 4 bytes, and the address of the X_ structure, which is of system I/O; asked
--- where the hardware is not reduced
+-- register block k, from 0 to 7: the 4-byte field, and the address of the X_ structure, in system I/O; applies if the
+-- hardware is not reduced
 pub record IsBlockDiffers (whole : List ℕ) (at other point : ℕ) : Type 0 where
   pub not_reduced : is_reduced whole ≡ false
   pub k : ℕ
@@ -67,7 +67,7 @@ abbrev pub IsGsiOf : MadtContents → ℕ → ℕ → Type 0
 IsGsiOf c source g =
     IsFirstOverride c source g ⊎ (((p : ℕ) → ¬ StandsWith c.entries p (IsOverrideOf source)) × (g ≡ source))
 
--- no I/O APIC serves the interrupt number of SCI_INT, at 46, though there are some; asked where the hardware is not reduced
+-- no I/O APIC serves the interrupt number of SCI_INT, at 46, though there are some; applies if the hardware is not reduced
 pub record IsSciNowhere (q : PolicyValue) (whole : List ℕ) (c : MadtContents) (at other point : ℕ) : Type 0 where
   pub not_reduced : is_reduced whole ≡ false
   pub place : (at ≡ 46) × (other ≡ 0)

@@ -1,4 +1,4 @@
--- All that is wrong with an image, as it is reported.
+-- The faults and the advice that are reported of an image.
 use Rattle.std.specs.Prelude.{◌<◌, ◌↔◌, List, AllPairs, Contains}
 use Rattle.acpi_base.specs.Memory.{Memory}
 use Rattle.acpi_base.specs.Policy.{PolicyValue}

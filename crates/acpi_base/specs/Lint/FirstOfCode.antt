@@ -10,8 +10,8 @@ use Rattle.acpi_base.specs.declared.code.Code.{Code}
 use Rattle.acpi_base.specs.declared.code.Code.TheVariants as code
 use Rattle.acpi_base.specs.declared.witness.Witness.{Witness}
 
--- w stands after no fault with this code. The two codes of overlaps have an order of their own: w names the least interrupt
--- number that two I/O APICs serve, or the least address that two ranges cover that are compared.
+-- w comes after no fault with this code. The two codes of overlaps have their own order: w has the lowest interrupt number
+-- that two I/O APICs serve, or the lowest address that two compared ranges contain.
 abbrev pub IsLeastOfCode : Code → Memory → PolicyValue → Witness → Type 0
 IsLeastOfCode code.GsiClash m q w = HasMadt m q (λ madt. IsFirstGsiClash q madt w.at w.other w.point)
 IsLeastOfCode code.Overlap m q w = HasSrat m q (λ srat. IsFirstOverlap q.hotplug srat w.at w.other w.point)

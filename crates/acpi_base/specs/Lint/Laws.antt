@@ -10,7 +10,7 @@ use Rattle.acpi_base.specs.Lint.FirstOfCode.{IsFirstOfCode}
 use Rattle.acpi_base.specs.declared.rule.Advice.{Advice}
 use Rattle.acpi_base.specs.declared.witness.Witness.{Witness}
 
--- an image has no fault exactly where all stages hold
+-- an image has no fault exactly if all stages hold
 abbrev pub CleanWithoutFaults : Type 0
 CleanWithoutFaults = (m : Memory) (q : PolicyValue) → ((w : Witness) → ¬ Fault m q w) ↔ IsClean m q
 
@@ -32,7 +32,7 @@ abbrev pub OneFirstAdvice : Type 0
 OneFirstAdvice =
     (m : Memory) (q : PolicyValue) (a b : Advice) → a.rule ≡ b.rule → IsFirstAdvice m q a → IsFirstAdvice m q b → a ≡ b
 
--- no fault is reported exactly where all stages hold
+-- no fault is reported exactly if all stages hold
 abbrev pub NoneReportedOfClean : Type 0
 NoneReportedOfClean =
     (m : Memory) (q : PolicyValue) (faults : List Witness) → AreFirstFaults m q faults → (faults ≡ []) ↔ IsClean m q

@@ -1,4 +1,4 @@
--- Advice on the MADT (5.2.12). `at` is an entry's offset from the table's start.
+-- Advice on the MADT (ACPI 6.5, 5.2.12). `at` is an entry's offset from the table's start.
 use Rattle.std.specs.Prelude.{◌≡◌, ◌≢◌, ℕ, ◌-◌, ◌^◌, ◌<◌, ◌≤◌, ◌⊎◌, List, length, slice_index, Option, Some, None, ◌==◌, if◌then◌else◌}
 use Rattle.std.specs.Option.{option_and_then}
 use Rattle.acpi_base.specs.Entries.{AreUnused}
@@ -8,7 +8,7 @@ use Rattle.acpi_base.specs.Lint.Processors.{uid_of, uid_on, AreProcessorsRead}
 
 -- ---- processors
 
--- no processor is on; asked where the rules read all processors
+-- no processor is usable; applies if the rules read all processors
 abbrev pub IsNoProcessor : MadtContents → ℕ → ℕ → ℕ → Type 0
 IsNoProcessor c at other point =
     AreProcessorsRead c × ((uid : ℕ) → ¬ IsNamed uid_on c.entries uid) × (at ≡ 0) × AreUnused other point
@@ -19,7 +19,7 @@ nmi_uid (LocalNmi v) = if v.uid == 255 then None else Some v.uid
 nmi_uid (X2apicNmi v) = if v.uid == 2 ^ 32 - 1 then None else Some v.uid
 nmi_uid _ = None
 
--- the NMI applies to the UID `point`, which no processor has; asked where the rules read all processors
+-- the NMI applies to the UID `point`, which no processor has; applies if the rules read all processors
 abbrev pub IsNmiNowhere : MadtContents → ℕ → ℕ → ℕ → Type 0
 IsNmiNowhere c at other point =
     AreProcessorsRead c × NamesAt nmi_uid c.entries at point × (¬ IsNamed uid_of c.entries point) × (other ≡ 0)
@@ -48,7 +48,7 @@ abbrev pub gicd : MadtEntry → Option ℕ
 gicd (Opaque e) = if slice_index e 0 == 12 then Some 0 else None
 gicd _ = None
 
--- ---- entries that are not looked at
+-- ---- entries that are not checked
 
 -- the bytes of an entry that neither the stages nor these rules read
 abbrev pub IsUnreadEntry : List ℕ → Type 0
@@ -56,7 +56,7 @@ IsUnreadEntry e =
     ((6 ≤ slice_index e 0) × (slice_index e 0 ≢ 9) × (slice_index e 0 ≢ 10) × (slice_index e 0 ≢ 11) × (slice_index e 0 ≢ 12))
     ⊎ ((slice_index e 0 ≡ 11) × (length e < 40))
 
--- the entry is one; `other` is its type
+-- the entry is such an entry; `other` is its type
 abbrev pub IsMadtUnread : MadtEntry → ℕ → ℕ → Type 0
 IsMadtUnread e other point =
     ((bytes : List ℕ) × (e ≡ Opaque bytes) × IsUnreadEntry bytes × (other ≡ slice_index bytes 0)) × (point ≡ 0)

@@ -1,21 +1,21 @@
--- What rules ask of the entries of a table: of one by itself, and of numbers that stand at places, which are the offsets of
--- entries, or slots. A relation `HasAt at x` says that the number x stands at the place `at`.
+-- Rules on the entries of a table: on one by itself, and on numbers at places, which are the offsets of entries, or slots.
+-- A relation `HasAt at x` says that the number x is at the place `at`.
 use Rattle.std.specs.Prelude.{◌≡◌, ℕ, ◌<◌, ◌≤◌, List, Option, Some}
 use Rattle.acpi_base.specs.Entries.{PlacedEntry, StandsWith}
 
--- the entry that stands at `at` is one by itself, with these two numbers
+-- the entry at `at` breaks a rule by itself, with these two numbers
 abbrev pub OnEntry : {E : Type 0} → (E → ℕ → ℕ → Type 0) → List (PlacedEntry E) → ℕ → ℕ → ℕ → Type 0
 OnEntry Is entries at other point = StandsWith entries at (λ e. Is e other point)
 
--- an entry stands at o of which `read` gives the number n
+-- an entry is at o of which `read` gives the number n
 abbrev pub NamesAt : {E : Type 0} → (E → Option ℕ) → List (PlacedEntry E) → ℕ → ℕ → Type 0
 NamesAt read entries o n = StandsWith entries o (λ e. read e ≡ Some n)
 
--- an entry stands somewhere of which `read` gives the number n
+-- there is an entry of which `read` gives the number n
 abbrev pub IsNamed : {E : Type 0} → (E → Option ℕ) → List (PlacedEntry E) → ℕ → Type 0
 IsNamed read entries n = (o : ℕ) × NamesAt read entries o n
 
--- the number x stands at `at` and before it at `other`, which is the first place where it stands
+-- the number x is at `at`, and before it at `other`, which is its first place
 pub record IsLater (HasAt : ℕ → ℕ → Type 0) (at other x : ℕ) : Type 0 where
   pub here : HasAt at x
   pub earlier : HasAt other x

@@ -1,4 +1,4 @@
--- Advice on the PPTT (5.2.30), beside the MADT. `at` is an entry's offset from the start of its table.
+-- Advice on the PPTT (ACPI 6.5, 5.2.30), some with the MADT. `at` is an entry's offset from the start of its table.
 use Rattle.std.specs.Prelude.{◌≡◌, ℕ, ◌^◌, ◌≤◌, ◌⊎◌, Option, None, true, if◌then◌else◌}
 use Rattle.acpi_base.specs.Entries.{StandsWith, AreUnused}
 use Rattle.acpi_base.specs.Number.{has_bit}
@@ -15,7 +15,7 @@ IsSameLeaf c at other point = IsLater (IsLeafAt c) at other point
 abbrev pub IsPowerOfTwo : ℕ → Type 0
 IsPowerOfTwo n = (k : ℕ) × (n ≡ 2 ^ k)
 
--- the cache's Number of Sets is valid, bit 1 of its flags, and 0, or its Line Size is valid, bit 6, and no power of two
+-- the cache's Number of Sets is valid (bit 1 of its flags) and 0, or its Line Size is valid (bit 6) and no power of two
 -- (5.2.30.2)
 abbrev pub HasOddShape : CacheValue → Type 0
 HasOddShape v = ((has_bit v.flags 1 ≡ true) × (v.sets ≡ 0)) ⊎ ((has_bit v.flags 6 ≡ true) × ¬ IsPowerOfTwo v.line_size)
@@ -32,15 +32,15 @@ cache_id _ = None
 abbrev pub IsSameCacheId : PpttContents → ℕ → ℕ → ℕ → Type 0
 IsSameCacheId c at other point = (3 ≤ c.revision) × Repeats cache_id c.entries at other point
 
--- the entry of the MADT is of a processor that is on, whose UID `point` no leaf has, though there are
--- leaves; asked where the rules read all processors
+-- the entry of the MADT is a usable processor whose UID `point` no leaf has, though there are leaves; applies if the rules
+-- read all processors
 abbrev pub IsNoLeaf : MadtContents → PpttContents → ℕ → ℕ → ℕ → Type 0
 IsNoLeaf madt pptt at other point =
     AreProcessorsRead madt × ((id : ℕ) × IsLeafId pptt id) × NamesAt uid_on madt.entries at point
     × (¬ IsLeafId pptt point) × (other ≡ 0)
 
--- the leaf's ID `point` is no processor's UID; asked where the rules read all processors and the MADT has a GIC CPU interface,
--- of which the statement on leaves is silent
+-- the leaf's ID `point` is no processor's UID; applies if the rules read all processors and the MADT has a GIC CPU interface,
+-- to which stage 18 does not apply
 abbrev pub IsLeafNowhere : MadtContents → PpttContents → ℕ → ℕ → ℕ → Type 0
 IsLeafNowhere madt pptt at other point =
     AreProcessorsRead madt × ((o : ℕ) × StandsWith madt.entries o IsGicc) × IsLeafAt pptt at point

@@ -9,8 +9,8 @@ use Rattle.acpi_base.specs.Pptt as pptt
 
 -- ---- the MADT (5.2.12)
 
--- a processor: its UID, its APIC ID or x2APIC ID where it has one, and whether it is on: Enabled or Online Capable, of a GIC
--- CPU interface Enabled
+-- a processor: its UID, its APIC ID or x2APIC ID if it has one, and whether it is usable: Enabled or Online Capable; a GIC
+-- CPU interface must be Enabled
 pub record Processor : Type 0 where
   pub uid : ℕ
   pub apic_id : Option ℕ
@@ -30,21 +30,21 @@ processor_of (madt.Opaque e) =
     if is_gicc e then Some (record { uid = field e 8 4; apic_id = None; on = has_bit (field e 12 4) 0 }) else None
 processor_of _ = None
 
--- the UID of a processor, and of one that is on
+-- the UID of a processor, and of a usable one
 abbrev pub uid_of : madt.MadtEntry → Option ℕ
 uid_of e = option_map (λ p. p.uid) (processor_of e)
 
 abbrev pub uid_on : madt.MadtEntry → Option ℕ
 uid_on e = option_and_then (λ p. if p.on then Some p.uid else None) (processor_of e)
 
--- the APIC ID of a processor that has one, and of one that is on
+-- the APIC ID of a processor that has one, and of a usable one
 abbrev pub apic_id_of : madt.MadtEntry → Option ℕ
 apic_id_of e = option_and_then (λ p. p.apic_id) (processor_of e)
 
 abbrev pub apic_id_on : madt.MadtEntry → Option ℕ
 apic_id_on e = option_and_then (λ p. if p.on then p.apic_id else None) (processor_of e)
 
--- the UID of a GIC CPU interface that is on
+-- the UID of a usable GIC CPU interface
 abbrev pub gicc_uid_on : madt.MadtEntry → Option ℕ
 gicc_uid_on (madt.Opaque e) = uid_on (madt.Opaque e)
 gicc_uid_on _ = None
@@ -61,8 +61,8 @@ IsOtherProcessor (madt.Opaque e) =
     (slice_index e 0 ≡ 7) ⊎ (slice_index e 0 ≡ 17) ⊎ (slice_index e 0 ≡ 24) ⊎ ((slice_index e 0 ≡ 11) × (length e < 40))
 IsOtherProcessor _ = ⊥
 
--- The rules read all processors of the MADT. Entries of types 0 and 9 with another length than theirs are left to the fault
--- of that length.
+-- The rules read all processors of the MADT. Entries of types 0 and 9 with another length than theirs do not count: they
+-- are faults of their length.
 abbrev pub AreProcessorsRead : madt.MadtContents → Type 0
 AreProcessorsRead c = (o : ℕ) → ¬ StandsWith c.entries o IsOtherProcessor
 
@@ -101,8 +101,8 @@ any_domain e = processor_domain e
 abbrev pub IsParent : pptt.PpttContents → ℕ → Type 0
 IsParent c o = (p : ℕ) × pptt.NamesParent c p o
 
--- the leaf with this ACPI processor ID stands at o: a node whose ID is valid, bit 1 of its flags, and that says that it is a
--- leaf, bit 3; below Revision 2, which has no such bit, one that no node names as its Parent
+-- the leaf with this ACPI processor ID is at o: a node with a valid ID (bit 1 of its flags) that is marked as a leaf (bit 3);
+-- below Revision 2, which has no bit 3, one that no node names as its Parent
 abbrev pub IsLeafAt : pptt.PpttContents → ℕ → ℕ → Type 0
 IsLeafAt c o id =
     StandsWith c.entries o (λ e. (v : pptt.NodeValue) × (e ≡ pptt.Node v) × (v.id ≡ id) × (has_bit v.flags 1 ≡ true)

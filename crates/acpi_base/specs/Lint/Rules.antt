@@ -1,4 +1,4 @@
--- The rules of advice: their numbers and names, and what each finds. Offsets and numbers are as the tables' own rules say.
+-- The rules of advice: their numbers and names, and when each is broken. Offsets and numbers are as the tables' own rules say.
 use Rattle.std.specs.Prelude.{ℕ, List, [], ◌∷◌, codes}
 use Rattle.acpi_base.specs.Memory.{Memory}
 use Rattle.acpi_base.specs.Policy.{PolicyValue}

@@ -1,5 +1,5 @@
--- The tables that advice speaks of: the first listed one of its kind, where it is whole, whatever its sum, and long enough
--- for its fields.
+-- The tables that advice is about: the first listed one of its kind, if it is complete, whatever its checksum, and long
+-- enough for its fields.
 use Rattle.std.specs.Prelude.{ℕ, ◌≤◌, List, length}
 use Rattle.acpi_base.specs.Memory.{Memory}
 use Rattle.acpi_base.specs.Contents.{HasMadt, HasSrat, HasSlit}

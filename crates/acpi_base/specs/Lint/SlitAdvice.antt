@@ -1,8 +1,8 @@
--- Advice on the SLIT (5.2.17).
+-- Advice on the SLIT (ACPI 6.5, 5.2.17).
 use Rattle.std.specs.Prelude.{◌≡◌, ◌≢◌, ℕ, ◌<◌}
 use Rattle.acpi_base.specs.Slit.{SlitContents, IsCell, distance}
 
--- it is not as far from i to j, whose cell is at `at`, as from j to i, whose cell is at `other`
+-- the distance from i to j, whose cell is at `at`, differs from that from j to i, whose cell is at `other`
 pub record IsSlitDiffers (c : SlitContents) (at other point : ℕ) : Type 0 where
   pub i : ℕ
   pub j : ℕ

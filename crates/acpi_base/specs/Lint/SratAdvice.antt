@@ -1,4 +1,4 @@
--- Advice on the SRAT (5.2.16), beside the MADT and the SLIT. `at` is an entry's offset from the start of its table.
+-- Advice on the SRAT (ACPI 6.5, 5.2.16), some with the MADT or the SLIT. `at` is an entry's offset from the start of its table.
 use Rattle.std.specs.Prelude.{◌≡◌, ◌≢◌, ℕ, ◌≤◌, ◌⊎◌, List, length, slice_index, Some}
 use Rattle.acpi_base.specs.Madt.{MadtContents}
 use Rattle.acpi_base.specs.Srat.{SratEntry, Opaque, SratContents}
@@ -19,8 +19,8 @@ pub record IsTwoUidDomains (c : SratContents) (at other point : ℕ) : Type 0 wh
   pub differ : d ≢ f
   pub least : (p : ℕ) → NamesAt placed_uid c.entries p point → at ≤ p
 
--- the affinity is of the number `point`, which no processor of the MADT has: an APIC ID or x2APIC ID, or of a
--- GICC a UID; asked where the rules read all processors
+-- the affinity is for the number `point`, which no processor of the MADT has: an APIC ID or x2APIC ID, or for a GICC a UID;
+-- applies if the rules read all processors
 abbrev pub IsAffinityNowhere : MadtContents → SratContents → ℕ → ℕ → ℕ → Type 0
 IsAffinityNowhere madt srat at other point =
     AreProcessorsRead madt
@@ -28,8 +28,8 @@ IsAffinityNowhere madt srat at other point =
     ⊎ (NamesAt placed_uid srat.entries at point × ¬ IsNamed uid_of madt.entries point))
     × (other ≡ 0)
 
--- the entry of the MADT is of a processor that is on, whose number `point` no affinity has, though the SRAT has
--- some; asked where the rules read all processors
+-- the entry of the MADT is a usable processor whose number `point` no affinity has, though the SRAT has some; applies if the
+-- rules read all processors
 abbrev pub IsNoDomain : MadtContents → SratContents → ℕ → ℕ → ℕ → Type 0
 IsNoDomain madt srat at other point =
     AreProcessorsRead madt × ((d : ℕ) × IsNamed processor_domain srat.entries d)
@@ -37,7 +37,7 @@ IsNoDomain madt srat at other point =
     ⊎ (NamesAt gicc_uid_on madt.entries at point × ¬ IsNamed placed_uid srat.entries point))
     × (other ≡ 0)
 
--- the entry is of the domain `point`, and the SLIT has `other` localities, so none with this number (5.2.17)
+-- the entry's domain is `point`, and the SLIT has `other` localities, so none with this number (5.2.17)
 abbrev pub IsDomainPastSlit : ℕ → SratEntry → ℕ → ℕ → Type 0
 IsDomainPastSlit localities e other point = (any_domain e ≡ Some point) × (localities ≤ point) × (other ≡ localities)
 
@@ -45,7 +45,7 @@ IsDomainPastSlit localities e other point = (any_domain e ≡ Some point) × (lo
 abbrev pub IsUnreadEntry : List ℕ → Type 0
 IsUnreadEntry e = (4 ≤ slice_index e 0) ⊎ ((slice_index e 0 ≡ 3) × (length e ≢ 18))
 
--- the entry is one; `other` is its type
+-- the entry is such an entry; `other` is its type
 abbrev pub IsSratUnread : SratEntry → ℕ → ℕ → Type 0
 IsSratUnread e other point =
     ((bytes : List ℕ) × (e ≡ Opaque bytes) × IsUnreadEntry bytes × (other ≡ slice_index bytes 0)) × (point ≡ 0)

@@ -70,8 +70,8 @@ address_line_of rest =
     then Address (hex_number 0 digits)
     else Bad
 
--- pairs of hex digits, with any blanks between pairs and after the last. `bytes` are those of the pairs
--- so far, and `high` is the first digit of a pair that has begun.
+-- pairs of hex digits, with any blanks between pairs and after the last. `bytes` are those of the pairs so far, and `high`
+-- is the first digit of an incomplete pair.
 unfoldable pub data_from : List ℕ → Option ℕ → List ℕ → Line
 data_from bytes None [] = Data bytes
 data_from bytes (Some high) [] = Bad
@@ -121,13 +121,12 @@ take_line r n (Address address) = Ok (record r { next = Some address })
 take_line r n (Data bytes) = put_data r n bytes r.next
 take_line r n Bad = Err (text.BadLine n)
 
--- whether a line that has come to this many bytes makes itself or the text too long; `through` is the
--- text's bytes up to the line's end
+-- whether a line of so many bytes so far is too long, or makes the text too long; `through` is the text's bytes up to the
+-- line's end
 abbrev pub is_too_long : ℕ → ℕ → Bool
 is_too_long line_bytes through = nat_lt max_line line_bytes || nat_lt max_text through
 
--- the next line is read: first its length, and then what it says. `ending` is 1 where an LF ends it, and
--- 0 where the text does.
+-- the next line is read: first its length, and then what it says. `ending` is 1 if an LF ends it, and 0 if the text does.
 unfoldable pub read_line : Reading → List ℕ → ℕ → Result Reading TextFault
 read_line r line ending =
     let through = r.through + length line + ending in
@@ -156,7 +155,7 @@ ended_lines bytes = ended_lines_from [] bytes
 abbrev pub last_line : List ℕ → List ℕ
 last_line bytes = last_line_from [] bytes
 
--- a whole text is read: its ended lines, and then what stands after the last LF as a line
+-- a complete text is read: its ended lines, and then what comes after the last LF as a line
 abbrev pub read_text : List ℕ → Result Reading TextFault
 read_text bytes = on_ok (read_lines start (ended_lines bytes)) (λ r. read_line r (last_line bytes) 0)
 

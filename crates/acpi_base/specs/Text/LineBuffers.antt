@@ -1,4 +1,4 @@
--- What a reader of a text in pieces keeps, and what it stands for.
+-- What a reader of a text in pieces keeps, as a state of the text machine.
 use Rattle.std.specs.Prelude.{◌≡◌, ◌+◌, ◌≤◌, ℕ, List, length, Option, Some, None, Result, Ok, Err, false}
 use Rattle.std.specs.Io.KnownBytes.{Consumes}
 use Rattle.acpi_base.specs.declared.text.image_text.line_buffer.LineBuffer.{LineBuffer}
@@ -7,7 +7,7 @@ use Rattle.acpi_base.specs.Text.ImageText.{Reading, is_too_long}
 use Rattle.acpi_base.specs.Text.Lines.{judged}
 use Rattle.acpi_base.specs.Text.TextMachine.{ReaderState, Going, IsGoing, Stopped, initial_state, run}
 
--- the state within a line, by where reading stands between two lines
+-- the state within a line, by the state of reading between two lines
 abbrev pub state_with : Result Reading TextFault → List ℕ → ReaderState
 state_with (Ok r) line = Going r line
 state_with (Err fault) line = Stopped fault
@@ -35,7 +35,7 @@ abbrev pub IsReader : Option TextFault → LineBuffer → Type 0
 IsReader None f = IsLineBuffer f × IsGoing (buffer_state f)
 IsReader (Some fault) f = Unit {0}
 
--- The reader has read a text of so many bytes, and this is the machine's state behind it.
+-- The reader has read a text of so many bytes, and this is the machine's state after it.
 pub record HasRead (before left : Option (List ℕ)) (state : ReaderState) (count : ℕ) : Type 0 where
   pub text : List ℕ
   pub consumed : Consumes before left text

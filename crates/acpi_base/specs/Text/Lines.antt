@@ -1,4 +1,4 @@
--- What the reader of lines keeps and returns, in the words of image text.
+-- What the parser of lines keeps and returns, in terms of image text.
 use Rattle.std.specs.Prelude.{◌≡◌, ◌⊎◌, ℕ, List, length, Bool, true, false, Result, Ok, Err}
 use Rattle.acpi_base.specs.Memory.{Memory}
 use Rattle.acpi_base.specs.Text.ImageText.{Line, Blank, Address, Data, Bad, Reading}
@@ -9,7 +9,7 @@ use Rattle.acpi_base.specs.declared.text.image_text.line.Form.{Form}
 use Rattle.acpi_base.specs.declared.text.image_text.line.Form.TheVariants as form
 use Rattle.acpi_base.specs.declared.text.image_text.line_parser.LineParser.{LineParser}
 
--- what a line says, where the code holds a data line's bytes apart from the form
+-- what a line says; the code keeps a data line's bytes separately from the form
 abbrev pub line_with : Form → List ℕ → Line
 line_with form.Blank bytes = Blank
 line_with (form.Address address) bytes = Address address
@@ -29,7 +29,7 @@ IsData said count = (bytes : List ℕ) × (said ≡ Data bytes) × (length bytes
 abbrev pub reading_with : LineParser → Memory → Reading
 reading_with p m = record { lines = p.lines; through = p.through; next = p.next; image = m }
 
--- the state of a reading that stops at the first repeated address, by what the data so far comes to
+-- the state of a reading that stops at the first repeated address, by the result of adding the data so far
 abbrev pub judged_by : LineParser → Result Memory ℕ → Result Reading TextFault
 judged_by p (Ok m) = Ok (reading_with p m)
 judged_by p (Err address) = Err (text.Twice address)
@@ -37,11 +37,11 @@ judged_by p (Err address) = Err (text.Twice address)
 abbrev pub judged : LineParser → Result Reading TextFault
 judged p = judged_by p p.image
 
--- the fault of a text in which this one was met: a repeated address before it takes precedence
+-- the fault of a text in which this one was found: a repeated address before it takes precedence
 abbrev pub told : Result Memory ℕ → TextFault → TextFault
 told (Ok m) fault = fault
 told (Err address) fault = text.Twice address
 
--- what the definition gives is this fault of the text, unless memory ran out
+-- the definition gives this fault of the text, unless memory ran out
 abbrev pub Refuses : {A : Type 0} → Result A TextFault → TextFault → Type 0
 Refuses read fault = (fault ≡ text.Memory) ⊎ ((read ≡ Err fault) × (is_of_text fault ≡ true))

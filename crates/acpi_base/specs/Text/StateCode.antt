@@ -1,4 +1,4 @@
--- The state of a reader of a text, as numbers and lists: what the model of such a reader is stored as.
+-- The state of a reader of a text as numbers and lists, which the model of such a reader is stored as.
 use Rattle.std.specs.Prelude.{◌≡◌, ◌⊎◌, ◌==◌, ℕ, List, Option, if◌then◌else◌, refl}
 use mathlib.Core.Logic.{inl, inr}
 use Rattle.std.specs.Coded.{Coded, code_by, coded×, coded⊎, coded_list, coded_option, coded_ℕ}

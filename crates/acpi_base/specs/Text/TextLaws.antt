@@ -1,4 +1,4 @@
--- What the laws of image text say.
+-- The laws of image text.
 use Rattle.std.specs.Prelude.{◌≡◌, ◌↔◌, ◌⊎◌, ℕ, List, ◌++◌, true}
 use Rattle.acpi_base.specs.Text.ImageText.{read_text, read_prefix, IsText, IsRefused, IsRefusedPrefix}
 use Rattle.acpi_base.specs.Memory.{Memory}
@@ -7,7 +7,7 @@ use Rattle.acpi_base.specs.Text.TextReading.{is_of_text}
 use Rattle.acpi_base.specs.Text.TextMachine.{ReaderState, Stopped, initial_state, run, text_result, prefix_result}
 use Rattle.acpi_base.specs.declared.text.TextFault.{TextFault}
 
--- a whole text, byte by byte and by lines
+-- a complete text, byte by byte and by lines
 abbrev pub RunReadsText : Type 0
 RunReadsText = (bytes : List ℕ) → text_result (run initial_state bytes) ≡ read_text bytes
 
@@ -19,11 +19,11 @@ RunReadsPrefix = (bytes : List ℕ) → prefix_result (run initial_state bytes) 
 abbrev pub RunStopsAtFaults : Type 0
 RunStopsAtFaults = (bytes : List ℕ) (fault : TextFault) → (run initial_state bytes ≡ Stopped fault) ↔ IsRefusedPrefix bytes fault
 
--- it doesn't matter how the bytes are cut into pieces
+-- how the bytes are cut into pieces does not matter
 abbrev pub RunGoesOn : Type 0
 RunGoesOn = (s : ReaderState) (xs ys : List ℕ) → run s (xs ++ ys) ≡ run (run s xs) ys
 
--- a fault in a prefix of a text is the whole text's, whatever comes after
+-- a fault in a prefix of a text is the complete text's, whatever comes after
 abbrev pub PrefixDecides : Type 0
 PrefixDecides = (bytes more : List ℕ) (fault : TextFault) → IsRefusedPrefix bytes fault → IsRefused (bytes ++ more) fault
 
@@ -39,7 +39,7 @@ TextOrFault = (bytes : List ℕ) → ((m : Memory) × IsGoodText bytes m) ⊎ ((
 abbrev pub NeverBoth : Type 0
 NeverBoth = (bytes : List ℕ) (m : Memory) (fault : TextFault) → IsGoodText bytes m → ¬ IsRefused bytes fault
 
--- what a text is refused with is a fault of the text: no failed read, and not being out of memory
+-- what a text is refused with is a fault of the text: neither a failed read nor out of memory
 abbrev pub RefusalsAreOwn : Type 0
 RefusalsAreOwn = (bytes : List ℕ) (fault : TextFault) → IsRefused bytes fault → is_of_text fault ≡ true
 

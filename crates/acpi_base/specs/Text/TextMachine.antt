@@ -1,12 +1,12 @@
--- Reading a text byte by byte: what a reader of text in pieces keeps. `acpi_base::laws::machine_reads_lines`
--- says that it agrees with reading by lines.
+-- Reading a text byte by byte: the state of a reader of text in pieces. `acpi_base::laws::machine_reads_lines` says that it
+-- agrees with reading by lines.
 use Rattle.std.specs.Prelude.{◌≡◌, ℕ, ◌+◌, List, [], ◌∷◌, ◌++◌, length, Result, Ok, Err, ◌==◌, if◌then◌else◌}
 use Rattle.acpi_base.specs.Text.ImageText.{Reading, start, read_line, is_too_long}
 use Rattle.acpi_base.specs.Memory.{Memory}
 use Rattle.acpi_base.specs.declared.text.TextFault.{TextFault}
 use Rattle.acpi_base.specs.declared.text.TextFault.TheVariants as text
 
--- the state of a reader: within a line, of which these bytes have come, or stopped for good
+-- the state of a reader: within a line, of which these bytes have come, or stopped
 pub data ReaderState : Type 0 where
   Going : Reading → List ℕ → ReaderState
   Stopped : TextFault → ReaderState
@@ -38,16 +38,16 @@ abbrev pub text_result : ReaderState → Result Reading TextFault
 text_result (Going r line) = read_line r line 0
 text_result (Stopped fault) = Err fault
 
--- what a prefix of a text stands for
+-- the result of reading a prefix of a text
 abbrev pub prefix_result : ReaderState → Result Reading TextFault
 prefix_result (Going r line) = Ok r
 prefix_result (Stopped fault) = Err fault
 
--- no fault stands in what has come
+-- there is no fault in what has come
 abbrev pub IsGoing : ReaderState → Type 0
 IsGoing (Going r line) = Unit {0}
 IsGoing (Stopped fault) = ⊥
 
--- the text for which this stands has no fault at its end, and its data is this image
+-- the text read so far has no fault at its end, and its data is this image
 abbrev pub EndsAs : ReaderState → Memory → Type 0
 EndsAs s m = (r : Reading) × (text_result s ≡ Ok r) × (r.image ≡ m)

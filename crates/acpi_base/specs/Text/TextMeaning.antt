@@ -1,16 +1,16 @@
--- What a good image text means, with no reading from line to line: its lines, the address at which each byte
--- of its data stands, and the image that they make.
+-- What a good image text means, without reading it line by line: its lines, the address of each byte of its data, and the
+-- image that they make.
 use Rattle.std.specs.Prelude.{◌≡◌, ◌↔◌, ℕ, ◌+◌, ◌^◌, ◌<◌, ◌≤◌, List, [], ◌∷◌, ◌++◌, length, map, Some}
 use Rattle.std.specs.List.{All, Contains, flat_map, join_with_byte, slice_get}
 use Rattle.acpi_base.specs.Memory.{Memory, byte_of}
 use Rattle.acpi_base.specs.Text.ImageText.{Line, Blank, Address, Data, Bad, line_of, ended_lines, last_line, max_text, max_line}
 
--- the lines of a text: those that an LF ends, and what stands after the last LF
+-- the lines of a text: those that an LF ends, and what comes after the last LF
 abbrev pub text_lines : List ℕ → List (List ℕ)
 text_lines bytes = ended_lines bytes ++ last_line bytes ∷ []
 
 -- These are the lines of a text: joined by LFs they make the text, and none of them has an LF. There is
--- always one, which may be empty. `acpi_base::laws::lines_mean` ties this to `text_lines`.
+-- always one, which may be empty. `acpi_base::laws::lines_mean` relates this to `text_lines`.
 pub record AreLines (bytes : List ℕ) (lines : List (List ℕ)) : Type 0 where
   pub some : 0 < length lines
   pub joined : join_with_byte 10 lines ≡ bytes
@@ -31,9 +31,8 @@ data_of Bad = []
 abbrev pub all_data : List Line → List ℕ
 all_data lines = flat_map data_of lines
 
--- Byte n of all the data stands at address a. A line says an address, and right behind it comes a block of
--- lines of which none says an address: the data of the block stands from that address on, and byte n of all
--- the data is byte k of the block's.
+-- Byte n of all the data is at address a. A line gives an address, and directly after it comes a block of lines of which
+-- none gives an address: the data of the block begins at that address, and byte n of all the data is byte k of the block's.
 pub record IsDataByteAt (lines : List Line) (n a : ℕ) : Type 0 where
   pub before : List Line
   pub address : ℕ
@@ -46,8 +45,8 @@ pub record IsDataByteAt (lines : List Line) (n a : ℕ) : Type 0 where
   pub byte : n ≡ length (all_data before) + k
   pub place : a ≡ address + k
 
--- The text and each of its lines are short enough, and no line is bad. Each byte of the data stands at an
--- address, which is below 2^64, and no two stand at one. The image has these bytes there, and no others.
+-- The text and each of its lines are short enough, and no line is bad. Each byte of the data has an address below 2^64, and
+-- no two have the same one. The image has these bytes there, and no others.
 pub record IsGoodText (bytes : List ℕ) (m : Memory) : Type 0 where
   pub text_fits : length bytes ≤ max_text
   pub lines_fit : All (λ line. length line ≤ max_line) (text_lines bytes)

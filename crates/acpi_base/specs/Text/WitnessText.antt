@@ -14,7 +14,7 @@ use Rattle.acpi_base.specs.declared.verdict.Verdict.TheVariants.{Yes, No}
 unfoldable pub hex_text : ℕ → List ℕ
 hex_text n = codes "0x" ++ digits 16 false n
 
--- the stage in decimal, the code's name, and the three numbers, one blank between
+-- the stage in decimal, the code's name, and the three numbers, separated by single blanks
 unfoldable pub witness_line : Witness → List ℕ
 witness_line w =
     decimal (stage_number (stage_of w.code)) ++ codes " " ++ code_name w.code
@@ -25,7 +25,7 @@ abbrev pub verdict_line : Verdict → List ℕ
 verdict_line Yes = codes "yes\n"
 verdict_line (No w) = codes "no " ++ witness_line w ++ codes "\n"
 
--- `advice`, the rule's name, and the three numbers, one blank between, and the line's end
+-- `advice`, the rule's name, and the three numbers, separated by single blanks, and the line's end
 unfoldable pub advice_line : Advice → List ℕ
 advice_line a =
     codes "advice " ++ rule_name a.rule
@@ -33,11 +33,11 @@ advice_line a =
 
 -- ---- the parts of a fault's text
 
--- words stand between blanks
+-- words are between blanks
 abbrev pub is_no_blank : ℕ → Bool
 is_no_blank b = not (b == 32)
 
--- these are the words of a text: it has them with one blank between two, and none but the last has a blank
+-- these are the words of a text: it has them with one blank between two, and only the last may have a blank
 pub record AreWords (text stage name at other point : List ℕ) : Type 0 where
   pub stage_whole : list_all is_no_blank stage ≡ true
   pub name_whole : list_all is_no_blank name ≡ true

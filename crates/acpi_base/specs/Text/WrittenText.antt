@@ -1,5 +1,5 @@
 -- The written form of an image: for each run of present addresses, in rising order, `@` and its first address, and then its
--- bytes, 16 a line. Digits are in lower case, addresses without leading zeros, and each line ends with LF.
+-- bytes, 16 a line. Digits are in lower case, addresses have no leading zeros, and each line ends with LF.
 use Rattle.std.specs.Prelude.{◌≡◌, ℕ, zero, suc, ◌+◌, ◌/◌, ◌%◌, ◌<◌, ◌≤◌, List, [], ◌∷◌, ◌++◌, length, take, drop, Some, None, IsSome, false}
 use Rattle.std.specs.List.{flat_map}
 use Rattle.std.specs.FinMap.{empty}
@@ -10,27 +10,27 @@ use Rattle.acpi_base.specs.Image.Runs.{Run, end_of, IsComplete}
 
 -- ---- the runs of an image
 
--- runs in rising order, from an address on, with at least one address between each two
+-- runs in rising order, from an address on, with at least one address between two
 abbrev pub AreSortedRuns : ℕ → List Run → Type 0
 AreSortedRuns from [] = Unit {0}
 AreSortedRuns from (r ∷ rs) = (from ≤ r.base) × IsComplete r × AreSortedRuns (end_of r + 1) rs
 
--- an image with what the runs hold put in
+-- an image with the bytes of the runs put in
 unfoldable pub with_runs : Memory → List Run → Memory
 with_runs m [] = m
 with_runs m (r ∷ rs) = with_runs (with_bytes m r.base r.bytes) rs
 
--- an image holds nothing from an address on
+-- an image has nothing from an address on
 abbrev pub IsEmptyFrom : Memory → ℕ → Type 0
 IsEmptyFrom m from = (x : ℕ) → from ≤ x → byte_of m x ≡ None
 
--- the least address that an image holds, of those from an address on
+-- the lowest address of an image, of those from an address on
 pub record IsFirstFrom (m : Memory) (from first : ℕ) : Type 0 where
   pub from_there : from ≤ first
   pub none_before : (x : ℕ) → from ≤ x → x < first → byte_of m x ≡ None
   pub present : IsSome (byte_of m first)
 
--- these bytes are the first that an image holds from an address on, up to the next address that is not present
+-- these bytes are the first of an image from an address on, up to the next address that is not present
 pub record IsNextRun (m : Memory) (from base : ℕ) (bytes : List ℕ) : Type 0 where
   pub first : IsFirstFrom m from base
   pub present : bytes_at m base (length bytes) ≡ Some bytes
@@ -52,7 +52,7 @@ unfoldable pub row : List ℕ → List ℕ
 row [] = []
 row (b ∷ rest) = pair b ++ spaced_pairs rest
 
--- n lines of 16 bytes each, the last of those that are left
+-- n lines of 16 bytes each; the last has those that remain
 unfoldable pub rows : ℕ → List ℕ → List (List ℕ)
 rows zero bytes = []
 rows (suc n) bytes = row (take 16 bytes) ∷ rows n (drop 16 bytes)
@@ -90,7 +90,7 @@ pub record IsWritten (text : List ℕ) (m : Memory) : Type 0 where
 
 -- ---- its laws
 
--- the written form of an image is read as the image, where a text may be so long
+-- the written form of an image is read as the image, unless it is too long for a text
 abbrev pub WrittenIsText : Type 0
 WrittenIsText = (text : List ℕ) (m : Memory) → IsWritten text m → length text ≤ max_text → IsText text m
 

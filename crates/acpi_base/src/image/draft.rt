@@ -71,8 +71,8 @@ fn first_twice(pieces: &[(u64, Span)], count: usize) -> Option<u64>
     Some(found)
 }
 
-/// Whether the pieces came in the order of their addresses, with at least one address without a byte between each two, as
-/// those of firmware do.
+/// Whether the pieces came in the order of their addresses, with at least one address without a byte between each two,
+/// as those of firmware do.
 fn are_apart(pieces: &[(u64, Span)]) -> bool
     requires { AllByRecursion (λ p. 0 < p.1.len) pieces.now }
     ensures { result ≡ true → AreSegmentsApart pieces.now }
@@ -211,9 +211,9 @@ fn open(
     Ok(())
 }
 
-/// An image in the making, to which pieces are added in any order. `first_twice` and `finish` say whether an address came
-/// twice. Contracts see what the pieces hold, or the first address that came twice. The time grows with the number
-/// of bytes, and with n log n for n pieces.
+/// An image in the making, to which pieces are added in any order. `first_twice` and `finish` say whether an address
+/// came twice. Contracts see the bytes of the pieces, or the first address that came twice. The time grows with the
+/// number of bytes, and with n log n for n pieces.
 #[derive(Drop)]
 pub struct DraftImage {
     store: Vec<u8>,
@@ -294,8 +294,8 @@ impl DraftImage {
         judge(&store, &mut pieces)
     }
 
-    /// The same for a draft to which more is added. The list of pieces is copied, unless they came in the order of their
-    /// addresses.
+    /// The same for a draft to which more is added. The list of pieces is copied, unless they came in the order of
+    /// their addresses.
     pub fn first_twice_so_far(&self) -> Result<Option<u64>, AllocError>
         ensures { IfOk result (λ found. MatchOption found ((m : Memory) × (self.now ≡ Ok m))
             (λ address. self.now ≡ Err address)) }

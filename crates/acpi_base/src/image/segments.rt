@@ -1,7 +1,7 @@
 //! The segments of an image: its bytes in the order of their addresses, found by binary search.
 //!
-//! There is an address without a byte between two segments. All bytes are in one store. The last segment is open: it has
-//! the store's bytes from `start` on, so bytes that follow it are appended. If it is empty, none is open.
+//! There is an address without a byte between two segments. All bytes are in one store. The last segment is open: it
+//! has the store's bytes from `start` on, so bytes that follow it are appended. If it is empty, none is open.
 
 ghost use Rattle.std.specs.Prelude.{◌≡◌, ◌+◌, ◌-◌, ◌^◌, ◌<◌, ◌≤◌, ℕ, None, IfSome, IsSome, OnOk, OnErr, IfOk, MatchOption, length, take, drop};
 ghost use Rattle.std.specs.Option.{option_map, option_or};
@@ -115,7 +115,8 @@ impl Segments {
         Some(self.ended[place - 1])
     }
 
-    /// Where the bytes from an address on are, up to the next address without a byte. None if that is the address itself.
+    /// Where the bytes from an address on are, up to the next address without a byte. None if that is the address
+    /// itself.
     fn span_from(&self, address: u64) -> Span
         requires { IsValid self.now }
         ensures lies { result.start + result.len ≤ length self.now.store }
@@ -318,8 +319,8 @@ impl Segments {
         Ok(all)
     }
 
-    /// Adds bytes at free addresses. After all others they are appended; otherwise the segments are laid out anew, which
-    /// copies all bytes.
+    /// Adds bytes at free addresses. After all others they are appended; otherwise the segments are laid out anew,
+    /// which copies all bytes.
     pub fn put(&mut self, alloc: Global, base: u64, bytes: &[u8]) -> Result<(), AllocError>
         requires valid { IsValid self.old }
         requires some { 0 < length bytes.now }

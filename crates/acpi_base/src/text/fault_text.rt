@@ -50,8 +50,8 @@ pub fn verdict_text(alloc: Global, verdict: &Verdict) -> Result<Vec<u8>, AllocEr
     }
 }
 
-/// The line of advice: `advice`, the rule's name and its three numbers in lower case hex, separated by single blanks, and an LF,
-/// as in `advice SameUid 0x64 0x5c 0x6`.
+/// The line of advice: `advice`, the rule's name and its three numbers in lower case hex, separated by single blanks,
+/// and an LF, as in `advice SameUid 0x64 0x5c 0x6`.
 #[tactic(auto, unfolding(crate::specs::Text::WitnessText::advice_line))]
 pub fn advice_text(alloc: Global, advice: &Advice) -> Result<Vec<u8>, AllocError>
     ensures { IfOk result (λ text. text.items ≡ advice_line advice.now) }

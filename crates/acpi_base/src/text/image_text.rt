@@ -31,21 +31,21 @@ const PIECE: usize = 32_768;
 
 /// An image text that comes in pieces, which may end anywhere. Of the text only the incomplete last line is kept.
 ///
-/// A line is judged when its LF comes or the text ends; `TooLong` is returned at the first byte too many. The text is refused
-/// with the fault of its first line that has one. Lines count from 1. In one line the faults have this order:
-/// 1. `TooLong`: the line has more than 65,536 bytes, its LF not counted, or the text through its LF more
-///    than 67,108,864.
+/// A line is judged when its LF comes or the text ends; `TooLong` is returned at the first byte too many. The text is
+/// refused with the fault of its first line that has one. Lines count from 1. In one line the faults have this order:
+/// 1. `TooLong`: the line has more than 65,536 bytes, its LF not counted, or the text through its LF more than
+///    67,108,864.
 /// 2. `BadLine`: the line is neither an address, nor data, nor blank.
 /// 3. `NoAddress`: it is data, and no line before it gave an address.
 /// 4. `PastEnd`: its data passes the address 2^64 - 1, even if the data before it ends there.
 /// 5. `Twice`: an address of its data has a byte already; the lowest such address.
 ///
-/// `Memory`: out of memory for the line or the image. Until the text is refused, it can be returned instead of any other
-/// result. A refused text stays refused with the same fault.
+/// `Memory`: out of memory for the line or the image. Until the text is refused, it can be returned instead of any
+/// other result. A refused text stays refused with the same fault.
 ///
-/// Each `feed` goes over the list of the image's pieces so far, to see whether an address came twice, and copies and sorts it
-/// if they did not come in the order of their addresses. If there are many of them, `parse_image` and `read_image`, which
-/// look only once, take less time.
+/// Each `feed` goes over the list of the image's pieces so far, to see whether an address came twice, and copies and
+/// sorts it if they did not come in the order of their addresses. If there are many of them, `parse_image` and
+/// `read_image`, which look only once, take less time.
 #[derive(Drop)]
 pub struct ImageText {
     buffer: LineBuffer,
@@ -115,11 +115,11 @@ impl ImageText {
     }
 }
 
-/// Reads a text, and returns the image of its data. A read of no bytes is the end. Refuses as `ImageText` does, and with
-/// `Read` if a read failed, and neither the complete lines nor the lengths so far have a fault.
+/// Reads a text, and returns the image of its data. A read of no bytes is the end. Refuses as `ImageText` does, and
+/// with `Read` if a read failed, and neither the complete lines nor the lengths so far have a fault.
 ///
-/// It stops at the first fault, except that a text that gives an address twice may be read on past that line, at most to
-/// its end. If a read fails there, that is counted, but the text is refused with `Twice`. With any other result than
+/// It stops at the first fault, except that a text that gives an address twice may be read on past that line, at most
+/// to its end. If a read fails there, that is counted, but the text is refused with `Twice`. With any other result than
 /// `Twice` and `Read` no read failed. At most 67,108,865 bytes are read, so a reader that never ends is refused.
 /// Whatever is returned, what was read is gone from the reader.
 pub fn read_image<R: Read>(alloc: Global, reader: &mut Tally<R>) -> Result<Image, TextFault>
@@ -152,10 +152,11 @@ pub fn read_image<R: Read>(alloc: Global, reader: &mut Tally<R>) -> Result<Image
     }
 }
 
-/// The image of a whole text. Refuses as `ImageText` does.
+/// The image of a complete text. Refuses as `ImageText` does.
 ///
-/// It copies no part of the text but its data. So it returns `Memory` only at a line of data that has an address and does not
-/// pass the last one, if no line before it has a fault; or at the end of a text without a fault, when the image is laid out.
+/// It copies no part of the text but its data. So it returns `Memory` only at a line of data that has an address and
+/// does not pass the last one, if no line before it has a fault; or at the end of a text without a fault, when the
+/// image is laid out.
 pub fn parse_image(alloc: Global, text: &[u8]) -> Result<Image, TextFault>
     ensures ok { IfOk result (IsText text.now) }
     ensures err { IfErr result (λ fault. (fault ≡ TextFault.Memory) ⊎ IsRefused text.now fault) }

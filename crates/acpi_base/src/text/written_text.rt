@@ -26,7 +26,7 @@ fn put_pair(line: &mut [u8], at: usize, byte: u8)
     line[at + 2] = digits[1];
 }
 
-/// Adds a line of bytes. It is made beside the text, and appended at once.
+/// Adds a line of bytes, which is made in a buffer and appended at once.
 #[tactic(auto, using(crate::proofs::Texts::Written::Rows::pairs), unfolding(crate::specs::Text::WrittenText::row, crate::specs::Text::WrittenText::spaced_pairs))]
 fn write_row(text: &mut Vec<u8>, bytes: &[u8]) -> Result<(), AllocError>
     requires some { 0 < length bytes.now }
@@ -67,8 +67,8 @@ fn write_run(
 /// its bytes, 16 per line, as pairs of hex digits separated by single blanks. Digits are in lower case, the address has
 /// no leading zeros, and each line ends with LF.
 ///
-/// An image has one such text. `read_image` reads it as the image if it has at most 67,108,864 bytes, and refuses a longer
-/// one with `TooLong`.
+/// An image has one such text. `read_image` reads it as the image if it has at most 67,108,864 bytes, and refuses a
+/// longer one with `TooLong`.
 #[tactic(auto, using(crate::proofs::Texts::Written::WrittenRuns::written_runs))]
 pub fn image_text(alloc: Global, image: &Image) -> Result<Vec<u8>, AllocError>
     ensures { IfOk result (λ text. IsWritten text.items image.now) }

@@ -10,7 +10,6 @@ use Rattle.acpi_base.specs.Text.ImageText.{Address, Data, digit_of, is_hex_digit
 use Rattle.acpi_base.specs.Text.WrittenText.{pair, spaced_pairs, row, address_line}
 use Rattle.acpi_base.proofs.Texts.DataLines.{blank_read}
 
--- a glyph is read as its digit
 pub glyph_read : (d : ℕ) → d < 16 → digit_of (digit_glyph false d) ≡ Some d
 unfolding digit_of
 glyph_read d h =
@@ -72,7 +71,6 @@ no_comment_len (c ∷ line) all =
 no_comment : (line : List ℕ) → AllByRecursion Plain line → without_comment line ≡ line
 no_comment line all = take_all (prefix_len (λ b. not (b == 35)) line) line (omega (arith, no_comment_len line all))
 
--- a plain line that begins with no blank is read from its first byte
 plain_line : (c : ℕ) (line : List ℕ) → 33 ≤ c → AllByRecursion Plain (c ∷ line)
     → line_of (c ∷ line) ≡ form_of (c ∷ line)
 unfolding line_of skip_blanks
@@ -106,7 +104,6 @@ unfolding spaced_pairs
 length-spaced_pairs [] = refl
 length-spaced_pairs (b ∷ bs) = omega (arith, length-spaced_pairs bs)
 
--- a pair is read as its byte
 pair_read : (bytes : List ℕ) (b : ℕ) (rest : List ℕ) → b < 256
     → data_from bytes None (pair b ++ rest) ≡ data_from (bytes ++ b ∷ []) None rest
 unfolding data_from
@@ -156,7 +153,7 @@ length-row (b ∷ bs) = omega (arith, length-spaced_pairs bs)
 
 -- ---- address lines
 
--- lower case hex digits of n in front of others
+-- lower case hex digits of n before others
 record AreDigits (n : ℕ) (ds rest : List ℕ) : Type 0 where
   number : hex_number 0 ds ≡ hex_number n rest
   some : 0 < length ds
@@ -239,7 +236,6 @@ hex_plain : (ds : List ℕ) → AllByRecursion HexGlyph ds → AllByRecursion Pl
 hex_plain [] all = tt
 hex_plain (d ∷ ds) all = (plain_glyph d all.0.0, hex_plain ds all.1)
 
--- an address of digits alone
 address_read : (ds : List ℕ) (a : ℕ) → AllByRecursion HexGlyph ds → 0 < length ds → length ds ≤ 16 → hex_number 0 ds ≡ a
     → address_line_of ds ≡ Address a
 unfolding address_line_of

@@ -39,7 +39,6 @@ byte_of-with_runs m (r ∷ rs) bound x up =
 abbrev Alike : List Run → List Run → Type 0
 Alike rs ss = (x : ℕ) → lookup rs x ≡ lookup ss x
 
--- the first run's byte, and none behind it
 here : (r : Run) (rs : List Run) (x : ℕ) → r.base ≤ x → x < end_of r
     → lookup (r ∷ rs) x ≡ Some (get_or r.bytes (x - r.base) 0)
 here r rs x l h = ap (λ (o : Option ℕ). option_or o (lookup rs x)) (present_at r x l h)
@@ -50,7 +49,6 @@ behind r rs x h = ap (λ (o : Option ℕ). option_or o (lookup rs x)) (present_n
 nothing_some : {o : Option ℕ} {b : ℕ} → o ≡ None → o ≡ Some b → ⊥
 nothing_some none some = cc
 
--- no run begins before the other, nor ends before it
 not_before : (bound bound' : ℕ) (r s : Run) (rs ss : List Run) → AreSortedRuns bound (r ∷ rs)
     → AreSortedRuns bound' (s ∷ ss) → Alike (r ∷ rs) (s ∷ ss) → s.base ≤ r.base
 not_before bound bound' r s rs ss a b alike =

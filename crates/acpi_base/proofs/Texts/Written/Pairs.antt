@@ -1,4 +1,4 @@
--- The two digits that the library `hex` writes of a byte are those of the written form.
+-- The two digits that the library `hex` writes for a byte are those of the written form.
 use Rattle.std.proofs.Common.{◌≡◌, ℕ, zero, suc, ◌+◌, ◌/◌, ◌%◌, ◌<◌, ◌≤◌, Bool, true, false, ◌&&◌, List, [], ◌∷◌, ◌++◌, length, take, get_or, slice_index, slice_set, refl, ◌∙◌, arith, append_assoc, inl, inr}
 use Rattle.std.specs.Prelude.{◌==◌}
 use Rattle.std.specs.Fmt.{digit_glyph}
@@ -34,7 +34,6 @@ pair_encoded b fits =
     let low = digit_encoded (b % 16) (omega arith) in
     rw (high, low) refl
 
--- three writes in a row, seen from the front
 three_writes : (xs : List ℕ) (o x y z : ℕ) → o + 3 ≤ length xs
     → take (o + 3) (slice_set (slice_set (slice_set xs o x) (o + 1) y) (o + 2) z) ≡ take o xs ++ x ∷ y ∷ z ∷ []
 three_writes xs o x y z fits =
@@ -50,7 +49,6 @@ three_writes xs o x y z fits =
     rw (next, third, more, second, first)
     (append_assoc (take o xs ++ x ∷ []) (y ∷ []) (z ∷ []) ∙ append_assoc (take o xs) (x ∷ []) (y ∷ z ∷ []))
 
--- a blank and the digits of a byte, written in a row
 pub pair_put : (xs digits : List ℕ) (o b : ℕ) → o + 3 ≤ length xs → b < 256 → digits ≡ encode_lower (b ∷ [])
     → take (o + 3) (slice_set (slice_set (slice_set xs o 32) (o + 1) (get_or digits 0 0)) (o + 2) (get_or digits 1 0))
     ≡ take o xs ++ 32 ∷ pair b

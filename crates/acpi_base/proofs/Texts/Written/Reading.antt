@@ -17,7 +17,7 @@ use Rattle.acpi_base.proofs.Images.RunBytes.{byte_of-with_bytes_within, byte_of-
 use Rattle.acpi_base.proofs.Images.ByteRuns.{first_of_none}
 use Rattle.acpi_base.proofs.Texts.Written.Lines.{Plain, row_line, row_plain, length-row, address_line_is, ended_line, last_of_line}
 
--- reading these lines goes well, and puts these bytes in
+-- these lines are read without a fault, and put these bytes in
 record Reads (r : Reading) (lines : List (List ℕ)) (next : ℕ) (m : Memory) : Type 0 where
   reading : Reading
   read : read_lines r lines ≡ Ok reading
@@ -28,7 +28,7 @@ record Reads (r : Reading) (lines : List (List ℕ)) (next : ℕ) (m : Memory) :
 fits_text : (line_bytes through : ℕ) → line_bytes ≤ 65536 → through ≤ 67108864 → is_too_long line_bytes through ≡ false
 fits_text line_bytes through short fits = rw (le-ltb 65536 line_bytes short, le-ltb 67108864 through fits) refl
 
--- a line that is short enough is taken for what it says
+-- a line that is short enough is read as what it says
 read_short : (r : Reading) (line : List ℕ) (ending : ℕ) (said : Line) → line_of line ≡ said → length line ≤ 65536
     → r.through + length line + ending ≤ 67108864
     → read_line r line ending ≡ take_line (record r { lines = r.lines + 1; through = r.through + length line + ending })
@@ -52,7 +52,6 @@ lines_append r (x ∷ xs) ys s e =
       | Err fault ↦ λ f. absurd (cc)
     ] e
 
--- nothing is refused behind the end
 none_refused : (m : Memory) (a : ℕ) (bytes : List ℕ) → IsEmptyFrom m a → a + length bytes ≤ 2 ^ 64
     → add_refusal m a bytes ≡ None
 none_refused m a bytes below fits =
@@ -89,7 +88,6 @@ row_read r a bytes next below fits some few low short =
       through_is = omega (arith, joined, joined');
     }
 
--- bytes put in one part after the other
 pub put_parts : (m : Memory) (a : ℕ) (xs ys : List ℕ)
     → with_bytes (with_bytes m a xs) (a + length xs) ys ≡ with_bytes m a (xs ++ ys)
 put_parts m a xs ys =
@@ -133,7 +131,6 @@ text_append (x ∷ xs) ys =
 length-text_append : (xs ys : List (List ℕ)) → length (text_of (xs ++ ys)) ≡ length (text_of xs) + length (text_of ys)
 length-text_append xs ys = ap length (text_append xs ys) ∙ length-append (text_of xs) (text_of ys)
 
--- some lines, and then others
 reads_both : (r : Reading) (xs ys : List (List ℕ)) (a b : ℕ) (m n : Memory) → (first : Reads r xs a m)
     → Reads first.reading ys b n → Reads r (xs ++ ys) b n
 reads_both r xs ys a b m n first rest = record {
@@ -196,7 +193,6 @@ rows_read (suc n) r a bytes next below fits few many low short =
     (subst (λ (m : Memory). Reads r (row (take 16 bytes) ∷ rows n (drop 16 bytes))
     (a + length (take 16 bytes) + length (drop 16 bytes)) m) image both)
 
--- an address line is read
 address_taken : (r : Reading) (a : ℕ) → a < 2 ^ 64 → r.through + length (text_of (address_line a ∷ [])) ≤ 67108864
     → Reads r (address_line a ∷ []) a r.image
 address_taken r a fits short =
@@ -215,7 +211,6 @@ address_taken r a fits short =
       through_is = omega (arith, joined, joined');
     }
 
--- a run is read
 run_read : (r : Reading) (bound : ℕ) (w : Run) → IsEmptyFrom r.image bound → bound ≤ w.base → IsComplete w
     → r.through + length (text_of (run_lines w)) ≤ 67108864
     → Reads r (run_lines w) (end_of w) (with_bytes r.image w.base w.bytes)
@@ -301,7 +296,6 @@ runs_plain (w ∷ rs) bound up =
       rows_plain (row_count w.bytes) w.bytes up.1.bytes,
     ) (runs_plain rs (end_of w + 1) up.2)
 
--- an empty last line changes no image
 empty_line : line_of [] ≡ Blank
 unfolding line_of skip_blanks form_of
 empty_line = refl

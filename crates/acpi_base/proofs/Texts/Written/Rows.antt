@@ -17,13 +17,11 @@ spaced_all bs i h = ap spaced_pairs (drop_all i bs h)
 
 pub ruleset pairs = (spaced_more, spaced_all, append_assoc, append-nil)
 
--- pairs without the first blank are a line
 without_blank : (bs : List ℕ) → 0 < length bs → drop 1 (spaced_pairs bs ++ 10 ∷ []) ≡ line_with_lf (row bs)
 unfolding spaced_pairs row
 without_blank [] some = absurd (omega arith)
 without_blank (b ∷ bs) some = refl
 
--- what was made of a line, with its LF
 pub made_line : (bs made : List ℕ) (end n : ℕ) → 0 < length bs → end < length made → take end made ≡ spaced_pairs bs
     → n ≡ end → take n (drop 1 (set made end 10)) ≡ line_with_lf (row bs)
 made_line bs made end n some fits is same =
@@ -62,7 +60,6 @@ first_part x later count =
           )
     ]
 
--- the next line is that of the next 16 bytes
 pub rows_next : (rest x later : List ℕ) → rest ≡ x ++ later → length x ≡ min 16 (length rest) → 0 < length rest
     → text_of (rows (row_count rest) rest) ≡ line_with_lf (row x) ++ text_of (rows (row_count later) later)
 rows_next rest x later is count some =

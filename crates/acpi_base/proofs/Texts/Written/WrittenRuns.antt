@@ -14,7 +14,7 @@ use Rattle.acpi_base.proofs.Images.RunBytes.{byte_of-with_bytes_within, byte_of-
 use Rattle.acpi_base.proofs.Images.ByteRuns.{run_of-each}
 use Rattle.acpi_base.proofs.Texts.Written.Reading.{text_append}
 
--- rising runs, behind which another may begin at an address
+-- rising runs, after which another may begin at an address
 abbrev RiseTo : ℕ → List Run → ℕ → Type 0
 RiseTo from [] next = from ≤ next
 RiseTo from (r ∷ rs) next = (from ≤ r.base) × IsComplete r × RiseTo (end_of r + 1) rs next
@@ -48,7 +48,7 @@ written_none : runs_text [] ≡ []
 unfolding runs_text
 written_none = refl
 
--- the text is written of all that an image holds below an address
+-- the text has all bytes of an image below an address
 pub record IsWrittenTo (text : List ℕ) (m : Memory) (from : ℕ) : Type 0 where
   pub runs : List Run
   pub next : ℕ
@@ -76,7 +76,6 @@ begin m = record {
 some_none : {o : Option ℕ} → IsSome o → o ≡ None → ⊥
 some_none present none = absurd (cc)
 
--- the next run is whole
 whole_run : (m : Memory) (from base : ℕ) (bytes : List ℕ) → IsImage m → IsNextRun m from base bytes
     → IsComplete (record { base = base; bytes = bytes })
 whole_run m from base bytes image run =
@@ -135,7 +134,6 @@ more text m from base bytes image so_far run =
       past = λ x h. put x ∙ byte_of-with_bytes_outside old base bytes x (inr h) ∙ so_far.past x (omega (arith, start));
     }
 
--- where nothing is present from there on, it is the image's
 pub whole_text : (text : List ℕ) (m : Memory) (from : ℕ) → IsWrittenTo text m from → IsEmptyFrom m from
     → IsWritten text m
 whole_text text m from so_far none = record {
@@ -148,7 +146,6 @@ whole_text text m from so_far none = record {
   is = so_far.text_is;
 }
 
--- a text of all below 2^64 is the image's
 pub last_text : (text : List ℕ) (m : Memory) (from : ℕ) → IsImage m → 2 ^ 64 ≤ from → IsWrittenTo text m from
     → IsWritten text m
 last_text text m from image end so_far =

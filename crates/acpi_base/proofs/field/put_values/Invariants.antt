@@ -2,7 +2,7 @@ use Rattle.std.proofs.Common.{◌≡◌, ◌+◌, ◌++◌, length, take, drop}
 use Rattle.acpi_base.specs.Layouts.{FitValues, values_bytes, values_size}
 use Rattle.acpi_base.proofs.field.put_values.Given as goal
 
--- what was written, with the values that are left, is the whole
+-- what was written, with the values that remain, is the complete result
 abbrev pub invariant-loop-value : goal.invariant-loop-value
 invariant-loop-value l =
     (take l.offset l.out ++ values_bytes (drop l.value-index l.values) ≡ values_bytes l.values)

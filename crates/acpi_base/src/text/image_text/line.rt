@@ -109,8 +109,8 @@ fn parse_address(rest: &[u8]) -> Form
     Form::Address(number_value(&rest[..count]))
 }
 
-/// How many bytes the line has, which is pairs of hex digits, with any blanks between pairs and after the last; none for
-/// another line. Needs no memory.
+/// How many bytes the line has, which is pairs of hex digits, with any blanks between pairs and after the last; none
+/// for another line. Needs no memory.
 #[tactic(auto, unfolding(crate::specs::Text::ImageText::data_from), using(crate::proofs::Texts::LineParsing::one_more))]
 fn data_count(line: &[u8]) -> Option<usize>
     ensures { MatchOption result (data_from [] None line.now ≡ Bad)
@@ -170,8 +170,8 @@ fn parse_data(line: &[u8], bytes: &mut Vec<u8>) -> Result<bool, NoMemory>
     Ok(true)
 }
 
-/// What a line says, without its LF. The bytes of a data line replace the contents of the vector. Memory runs out only for
-/// them, so only at a line of data.
+/// What a line says, without its LF. The bytes of a data line replace the contents of the vector. Memory runs out only
+/// for them, so only at a line of data.
 #[tactic(auto, unfolding(crate::specs::Text::ImageText::line_of, crate::specs::Text::ImageText::form_of))]
 pub fn parse_line(line: &[u8], bytes: &mut Vec<u8>) -> Result<Form, NoMemory>
     ensures ok { IfOk result (λ form. line_with form bytes.new.items ≡ line_of line.now) }

@@ -16,7 +16,7 @@ use crate::text::TextFault;
 use std::alloc::Global;
 
 /// What has been read, and the incomplete last line. Reading goes on after a line that gives an address twice:
-/// `take_and_judge` and `first_fault` tell that.
+/// `take_and_judge` and `first_fault` report it.
 #[derive(Drop)]
 pub struct LineBuffer {
     parser: LineParser,
@@ -141,8 +141,8 @@ impl LineBuffer {
         }
     }
 
-    /// The first fault of the text, given the one that reading has met: an address may have come twice before that. Needs
-    /// no memory.
+    /// The first fault of the text, given the one that reading has met: an address may have come twice before that.
+    /// Needs no memory.
     pub fn first_fault(self, fault: TextFault) -> TextFault
         ensures { result ≡ told self.parser.image fault }
     {

@@ -20,8 +20,8 @@ pub const MAX_LINE: usize = 65_536;
 /// The address after the last one.
 const END: u128 = 1 << 64;
 
-/// Parses one line after another: what was read so far, and the data. Reading goes on after a line that gives an address
-/// twice.
+/// Parses one line after another: what was read so far, and the data. Reading goes on after a line that gives an
+/// address twice.
 #[derive(Drop)]
 pub struct LineParser {
     /// How many lines were read.
@@ -196,8 +196,8 @@ impl LineParser {
         }
     }
 
-    /// The first fault of the text, given the one that reading has met: an address may have come twice before that. Needs
-    /// no memory.
+    /// The first fault of the text, given the one that reading has met: an address may have come twice before that.
+    /// Needs no memory.
     pub fn first_fault(self, fault: TextFault) -> TextFault
         ensures { result ≡ told self.image fault }
     {

@@ -52,7 +52,7 @@ returns-clause-same c =
     ∙ sym (byte_of_memory_of (runs_in c.args.store.now pieces) x))
     ∙ ap (λ ps. memory_of (runs_in c.args.store.now ps)) c.deref.ensures.value))
 
--- the pieces, of which no address comes twice
+-- the pieces, if no address comes twice
 laid : (store : List ℕ) (ps qs : List Piece) (found : Option ℕ) → AreDrafted store ps → IsPermutation ps qs
     → IsNonDecreasingBy (λ p. p.0) qs → found ≡ None
     → MatchOption found ((x : ℕ) → holder_count ps x < 2) (λ address. all_added empty (runs_in store ps) ≡ Err address)

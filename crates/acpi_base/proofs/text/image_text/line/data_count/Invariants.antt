@@ -3,7 +3,7 @@ use Rattle.std.specs.Prelude.{None}
 use Rattle.acpi_base.specs.Text.ImageText.{data_from}
 use Rattle.acpi_base.proofs.text.image_text.line.data_count.Given as goal
 
--- the line goes on so from the bytes so far, of which there are so many
+-- the line continues so from the bytes so far, of which there are so many
 abbrev pub invariant-loop-first : goal.invariant-loop-first
 invariant-loop-first l =
     (spelled : List ℕ) × (data_from spelled None l.rest ≡ data_from [] None l.line) × (length spelled ≡ l.count)

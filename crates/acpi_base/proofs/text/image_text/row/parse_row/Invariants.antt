@@ -3,7 +3,7 @@ use Rattle.std.specs.Prelude.{None}
 use Rattle.acpi_base.specs.Text.ImageText.{data_from}
 use Rattle.acpi_base.proofs.text.image_text.row.parse_row.Given as goal
 
--- the line goes on so from the bytes so far
+-- the line continues so from the bytes so far
 abbrev pub invariant-loop-k : goal.invariant-loop-k
 invariant-loop-k l = record {
   long : length l.line ≡ 47;
