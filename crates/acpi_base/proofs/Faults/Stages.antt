@@ -152,7 +152,7 @@ fits m q w image policy stage.Ranges (whole, is, fault) =
     (omega arith, omega arith, omega arith)
 fits m q w image policy stage.Slit (whole, is, fault) =
     let (small, short) = listed_fits image is in
-    let size = slit.size_is whole in
+    let size = slit.slit_size whole in
     let (at, other, point) = slit.place (slit_contents whole) w.code w.at w.other w.point fault in
     (omega arith, omega arith, omega arith)
 fits m q w image policy stage.Pptt (whole, is, fault) =

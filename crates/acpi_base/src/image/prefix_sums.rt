@@ -62,6 +62,7 @@ pub struct PrefixSums {
 
 impl Model for PrefixSums {
     ghost use Rattle.std.specs.Prelude.{ℕ, List};
+    ghost use Rattle.acpi_base.specs.Image.Runs.{HasAllSums};
 
     ghost Value = { List ℕ };
 
