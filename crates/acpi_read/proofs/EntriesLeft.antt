@@ -1,4 +1,4 @@
--- The entries that are left in a table behind its first one.
+-- The entries that remain in a table after its first one.
 use Rattle.std.proofs.Common.{◌≡◌, ◌∙◌, ℕ, ◌≤◌, List, length, drop, min, Option, Some, None, inl, inr, refl, sym, arith, length-drop}
 use Rattle.std.proofs.Math.Nat.{min-eq_left, min-eq_right}
 use Rattle.std.proofs.lemmas.Bool.{cases_lt}
@@ -10,7 +10,6 @@ use Rattle.acpi_base.proofs.EntrySteps as step
 use Rattle.acpi_base.specs.Entries.{first_entry, entries_of, cut_of}
 use Rattle.acpi_read.specs.Entries.{IsLast, IsNext}
 
--- what is left where no entry stands, and where one does
 is_last : (offset : ℕ) (whole : List ℕ) → first_entry (drop offset whole) ≡ None → IsLast offset whole
 unfolding cut_of
 is_last offset whole none =
@@ -30,19 +29,17 @@ is_next offset whole e within is =
       cut = rw next.end refl;
     }
 
--- what stands at an offset decides what is left from there on
+-- the entry at an offset, or none, decides what remains from there on
 pub last_or_next : (offset : ℕ) (whole : List ℕ) (found : Option (Bor (List ℕ))) → offset ≤ length whole
     → option_map (λ entry. entry.now) found ≡ first_entry (drop offset whole)
     → MatchOption found (IsLast offset whole) (λ entry. IsNext offset whole entry.now)
 last_or_next offset whole None within is = is_last offset whole (sym is)
 last_or_next offset whole (Some e) within is = is_next offset whole e.now within (sym is)
 
--- from its end on, and past it, a table has no entries and no cut
 past_end : (offset : ℕ) (whole : List ℕ) → length whole ≤ offset → IsLast offset whole
 unfolding first_entry
 past_end offset whole past = is_last offset whole (rw (drop_all offset whole past) refl)
 
--- so one that ends before its first entry's place may be read from its end on
 pub entries_within : (first : ℕ) (whole : List ℕ) → entries_of (min first (length whole)) whole ≡ entries_of first whole
 entries_within first whole =
     elim (cases_lt (length whole) first) [

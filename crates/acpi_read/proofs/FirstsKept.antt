@@ -1,4 +1,4 @@
--- The first table of each kind, once another table comes behind those before it.
+-- The first table of each kind, once one more table is added.
 use Rattle.std.proofs.Common.{◌≡◌, ℕ, List, Option, Some, None, true, false, refl, sym, subst, inl, inr}
 use Rattle.std.specs.Prelude.{is_none, is_some, ◌&&◌, if◌then◌else◌}
 use Rattle.std.proofs.lemmas.Bool.{cases_Bool, both_ways}
@@ -10,12 +10,10 @@ use Rattle.acpi_base.proofs.Tables.Kinds.{one_kind}
 use Rattle.acpi_read.specs.FirstTables.{first_signed, first_signed_table}
 use Rattle.acpi_read.specs.declared.first_tables.Listed.{Listed}
 
--- there is a value where one was made of it
 pub some_of_map : {X Y : Type 0} (f : X → Y) (o : Option X) → is_some (option_map f o) ≡ is_some o
 some_of_map f (Some x) = refl
 some_of_map f None = refl
 
--- there is none where none was made of it
 none_of_map : {X Y : Type 0} (f : X → Y) (o : Option X) → option_map f o ≡ None → o ≡ None
 none_of_map f (Some x) none = absurd cc
 none_of_map f None none = refl
@@ -28,7 +26,6 @@ none_of_some : (found : Option (List ℕ)) → is_some found ≡ true → is_non
 none_of_some (Some whole) some = refl
 none_of_some None some = absurd cc
 
--- a table is the first of no kind where there is a first of its own
 pub first_of_none : (whole : List ℕ) (one kind : TableKind) (firsts : TableKind → Option (List ℕ))
     → has_signature whole (signature_of one) ≡ true
     → is_some (firsts one) ≡ true → (has_signature whole (signature_of kind) && is_none (firsts kind)) ≡ false
@@ -39,7 +36,6 @@ first_of_none whole one kind firsts has some =
       | inr other ↦ rw other refl
     ]
 
--- the first of its own kind is kept, and those of the others stay
 pub first_kept : (next : Listed) (one kind : TableKind) (old new : TableKind → Option Listed)
     → has_signature next.table (signature_of one) ≡ true
     → option_map (λ (first : Listed). first.table) (old one) ≡ None → new one ≡ Some next
@@ -53,7 +49,6 @@ first_kept next one kind old new has none kept others =
           (subst (λ (k : TableKind). has_signature next.table (signature_of k) ≡ true) (sym same) has)))
     ]
 
--- the bytes of the first one with a signature
 pub bytes_of_first : (signature : List ℕ) (old : Option Listed) (next : Listed) {new : Option Listed}
     → new ≡ first_signed signature old next
     → option_map (λ (first : Listed). first.table) new

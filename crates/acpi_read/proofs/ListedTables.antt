@@ -1,4 +1,4 @@
--- What a root's slots list first is what the set lists.
+-- The first table in a root table's slots is the one that the set lists.
 use Rattle.std.proofs.Common.{◌≡◌, ℕ, Option, Some, None, List, sym, ap, subst}
 use Rattle.std.specs.Prelude.{MatchOption}
 use Rattle.std.specs.Option.{option_map}
@@ -15,17 +15,14 @@ pub listed_of_set : {m : Memory} {p a : ℕ} {root : RootValue} {signature heade
     → IsFirstListed m root.bytes root.width signature a → IsTable m a header whole → IsListedTable m p signature whole
 listed_of_set root first table = listed_in_root root.named root.table first table
 
--- a set that lists a table has a root
 pub root_of_listed : {m : Memory} {p : ℕ} {signature whole : List ℕ} (listed : IsListedTable m p signature whole)
     → IsCompleteRoot m p (record { address = listed.first.r; width = listed.first.d; bytes = listed.first.whole })
 root_of_listed listed = record { named = listed.first.root; table = listed.first.table }
 
--- and the table comes first in its slots
 pub first_of_listed : {m : Memory} {p : ℕ} {root : RootValue} {signature whole : List ℕ} → IsCompleteRoot m p root
     → (listed : IsListedTable m p signature whole) → IsFirstListed m root.bytes root.width signature listed.a
 first_of_listed root listed = listed_of_root root.named root.table listed.first
 
--- the table at the first address is the set's
 pub table_of_set : {m : Memory} {p a : ℕ} {root : RootValue} {signature whole : List ℕ} → IsCompleteRoot m p root
     → IsFirstListed m root.bytes root.width signature a → (listed : IsListedTable m p signature whole)
     → IsTable m a listed.header whole
@@ -33,7 +30,6 @@ table_of_set {m} {a = a} {root = root} {signature = signature} {whole = whole} i
     subst (λ (b : ℕ). IsTable m b listed.header whole)
     (one_first_listed m root.bytes root.width signature listed.a a (first_of_listed is listed) first) listed.table
 
--- what holds of a value or of none follows from what does
 pub match_map : {A : Type 0} {N N' : Type 0} {S S' : A → Type 0} (o : Option A) → (N → N') → ((a : A) → S a → S' a)
     → MatchOption o N S → MatchOption o N' S'
 match_map None none some here = none here

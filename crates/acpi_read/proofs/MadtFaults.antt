@@ -12,11 +12,10 @@ use Rattle.acpi_read.specs.EntryTables.{EntryTable, entry_table, subject_of, IsA
 use Rattle.acpi_read.specs.EntryFaults.{madt_codes, madt_own_code}
 use Rattle.acpi_read.specs.declared.entry_codes.Subject.TheVariants as subject
 
--- as a table of entries
+-- the MADT as a table of entries
 abbrev madt_table : PolicyValue → EntryTable MadtEntry
 madt_table q = entry_table 44 madt_entry (MadtEntryFault q) IsAddressOverride
 
--- the lowest fault that an entry can have is one, if it has any
 pub madt_lowest : (q : PolicyValue) (c : Code) (e : MadtEntry) → MadtEntryFault q c e
     → MadtEntryFault q (madt_own_code e) e × (code_number (madt_own_code e) ≤ code_number c)
 madt_lowest q code.MadtEntryLength (Opaque e) wrong = (wrong, omega arith)

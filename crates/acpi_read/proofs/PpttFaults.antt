@@ -10,11 +10,10 @@ use Rattle.acpi_read.specs.EntryTables.{EntryTable, entry_table, subject_of, IsA
 use Rattle.acpi_read.specs.EntryFaults.{pptt_codes, pptt_own_code}
 use Rattle.acpi_read.specs.declared.entry_codes.Subject.TheVariants as subject
 
--- as a table of entries
+-- the PPTT as a table of entries
 abbrev pptt_table : EntryTable PpttEntry
 pptt_table = entry_table 36 pptt_entry PpttEntryFault (λ e. ⊥)
 
--- the lowest fault that an entry can have is one, if it has any
 pub pptt_lowest : (c : Code) (e : PpttEntry) → PpttEntryFault c e
     → PpttEntryFault (pptt_own_code e) e × (code_number (pptt_own_code e) ≤ code_number c)
 pptt_lowest code.PpttEntryLength e wrong = (wrong, omega arith)

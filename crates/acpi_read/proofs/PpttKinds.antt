@@ -18,14 +18,12 @@ use Rattle.acpi_read.specs.declared.pptt.node_head.NodeHead.{NodeHead}
 
 -- ---- heads of nodes
 
--- bytes with the values of a head have its length
 length_of : (h : NodeHead) (e : List ℕ) → values_at 0 node_head_parts e ≡ node_head_values h → HasNodeLength e
 length_of h e same =
     let length : field e 1 1 ≡ 20 + 4 * h.count = cc in
     let count : field e 16 4 ≡ h.count = cc in
     omega arith
 
--- and so have those that are written
 pub written_length : (h : NodeHead) (out : List ℕ) → out ≡ layout_bytes node_head_parts (node_head_values h)
     → FitLayout node_head_parts (node_head_values h) → HasNodeLength out
 written_length h out is fit =
@@ -33,21 +31,18 @@ written_length h out is fit =
 
 -- ---- nodes
 
--- what is an entry of type 0, and has the length of its private resources, is a node
 node_says : (e : List ℕ) → IsEntry e → slice_index e 0 ≡ 0 → HasNodeLength e → pptt_entry e ≡ Node (node_of e)
 unfolding pptt_entry has_node_form has_form
 node_says e is typed counted =
     let count : length e ≡ 20 + 4 * resource_count e = omega (arith, is.said, byte_field e 1) in
     grind (arith, nat_tests)
 
--- and else it is none
 no_node_says : (e : List ℕ) → IsEntry e → slice_index e 0 ≡ 0 → ¬ HasNodeLength e → pptt_entry e ≡ Opaque e
 unfolding pptt_entry has_node_form has_cache_form has_form
 no_node_says e is typed not =
     let other : ¬ (length e ≡ 20 + 4 * resource_count e) = λ count. not (omega (arith, is.said, byte_field e 1)) in
     grind (arith, nat_tests)
 
--- the first 20 bytes have the length exactly where all have it
 length_in_head : (e : List ℕ) → (HasNodeLength (take 20 e) → HasNodeLength e)
     × (HasNodeLength e → HasNodeLength (take 20 e))
 length_in_head e = (
@@ -55,21 +50,17 @@ length_in_head e = (
   λ has. omega (arith, field-take e 20 1 1, field-take e 20 16 4),
 )
 
--- the references behind the head
 pub references_of : (e : List ℕ) (j : ℕ) → field (drop 20 e) (4 * j) 4 ≡ field e (20 + 4 * j) 4
 unfolding field
 references_of e j = grind (arith, drop-drop (4 * j) 20 e)
 
--- lists of numbers that are the same one by one
 same_numbers : (f g : ℕ → ℕ) → ((j : ℕ) → f j ≡ g j) → (js : List ℕ) → map f js ≡ map g js
 same_numbers f g same [] = refl
 same_numbers f g same (j ∷ js) = (let rest = same_numbers f g same js in rw (same j, rest) refl)
 
--- nodes that say the same are one
 one_node : (v w : NodeValue) → v.flags ≡ w.flags → v.parent ≡ w.parent → v.id ≡ w.id → v.resources ≡ w.resources → v ≡ w
 one_node v w flags parent id resources = search rules
 
--- what is read as a head and references is what a node says
 node_is : (e references : List ℕ) (h : NodeHead) → references ≡ drop 20 e
     → values_at 0 node_head_parts (take 20 e) ≡ node_head_values h → node_value h references ≡ node_of e
 node_is e references h back same =
@@ -117,7 +108,6 @@ node_short e is typed short = no_node_says e is typed (λ has. omega (arith, is.
 
 -- ---- caches
 
--- an entry of type 1 is a cache of one of the two lengths
 cache_decides : (e : List ℕ) → slice_index e 0 ≡ 1
     → ((length e ≡ 24) ⊎ (length e ≡ 28) → pptt_entry e ≡ Cache (cache_of e))
     × (length e ≢ 24 → length e ≢ 28 → pptt_entry e ≡ Opaque e)
@@ -133,7 +123,6 @@ cache24_typed e v is = sym ((cache_decides e is.typed).0 (inl is.count) ∙ ap C
 pub cache28_typed : (e : List ℕ) (v : CacheValue) → IsEntryOf cache28 e v → Cache v ≡ pptt_entry e
 cache28_typed e v is = sym ((cache_decides e is.typed).0 (inr is.count) ∙ ap Cache is.value)
 
--- of another length it is none
 pub caches_opaque : (e : List ℕ) → slice_index e 0 ≡ 1 → length e ≢ 24 → length e ≢ 28 → pptt_entry e ≡ Opaque e
 caches_opaque e typed not_short not_long = (cache_decides e typed).1 not_short not_long
 

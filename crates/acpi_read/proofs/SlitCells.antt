@@ -14,8 +14,6 @@ use Rattle.acpi_base.proofs.Slit.{excludes, slit_size, slit_count, slit_distance
 use Rattle.acpi_base.proofs.Faults.Deciding.{not_other}
 use Rattle.acpi_read.specs.Slits.{HasRows, IsValidCell, AreValidTo, IsFirstSlitFault}
 
--- ---- what a SLIT's bytes say
-
 -- ---- valid cells
 
 pub right_size : (whole : List ℕ) (n : ℕ) → HasRows whole n → HasSlitSize (slit_contents whole)
@@ -25,7 +23,6 @@ pub distance_at : (whole : List ℕ) (n i j : ℕ) → HasRows whole n
     → slice_index whole (44 + n * i + j) ≡ distance (slit_contents whole) i j
 distance_at whole n i j rows = grind (arith, slit_distance whole i j, rows.count)
 
--- where a cell is valid, so are those before the next one
 next_cell : (c : SlitContents) (i j : ℕ) → AreValidTo c i j → IsValidCell i j (distance c i j) → AreValidTo c i (j + 1)
 next_cell c i j before here =
     record {
@@ -44,7 +41,6 @@ valid_cell whole n i j rows before high ten =
     record { least = high; diagonal = λ same. not_other _ 10 (λ other. ten (same, other)) } in
     next_cell (slit_contents whole) i j before (rw (distance_at whole n i j rows) at here)
 
--- where a row is valid, so are those above the next one
 pub valid_row : (whole : List ℕ) (n i j : ℕ) → HasRows whole n → AreValidTo (slit_contents whole) i j → n ≤ j
     → AreValidTo (slit_contents whole) (i + 1) 0
 valid_row whole n i j rows before all =
@@ -59,7 +55,6 @@ valid_row whole n i j rows before all =
       left = λ b less. absurd (omega arith);
     }
 
--- where all rows are, the table is
 pub valid_rows : (whole : List ℕ) (n i : ℕ) → HasRows whole n → AreValidTo (slit_contents whole) i 0 → n ≤ i
     → IsValidSlit (slit_contents whole)
 valid_rows whole n i rows all last =
@@ -71,7 +66,6 @@ valid_rows whole n i rows all last =
 
 -- ---- the first fault
 
--- a cell that is not valid is the first one, or stands behind it
 later_cell : (c : SlitContents) (i j a b : ℕ) → AreValidTo c i j → j < c.count → b < c.count
     → ¬ IsValidCell a b (distance c a b)
     → (cell_place c i j < cell_place c a b) ⊎ ((a ≡ i) × (b ≡ j))
@@ -91,8 +85,7 @@ later_cell c i j a b before inside column not =
           ]
     ]
 
--- a fault of a table of the right size is that of a cell which is not valid, and above the diagonal's it is not the
--- least
+-- a fault of a table of the right size is that of a cell that is not valid; off the diagonal its code is at least 49
 record IsOfCell (c : SlitContents) (fault : Code) (at : ℕ) : Type 0 where
   a : ℕ
   b : ℕ
@@ -125,7 +118,7 @@ cell_of c code.SlitLow at other point size ((_, (a, b, cell, low)), _, _) =
     }
 cell_of c _ at other point size fault = absurd fault.0
 
--- no fault stands before that of a cell
+-- no fault comes before that of a cell
 least_of : (c : SlitContents) (i j number : ℕ) → HasSlitSize c → j < c.count → AreValidTo c i j
     → (number ≤ 48) ⊎ ((number ≤ 49) × (i ≢ j))
     → (other : Code) (at second third : ℕ) → SlitFault c other at second third
@@ -145,7 +138,6 @@ least_of c i j number size column before small other at second third fault =
           inr (omega (arith, found.cell.place), code)
     ]
 
--- the cell is one of the table's, at its place
 pub cell_at : (whole : List ℕ) (n i j : ℕ) → HasRows whole n → i < n → j < n
     → IsCell (slit_contents whole) i j (44 + n * i + j)
 cell_at whole n i j rows row column =
@@ -179,7 +171,6 @@ first_low whole n i j rows row column before ten low =
           (inr (omega arith, apart)));
     }
 
--- no fault stands before that of a table which is too short
 least_short : (c : SlitContents) → c.size < 44 → (other : Code) (at second third : ℕ)
     → SlitFault c other at second third → (0 < at) ⊎ ((0 ≡ at) × (46 ≤ code_number other))
 least_short c short code.SlitShort at second third fault = inr (sym fault.0.1, omega arith)
@@ -194,7 +185,6 @@ first_short whole less =
     let short : (slit_contents whole).size < 44 = omega (arith, slit_size whole) in
     record { stage = refl; fault = ((short, refl), refl, refl); least = least_short (slit_contents whole) short }
 
--- nor before that of a table with another number of cells
 least_size : (c : SlitContents) → 44 ≤ c.size → ¬ HasSlitSize c → (other : Code) (at second third : ℕ)
     → SlitFault c other at second third → (36 < at) ⊎ ((36 ≡ at) × (47 ≤ code_number other))
 least_size c long not code.SlitShort at second third fault = absurd (omega (arith, fault.0.0))
@@ -211,7 +201,6 @@ first_size whole least other =
     let not : ¬ HasSlitSize (slit_contents whole) = λ is. other (grind (arith, slit_size whole, slit_count whole)) in
     record { stage = refl; fault = ((long, not, refl), refl, refl); least = least_size (slit_contents whole) long not }
 
--- a SLIT with a first fault is not valid
 pub not_valid : (c : SlitContents) (w : Witness) → IsFirstSlitFault c w → ¬ IsValidSlit c
 not_valid c w first = excludes c w.code w.at w.other w.point first.fault
 

@@ -10,11 +10,10 @@ use Rattle.acpi_read.specs.EntryTables.{EntryTable, entry_table, subject_of, IsA
 use Rattle.acpi_read.specs.EntryFaults.{srat_codes, srat_own_code}
 use Rattle.acpi_read.specs.declared.entry_codes.Subject.TheVariants as subject
 
--- as a table of entries
+-- the SRAT as a table of entries
 abbrev srat_table : EntryTable SratEntry
 srat_table = entry_table 48 srat_entry SratEntryFault (λ e. ⊥)
 
--- the lowest fault that an entry can have is one, if it has any
 pub srat_lowest : (c : Code) (e : SratEntry) → SratEntryFault c e
     → SratEntryFault (srat_own_code e) e × (code_number (srat_own_code e) ≤ code_number c)
 srat_lowest code.SratEntryLength (Opaque e) wrong = (wrong, omega arith)

@@ -1,4 +1,4 @@
--- The entries of a table: what a view of them represents, and tables that they fill.
+-- The entries of a table: what a view of them represents, and tables that they fill (ACPI 6.5, 5.2.12, 5.2.16, 5.2.30).
 use Rattle.std.specs.Prelude.{◌≡◌, ℕ, ◌≤◌, List, length, None, [], ◌∷◌, Option, Some, ◌+◌, ◌<◌}
 use Rattle.acpi_base.specs.Entries.{Stands, cut_of, PlacedEntry, entries_read_by, IsEntry, entries_of}
 use Rattle.acpi_base.specs.Madt as madt

@@ -1,4 +1,4 @@
--- The faults of a table that consists of entries, if its entries are looked at each by itself.
+-- The faults of a table of entries, if each entry is checked by itself.
 use Rattle.std.specs.Prelude.{◌≡◌, ℕ, ◌<◌, Bool, false, List, length, Option, Some, None, ◌==◌, if◌then◌else◌}
 use Rattle.acpi_base.specs.Codes.{code_number, stage_of}
 use Rattle.acpi_base.specs.Entries.{PlacedEntry, StandsWith, AreUnused, entries_of, cut_of, entries_read_by}
@@ -26,8 +26,8 @@ subject_of codes c =
 
 -- ---- the faults
 
--- a table that consists of entries: the first entry's place, what an entry's bytes say, the faults that an entry has by
--- itself, by their code, and the entries of which a table has at most one
+-- a table of entries: the offset of the first entry, what an entry's bytes say, the faults that an entry has by itself, by
+-- their code, and the entries of which a table has at most one
 pub record EntryTable (E : Type 0) : Type 1 where
   pub first : ℕ
   pub read : List ℕ → E
@@ -48,8 +48,8 @@ IsAbout t whole Cut c at other point = (cut_of t.first whole ≡ Some at) × Are
 IsAbout t whole Second c at other point = StandsWith (entries_in t whole) at t.IsSingle × StandsWith (entries_in t whole) other t.IsSingle × (other < at) × (point ≡ 0)
 IsAbout t whole Own c at other point = StandsWith (entries_in t whole) at (t.IsOwn c) × AreUnused other point
 
--- these are the faults of a stage, of a table with these bytes under a policy; where there is none it holds. An entry of
--- which a table has at most one has none by itself
+-- these are the faults of a stage, of a table with these bytes under a policy; without one it holds. An entry of which a table
+-- has at most one has none by itself.
 pub record AreFaults {E : Type 0} (s : Stage) (codes : EntryCodes) (table : PolicyValue → EntryTable E) (IsFault : PolicyValue → List ℕ → Code → ℕ → ℕ → ℕ → Type 0) (IsValid : PolicyValue → List ℕ → Type 0) : Type 0 where
   pub cut : subject_of codes codes.cut ≡ Cut
   pub own : (q : PolicyValue) (c : Code) (e : E) → (table q).IsOwn c e → subject_of codes c ≡ Own

@@ -1,4 +1,4 @@
--- Where the fields of a FADT are read, and what the views of a FADT and a FACS return.
+-- The offsets of a FADT's fields, and what the views of a FADT and a FACS return (ACPI 6.5, 5.2.9, 5.2.10).
 use Rattle.acpi_base.specs.Fadt as fadt
 use Rattle.acpi_read.specs.declared.fadt.FieldPlace.{FieldPlace}
 use Rattle.std.specs.Prelude.{ℕ, List}
@@ -7,7 +7,7 @@ use Rattle.acpi_read.specs.Structures.{gas_value}
 use Rattle.acpi_read.specs.declared.fadt.Block.{Block}
 use Rattle.acpi_read.specs.declared.fadt.Block.TheVariants as block
 
--- ---- where the code reads the fields of a FADT, as the plain values of the definitions
+-- ---- the offsets of a FADT's fields, as the plain values of the definitions
 
 -- where a field begins, and how many bytes it has
 abbrev pub place_value : FieldPlace → fadt.FieldPlace

@@ -1,4 +1,4 @@
--- What is read of a structure that says how long it is.
+-- The bytes of a structure whose header has its length, and the first check that fails (ACPI 6.5, 5.2.5.3, 5.2.6, 5.2.10).
 use Rattle.std.specs.Prelude.{◌≡◌, ℕ, ◌≤◌, ◌<◌, Bool, List, length, Option, Some, None, true}
 use Rattle.acpi_base.specs.Frames.{IsFrame, FrameFault, frame_length}
 use Rattle.acpi_base.specs.Memory.{Memory, bytes_at}
@@ -7,19 +7,19 @@ use Rattle.acpi_base.specs.declared.frame.Frame.{Frame}
 use Rattle.acpi_base.specs.declared.frame.Question.{Question}
 use Rattle.acpi_base.specs.declared.frame.Question.TheVariants as question
 
--- whether a header begins with the signature, where one is asked for
+-- whether a header begins with the signature, if there is one to check
 abbrev pub is_signed_as : Option (List ℕ) → List ℕ → Bool
 is_signed_as None header = true
 is_signed_as (Some signature) header = has_signature header signature
 
--- a structure with the signature stands at a, and these are its bytes
+-- a structure with the signature is at a, and these are its bytes
 pub record AreBytesOf (f : Frame) (m : Memory) (a : ℕ) (signature : Option (List ℕ)) (whole : List ℕ) : Type 0 where
   pub header : List ℕ
   pub frame : IsFrame f m a header whole
   pub signed : is_signed_as signature header ≡ true
   pub count : length whole ≡ frame_length f header
 
--- the first fault of a structure at a with the signature, by the question that fails: those before it hold
+-- the first fault of a structure at a with the signature, by the check that fails: those before it hold
 abbrev pub IsFirstFrameFault : Frame → Memory → ℕ → Option (List ℕ) → Question → Type 0
 IsFirstFrameFault f m a signature question.Header = FrameFault f m a question.Header
 IsFirstFrameFault f m a signature (question.Signature other) = (signature ≡ Some other) × FrameFault f m a (question.Signature other)

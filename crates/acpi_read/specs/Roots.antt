@@ -1,4 +1,4 @@
--- What a view of a root table represents.
+-- What a view of a root table represents (ACPI 6.5, 5.2.7, 5.2.8).
 use Rattle.std.specs.Prelude.{◌≡◌, ℕ, ◌-◌, ◌/◌, List, length, Some}
 use Rattle.acpi_base.specs.Memory.{Memory}
 use Rattle.acpi_base.specs.Rsdp.{Addresses}
@@ -21,7 +21,7 @@ pub record IsValidNamedRoot (m : Memory) (named : Addresses) (root : RootValue) 
   pub chosen : chosen_root named ≡ Some (record { address = root.address; width = root.width })
   pub valid : IsValidRootTable m root.address root.width root.bytes
 
--- the place of a root table
+-- the address of a root table, and the width of its slots
 abbrev pub place_value : RootPlace → roots.Root
 place_value place = record { address = place.address; width = place.width }
 

@@ -1,4 +1,4 @@
--- The cells of a SLIT, row by row.
+-- The cells of a SLIT, row by row (ACPI 6.5, 5.2.17).
 use Rattle.std.specs.Prelude.{◌≡◌, ℕ, ◌+◌, ◌*◌, ◌<◌, ◌≤◌, ◌⊎◌, List, length}
 use Rattle.acpi_base.specs.Codes.{code_number, stage_of}
 use Rattle.acpi_base.specs.Slit.{SlitContents, slit_contents, distance, SlitFault}

@@ -1,4 +1,5 @@
--- Headers, generic addresses and the heads of nodes as the plain values of the definitions.
+-- Headers (ACPI 6.5, 5.2.6), generic addresses (5.2.3.2) and the heads of nodes (5.2.30.1) as the plain values of the
+-- definitions.
 use Rattle.acpi_base.specs.Header.{HeaderValue}
 use Rattle.acpi_read.specs.declared.header.Header.{Header}
 use Rattle.acpi_base.specs.Fadt.{GasValue}

@@ -18,7 +18,7 @@ use std::marker::Model;
 pub struct Entries<'a> {
     /// All the table's bytes.
     whole: &'a [u8],
-    /// The bytes that are left, after the entries that were returned.
+    /// The offset of the bytes that remain after the entries that were returned.
     offset: usize,
 }
 

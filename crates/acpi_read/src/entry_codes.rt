@@ -1,18 +1,18 @@
-//! What a fault is about, of a table that consists of entries.
+//! What a fault of a table of entries is about.
 
 ghost use Rattle.std.specs.Prelude.{◌≡◌};
 ghost use Rattle.acpi_read.specs.EntryTables.{is_code, subject_of};
 
 use acpi_base::Code;
 
-/// What a fault is about, if the entries of a table are looked at each by itself.
+/// What a fault is about, if each entry of a table is checked by itself.
 #[derive(Clone, Copy, Debug, PartialEq, Eq)]
 pub enum Subject {
-    /// A table that ends before its first entry's place.
+    /// A table that ends before the offset of its first entry.
     Short,
     /// The bytes after the entries, at which no entry can begin.
     Cut,
-    /// The second entry of those of which a table has at most one.
+    /// The second entry of a kind of which a table has at most one.
     Second,
     /// An entry by itself.
     Own,
@@ -21,11 +21,11 @@ pub enum Subject {
 /// The codes of a table's faults that are not about an entry by itself.
 #[derive(Clone, Copy, Debug, PartialEq, Eq)]
 pub struct EntryCodes {
-    /// Of a table that ends before its first entry's place, if that is at fault.
+    /// The code for a table that ends before the offset of its first entry, if that is a fault.
     pub short: Option<Code>,
-    /// Of the bytes after the entries, at which no entry can begin.
+    /// The code for the bytes after the entries, at which no entry can begin.
     pub cut: Code,
-    /// Of the second entry of those of which a table has at most one, if there are such.
+    /// The code for the second entry of a kind of which a table has at most one, if there is such a kind.
     pub second: Option<Code>,
 }
 

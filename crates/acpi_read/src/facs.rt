@@ -1,4 +1,4 @@
-//! The firmware ACPI control structure.
+//! The FACS, the firmware ACPI control structure.
 
 ghost use Rattle.std.specs.Prelude.{◌≡◌, ◌≢◌, ◌≤◌, ◌<◌, ◌^◌, ◌%◌, ◌↔◌, ℕ, length, None, IsOk, IfOk, IfErr, IfSome, true};
 ghost use Rattle.acpi_base.specs.Codes.{code_number, stage_of};

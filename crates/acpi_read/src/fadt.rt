@@ -1,4 +1,4 @@
-//! The fixed ACPI description table.
+//! The FADT, the fixed ACPI description table.
 
 mod offsets;
 
@@ -25,7 +25,7 @@ use std::marker::Model;
 #[derive(Clone, Copy, Debug)]
 struct FieldPlace(u8, u8);
 
-/// The fields that are whole numbers, in the standard's order (ACPI 6.5, table 5.9).
+/// The fields that are numbers of 1, 2 or 4 bytes, in the standard's order (ACPI 6.5, table 5.9).
 const PLACES: [FieldPlace; 41] = [
     FieldPlace(36, 4), // 0 FIRMWARE_CTRL
     FieldPlace(40, 4), // 1 DSDT
@@ -274,7 +274,7 @@ impl<'a> Fadt<'a> {
 
     /// The field with this number, which is below 41, or none if the table is too short to have it.
     ///
-    /// Fields are the whole numbers of 1, 2 and 4 bytes in the standard's order (table 5.9): 0 is
+    /// Fields are the numbers of 1, 2 and 4 bytes in the standard's order (table 5.9): 0 is
     /// FIRMWARE_CTRL, 1 DSDT, 2 a reserved byte, 3 Preferred_PM_Profile, 4 SCI_INT, 5 SMI_CMD,
     /// 6 ACPI_ENABLE, 7 ACPI_DISABLE, 8 S4BIOS_REQ, 9 PSTATE_CNT; 10 to 17 are PM1a_EVT_BLK, PM1b_EVT_BLK,
     /// PM1a_CNT_BLK, PM1b_CNT_BLK, PM2_CNT_BLK, PM_TMR_BLK, GPE0_BLK and GPE1_BLK; 18 to 23 PM1_EVT_LEN,

@@ -1,4 +1,4 @@
-//! The first table of each kind.
+//! The first table of each kind in a set.
 
 ghost use Rattle.std.specs.Prelude.{◌≡◌, None, Some};
 ghost use Rattle.std.specs.Option.{option_map};

@@ -1,4 +1,4 @@
-//! Structures that say how long they are.
+//! Structures whose header has their length, read from an image.
 
 ghost use Rattle.std.specs.Prelude.{◌≡◌, ◌≤◌, ◌<◌, ◌+◌, ◌^◌, ◌↔◌, List, ℕ, length, Some, false, IsTrue, IfOk, IfErr};
 ghost use Rattle.acpi_base.specs.Frames.{IsFrame, FrameFault};
@@ -10,9 +10,9 @@ use crate::table::sums_to_zero;
 use acpi_base::field::{is_signed, u32_at};
 use acpi_base::{Frame, Image, Question};
 
-/// The bytes of the structure at an address, as many as its Length says, or the first question that fails. Which sum
-/// they have is not asked, and their signature only if one is passed. The image is searched once.
-// It is inlined, so that the numbers of the frame are known where they are compared.
+/// The bytes of the structure at an address, as many as its Length says, or the first check that fails. The checksum is
+/// not checked, and the signature only if one is passed. The image is searched once.
+// Inlined, so that the numbers of the frame are known where they are compared.
 #[inline(always)]
 pub(crate) fn bytes_of<'a>(
     image: &'a Image,
@@ -51,7 +51,7 @@ pub(crate) fn bytes_of<'a>(
     Ok(bytes)
 }
 
-/// Whether a question fails for the structure at an address, even if earlier ones do. Bytes are summed only for
+/// Whether a check of the structure at an address fails, even if earlier ones do. Bytes are summed only for
 /// `Question::Sum`. The image is searched once.
 pub fn fails(image: &Image, address: u64, frame: Frame, question: Question) -> bool
     requires { frame.length_at + 4 ≤ frame.header }

@@ -1,4 +1,4 @@
-//! Generic addresses.
+//! Generic addresses, which say where a register is.
 
 ghost use Rattle.std.specs.Prelude.{◌≡◌, ◌≤◌, ◌+◌, length, refl};
 ghost use Rattle.std.proofs.Common.{rules};

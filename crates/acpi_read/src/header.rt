@@ -19,7 +19,7 @@ pub struct Header {
     pub length: u32,
     /// At 8: the revision of the table's layout.
     pub revision: u8,
-    /// At 9: the byte that makes the whole table sum to 0.
+    /// At 9: the byte that makes the complete table sum to 0.
     pub checksum: u8,
     /// At 10: six characters that identify the OEM.
     pub oemid: [u8; 6],

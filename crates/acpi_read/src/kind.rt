@@ -1,4 +1,4 @@
-//! Kinds of entries.
+//! Kinds of entries, each with its layout.
 
 ghost use Rattle.std.specs.Prelude.{◌≡◌, ◌≢◌, ◌≤◌, ◌↔◌, ◌+◌, ℕ, length, slice_index, IsTrue, IfOk, IfErr};
 ghost use Rattle.std.proofs.Common.{rules};

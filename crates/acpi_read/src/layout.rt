@@ -1,4 +1,4 @@
-//! Structures of a fixed layout.
+//! Structures of a fixed layout, read and written.
 
 ghost use Rattle.std.specs.Prelude.{◌≡◌, ◌↔◌, ℕ, List, length, Some, IsSome, IfSome};
 ghost use Rattle.acpi_base.specs.Layouts.{Part, PartValue, layout_size, values_at, layout_bytes, IsOfLayout, FitLayout};

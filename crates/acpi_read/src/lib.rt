@@ -37,7 +37,7 @@
 //!     while let Some(entry) = entries.next() {
 //!         if let MadtEntry::IoApic(io_apic) = MadtEntry::read(entry.bytes)? {}
 //!     }
-//!     if let Some(offset) = entries.cut() {} // no entry stands there, and bytes are left
+//!     if let Some(offset) = entries.cut() {} // no entry can begin there, and bytes remain
 //! }
 //! ```
 //!

@@ -1,4 +1,4 @@
-//! The tables that a root table lists.
+//! The first table with a signature that a root table lists.
 
 ghost use Rattle.std.specs.Prelude.{◌≡◌, ◌<◌, ◌↔◌, IsTrue, IsNone, IfSome, Some, ℕ};
 ghost use Rattle.acpi_base.specs.Root.{HasSlot};

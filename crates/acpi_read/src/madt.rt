@@ -1,4 +1,4 @@
-//! Entries of the MADT.
+//! Entries of the MADT, read by their contents, and their faults.
 
 mod kinds;
 

@@ -1,4 +1,4 @@
-//! Entries of the PPTT.
+//! Entries of the PPTT, read by their contents, and their faults.
 
 mod kinds;
 mod node_head;

@@ -1,4 +1,4 @@
-//! The root table.
+//! The root table, the XSDT or the RSDT.
 
 ghost use Rattle.std.specs.Prelude.{◌≡◌, ◌≤◌, ◌<◌, ◌+◌, ◌*◌, ◌^◌, ◌↔◌, List, ℕ, length, IsTrue, IsOk, IfOk, IfErr, IfSome, MatchOption};
 ghost use Rattle.std.specs.Option.{option_map};
@@ -25,7 +25,7 @@ use std::marker::Model;
 /// of all other tables.
 ///
 /// A root table returned by `read` sums to 0 and has a whole number of slots; neither is known of one returned by
-/// `whole`. Whether there are tables at the addresses in its slots is not checked. Contracts see its address, the
+/// `complete`. Whether there are tables at the addresses in its slots is not checked. Contracts see its address, the
 /// width of its slots in bytes and its bytes.
 #[derive(Debug, Drop)]
 pub struct Root<'a> {
@@ -53,7 +53,7 @@ impl<'a> Model for Root<'a> {
         × (length root.bytes.now < 2 ^ 32) × (length_of root.bytes.now ≡ length root.bytes.now) };
 }
 
-/// Where the root table is, and how wide its slots are.
+/// The address of a root table, and the width of its slots.
 #[derive(Clone, Copy, Debug, PartialEq, Eq)]
 pub struct RootPlace {
     /// Its address, which is not 0.

@@ -1,4 +1,4 @@
-//! The root system description pointer.
+//! The RSDP, the root system description pointer.
 
 ghost use Rattle.std.specs.Prelude.{◌≡◌, ◌≤◌, ◌↔◌, length, take, drop, IsOk, IfOk, IfErr};
 ghost use Rattle.acpi_base.specs.Codes.{code_number, stage_of};

@@ -1,4 +1,4 @@
-//! The system locality information table.
+//! The SLIT, the system locality information table.
 
 ghost use Rattle.std.specs.Prelude.{◌≡◌, ◌<◌, ◌+◌, ◌↔◌, IsOk, IfOk, IfErr, MatchOption};
 ghost use Rattle.acpi_base.specs.Slit.{slit_contents, distance, IsValidSlit};

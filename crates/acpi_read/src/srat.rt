@@ -1,4 +1,4 @@
-//! Entries of the SRAT.
+//! Entries of the SRAT, read by their contents, and their faults.
 
 mod kinds;
 

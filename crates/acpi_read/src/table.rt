@@ -1,4 +1,4 @@
-//! System description tables.
+//! System description tables of any kind.
 
 ghost use Rattle.std.specs.Prelude.{◌≡◌, ◌≤◌, ◌<◌, ◌^◌, ◌↔◌, List, ℕ, Some, length, IsTrue, IsOk, IfOk, IfErr, MatchOption};
 ghost use Rattle.acpi_base.specs.Codes.{code_number, stage_of};
@@ -16,8 +16,8 @@ use acpi_base::{Code, Frame, Image, Question, sum};
 use std::marker::Model;
 
 /// A system description table of any kind (ACPI 6.5, 5.2.6): as many bytes as its Length says, from 36 to 2^32 - 1. A
-/// table that was read by `read`, or that is known to be valid (`valid`), sums to 0; one that was read by `whole` may
-/// not. Contracts see the bytes.
+/// table that was read by `read`, or that is known to be valid (`valid`), sums to 0; one that was read by `complete`
+/// may not. Contracts see the bytes.
 ///
 /// The signature, the revision and the bytes after the header are not checked.
 #[derive(Debug, Drop)]
@@ -37,12 +37,12 @@ impl<'a> Model for Table<'a> {
         × (length_of table.bytes.now ≡ length table.bytes.now) };
 }
 
-/// How many bytes are summed one by one sooner than by a search for their running sums: most tables of firmware have
+/// Up to how many bytes summing one by one is faster than a search for their running sums: most tables of firmware have
 /// fewer.
 const FEW: usize = 256;
 
-/// Whether the bytes, which are those at the address, sum to 0 modulo 256. Fewer than 256 of them are read, however many
-/// there are.
+/// Whether the bytes, which are those at the address, sum to 0 modulo 256. Fewer than 256 of them are read, however
+/// many there are.
 #[inline(always)]
 pub fn sums_to_zero(image: &Image, address: u64, bytes: &[u8]) -> bool
     requires { bytes_at image.now address (length bytes.now) ≡ Some bytes.now }

@@ -51,7 +51,7 @@ pub trait TableEntry<'a>: Sized {
     /// The entries of which a table has at most one.
     ghost IsSingle: { Said → Type 0 };
 
-    /// The stage that looks at each entry by itself.
+    /// The stage that checks each entry by itself.
     ghost stage: { Stage };
 
     /// Its faults, of a table with these bytes.
@@ -77,8 +77,8 @@ pub trait TableEntry<'a>: Sized {
     fn codes() -> EntryCodes
         ensures { result ≡ codes };
 
-    /// The entries of a table by their bytes. Refuses one that ends before the first entry's place, with the code of that.
-    /// Also states that the faults of the stage are those of such a table (`AreFaults`).
+    /// The entries of a table by their bytes. Refuses one that ends before the offset of its first entry, with the code
+    /// for that. Also states that the faults of the stage are those of such a table (`AreFaults`).
     fn raw_entries(table: Table<'a>) -> Result<Entries<'a>, Code>
         ensures ok { IfOk result
             (λ entries. (first ≤ length table.entry) × (entries ≡ entries_from_place first table.entry)) }
@@ -140,7 +140,7 @@ impl<'a, E: TableEntry<'a>> Iterator for TypedEntries<'a, E> {
 
     ghost remaining = { item_count (λ left. left.entries.entries) };
 
-    // A caller mostly looks at entries of one type: the fields of the others need not be read.
+    // A caller mostly uses entries of one type: the fields of the others need not be read.
     #[inline(always)]
     fn next(&mut self) -> Option<EntryAt<E>> {
         let Entry { offset, bytes } = self.entries.next()?;

@@ -1,4 +1,4 @@
-//! Kinds of entries of the MADT.
+//! The kinds of entries of the MADT.
 
 ghost use Rattle.std.specs.Prelude.{◌≡◌, refl};
 ghost use Rattle.std.proofs.Common.{rules};

@@ -1,4 +1,4 @@
-//! Kinds of entries of the PPTT that have one length each.
+//! The kinds of entries of the PPTT that have one length each.
 
 ghost use Rattle.std.specs.Prelude.{◌≡◌, ◌≤◌, ℕ, Option, length, refl};
 ghost use Rattle.std.proofs.Common.{rules};

@@ -1,4 +1,4 @@
-//! Nodes of the processor hierarchy.
+//! Nodes of the PPTT's processor hierarchy.
 
 ghost use Rattle.std.specs.Prelude.{◌≡◌, ◌≤◌, refl};
 

@@ -1,4 +1,4 @@
-//! Kinds of entries of the SRAT.
+//! The kinds of entries of the SRAT.
 
 ghost use Rattle.std.specs.Prelude.{◌≡◌, refl};
 ghost use Rattle.std.proofs.Common.{rules};

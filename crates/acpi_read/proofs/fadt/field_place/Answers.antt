@@ -10,11 +10,10 @@ use Rattle.acpi_read.specs.declared.fadt.FieldPlace.{FieldPlace}
 use Rattle.acpi_read.specs.declared.fadt.TheConstants.{PLACES}
 use Rattle.acpi_read.proofs.fadt.field_place.Goals as goal
 
--- a place that stands for none
+-- a place outside the list
 abbrev nowhere : FieldPlace
 nowhere = record { 0 = 0; 1 = 0 }
 
--- the constant's rows are the definition's
 rows : map place_value PLACES ≡ fadt_places
 rows = refl
 

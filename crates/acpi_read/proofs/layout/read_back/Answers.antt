@@ -3,7 +3,7 @@ use Rattle.acpi_base.specs.Layouts.{IsOfLayout, values_at}
 use Rattle.acpi_base.proofs.Layouts.RoundTrip.{HasValues-layout_bytes}
 use Rattle.acpi_read.proofs.layout.read_back.Goals as goal
 
--- a value that is there, and that all facts say is x, is x
+-- a value that exists, and that by all facts is x, is x
 found : {A : Type 0} (o : Option A) (x : A) (P : A → Type 0) → IsSome o → IfSome o P → ((y : A) → P y → y ≡ x)
     → o ≡ Some x
 found None x P some value same = grind arith

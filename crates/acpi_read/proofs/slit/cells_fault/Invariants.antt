@@ -6,6 +6,6 @@ use Rattle.acpi_read.proofs.slit.cells_fault.Given as goal
 abbrev pub invariant-loop-i : goal.invariant-loop-i
 invariant-loop-i l = AreValidTo (slit_contents l.bytes) l.i 0
 
--- and so are those on the left
+-- and those to the left are valid
 abbrev pub invariant-loop-j : goal.invariant-loop-j
 invariant-loop-j l = AreValidTo (slit_contents l.bytes) l.i l.j
