@@ -4,7 +4,6 @@ use Rattle.acpi_base.specs.Memory.{Memory}
 use Rattle.acpi_check.specs.HandedOn.{IsListedSet, IsListedSetOf}
 use Rattle.acpi_check.specs.declared.set.ListedSet.{ListedSet}
 
--- the set that an RSDP of an image leads to is one of its own image and its RSDP's own address
 pub listed_itself : {m : Memory} {p : ℕ} (set : ListedSet) → IsListedSetOf m p set → IsListedSet set
 listed_itself {m} {p} set is =
     subst (λ (a : ℕ). IsListedSetOf set.image.now a set) (sym is.rsdp.address)

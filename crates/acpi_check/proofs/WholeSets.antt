@@ -1,4 +1,4 @@
--- From what is found of a table to the first fault of a set.
+-- From what is found in a table to the first fault of a set.
 pub mod FirstFaults
 pub mod Headlines
 pub mod Slots

@@ -1,4 +1,4 @@
--- Chains of nodes and of caches in a PPTT, as indices of their offsets, and the first cycle.
+-- Chains of nodes and of caches in a PPTT (ACPI 6.5, 5.2.30), as indices of their offsets, and the first cycle.
 use Rattle.std.specs.Prelude.{◌≡◌, ◌<◌, ℕ, List, length, map, slice_index, slice_index_or, Option, None, ◌≢◌, ◌↔◌, ◌⊎◌, AllPairs, Contains, option_map, Some}
 use Rattle.acpi_base.specs.Pptt.{PpttContents, PpttEntry, parent_of, next_level_of, Says, most_nodes, most_caches}
 use Rattle.acpi_check.specs.declared.nodes.Chain.{Chain}
@@ -26,7 +26,7 @@ pub record AreNodesOf (links : Chain) (c : PpttContents) (nodes : Nodes) : Type 
   pub offsets : nodes.offsets.items ≡ node_offsets (nodes_in links c)
   pub named : nodes.named.items ≡ map (λ n. n.named) (nodes_in links c)
 
--- each parent is the index of what the node with the same index refers to
+-- each parent is the index of the node that the node with the same index refers to
 pub record AreIndices (nodes : Nodes) (parents : List (Option ℕ)) : Type 0 where
   pub count : length parents ≡ length nodes.named.items
   pub each : (i : ℕ) → i < length nodes.named.items → IsIndexOf nodes.offsets.items (slice_index nodes.named.items i) (slice_index_or parents i None)
@@ -68,12 +68,12 @@ nodes_of read entries =
 abbrev pub node_offsets : List ChainNode → List ℕ
 node_offsets nodes = map (λ n. n.offset) nodes
 
--- each parent is the index of what the node with the same index refers to
+-- each parent is the index of the node that the node with the same index refers to
 pub record AreParents (nodes : List ChainNode) (parents : List (Option ℕ)) : Type 0 where
   pub count : length parents ≡ length nodes
   pub each : (i : ℕ) (n : ChainNode) → i < length nodes → IsIndexOf (node_offsets nodes) (slice_index_or nodes i n).named (slice_index_or parents i None)
 
--- ---- chains in a PPTT, and what is found of them
+-- ---- chains in a PPTT, and what is found about them
 
 -- ---- kinds of chains
 

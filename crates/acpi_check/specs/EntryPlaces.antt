@@ -1,4 +1,4 @@
--- The offsets of the entries of a PPTT, as sets of bits, by what may refer to them.
+-- The offsets of the entries of a PPTT (ACPI 6.5, 5.2.30), as sets of bits, by what may refer to them.
 use Rattle.std.specs.Prelude.{◌≡◌, ◌⊎◌, ◌↔◌, ℕ, ◌/◌, ◌%◌, Bool, true, false, List, slice_index, ◌≢◌, Some, None, if◌then◌else◌}
 use Rattle.std.specs.Int.{bit_at}
 use Rattle.acpi_check.specs.declared.offset_set.OffsetSet.{OffsetSet}

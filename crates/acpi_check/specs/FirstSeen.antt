@@ -1,4 +1,4 @@
--- The first value that the entries of a table give each key, how it is kept, and what happens with a later value.
+-- The first value that the entries of a table give each key: how it is kept, and what a later value means.
 use Rattle.std.specs.Prelude.{◌≡◌, ◌≢◌, ℕ, ◌<◌, ◌≤◌, ◌⊎◌, List, Option, Some, None, slice_set}
 use Rattle.std.specs.List.{slice_get}
 use Rattle.acpi_base.specs.Entries.{PlacedEntry, StandsWith}

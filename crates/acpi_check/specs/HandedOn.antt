@@ -1,4 +1,4 @@
--- Sets of tables that are passed on, as far as they were found valid.
+-- Sets of tables that stages pass on.
 use Rattle.std.specs.Prelude.{◌≡◌, ◌≢◌, ℕ, List, Option, Some, None}
 use Rattle.acpi_base.specs.Memory.{Memory}
 use Rattle.acpi_base.specs.Policy.{PolicyValue}
@@ -16,8 +16,7 @@ use Rattle.acpi_check.specs.declared.set.CleanSet.{CleanSet}
 
 -- ---- listed tables
 
--- the set that the RSDP at p leads to: its RSDP, its root table and the tables that it lists are valid, and these are
--- they
+-- the set that the RSDP at p leads to: its RSDP, its root table and the tables that it lists, which are all valid
 pub record IsListedSetOf (m : Memory) (p : ℕ) (set : ListedSet) : Type 0 where
   pub image : set.image.now ≡ m
   pub rsdp : IsRsdp m p set.rsdp

@@ -1,4 +1,4 @@
--- What the contracts of the checker cite.
+-- The definitions that contracts of the checker cite.
 pub mod Chains
 pub mod EntryPlaces
 pub mod FirstBelow

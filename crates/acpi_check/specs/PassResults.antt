@@ -41,7 +41,7 @@ pub record IsOwnFault (IsOwn : Code → Type 0) (w : Witness) : Type 0 where
   pub lowest : IsLowest IsOwn w.code
   pub unused : AreUnused w.other w.point
 
--- w is the fault of a second entry of those of which a table has at most one; `earlier` is the offset of the first
+-- w is the fault of a second entry of a kind of which a table has at most one; `earlier` is the offset of the first
 pub record IsSecondFault (Single : Type 0) (codes : EntryCodes) (earlier : Option ℕ) (w : Witness) : Type 0 where
   pub code : subject_of codes w.code ≡ subject.Second
   pub single : Single
@@ -52,8 +52,8 @@ pub record IsSecondFault (Single : Type 0) (codes : EntryCodes) (earlier : Optio
 abbrev pub IsFirstAfter : Type 0 → ℕ → Option ℕ → Option ℕ → Type 0
 IsFirstAfter Single o earlier now = (Single × (earlier ≡ None) × (now ≡ Some o)) ⊎ ((¬ Single) × (now ≡ earlier))
 
--- the entry at o has no fault by itself, and this is the offset of the first of those of which a table has at most one,
--- including it; or this is its lowest fault
+-- the entry at o has no fault by itself, and this is the offset of the first of those of which a table has at most one, with
+-- this one counted; or this is its lowest fault
 abbrev pub PassesEntry : {E : Type 0} → EntryTable E → EntryCodes → ℕ → E → Option ℕ → Result (Option ℕ) Witness → Type 0
 PassesEntry t codes o e earlier (Ok now) = ((c : Code) → ¬ t.IsOwn c e) × IsFirstAfter (t.IsSingle e) o earlier now
 PassesEntry t codes o e earlier (Err w) = (w.at ≡ o) × (IsOwnFault (λ c. t.IsOwn c e) w ⊎ IsSecondFault (t.IsSingle e) codes earlier w)

@@ -1,4 +1,4 @@
--- The set of tables that the stages from the MADT's on look at.
+-- The set of tables that the stages from the MADT's on check.
 use Rattle.std.specs.Prelude.{◌≡◌, ⊤, Result}
 use Rattle.acpi_base.specs.Memory.{Memory}
 use Rattle.acpi_base.specs.Policy.{PolicyValue}

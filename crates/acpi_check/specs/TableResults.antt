@@ -27,7 +27,7 @@ pub record IsRootOf (m : Memory) (p : ℕ) (root : RootValue) : Type 0 where
 pub record AreFirstTables (m : Memory) (p : ℕ) (firsts : FirstTables) : Type 0 where
   pub each : (kind : TableKind) → IsListed m p (signature_of kind) (first_table firsts kind)
 
--- ---- what the result of a stage on the tables that it looks at means
+-- ---- what the result of a stage on the tables that it checks means
 
 -- w is a fault of the stage by `IsFault`, and comes after no other
 pub record IsFirstOfTable (s : Stage) (IsFault : Code → ℕ → ℕ → ℕ → Type 0) (w : Witness) : Type 0 where

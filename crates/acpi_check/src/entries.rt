@@ -20,7 +20,7 @@ fn own_fault<'a, E: TableEntry<'a> + Copy>(policy: &Policy, entry: &E) -> Option
     entry.has_fault(policy, code).then_some(code)
 }
 
-/// Looks at an entry. `earlier` is the offset of the first of those before it of which a table has at most one;
+/// Checks an entry. `earlier` is the offset of the first of those before it of which a table has at most one;
 /// returns that offset with this entry counted, or the entry's lowest fault.
 fn pass_entry<'a, E: TableEntry<'a> + Copy>(
     policy: &Policy,

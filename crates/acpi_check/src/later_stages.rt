@@ -1,4 +1,4 @@
-//! The stages on the tables that a set lists. Each says nothing about a set that does not list its table, or one of
+//! The stages on the tables that a set lists. A stage says nothing about a set that does not list its table, or one of
 //! its two; otherwise what is found in the tables is its verdict on the set.
 
 ghost use Rattle.std.specs.Prelude.{Ok, MatchOption};
@@ -20,7 +20,7 @@ use acpi_base::{Stage, TableKind};
 use acpi_read::{MadtEntry, PpttEntry, SratEntry};
 use std::alloc::Global;
 
-/// Runs one stage from the MADT's on. A stage holds if the set does not list what it looks at.
+/// Runs one stage from the MADT's on. A stage holds if the set does not list the tables that it checks.
 pub fn run_stage(alloc: Global, set: &Set<'_, '_>, stage: Stage) -> Result<(), Refusal>
     requires { IsReady stage set.now }
     ensures { IsSetResult stage set.now result }
@@ -28,7 +28,7 @@ pub fn run_stage(alloc: Global, set: &Set<'_, '_>, stage: Stage) -> Result<(), R
     found(alloc, set, stage).unwrap_or(Ok(()))
 }
 
-/// What a stage finds in the tables that it looks at, or none if the set does not list them. Those that allocate are
+/// What a stage finds in the tables that it checks, or none if the set does not list them. Those that allocate are
 /// passed `alloc`; the others allocate nothing.
 fn found(alloc: Global, set: &Set<'_, '_>, stage: Stage) -> Option<Result<(), Refusal>>
     requires { IsReady stage set.now }
@@ -59,7 +59,7 @@ fn found(alloc: Global, set: &Set<'_, '_>, stage: Stage) -> Option<Result<(), Re
             &tables.first(TableKind::Madt)?,
             &tables.first(TableKind::Pptt)?,
         ),
-        // These hold for every set.
+        // A `Set` is one for which these hold.
         Stage::Rsdp | Stage::Root | Stage::Tables | Stage::Fadt | Stage::Facs => Ok(()),
     })
 }

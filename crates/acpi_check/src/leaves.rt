@@ -98,9 +98,9 @@ fn first_unknown(uids: &[u64], pptt: &Table<'_>) -> Option<Witness>
 const HAS_LEAVES: u8 = 2;
 
 /// Whether the ID of each leaf of a PPTT is the UID of a processor of a MADT, enabled or not (ACPI 6.5, 5.2.30.1;
-/// 5.2.12.2 and 5.2.12.12), or the PPTT's Revision is below 2, or the MADT may have further processors: it ends
-/// before its first entry's place, or has bytes at which no entry can begin, or an entry of a type that is not read here.
-/// A leaf is a node whose flags say that it is one and that its ID is valid. Both tables may have any entries.
+/// 5.2.12.2 and 5.2.12.12), or the PPTT's Revision is below 2, or the MADT may have further processors: it ends before
+/// the offset of its first entry, or has bytes at which no entry can begin, or an entry of a type that is not read
+/// here. A leaf is a node whose flags say that it is one and that its ID is valid. Both tables may have any entries.
 ///
 /// Refuses with `Fault` and the code `LeafUnknown`: `at` is the offset, in bytes from the PPTT's start, of the first
 /// leaf whose ID is no UID; `other` is 0, and `point` is the ID, of 32 bits.

@@ -2,14 +2,14 @@
 //!
 //! Each stage is one function, which is called only if the earlier stages hold, and reports its own first fault. The
 //! first five pass on what they have read: the RSDP, the root table, the listed tables, the FADT, the FACS. The
-//! others look at that, and pass on nothing. `check` runs all eighteen in their order, `check_to` those up to one.
+//! others read that, and pass on nothing. `check` runs all eighteen in their order, `check_to` those up to one.
 //! `read_set` and `check_set` return the set for which stages 1 to 3, or all eighteen, hold. Stages 7, 10 and 13 to 18
 //! allocate; the others do not.
 //!
 //! The finders of stages that have one code are public: `check_interrupts`, `check_overrides`, `check_ranges`,
 //! `first_cycle`, `check_domains`, `check_served` and `check_leaves` require nothing of earlier stages, and may be
-//! called on any table. So are what they read of an entry of a PPTT (`named_offset`, `first_dangling`), `collected`, with
-//! which they gather values, and the searches with which they look them up.
+//! called on any table. Public too are the functions that read an entry of a PPTT (`named_offset`, `first_dangling`),
+//! `collected`, which gathers values, and the searches that look them up.
 //!
 //! An example, from `crates/acpi_cli/src/check.rt`, where the set at an address is checked under a policy up to a
 //! stage:

@@ -1,4 +1,4 @@
-//! Sets of offsets of a table.
+//! Sets of offsets of a table, as bits.
 
 ghost use Rattle.std.specs.Prelude.{◌≡◌, ◌<◌, ◌↔◌, ℕ, Contains, IfOk, OnOk, MatchBool, vec_len, slice_index, true};
 ghost use Rattle.acpi_check.specs.EntryPlaces.{IsIn, Adds};

@@ -1,4 +1,4 @@
-//! Where the entries of a PPTT are.
+//! The offsets of the entries of a PPTT, by kind.
 
 use crate::offset_set::OffsetSet;
 

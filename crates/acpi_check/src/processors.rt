@@ -1,4 +1,4 @@
-//! Numbers of the MADT's processors, to be looked up.
+//! Numbers of the MADT's processors, sorted to be looked up.
 
 ghost use Rattle.std.specs.Prelude.{◌≡◌, IfOk};
 ghost use Rattle.acpi_base.specs.Madt.{madt_contents};

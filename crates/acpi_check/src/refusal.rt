@@ -1,4 +1,4 @@
-//! Why a stage does not pass on what it checks.
+//! Why a stage fails.
 
 ghost use Rattle.std.specs.Prelude.{◌≡◌, Err, MatchOption, Ok};
 ghost use Rattle.acpi_check.specs.declared.refusal.Refusal.{Refusal};
@@ -6,7 +6,7 @@ ghost use Rattle.acpi_check.specs.declared.refusal.Refusal.{Refusal};
 use acpi_base::{Code, Witness};
 use std::alloc::AllocError;
 
-/// Why a stage does not pass on what it checks.
+/// Why a stage fails.
 #[derive(Clone, Copy)]
 pub enum Refusal {
     /// The first fault of the set, or of the tables that were passed: it is one of the stage's.

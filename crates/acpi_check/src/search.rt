@@ -1,4 +1,4 @@
-//! Look-ups among numbers that rise, as offsets do.
+//! Binary search in sorted numbers.
 
 ghost use Rattle.std.specs.Prelude.{◌≡◌, ◌<◌, ◌≤◌, ◌↔◌, ℕ, AllPairs, Contains, IfOk, IsOk, MatchBool, MatchOption, length, slice_index, vec_len};
 

@@ -1,4 +1,5 @@
-//! Stage 17: the interrupt numbers that overrides and NMI sources of the MADT name, among those that its I/O APICs serve.
+//! Stage 17: the interrupt numbers that overrides and NMI sources of the MADT name, among those that its I/O APICs
+//! serve.
 
 ghost use Rattle.std.specs.Prelude.{◌≡◌, ℕ, ◌↔◌, IfOk, MatchBool, MatchOption};
 ghost use Rattle.acpi_base.specs.Across.{AreNamedServed, ServedFault};

@@ -1,4 +1,4 @@
-//! Sets of tables, as far as they were found valid: what stages pass on.
+//! Sets of tables that stages pass on.
 
 ghost use Rattle.std.specs.Prelude.{◌≡◌, ◌<◌, ◌+◌, ◌*◌, IfSome, IsNone};
 ghost use Rattle.acpi_base.specs.Number.{field};
@@ -41,7 +41,7 @@ impl<'a> ListedSet<'a> {
     }
 }
 
-/// A set whose RSDP, root table, listed tables, FADT and FACS are valid: what the stages from the MADT's on look at.
+/// A set whose RSDP, root table, listed tables, FADT and FACS are valid: what the stages from the MADT's on check.
 #[derive(Drop)]
 pub struct Set<'a, 'p> {
     /// Its RSDP, root table and listed tables.

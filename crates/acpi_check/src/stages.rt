@@ -23,7 +23,7 @@ use acpi_base::{Image, Policy, Stage, Verdict, Witness};
 use std::alloc::{AllocError, Global};
 
 /// The verdict on the image's tables: `Yes` exactly when all eighteen statements hold for the image and the policy,
-/// otherwise `No` with the first fault: one of the earliest stage that does not hold.
+/// otherwise `No` with the first fault, which is of the first stage that fails.
 ///
 /// Out of memory only if stages 1 to 6 hold.
 pub fn check(alloc: Global, image: &Image, policy: &Policy) -> Result<Verdict, AllocError>
@@ -35,7 +35,7 @@ pub fn check(alloc: Global, image: &Image, policy: &Policy) -> Result<Verdict, A
 }
 
 /// The verdict on the image's tables over the stages up to `last`: `Yes` if all of them hold, otherwise `No` with the
-/// first fault, which is one of the earliest stage that does not hold.
+/// first fault, which is of the first stage that fails.
 ///
 /// Out of memory only if stages 1 to 6 hold. For `last` up to 6 always `Ok`: those stages allocate nothing.
 pub fn check_to(

@@ -1,5 +1,4 @@
--- What is collected from the entries of a table, while a loop goes over them, and what the values are of which it is
--- collected.
+-- Collecting values from the entries of a table, in a loop, and what the collected values are.
 use Rattle.std.proofs.Common.{◌≡◌, List, [], ◌∷◌, ◌++◌, map, Option, Some, None, Result, Ok, Err, Vec, Global, refl, sym, ◌∙◌, ap, subst}
 use Rattle.std.specs.Prelude.{All, Contains, IfOk, IfSome, option_map}
 use Rattle.std.specs.List.{AllByRecursion, cons_option, filter_map}
@@ -15,7 +14,7 @@ use Rattle.acpi_check.specs.PassResults.{Picks, Collects}
 
 -- ---- the loop
 
--- with those that are collected so far, what is collected of the ones left makes what is collected of all
+-- what is collected so far, with what is collected from the entries left, is what is collected from all
 pub record IsCollecting {S T : Type 0} (Gives : S → Option T → Type 0) (all left : List S) (found : List T) : Type 0
   where
     pub listed : (s : S) → Contains left s → Contains all s
@@ -46,7 +45,6 @@ all_collected {Gives = Gives} {all = all} {found = found} here none =
 
 -- ---- the values
 
--- the first of the values, if one is given, and the others
 kept : {T V : Type 0} (view : T → V) (others : List T) (picked : Option T) (given : Option V) (rest : List V)
     → option_map view picked ≡ given → map view others ≡ rest
     → map view (cons_option picked others) ≡ cons_option given rest
@@ -57,7 +55,7 @@ pub itself : {T : Type 0} (picked : Option T) → option_map (λ x. x) picked �
 itself None = refl
 itself (Some value) = refl
 
--- where what is given of each is what a function gives of it, the values are what the function gives
+-- if what is given for each is what a function gives for it, the values are what the function gives
 pub are_collected : {S T V : Type 0} {Gives : S → Option T → Type 0} (view : T → V) (h : S → Option V) (all : List S)
     (found : List T) → Collects Gives all found
     → ((s : S) (picked : Option T) → Contains all s → Gives s picked → option_map view picked ≡ h s)
@@ -67,7 +65,7 @@ are_collected {S} {T} {V} {Gives} view h (s ∷ left) found (picked, others, giv
     ap (map view) is ∙ kept view others picked (h s) (filter_map h left) (each s picked (first_element s left) gives)
     (are_collected view h left others more (λ t p here. each t p (later_element s t left here)))
 
--- in a function that returns them: where each call answers what `h` gives of its entry, P is so of them
+-- in a function that returns them: if each call returns what `h` gives for its entry, P holds for them
 pub gathered : {E Said T V X : Type 0} (value : E → Said) {Answers : Bor (EntryAt E) → Option T → Type 0} (view : T → V)
     (h : PlacedEntry Said → Option V) {said entries : List (PlacedEntry Said)} (P : List T → Type 0)
     (r : Result (Vec T Global) X)
@@ -80,7 +78,7 @@ gathered value view h {entries = entries} P (Ok v) found same each says =
     (λ s picked here (at, is, answers). each at picked (subst (Contains entries) (sym is) here) answers ∙ ap h is))
 gathered value view h P (Err e) found same each says = tt
 
--- the same of values that stand for themselves
+-- the same for values that represent themselves
 pub gathered_same : {E Said T X : Type 0} (value : E → Said) {Answers : Bor (EntryAt E) → Option T → Type 0}
     (h : PlacedEntry Said → Option T) {said entries : List (PlacedEntry Said)} (P : List T → Type 0)
     (r : Result (Vec T Global) X)
@@ -91,7 +89,6 @@ gathered_same value h P r found same each says =
     gathered value (λ x. x) h P r found same (λ at picked here answers. itself picked ∙ each at picked answers)
     (λ vs is. says vs (sym (map-id vs) ∙ is))
 
--- what is so of each value that is given is so of all that are collected
 each_given : {S T : Type 0} {Gives : S → Option T → Type 0} (P : T → Type 0) (all : List S) (found : List T)
     → Collects Gives all found → ((s : S) (picked : Option T) → Gives s picked → IfSome picked P)
     → AllByRecursion P found
@@ -100,7 +97,6 @@ each_given P (s ∷ left) found (None, others, gives, is, more) each = rw is (ea
 each_given P (s ∷ left) found (Some value, others, gives, is, more) each =
     rw is (each s (Some value) gives, each_given P left others more each)
 
--- in a function that returns them
 pub gathered_each : {E Said T X : Type 0} (value : E → Said) {Answers : Bor (EntryAt E) → Option T → Type 0}
     (P : T → Type 0) (said : List (PlacedEntry Said)) (r : Result (Vec T Global) X)
     → IfOk r (λ v. Collects (Picks value Answers) said v.items)
@@ -110,5 +106,5 @@ gathered_each value P said (Ok v) found each =
     (each_given P said v.items found (λ s picked (at, is, answers). each at picked answers))
 gathered_each value P said (Err e) found each = tt
 
--- what a loop that collects offsets of several kinds needs
+-- for a loop that collects offsets of several kinds
 pub ruleset gathering = (common_steps, append_assoc, append-nil)

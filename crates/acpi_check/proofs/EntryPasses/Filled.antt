@@ -1,4 +1,4 @@
--- Tables whose entries are valid are filled by them, each of a length of its type.
+-- Tables whose entries are valid are filled by entries that have a length of their type.
 use Rattle.std.proofs.Common.{ℕ, List}
 use Rattle.acpi_base.specs.Madt as madt
 use Rattle.acpi_base.specs.Srat as srat

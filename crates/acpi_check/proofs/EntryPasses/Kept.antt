@@ -18,11 +18,9 @@ use Rattle.acpi_base.proofs.EntryOffsets.{entry_within, said_from}
 
 -- ---- elements of lists
 
--- what a map makes of an element is an element
 pub map_has : {X Y : Type 0} (f : X → Y) (xs : List X) (x : X) → Contains xs x → Contains (map f xs) (f x)
 map_has f xs x (k, below, is) = (k, omega (arith, length-map xs f), get_or-map f xs k x ∙ ap f is)
 
--- what is kept of an element is an element of what is kept
 pub kept_has : {X Y : Type 0} (h : X → Option Y) (xs : List X) (x : X) (y : Y) → Contains xs x → h x ≡ Some y
     → Contains (filter_map h xs) y
 kept_has h [] x y listed is = absurd (no_element x listed)
@@ -38,7 +36,6 @@ kept_has h (u ∷ xs) x y listed is =
           ]
     ]
 
--- and each element of what is kept is of some element
 pub kept_from : {X Y : Type 0} (h : X → Option Y) (xs : List X) (y : Y) → Contains (filter_map h xs) y
     → (x : X) × Contains xs x × (h x ≡ Some y)
 kept_from {X} h [] y listed = absurd (no_element y listed)
@@ -57,18 +54,16 @@ kept_from {X} h (u ∷ xs) y listed =
 
 -- ---- offsets rise
 
--- the entries stand at rising offsets, from `low` on
+-- the entries are at rising offsets, from `low` on
 abbrev pub AreRising : {E : Type 0} → ℕ → List (PlacedEntry E) → Type 0
 AreRising low [] = Unit {0}
 AreRising low (s ∷ rest) = (low ≤ s.offset) × AreRising (suc s.offset) rest
 
--- so they do from any lower offset
 rising_from_less : {E : Type 0} (low high : ℕ) (entries : List (PlacedEntry E)) → low ≤ high
     → AreRising high entries → AreRising low entries
 rising_from_less low high [] less rises = tt
 rising_from_less low high (s ∷ rest) less rises = (omega (arith, rises.0), rises.1)
 
--- an entry has at least two bytes
 first_least : (left e : List ℕ) → first_entry left ≡ Some e → 2 ≤ length e
 unfolding first_entry
 first_least left e is =
@@ -76,7 +71,6 @@ first_least left e is =
     (length left)) (take (slice_index left 1) left) e is in
     grind (arith, and_parts, leb-true, length-take-le, parts.0, parts.1)
 
--- entries one behind another stand at rising offsets
 rising_from : {E : Type 0} (read : List ℕ → E) (n offset : ℕ) (left : List ℕ)
     → AreRising offset (entries_read_by read (entries_from n offset left))
 unfolding entries_from
@@ -91,13 +85,11 @@ rising_from read (suc n) offset left =
       )
     ]
 
--- the entries of a table do, from the first one's place on
 pub rising : {E : Type 0} (read : List ℕ → E) (first : ℕ) (whole : List ℕ)
     → AreRising first (entries_read_by read (entries_of first whole))
 unfolding entries_of
 rising read first whole = rising_from read (length whole) first (drop first whole)
 
--- those of a MADT, of an SRAT and of a PPTT
 pub madt_rising : (whole : List ℕ) → AreRising 44 (madt_contents whole).entries
 unfolding madt_contents
 madt_rising whole = rising madt_entry 44 whole
@@ -110,7 +102,6 @@ pub pptt_rising : (whole : List ℕ) → AreRising 36 (pptt_contents whole).entr
 unfolding pptt_contents
 pptt_rising whole = rising pptt_entry 36 whole
 
--- an entry begins before the table's end
 inside : {E : Type 0} (read : List ℕ → E) (first : ℕ) (whole : List ℕ) (s : PlacedEntry E)
     → Contains (entries_read_by read (entries_of first whole)) s → s.offset < length whole
 inside read first whole s listed =
@@ -129,11 +120,10 @@ srat_inside whole s listed = inside srat_entry 48 whole s listed
 
 -- ---- keys rise
 
--- what is kept of an entry has the entry's offset for its key
+-- what is kept of an entry has the entry's offset as its key
 abbrev pub AreKeyed : {E Y : Type 0} → (PlacedEntry E → Option Y) → (Y → ℕ) → Type 0
 AreKeyed {E} {Y} h key = (s : PlacedEntry E) (y : Y) → h s ≡ Some y → key y ≡ s.offset
 
--- so keys are no lower than the least offset
 keys_from : {E Y : Type 0} (h : PlacedEntry E → Option Y) (key : Y → ℕ) → AreKeyed h key
     → (low : ℕ) (entries : List (PlacedEntry E)) → AreRising low entries → All (λ y. low ≤ key y) (filter_map h entries)
 keys_from h key keyed low [] rises = All-nil (λ y. low ≤ key y)
@@ -146,7 +136,6 @@ keys_from h key keyed low (s ∷ rest) rises =
           later)
     ]
 
--- and each is below those behind it
 pub keys_rise : {E Y : Type 0} (h : PlacedEntry E → Option Y) (key : Y → ℕ) → AreKeyed h key
     → (low : ℕ) (entries : List (PlacedEntry E)) → AreRising low entries
     → AllPairs (λ x y. key x < key y) (filter_map h entries)

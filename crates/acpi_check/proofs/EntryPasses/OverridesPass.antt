@@ -1,4 +1,4 @@
--- The overrides of a MADT that give a Source another number than the first one, as a stage finds them.
+-- The first fault of a MADT's overrides, as stage 8 finds it.
 use Rattle.std.proofs.Common.{◌≡◌, ℕ, refl, sym, ◌∙◌}
 use Rattle.acpi_base.specs.Faults.{NotAfter}
 use Rattle.acpi_base.specs.Madt.{MadtEntry, MadtContents, Override, Overrides, OverrideFault}
@@ -10,12 +10,10 @@ use Rattle.acpi_check.specs.TableResults.{IsFirstOfTable}
 use Rattle.acpi_check.specs.declared.first_seen.OtherValue.{OtherValue}
 use Rattle.acpi_check.proofs.EntryPasses.ValuesPass.{in_order}
 
--- an override gives one Source a number
 pub one_source : (e : MadtEntry) (s t g h : ℕ) → Overrides s g e → Overrides t h e → (s ≡ t) × (g ≡ h)
 one_source (Override v) s t g h one other = (sym one.0 ∙ other.0, sym one.1 ∙ other.1)
 one_source _ s t g h one other = absurd one
 
--- the first that gives its Source another one is the first fault
 pub clash : (madt : MadtContents) (found : OtherValue) → IsFirstOther Overrides madt.entries found
     → IsFirstOfTable stage.Overrides (OverrideFault madt)
     (record { code = code.OverrideClash; at = found.at; other = found.other; point = found.key })

@@ -1,4 +1,4 @@
--- A pass over the entries of a table, which stand at rising offsets.
+-- A pass over the entries of a table, which are at rising offsets.
 use Rattle.std.proofs.Common.{◌≡◌, ℕ, suc, ◌<◌, ◌≤◌, List, [], ◌∷◌, length, Option, Some, None, sym, ◌∙◌, ap, subst, inl, inr, arith}
 use Rattle.std.specs.Prelude.{◌⊎◌, ⊤, Result, Ok, Err, MatchOption}
 use Rattle.std.specs.Result.{IsErr, IsErrAnd}
@@ -25,7 +25,6 @@ pub record HasPassed {E : Type 0} (entries left : List (PlacedEntry E)) (P : ℕ
   pub listed : (o : ℕ) (e : E) → Stands left o e → Stands entries o e
   pub passed : (o : ℕ) (e : E) → Stands entries o e → Stands left o e ⊎ ((o < low) × P o e)
 
--- an entry that is left stands from the least offset on
 from_low : {E : Type 0} (low : ℕ) (left : List (PlacedEntry E)) (o : ℕ) (e : E) → AreRising low left → Stands left o e
     → low ≤ o
 from_low low [] o e rises stands = absurd (no_element _ stands)
@@ -35,13 +34,12 @@ from_low low (s ∷ left) o e rises stands =
       | inr later ↦ omega (arith, rises.0, from_low (suc s.offset) left o e rises.1 later)
     ]
 
--- before the first entry
 pub none_passed : {E : Type 0} (low : ℕ) {entries : List (PlacedEntry E)} (P : ℕ → E → Type 0) → AreRising low entries
     → HasPassed entries entries P
 none_passed low P rises =
     record { low = low; rises = rises; listed = λ o e stands. stands; passed = λ o e stands. inl stands }
 
--- over one more
+-- over one more entry
 pub one_more : {E : Type 0} {entries : List (PlacedEntry E)} {s : PlacedEntry E} {left : List (PlacedEntry E)}
     {P Q : ℕ → E → Type 0} → HasPassed entries (s ∷ left) P
     → Q s.offset s.entry → ((o : ℕ) (e : E) → o < s.offset → P o e → Q o e) → HasPassed entries left Q
@@ -67,12 +65,11 @@ one_more {E} {entries} {s} {left} {P} {Q} before here others =
               ]
         ]
 
--- the same where this changes nothing of those before
 pub past : {E : Type 0} {entries : List (PlacedEntry E)} {s : PlacedEntry E} {left : List (PlacedEntry E)}
     {P : ℕ → E → Type 0} → HasPassed entries (s ∷ left) P → P s.offset s.entry → HasPassed entries left P
 past before here = one_more before here (λ o e earlier holds. holds)
 
--- an entry was passed, or is the next, or comes behind it
+-- an entry was passed, or is the next, or comes after it
 pub before_or_behind : {E : Type 0} {entries : List (PlacedEntry E)} {s : PlacedEntry E} {left : List (PlacedEntry E)}
     {P : ℕ → E → Type 0} → HasPassed entries (s ∷ left) P
     → (o : ℕ) (e : E) → Stands entries o e → ((o < s.offset) × P o e)
@@ -87,25 +84,22 @@ before_or_behind {s = s} {left = left} pass o e stands =
           ]
     ]
 
--- those behind the next one come behind it
 pub left_behind : {E : Type 0} {entries : List (PlacedEntry E)} {s : PlacedEntry E} {left : List (PlacedEntry E)}
     {P : ℕ → E → Type 0} → HasPassed entries (s ∷ left) P
     → (o : ℕ) (e : E) → Stands left o e → s.offset < o
 left_behind {s = s} {left = left} pass o e stands = from_low (suc s.offset) left o e pass.rises.1 stands
 
--- the next one stands in the table
 pub next_stands : {E : Type 0} {entries : List (PlacedEntry E)} {s : PlacedEntry E} {left : List (PlacedEntry E)}
     {P : ℕ → E → Type 0} → HasPassed entries (s ∷ left) P → Stands entries s.offset s.entry
 next_stands {s = s} {left = left} pass = pass.listed s.offset s.entry (first_element s left)
 
--- all have P once none is left
 pub all_passed : {E : Type 0} {entries : List (PlacedEntry E)} {P : ℕ → E → Type 0} → HasPassed entries [] P
     → (o : ℕ) (e : E) → Stands entries o e → P o e
 all_passed pass o e stands =
     elim (pass.passed o e stands) [ inl left ↦ absurd (no_element _ left) | inr (earlier, holds) ↦ holds ]
 
--- a fault that an entry has by itself comes with the least fault of the next entry or behind it, where those that were
--- passed have none
+-- if the entries that were passed have no fault by themselves, a fault of an entry by itself is at the lowest fault of the
+-- next entry or after it
 pub own_fault_after : {E : Type 0} {entries : List (PlacedEntry E)} {s : PlacedEntry E} {left : List (PlacedEntry E)}
     {P : ℕ → E → Type 0} → HasPassed entries (s ∷ left) P
     → (IsFault : Code → E → Type 0) → ((c : Code) (o : ℕ) (e : E) → P o e → ¬ IsFault c e) → (w : Witness)
@@ -123,7 +117,7 @@ own_fault_after {s = s} pass IsFault excludes w place least c at other point (e,
           (mine.0 ∙ sym unused.0) (mine.1 ∙ sym unused.1)
     ]
 
--- the next entry stands before the bytes at which none does
+-- the next entry comes before the cut
 pub before_cut : {E : Type 0} (read : List ℕ → E) (first : ℕ) (whole : List ℕ) (at : ℕ) {s : PlacedEntry E}
     {left : List (PlacedEntry E)} {P : ℕ → E → Type 0}
     → HasPassed (entries_read_by read (entries_of first whole)) (s ∷ left) P
@@ -132,20 +126,18 @@ before_cut read first whole at {s} pass is =
     let (e, stands, _) = said_from read (entries_of first whole) s.offset s.entry (next_stands pass) in
     cut_behind first whole at s.offset e is stands
 
--- in a table that ends before its first entry's place none stands
 pub none_said : {E : Type 0} (read : List ℕ → E) (first : ℕ) (whole : List ℕ) → length whole < first → (o : ℕ) (e : E)
     → ¬ Stands (entries_read_by read (entries_of first whole)) o e
 none_said read first whole short o e stands =
     let (bytes, here, _) = said_from read (entries_of first whole) o e stands in
     (none_in_short first whole short).1 o bytes here
 
--- a result that is this fault says what the fault does
 pub reported : (s : Stage) (Valid : Type 0) (IsFault : Code → ℕ → ℕ → ℕ → Type 0) (w : Witness) (r : Result ⊤ Refusal)
     → IsErr r → IsErrAnd r (λ v. v ≡ Fault w) → IsFirstOfTable s IsFault w → FindsFirst s Valid IsFault r
 reported s Valid IsFault w (Ok _) err is first = absurd cc
 reported s Valid IsFault w (Err v) err is first = rw is first
 
--- a refusal for the fault that was found, where one was, says what this says
+-- a refusal with the fault that was found, if there is one, is a right result
 pub refused : (s : Stage) (Valid : Type 0) (IsFault : Code → ℕ → ℕ → ℕ → Type 0) (found : Option Witness)
     (r : Result ⊤ Refusal)
     → MatchOption found (r ≡ Ok tt) (λ w. r ≡ Err (Fault w)) → FindsFault s Valid IsFault found

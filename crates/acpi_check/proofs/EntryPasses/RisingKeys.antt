@@ -1,11 +1,11 @@
--- Entries that give keys values, where the keys rise: then none is given two values.
+-- Entries that give keys values: if the keys rise, no key is given two values.
 use Rattle.std.proofs.Common.{◌≡◌, ℕ, ◌+◌, ◌<◌, ◌≤◌, List, [], ◌∷◌, sym, subst, inl, inr, arith}
 use Rattle.std.specs.Prelude.{⊤, None}
 use Rattle.acpi_base.specs.Entries.{PlacedEntry, StandsWith}
 use Rattle.acpi_base.proofs.Elements.{first_or_later, no_element}
 use Rattle.acpi_check.specs.FirstSeen.{FindsOther}
 
--- the keys that entries give values rise from this number on
+-- the keys to which entries give values rise from this number on
 unfoldable pub RiseFrom : {E : Type 0} → (ℕ → ℕ → E → Type 0) → ℕ → List (PlacedEntry E) → Type 0
 RiseFrom Gives least [] = ⊤
 RiseFrom Gives least (s ∷ left) =
@@ -13,7 +13,7 @@ RiseFrom Gives least (s ∷ left) =
 
 -- ---- the pass
 
--- those of all entries rise if those of the entries left do, from this number on
+-- the keys of all entries rise if those of the entries left do, from this number on
 pub record DoRiseTo {E : Type 0} (Gives : ℕ → ℕ → E → Type 0) (all left : List (PlacedEntry E))
     (least : ℕ) : Type 0 where
   pub all_rise : RiseFrom Gives least left → RiseFrom Gives 0 all
@@ -21,7 +21,6 @@ pub record DoRiseTo {E : Type 0} (Gives : ℕ → ℕ → E → Type 0) (all lef
 pub begins : {E : Type 0} {Gives : ℕ → ℕ → E → Type 0} (all : List (PlacedEntry E)) → DoRiseTo Gives all all 0
 begins all = record { all_rise = λ rise. rise }
 
--- an entry gives no key a value
 pub without : {E : Type 0} {Gives : ℕ → ℕ → E → Type 0} {all left : List (PlacedEntry E)} {s : PlacedEntry E}
     {least : ℕ} → DoRiseTo Gives all (s ∷ left) least → ((k d : ℕ) → ¬ Gives k d s.entry)
     → DoRiseTo Gives all left least
@@ -29,7 +28,7 @@ unfolding RiseFrom
 without {least = least} before none =
     record { all_rise = λ rise. before.all_rise (least, omega arith, (λ k d gives. absurd (none k d gives)), rise) }
 
--- an entry gives a value to this key alone
+-- the next entry gives a value to this key alone
 pub with_one : {E : Type 0} {Gives : ℕ → ℕ → E → Type 0} {all left : List (PlacedEntry E)} {s : PlacedEntry E}
     {least : ℕ} (key : ℕ) → DoRiseTo Gives all (s ∷ left) least → least ≤ key
     → ((k d : ℕ) → Gives k d s.entry → k ≡ key) → DoRiseTo Gives all left (key + 1)
@@ -93,7 +92,6 @@ one_value Gives one (s ∷ left) least (next, up, own, rest) o p k d h (e, stand
           ]
     ]
 
--- where no entry is left no key is given two values
 pub ends : {E : Type 0} {Gives : ℕ → ℕ → E → Type 0} {entries : List (PlacedEntry E)} {least : ℕ}
     → ((e : E) (k l d h : ℕ) → Gives k d e → Gives l h e → (k ≡ l) × (d ≡ h)) → DoRiseTo Gives entries [] least
     → FindsOther Gives entries None

@@ -1,4 +1,4 @@
--- A pass over the entries of a table, each by itself: it stops at the first fault, and finds none where there is none.
+-- A pass over the entries of a table, each by itself: it stops at the first fault, and finds none if there is none.
 use Rattle.std.proofs.Common.{◌≡◌, ℕ, ◌<◌, ◌≤◌, List, [], ◌∷◌, length, Option, Some, None, Ok, Err, true, refl, sym, ◌∙◌, ap, subst, inl, inr, arith}
 use Rattle.std.specs.Prelude.{◌⊎◌}
 use Rattle.std.proofs.lemmas.Bool.{cases_Bool, eqb-true}
@@ -37,7 +37,6 @@ is_one : (one : Option Code) (c : Code) → is_code one c ≡ true → one ≡ S
 is_one None c is = absurd cc
 is_one (Some one) c is = ap Some (same_code one c (eqb-true _ _ is))
 
--- a code that is not about an entry by itself is the one about its subject
 about_code : (codes : EntryCodes) (c : Code) → (subject_of codes c ≡ Own)
     ⊎ (code_about codes (subject_of codes c) ≡ Some c)
 about_code codes c =
@@ -52,7 +51,6 @@ about_code codes c =
       ])
     ]
 
--- so two codes about one subject, which is not an entry by itself, are one
 one_code : (codes : EntryCodes) (c d : Code) (about : Subject) → subject_of codes c ≡ about → subject_of codes d ≡ about
     → ¬ (about ≡ Own) → c ≡ d
 one_code codes c d about is also not =
@@ -92,7 +90,7 @@ first_of t codes whole w fault least =
 abbrev Passed : {E : Type 0} → EntryTable E → Option ℕ → ℕ → E → Type 0
 Passed t earlier o e = ((c : Code) → ¬ t.IsOwn c e) × (t.IsSingle e → earlier ≡ Some o)
 
--- the pass has these entries left, and the first of those of which a table has at most one stands at `earlier`
+-- the pass has these entries left, and the first of those of which a table has at most one is at `earlier`
 pub record IsAt {E : Type 0} (t : EntryTable E) (whole : List ℕ) (left : List (PlacedEntry (List ℕ)))
     (earlier : Option ℕ) : Type 0
   where
@@ -139,11 +137,11 @@ at_next t codes whole s left earlier now here (valid, inr (is_not, same)) =
 abbrev pub AreValidSingles : {E : Type 0} → EntryTable E → Type 0
 AreValidSingles {E} t = (c : Code) (e : E) → t.IsSingle e → ¬ t.IsOwn c e
 
--- what is found of an entry
+-- what is found about an entry
 abbrev IsFound : {E : Type 0} → EntryTable E → EntryCodes → E → Option ℕ → Witness → Type 0
 IsFound t codes e earlier w = IsOwnFault (λ c. t.IsOwn c e) w ⊎ IsSecondFault (t.IsSingle e) codes earlier w
 
--- a second entry where there is at most one comes with the least fault of the next entry or behind it
+-- a fault of a second entry of which a table has at most one is at the lowest fault of the next entry or after it
 second_after : {E : Type 0} (t : EntryTable E) (codes : EntryCodes) → AreValidSingles t → (whole : List ℕ)
     (s : PlacedEntry (List ℕ)) (left : List (PlacedEntry (List ℕ))) (earlier : Option ℕ) (w : Witness)
     → IsAt t whole (s ∷ left) earlier → w.at ≡ s.offset → IsFound t codes (t.read s.entry) earlier w
@@ -178,7 +176,7 @@ second_after t codes singles whole s left earlier w here place fault c about at 
           ]
     ]
 
--- no fault of the table stands before the least fault of the next entry
+-- no fault of the table comes before the lowest fault of the next entry
 none_before : {E : Type 0} (t : EntryTable E) (codes : EntryCodes) → AreValidSingles t → (whole : List ℕ)
     (s : PlacedEntry (List ℕ)) (left : List (PlacedEntry (List ℕ))) (earlier : Option ℕ) (w : Witness)
     → IsAt t whole (s ∷ left) earlier → w.at ≡ s.offset → IsFound t codes (t.read s.entry) earlier w
@@ -218,9 +216,9 @@ stops t codes singles owns whole s left earlier w here (place, inr second) =
     ((t.read s.entry, stands, second.single), here.first w.other second.first, omega arith, second.unused))
     (none_before t codes singles whole s left earlier w here place (inr second))
 
--- ---- where no entry is left
+-- ---- no entry is left
 
--- a fault that is left is of the bytes at which no entry stands
+-- a fault that is left is at the cut
 only_cut : {E : Type 0} (t : EntryTable E) (whole : List ℕ) (earlier : Option ℕ) → IsAt t whole [] earlier
     → (about : Subject) (c : Code) (at other point : ℕ) → IsAbout t whole about c at other point
     → (about ≡ Cut) × (cut_of t.first whole ≡ Some at) × AreUnused other point
@@ -235,14 +233,13 @@ only_cut t whole earlier here Second c at other point ((e, stands, is), (d, also
 only_cut t whole earlier here Own c at other point ((e, stands, wrong), _) =
     absurd ((all_passed here.pass at e stands).0 c wrong)
 
--- there is none where the entries that were passed fill the table
 pub ends_valid : {E : Type 0} (t : EntryTable E) (whole : List ℕ) (earlier : Option ℕ) → IsAt t whole [] earlier
     → cut_of t.first whole ≡ None → (about : Subject) (c : Code) (at other point : ℕ)
     → ¬ IsAbout t whole about c at other point
 ends_valid t whole earlier here filled about c at other point wrong =
     none_and_some filled (only_cut t whole earlier here about c at other point wrong).1
 
--- and such bytes are the first fault
+-- and the cut is the first fault
 pub ends_cut : {E : Type 0} (t : EntryTable E) (codes : EntryCodes) → subject_of codes codes.cut ≡ Cut
     → (whole : List ℕ) (earlier : Option ℕ) (at : ℕ) → IsAt t whole [] earlier → cut_of t.first whole ≡ Some at
     → IsFirst t codes whole (record { code = codes.cut; at = at; other = 0; point = 0 })
@@ -256,7 +253,6 @@ ends_cut t codes cuts whole earlier at here is =
     (record { code = c; at = place; other = other; point = point })
     (inr (same_value at place is also, omega (arith, ap code_number same))) (sym unused.0) (sym unused.1))
 
--- a table that ends before its first entry's place has this fault alone
 pub short_first : {E : Type 0} (t : EntryTable E) (codes : EntryCodes) (whole : List ℕ) (code : Code)
     → length whole < t.first → subject_of codes code ≡ Short
     → IsFirst t codes whole (record { code = code; at = 0; other = 0; point = 0 })

@@ -1,4 +1,4 @@
--- A pass over the entries of a MADT to see whether all are typed.
+-- A pass over the entries of a MADT to test whether all are of known types.
 use Rattle.std.proofs.Common.{◌≡◌, ◌≤◌, true, false, true≢false, List, [], ◌∷◌, length, Option, Some, None, Bool, refl, sym, ◌∙◌, subst, ℕ}
 use Rattle.std.specs.Prelude.{MatchBool, not}
 use Rattle.std.specs.Option.{is_some}
@@ -8,23 +8,20 @@ use Rattle.acpi_base.specs.Madt.{MadtEntry, MadtContents, Opaque, madt_contents,
 use Rattle.acpi_check.specs.Processors.{has_known_type}
 use Rattle.acpi_check.proofs.EntryPasses.Passes.{HasPassed, next_stands, all_passed}
 
--- the pass has these entries left, and those before them are typed
+-- the pass has these entries left, and those before them are of known types
 abbrev pub IsAt : MadtContents → List (PlacedEntry MadtEntry) → Type 0
 IsAt madt left = HasPassed madt.entries left (λ o e. has_known_type e ≡ true)
 
--- an entry that is not typed
 opaque : (e : MadtEntry) → has_known_type e ≡ false → (bytes : List ℕ) × (e ≡ Opaque bytes)
 opaque (Opaque bytes) is = (bytes, refl)
 opaque _ is = absurd (true≢false is)
 
--- where the next one is not typed, not all are
 pub stops : (madt : MadtContents) (s : PlacedEntry MadtEntry) (left : List (PlacedEntry MadtEntry))
     → IsAt madt (s ∷ left) → has_known_type s.entry ≡ false → ¬ IsWhollyTyped madt
 stops madt s left here untyped typed =
     let (bytes, is) = opaque s.entry untyped in
     typed.typed s.offset bytes (subst (Stands madt.entries s.offset) is (next_stands here))
 
--- where none is left, typed entries fill the table
 pub ends : (whole : List ℕ) → 44 ≤ length whole → (madt_contents whole).cut ≡ None → IsAt (madt_contents whole) []
     → IsWhollyTyped (madt_contents whole)
 unfolding madt_contents
@@ -36,7 +33,7 @@ ends whole long filled here =
           λ o e stands. true≢false (sym (all_passed here o (Opaque e) stands));
     }
 
--- and where bytes are left behind them, not all are known
+-- and if there is a cut, not all are known
 pub filled_or_not : (whole : List ℕ) (cut : Option ℕ) (b : Bool) → 44 ≤ length whole → IsAt (madt_contents whole) []
     → cut ≡ (madt_contents whole).cut → is_some cut ≡ not b
     → MatchBool b (IsWhollyTyped (madt_contents whole)) (¬ IsWhollyTyped (madt_contents whole))

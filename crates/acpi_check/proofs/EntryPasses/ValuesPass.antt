@@ -20,16 +20,13 @@ use Rattle.acpi_check.proofs.EntryPasses.Passes.{HasPassed, none_passed, one_mor
 
 -- ---- the first values that are kept
 
--- at most one at a place
 one_first : (firsts : List (Option FirstSeen)) (k : ℕ) (f g : FirstSeen) → HasFirst firsts k f → HasFirst firsts k g
     → f ≡ g
 one_first firsts k f g one other = same_Some f g (same_Some (Some f) (Some g) (sym one ∙ other))
 
--- where none is kept there is no first one
 no_first : (firsts : List (Option FirstSeen)) (k : ℕ) (f : FirstSeen) → HasNone firsts k → ¬ HasFirst firsts k f
 no_first firsts k f none one = none-some f (same_Some None (Some f) (sym none ∙ one))
 
--- at first none is kept
 none_kept : (n k : ℕ) (f : FirstSeen) → ¬ HasFirst (replicate n None) k f
 none_kept n k f one =
     grind (
@@ -41,7 +38,6 @@ none_kept n k f one =
       get_or-replicate,
     )
 
--- one that is kept from now on
 kept_now : (firsts : List (Option FirstSeen)) (k : ℕ) (f : FirstSeen) → HasNone firsts k
     → HasFirst (slice_set firsts k (Some f)) k f
 kept_now firsts k f none =
@@ -53,7 +49,6 @@ kept_now firsts k f none =
       get_or-set_same firsts k (Some f) None,
     )
 
--- an element at another place of a list stays
 set_other : {X : Type 0} (xs : List X) (i j : ℕ) (y : X) → j ≢ i → slice_get (slice_set xs i y) j ≡ slice_get xs j
 set_other [] i j y differ = refl
 set_other (x ∷ xs) zero zero y differ = absurd (differ refl)
@@ -61,13 +56,11 @@ set_other (x ∷ xs) zero (suc j) y differ = refl
 set_other (x ∷ xs) (suc i) zero y differ = refl
 set_other (x ∷ xs) (suc i) (suc j) y differ = set_other xs i j y (λ same. differ (ap suc same))
 
--- those at other places stay
 kept_still : (firsts : List (Option FirstSeen)) (k l : ℕ) (f g : FirstSeen) → HasNone firsts k → HasFirst firsts l g
     → HasFirst (slice_set firsts k (Some f)) l g
 kept_still firsts k l f g none one =
     set_other firsts k l (Some f) (λ same. no_first firsts k g none (subst (λ n. HasFirst firsts n g) same one)) ∙ one
 
--- and no others come
 kept_before : (firsts : List (Option FirstSeen)) (k l : ℕ) (f g : FirstSeen) → HasNone firsts k
     → HasFirst (slice_set firsts k (Some f)) l g → ((l ≡ k) × (g ≡ f)) ⊎ HasFirst firsts l g
 kept_before firsts k l f g none one =
@@ -84,7 +77,6 @@ kept_before firsts k l f g none one =
 abbrev pub GivesOne : {E : Type 0} → (ℕ → ℕ → E → Type 0) → Type 0
 GivesOne {E} Gives = (e : E) (i j d h : ℕ) → Gives i d e → Gives j h e → (i ≡ j) × (d ≡ h)
 
--- under one code two entries that give a key two values make the first fault
 pub in_order : (c : Code) (at other point p o i : ℕ) → (at < p) ⊎ ((at ≡ p) × (other ≤ o) × (point ≡ i))
     → NotAfter (record { code = c; at = at; other = other; point = point })
     (record { code = c; at = p; other = o; point = i })
@@ -94,7 +86,7 @@ in_order c at other point p o i (inr (same, most, key)) =
 
 -- ---- the pass
 
--- the entry at o, which was passed, gives its key the value that the first one gives, which stands there or before
+-- the entry at o, which was passed, gives its key the value that the first one gives, which is there or before
 abbrev pub Agrees : {E : Type 0} → (ℕ → ℕ → E → Type 0) → List (Option FirstSeen) → ℕ → E → Type 0
 Agrees Gives firsts o e =
     (k d : ℕ) → Gives k d e → (f : FirstSeen) × HasFirst firsts k f × (f.value ≡ d) × (f.offset ≤ o)
@@ -106,7 +98,6 @@ pub record IsAt {E : Type 0} (Gives : ℕ → ℕ → E → Type 0) (entries lef
   pub first : (k : ℕ) (f : FirstSeen) → HasFirst firsts k f → StandsWith entries f.offset (Gives k f.value)
   pub before : (k p : ℕ) (f : FirstSeen) (e : E) → HasFirst firsts k f → Stands left p e → f.offset < p
 
--- before the first entry
 pub at_first : {E : Type 0} (Gives : ℕ → ℕ → E → Type 0) (low n : ℕ) {entries : List (PlacedEntry E)}
     → AreRising low entries → IsAt Gives entries entries (replicate n None)
 at_first Gives low n rises =
@@ -116,7 +107,7 @@ at_first Gives low n rises =
       before = λ k p f e kept stands. absurd (none_kept n k f kept);
     }
 
--- the first values stand before the next entry
+-- the first values come before the next entry
 first_before : {E : Type 0} {Gives : ℕ → ℕ → E → Type 0} {entries : List (PlacedEntry E)} {s : PlacedEntry E}
     {left : List (PlacedEntry E)} {firsts : List (Option FirstSeen)}
     → IsAt Gives entries (s ∷ left) firsts → (k : ℕ) (f : FirstSeen) → HasFirst firsts k f → f.offset < s.offset
@@ -188,7 +179,6 @@ at_next {E} {Gives} {entries} {s} {left} firsts now one here (Some given) mine (
 
 -- ---- where it stops
 
--- two entries that were passed give a key one value
 one_value : {E : Type 0} (Gives : ℕ → ℕ → E → Type 0) (firsts : List (Option FirstSeen)) → (o p k d h : ℕ) (e b : E)
     → Agrees Gives firsts o e → Agrees Gives firsts p b → Gives k d e → Gives k h b → d ≡ h
 one_value Gives firsts o p k d h e b one other gives also =
@@ -249,7 +239,6 @@ stops {E} {Gives} {entries} {s} {left} firsts now one here (Some given) mine fou
               ]
         ]
 
--- where no entry is left each key has one value
 pub ends : {E : Type 0} {Gives : ℕ → ℕ → E → Type 0} {entries : List (PlacedEntry E)} (firsts : List (Option FirstSeen))
     → IsAt Gives entries [] firsts → FindsOther Gives entries None
 ends {Gives = Gives} firsts here o p k d h (e, stands, gives) (b, also, gives_too) =

@@ -1,4 +1,4 @@
--- From the cycle that is found of the chains of a PPTT to its first fault, where its references are valid.
+-- From the cycle that is found in the chains of a PPTT to its first fault, if its references are valid.
 use Rattle.std.proofs.Common.{◌≡◌, ℕ, List, Option, Some, None, refl, sym, subst, inl, inr}
 use Rattle.acpi_base.specs.Chains.{AllEnd, IsCycle, EndOrGoRound}
 use Rattle.acpi_base.specs.Codes.{stage_of}
@@ -16,7 +16,6 @@ use Rattle.acpi_check.specs.PassResults.{FindsFault}
 use Rattle.acpi_check.specs.TableResults.{IsFirstOfTable}
 use Rattle.acpi_check.specs.declared.nodes.Chain.TheVariants as chain
 
--- where each chain ends or goes round, and none goes round, all end
 all_end : {Names : ℕ → ℕ → Type 0} {most : ℕ} → EndOrGoRound Names most
     → ((o lead round : ℕ) → ¬ IsCycle Names most o lead round) → AllEnd Names
 all_end law none o here =
@@ -25,7 +24,7 @@ all_end law none o here =
       | inr (lead, round, cycle) ↦ absurd (none o lead round cycle)
     ]
 
--- the cycle that is reported is the first fault, where the faults are the cycles, under one code
+-- if the faults are the cycles, under one code, the cycle that is reported is the first fault
 first_fault : {Names : ℕ → ℕ → Type 0} {most : ℕ} (s : Stage) (fault : Code) (IsFault : Code → ℕ → ℕ → ℕ → Type 0)
     → stage_of fault ≡ s
     → ((at other point : ℕ) → IsCycle Names most at other point → IsFault fault at other point)

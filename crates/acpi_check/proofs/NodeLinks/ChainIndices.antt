@@ -1,4 +1,4 @@
--- From the first cycle of indices to that of the offsets for which the indices stand.
+-- From the first cycle of indices to that of the offsets that the indices represent.
 use Rattle.std.proofs.Common.{◌≡◌, ℕ, zero, suc, ◌+◌, ◌<◌, ◌≤◌, List, length, get_or, Option, Some, refl, sym, ◌∙◌, ap, subst, inl, inr, arith}
 use Rattle.std.specs.Prelude.{◌↔◌, slice_index}
 use Rattle.std.proofs.lemmas.Bool.{cases_order, cases_lt, cases_eq}
@@ -23,19 +23,16 @@ use Rattle.acpi_check.specs.Chains.{AreIndexed, IsCycleResult, IsFirstCycle}
 abbrev at : List ℕ → ℕ → ℕ
 at offsets i = slice_index offsets i
 
--- an offset stands at one index
 one_index : {Names : ℕ → ℕ → Type 0} {offsets : List ℕ} {parents : List (Option ℕ)} → AreIndexed Names offsets parents
     → (i j : ℕ) → i < length offsets → j < length offsets → at offsets i ≡ at offsets j → i ≡ j
 one_index are i j within also same = grind (arith, cases_order i j, are.rising i j 0, are.rising j i 0, same)
 
--- each offset at which one of the kind stands has one
 indexed : {Names : ℕ → ℕ → Type 0} {offsets : List ℕ} {parents : List (Option ℕ)} → AreIndexed Names offsets parents
     → (o : ℕ) → IsAt Names o → (i : ℕ) × (i < length offsets) × (at offsets i ≡ o)
 indexed {Names} {offsets} are o here =
     let (i, within, is) = (are.all o).1 here in
     (i, within, get_or_default offsets i 0 o within ∙ is)
 
--- one of the kind stands at each offset
 there : {Names : ℕ → ℕ → Type 0} {offsets : List ℕ} {parents : List (Option ℕ)} → AreIndexed Names offsets parents
     → (i : ℕ) → i < length offsets → IsAt Names (at offsets i)
 there {Names} {offsets} are i within = (are.all (at offsets i)).0 (Contains-get_or offsets i 0 within)
@@ -54,7 +51,6 @@ step_up {Names} {offsets} {parents} are i p within step =
       | inl (j, is) ↦ let place = rw is at (are.named i p within step.names) in (j, is, place.1, place.2)
     ]
 
--- a parent is a step to its offset
 step_down : {Names : ℕ → ℕ → Type 0} {offsets : List ℕ} {parents : List (Option ℕ)} → AreIndexed Names offsets parents
     → (i j : ℕ) → i < length offsets → parent_of parents i ≡ Some j
     → (j < length offsets) × IsStep Names (at offsets i) (at offsets j)
@@ -63,7 +59,6 @@ step_down {Names} {offsets} {parents} are i j within is =
     let (some, below, place) = rw is at (are.named i p within names) in
     (below, rw place (record { names = names; some = some; there = rw (← place) (there are j below) }))
 
--- steps behind the first
 after_first : (parents : List (Option ℕ)) (i j k : ℕ) → parent_of parents i ≡ Some j
     → node_after parents i (suc k) ≡ node_after parents j k
 after_first parents i j k is =
@@ -80,7 +75,6 @@ leads_up {Names} {offsets} {parents} are (suc k) i p within (next, step, leads) 
     let (end, after_j, inside, place) = leads_up are k j p below (rw is leads) in
     (end, after_first parents i j k parent ∙ after_j, inside, place)
 
--- and back
 leads_down : {Names : ℕ → ℕ → Type 0} {offsets : List ℕ} {parents : List (Option ℕ)} → AreIndexed Names offsets parents
     → (k i j : ℕ) → i < length offsets → node_after parents i k ≡ Some j
     → (j < length offsets) × LeadsTo Names k (at offsets i) (at offsets j)
@@ -92,7 +86,6 @@ leads_down {Names} {offsets} {parents} are (suc k) i j within is =
     let (inside, leads) = leads_down are k next j below (sym (after_first parents i next k parent) ∙ is) in
     (inside, (at offsets next, step, leads))
 
--- a cycle of offsets is a return of indices
 returns : {Names : ℕ → ℕ → Type 0} {offsets : List ℕ} {parents : List (Option ℕ)} → AreIndexed Names offsets parents
     → (most i lead round : ℕ) → i < length offsets → IsCycle Names most (at offsets i) lead round
     → Returns parents i lead round
@@ -108,7 +101,7 @@ returns {Names} {offsets} {parents} are most i lead round within c =
           node_after-add parents i lead j stands round ∙ again ∙ ap Some one;
     }
 
--- and back
+-- and conversely
 cycle : {Names : ℕ → ℕ → Type 0} {offsets : List ℕ} {parents : List (Option ℕ)} → AreIndexed Names offsets parents
     → (most i lead round : ℕ) → i < length offsets → lead + round ≤ most → Returns parents i lead round
     → IsCycle Names most (at offsets i) lead round
@@ -123,9 +116,8 @@ cycle {Names} {offsets} {parents} are most i lead round within fits r =
       fits = fits;
     }
 
--- ---- what `first_stray` asks and finds
+-- ---- what `first_stray` requires and finds
 
--- each parent is an index
 pub are_nodes : {Names : ℕ → ℕ → Type 0} {offsets : List ℕ} {parents : List (Option ℕ)}
     → AreIndexed Names offsets parents → AreNodes parents
 are_nodes {Names} {offsets} {parents} are k d below =
@@ -136,7 +128,6 @@ are_nodes {Names} {offsets} {parents} are k d below =
           rw is (omega (arith, are.count, (step_down are k j (omega (arith, below, are.count)) parent).0))
     ]
 
--- where all chains of indices end, none of offsets goes round
 none_round : {Names : ℕ → ℕ → Type 0} {offsets : List ℕ} {parents : List (Option ℕ)} → AreIndexed Names offsets parents
     → (most : ℕ) → graph.AllEnd parents → (o lead round : ℕ) → ¬ IsCycle Names most o lead round
 none_round {Names} {offsets} {parents} are most end o lead round c =
@@ -144,7 +135,6 @@ none_round {Names} {offsets} {parents} are most end o lead round c =
     never_ends parents i lead round (returns are most i lead round within (rw is c))
     (end i (omega (arith, within, are.count)))
 
--- the offsets are no more than have numbers of their own
 pub room : {Names : ℕ → ℕ → Type 0} {offsets : List ℕ} {parents : List (Option ℕ)} {most : ℕ}
     → AreIndexed Names offsets parents → IsNumbered Names most → length offsets ≤ most
 room {Names} {offsets} {parents} {most} are numbered =
@@ -199,7 +189,7 @@ first_cycle {Names} {offsets} {parents} are most fits fault node lead round firs
         let (i, below, is) = indexed are p (cycle_begins Names most p l r other) in
         rw (← is) (at_index i l r below (returns are most i l r below (rw is other)))
 
--- what `first_stray` finds of the indices is so of the offsets
+-- what `first_stray` finds about the indices holds for the offsets
 pub is_found : {Names : ℕ → ℕ → Type 0} {offsets : List ℕ} {parents : List (Option ℕ)} {most : ℕ}
     → AreIndexed Names offsets parents → IsNumbered Names most → (fault : Code) (found : Stray)
     → ((found ≡ stray.None) ↔ graph.AllEnd parents) → IfRound found (IsFirstStray parents)

@@ -1,4 +1,4 @@
--- Nodes that are collected from the entries of a table, with the index of what each names, are chains of offsets.
+-- Nodes that are collected from the entries of a table, with the index of the node that each names, are chains of offsets.
 use Rattle.std.proofs.Common.{◌≡◌, ℕ, ◌<◌, List, length, get_or, Option, Some, None, refl, sym, ◌∙◌, ap, subst, inl, inr, arith}
 use Rattle.std.specs.Prelude.{AllPairs, Contains, slice_index, option_map}
 use Rattle.std.proofs.lemmas.Bool.{cases_order}
@@ -16,11 +16,10 @@ use Rattle.acpi_check.proofs.EntryPasses.Kept.{AreRising, map_has, kept_has, kep
 abbrev pub NamesOf : {E : Type 0} → (E → Option ℕ) → List (PlacedEntry E) → ℕ → ℕ → Type 0
 NamesOf {E} read entries o p = (e : E) × Stands entries o e × (read e ≡ Some p)
 
--- where an entry stands and what it names, if it names an offset
+-- the offset of an entry and the one that it names, if it names an offset
 abbrev kept : {E : Type 0} → (E → Option ℕ) → PlacedEntry E → Option ChainNode
 kept read s = option_map (λ p. record { offset = s.offset; named = p }) (read s.entry)
 
--- what is kept of an entry says this
 kept_is : {E : Type 0} (read : E → Option ℕ) (s : PlacedEntry E) (n : ChainNode) → kept read s ≡ Some n
     → (n.offset ≡ s.offset) × (read s.entry ≡ Some n.named)
 kept_is read s n is =
@@ -30,20 +29,17 @@ kept_is read s n is =
           (sym (ap (λ (m : ChainNode). m.offset) same), gives ∙ ap (λ (m : ChainNode). Some m.named) same))
     ]
 
--- an entry that names an offset is kept
 is_kept : {E : Type 0} (read : E → Option ℕ) (entries : List (PlacedEntry E)) (o p : ℕ) → NamesOf read entries o p
     → Contains (nodes_of read entries) (record { offset = o; named = p })
 is_kept {E} read entries o p (e, stands, is) =
     kept_has (kept read) entries (record { offset = o; entry = e }) (record { offset = o; named = p }) stands
     (rw is refl)
 
--- nodes stand at rising offsets
 nodes_rise : {E : Type 0} (read : E → Option ℕ) (low : ℕ) (entries : List (PlacedEntry E)) → AreRising low entries
     → AllPairs (λ n m. n.offset < m.offset) (nodes_of read entries)
 nodes_rise read low entries rises =
     keys_rise (kept read) (λ n. n.offset) (λ s n is. (kept_is read s n is).0) low entries rises
 
--- and so do their offsets
 pub offsets_rise : {E : Type 0} (read : E → Option ℕ) (low : ℕ) (entries : List (PlacedEntry E)) → AreRising low entries
     → AllPairs (λ o p. o < p) (node_offsets (nodes_of read entries))
 offsets_rise {E} read low entries rises =
@@ -60,7 +56,6 @@ offsets_rise {E} read low entries rises =
     node : ChainNode
     node = record { offset = 0; named = 0 }
 
--- one node stands at an offset
 one_node : (nodes : List ChainNode) → AllPairs (λ n m. n.offset < m.offset) nodes → (n : ChainNode) → Contains nodes n
     → (i : ℕ) → i < length nodes → (get_or nodes i n).offset ≡ n.offset → get_or nodes i n ≡ n
 one_node nodes rise n (k, below, is) i within same =
@@ -70,7 +65,6 @@ one_node nodes rise n (k, below, is) i within same =
       | inr (inr more) ↦ absurd (omega (arith, rise k i n more within, same, ap (λ (m : ChainNode). m.offset) is))
     ]
 
--- the nodes of entries, with the index of what each names, are chains of offsets
 pub are_indexed : {E : Type 0} (read : E → Option ℕ) (low : ℕ) (entries : List (PlacedEntry E)) → AreRising low entries
     → (parents : List (Option ℕ)) → AreParents (nodes_of read entries) parents
     → AreIndexed (NamesOf read entries) (node_offsets (nodes_of read entries)) parents

@@ -1,4 +1,4 @@
--- The offsets that are collected from the entries of a PPTT are those at which what may be named stands.
+-- The offsets that are collected from the entries of a PPTT are those of the entries that may be named.
 use Rattle.std.proofs.Common.{◌≡◌, ℕ, true, false, List, [], ◌∷◌, Option, Some, None, refl, sym, subst, inl, inr, arith}
 use Rattle.std.specs.Prelude.{◌↔◌, ◌≢◌, ◌⊎◌, Bool, Contains, if◌then◌else◌}
 use Rattle.std.proofs.lemmas.Bool.{cases_Bool}
@@ -22,7 +22,6 @@ kept_is : (kinds : PlaceKind → Bool) (s : PlacedEntry PpttEntry) (o : ℕ) →
     → (kinds (kind_of s.entry) ≡ true) × (o ≡ s.offset)
 kept_is kinds s o is = (let parts = cond_some (kinds (kind_of s.entry)) s.offset o is in (parts.0, sym parts.1))
 
--- the offsets are those at which entries of the kinds stand
 stand : (kinds : PlaceKind → Bool) (entries : List (PlacedEntry PpttEntry)) (o : ℕ)
     → Contains (kind_offsets kinds entries) o ↔ StandsWith entries o (λ e. kinds (kind_of e) ≡ true)
 stand kinds entries o =
@@ -34,9 +33,9 @@ stand kinds entries o =
         let (kind, same) = kept_is kinds s o is in
         (s.entry, subst (λ (k : ℕ). Stands entries k s.entry) (sym same) found, kind)
 
--- ---- while the entries are gone over
+-- ---- in the loop over the entries
 
--- with those of the entries left the offsets so far are those of all entries of the kinds
+-- the offsets so far, with those of the entries left, are those of all entries of the kinds
 pub record IsGathering (kinds : PlaceKind → Bool) (all left : List (PlacedEntry PpttEntry)) (offsets : OffsetSet) : Type 0
   where
     pub each : (o : ℕ) → (IsIn offsets o ⊎ Contains (kind_offsets kinds left) o) ↔ Contains (kind_offsets kinds all) o
@@ -48,7 +47,6 @@ none_gathered kinds all offsets none =
       each = λ o. (λ either. elim either [ inl here ↦ absurd (none o here) | inr left ↦ left ], λ listed. inr listed);
     }
 
--- over one more, which is added where it is of the kinds
 pub one_gathered : (kinds : PlaceKind → Bool) (all left : List (PlacedEntry PpttEntry)) (s : PlacedEntry PpttEntry)
     (old new : OffsetSet) → IsGathering kinds all (s ∷ left) old → Adds (kinds (kind_of s.entry)) s.offset old new
     → IsGathering kinds all left new
@@ -89,7 +87,6 @@ one_gathered kinds all left s old new before adds =
           λ listed. elim (was.1 listed) [ inl earlier ↦ inl ((same o).1 earlier) | inr later ↦ inr later ],
         )
 
--- at the end
 all_gathered : (kinds : PlaceKind → Bool) (all : List (PlacedEntry PpttEntry)) (offsets : OffsetSet)
     → IsGathering kinds all [] offsets → (o : ℕ) → IsIn offsets o ↔ StandsWith all o (λ e. kinds (kind_of e) ≡ true)
 all_gathered kinds all offsets here o = (
@@ -119,7 +116,7 @@ of_other_type (Opaque e) valid = (λ is same. valid (omega (arith, same)), λ ot
 
 -- ---- of a PPTT
 
--- where entries have a length of their type, the offsets of all are the places of what may be named
+-- if entries have a length of their type, the collected offsets are those of what may be named
 pub are_places : (whole : List ℕ) (places : Places) → IsCutPptt (pptt_contents whole)
     → IsGathering is_node (pptt_contents whole).entries [] places.nodes
     → IsGathering is_cache (pptt_contents whole).entries [] places.caches

@@ -1,4 +1,4 @@
--- Nodes that are collected from a PPTT, with the index of what each names, are its chains.
+-- Nodes that are collected from a PPTT, with the index of the node that each names, are its chains.
 use Rattle.std.proofs.Common.{◌≡◌, ℕ, ◌+◌, ◌<◌, ◌≤◌, List, length, map, Option, None, ap, arith}
 use Rattle.std.specs.Prelude.{◌↔◌, AllPairs, slice_index_or}
 use Rattle.std.proofs.lemmas.List.{length-map, get_or-map}
@@ -19,13 +19,11 @@ use Rattle.acpi_check.proofs.EntryPasses.Kept.{pptt_rising}
 
 -- ---- nodes
 
--- their offsets rise
 pub nodes_rise : (links : Chain) (whole : List ℕ) (nodes : Nodes) → AreNodesOf links (pptt_contents whole) nodes
     → AllPairs (λ o p. o < p) nodes.offsets.items
 nodes_rise links whole nodes are =
     rw (are.offsets) (offsets_rise (named_offset links) 36 (pptt_contents whole).entries (pptt_rising whole))
 
--- with the index of what each names they are chains of offsets
 pub indexed : (links : Chain) (whole : List ℕ) (nodes : Nodes) (parents : List (Option ℕ))
     → AreNodesOf links (pptt_contents whole) nodes → AreIndices nodes parents
     → AreIndexed (Names links (pptt_contents whole)) nodes.offsets.items parents
@@ -53,12 +51,11 @@ numbered : (links : Chain) (whole : List ℕ)
 numbered chain.Parents whole = nodes_numbered whole
 numbered chain.NextLevels whole = caches_numbered whole
 
--- what `first_stray` asks
 pub ready : (links : Chain) (whole : List ℕ) (nodes : Nodes) (parents : List (Option ℕ))
     → AreNodesOf links (pptt_contents whole) nodes → AreIndices nodes parents → AreNodes parents
 ready links whole nodes parents are indices = are_nodes (indexed links whole nodes parents are indices)
 
--- and what it finds is so of the chains
+-- what `first_stray` finds holds for the chains
 pub cycle_found : (links : Chain) (whole : List ℕ) (nodes : Nodes) (parents : List (Option ℕ))
     → AreNodesOf links (pptt_contents whole) nodes → AreIndices nodes parents → (found : Stray)
     → ((found ≡ stray.None) ↔ graph.AllEnd parents) → IfRound found (IsFirstStray parents)

@@ -1,4 +1,4 @@
--- The first fault of what an entry of a PPTT names.
+-- The first fault of the references of an entry of a PPTT.
 use Rattle.std.proofs.Common.{◌≡◌, ℕ, ◌*◌, ◌<◌, List, map, Option, Some, None, refl, sym, ◌∙◌, ap, subst, inl, inr, arith}
 use Rattle.std.specs.Prelude.{◌≢◌, ◌⊎◌, MatchOption, slice_get}
 use Rattle.std.specs.List.{range_with_len}
@@ -21,7 +21,6 @@ use Rattle.acpi_check.specs.declared.places.Places.{Places}
 abbrev pub numbers_in : List ℕ → ℕ → List ℕ
 numbers_in references count = map (λ j. field references (4 * j) 4) (range_with_len 0 count)
 
--- is the number in its place
 pub number_is : (references : List ℕ) (count j r : ℕ) → slice_get (numbers_in references count) j ≡ Some r
     → (j < count) × (r ≡ field references (4 * j) 4)
 number_is references count j r is =
@@ -32,7 +31,6 @@ number_is references count j r is =
           ∙ get_or-map-range_with_len (λ i. field references (4 * i) 4) 0 count j j 0 (omega arith) (omega arith),
     )
 
--- and each number in its place is a resource
 pub is_number : (references : List ℕ) (count j : ℕ) → j < count
     → slice_get (numbers_in references count) j ≡ Some (field references (4 * j) 4)
 is_number references count j below =
@@ -55,7 +53,6 @@ node_valid places v references count are parent resources =
       next_level = λ p is. absurd cc;
     }
 
--- its Parent comes first where it dangles
 pub parent_first : (places : Places) (v : NodeValue) (at : ℕ) → v.parent ≢ 0 → ¬ IsIn places.nodes v.parent
     → IsFirstReference places (Node v) (record { code = code.DanglingParent; at = at; other = v.parent; point = 0 })
 parent_first places v at some nowhere =
@@ -77,7 +74,7 @@ parent_first places v at some nowhere =
     least code.DanglingCache place other point here wrong = inr (here, inl (omega arith))
     least _ place other point here wrong = absurd wrong
 
--- else the first of its private resources that does
+-- otherwise the first of its private resources that dangles
 pub resource_first : (places : Places) (v : NodeValue) (references : List ℕ) (count at j r : ℕ)
     → v.resources ≡ numbers_in references count → (v.parent ≡ 0) ⊎ IsIn places.nodes v.parent
     → j < count → r ≡ field references (4 * j) 4 → ¬ IsIn places.resources r
@@ -143,7 +140,7 @@ cache_first places v at some nowhere =
         (inr (here, omega arith)) (same_Some v.next_level other is) (sym zero)
     least _ place other point here wrong = absurd wrong
 
--- whichever of the two its Next Level is
+-- for the Next Level of either kind of cache
 pub cache_link : (places : Places) (v : CacheValue) (at : ℕ) (o : Option Witness)
     → MatchOption o ((v.next_level ≡ 0) ⊎ IsIn places.caches v.next_level)
     (λ w. (w ≡ record { code = code.DanglingCache; at = at; other = v.next_level; point = 0 }) × (v.next_level ≢ 0)

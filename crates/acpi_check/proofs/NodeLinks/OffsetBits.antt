@@ -8,12 +8,10 @@ use Rattle.std.proofs.lemmas.List.{get_or_past, get_or-set_same, get_or-set_othe
 use Rattle.std.proofs.lemmas.Nat.Bits.{bit_at-zero, shr_and_one, bit_at_or, bit_at-lt, bit_at-pow_same, bit_at-pow_other}
 use Rattle.acpi_check.specs.EntryPlaces.{HasBit}
 
--- where words are the same, at whatever place, so are the bits
 pub same_bits : (old new : List ℕ) → ((i : ℕ) → slice_index new i ≡ slice_index old i) → (o : ℕ)
     → HasBit new o ↔ HasBit old o
 same_bits old new same o = (λ is. rw same at is, λ is. rw same is)
 
--- a bit that is set in a word is that of its offset
 set_here : (w k i : ℕ) → (bit_at (bit_or w (2 ^ k)) i ≡ 1) ↔ ((i ≡ k) ⊎ (bit_at w i ≡ 1))
 set_here w k i =
     elim (cases_eq i k) [
@@ -30,7 +28,6 @@ set_here w k i =
       )
     ]
 
--- a bit that is read
 tested : (n : ℕ) → MatchBool (nat_eq n 1) (n ≡ 1) (¬ (n ≡ 1))
 tested n =
     elim (cases_Bool (nat_eq n 1)) [
@@ -43,7 +40,6 @@ pub bit_read : (words : List ℕ) (o w : ℕ) → w ≡ slice_index words (o / 6
 bit_read words o w is =
     rw (is, shr_and_one (slice_index words (o / 64)) (o % 64)) (tested (bit_at (slice_index words (o / 64)) (o % 64)))
 
--- there is none behind the last word
 pub none_behind : (words : List ℕ) (o : ℕ) → length words ≤ o / 64 → ¬ HasBit words o
 none_behind words o past is =
     omega (
@@ -53,7 +49,6 @@ none_behind words o past is =
       bit_at-zero (o % 64),
     )
 
--- the offset, and those that were there
 pub bit_added : (words : List ℕ) (offset w : ℕ) → offset / 64 < length words → w ≡ slice_index words (offset / 64)
     → (o : ℕ) → HasBit (set words (offset / 64) (bit_or w (2 ^ (offset % 64)))) o ↔ ((o ≡ offset) ⊎ HasBit words o)
 bit_added words offset w within was o =

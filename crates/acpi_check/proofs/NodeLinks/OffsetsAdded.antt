@@ -32,7 +32,6 @@ one_added offsets i h old new within here adds before = λ o. (
   ],
 )
 
--- at the end they are all the offsets
 pub all_added : (offsets : List ℕ) (i : ℕ) (s : OffsetSet) → length offsets ≤ i → AreAdded offsets i s
     → (o : ℕ) → IsIn s o ↔ Contains offsets o
 all_added offsets i s past are = λ o. (

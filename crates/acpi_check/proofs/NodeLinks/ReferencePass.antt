@@ -1,5 +1,4 @@
--- A pass over what the entries of a PPTT name: it stops at the first fault, and finds none where all that is named
--- stands.
+-- A pass over the references of a PPTT's entries: it stops at the first fault, and finds none if there is one at each offset.
 use Rattle.std.proofs.Common.{◌≡◌, ℕ, List, [], ◌∷◌, subst, inl, inr, arith}
 use Rattle.acpi_base.specs.Entries.{PlacedEntry, Stands}
 use Rattle.acpi_base.specs.Faults.{NotAfter}
@@ -15,7 +14,6 @@ use Rattle.acpi_check.proofs.EntryPasses.Passes.{HasPassed, before_or_behind, ne
 
 -- ---- a fault of the table is one of an entry
 
--- what an entry names that dangles is a fault of the table
 of_entry : (c : PpttContents) (places : Places) → ArePlaces c places
     → (e : PpttEntry) (fault : Code) (at other point : ℕ) → Stands c.entries at e
     → EntryReferenceFault places e fault other point → ReferenceFault c fault at other point
@@ -27,7 +25,6 @@ of_entry c places are e code.DanglingCache at other point stands (is, some, nowh
     (record { names = (e, stands, is); some = some; nowhere = λ there. nowhere ((are.caches other).1 there) }, zero)
 of_entry c places are e _ at other point stands wrong = absurd wrong
 
--- and each fault of the table is one of those
 entry_of : (c : PpttContents) (places : Places) → ArePlaces c places → (fault : Code) (at other point : ℕ)
     → ReferenceFault c fault at other point → (e : PpttEntry) × Stands c.entries at e
     × EntryReferenceFault places e fault other point
@@ -41,7 +38,6 @@ entry_of c places are code.DanglingCache at other point (dangles, zero) =
     (e, stands, (is, dangles.some, λ there. dangles.nowhere ((are.caches other).0 there), zero))
 entry_of c places are _ at other point wrong = absurd wrong
 
--- an entry whose offsets are all there has none
 excludes : (places : Places) (e : PpttEntry) (fault : Code) (other point : ℕ)
     → EntryReferenceFault places e fault other point → ¬ NamesPlaces places e
 excludes places e code.DanglingParent other point (is, some, nowhere, _) valid =
@@ -53,7 +49,7 @@ excludes places e _ other point wrong valid = wrong
 
 -- ---- the pass
 
--- the pass has these entries left, and all that those before them name is there
+-- the pass has these entries left, and all that those before them name is present
 abbrev pub IsAt : Places → PpttContents → List (PlacedEntry PpttEntry) → Type 0
 IsAt places pptt left = HasPassed pptt.entries left (λ o e. NamesPlaces places e)
 
@@ -79,7 +75,6 @@ stops places pptt are s left here w place first =
           | inr (inr behind) ↦ inl (omega arith)
         ]
 
--- where no entry is left the references are valid
 pub ends_valid : (places : Places) (pptt : PpttContents) → ArePlaces pptt places → IsAt places pptt []
     → AreReferencesValid pptt
 ends_valid places pptt are here =

@@ -1,4 +1,4 @@
--- From processors that an SRAT puts in two domains to the first fault of the two tables.
+-- From processors that an SRAT puts into two domains to the first fault of the two tables.
 use Rattle.std.proofs.Common.{◌≡◌, ◌<◌, ℕ, List, length, get_or, Some, None, refl, ap, ◌∙◌, inl, inr}
 use Rattle.std.specs.Prelude.{◌↔◌, Contains, slice_index}
 use Rattle.std.proofs.lemmas.List.{get_or_default}
@@ -23,7 +23,6 @@ use Rattle.acpi_check.proofs.EntryPasses.ValuesPass.{in_order}
 
 -- ---- processors
 
--- a processor has this number and counts as enabled
 is_enabled : (p : Processors) (i : ℕ) (e : MadtEntry) → IsEnabledProcessor p i e
     ↔ (number_of (key.Enabled p) e ≡ Some i)
 is_enabled p i (LocalApic v) = (
@@ -36,7 +35,6 @@ is_enabled p i (X2apic v) = (
 )
 is_enabled p i _ = (λ h. absurd h, λ is. none-some i is)
 
--- the numbers are those of the processors that count as enabled
 are_enabled : (p : Processors) (madt : MadtContents) (numbers : List ℕ) → AreNumbers (key.Enabled p) madt numbers
     → (i : ℕ) → Contains numbers i ↔ IsEnabled p madt i
 are_enabled p madt numbers are i =
@@ -47,13 +45,11 @@ are_enabled p madt numbers are i =
 
 -- ---- the tables
 
--- an entry puts the processor in a domain by the place of its number
 placed : (numbers : List ℕ) (srat : SratContents) (k i o d : ℕ) → k < length numbers → get_or numbers k i ≡ i
     → PutsAt srat o i d → StandsWith srat.entries o (PutsPlaced numbers k d)
 placed numbers srat k i o d inside is (e, stands, puts) =
     (e, stands, (inside, rw (get_or_default numbers k 0 i inside ∙ is) puts))
 
--- each processor has one domain, where each place of a number has one
 pub one_domain_each : (p : Processors) (madt : MadtContents) (srat : SratContents) (numbers : List ℕ)
     → AreNumbers (key.Enabled p) madt numbers → FindsOther (PutsPlaced numbers) srat.entries None
     → HaveOneDomain p madt srat
@@ -61,7 +57,7 @@ one_domain_each p madt srat numbers are all i enabled o r d f one other =
     let (k, inside, is) = (are_enabled p madt numbers are i).1 enabled in
     all o r k d f (placed numbers srat k i o d inside is one) (placed numbers srat k i r f inside is other)
 
--- the first entry that gives a place another one is the first fault
+-- the first entry that gives an index another domain is the first fault
 pub two_domains : (p : Processors) (madt : MadtContents) (srat : SratContents) (numbers : List ℕ)
     → AreNumbers (key.Enabled p) madt numbers → (found : OtherValue) → found.key < length numbers
     → IsFirstOther (PutsPlaced numbers) srat.entries found

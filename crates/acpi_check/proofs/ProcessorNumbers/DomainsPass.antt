@@ -1,4 +1,4 @@
--- What the entries of an SRAT say of processors.
+-- What the entries of an SRAT say about processors.
 use Rattle.std.proofs.Common.{◌≡◌, ℕ, ◌<◌, List, Some, None, sym, ◌∙◌, ap, inl, inr, arith, refl}
 use Rattle.std.specs.Prelude.{◌↔◌, AllPairs, slice_index}
 use Rattle.std.proofs.lemmas.Bool.{cases_order}
@@ -7,7 +7,6 @@ use Rattle.acpi_base.specs.Srat.{SratEntry, ApicDomain, X2apicDomain, PutsIn, is
 use Rattle.acpi_check.specs.Processors.{placement_of, PutsPlaced}
 use Rattle.acpi_check.specs.declared.domains.Placement.{Placement}
 
--- an entry puts a processor in a domain exactly where this is read of it
 pub puts : (i d : ℕ) (e : SratEntry) → PutsIn i d e ↔ (placement_of e ≡ Some (record { processor = i; domain = d }))
 puts i d (ApicDomain v) = (
   λ (number, domain, enabled). rw (enabled, number, domain) refl,
@@ -25,14 +24,12 @@ puts i d (X2apicDomain v) = (
 )
 puts i d _ = (λ h. absurd h, λ is. none-some (record { processor = i; domain = d }) is)
 
--- one processor in one domain
 pub one_put : (e : SratEntry) (i j d h : ℕ) → PutsIn i d e → PutsIn j h e → (i ≡ j) × (d ≡ h)
 one_put e i j d h one other =
     let is = same_Some (record { processor = i; domain = d }) (record { processor = j; domain = h })
     (sym ((puts i d e).0 one) ∙ (puts j h e).0 other) in
     (ap (λ (p : Placement). p.processor) is, ap (λ (p : Placement). p.domain) is)
 
--- which is the one that is read
 pub put_alone : (e : SratEntry) (put : Placement) → placement_of e ≡ Some put → (i d : ℕ) → PutsIn i d e
     → i ≡ put.processor
 put_alone e put is i d says =
@@ -42,7 +39,6 @@ put_alone e put is i d says =
 pub none_put : (e : SratEntry) → placement_of e ≡ None → (i d : ℕ) → ¬ PutsIn i d e
 none_put e none i d says = none-some (record { processor = i; domain = d }) (sym none ∙ (puts i d e).0 says)
 
--- whose number, where the numbers rise, stands at one place
 pub one_place : (numbers : List ℕ) → AllPairs (λ i j. i < j) numbers → (e : SratEntry) (k l d h : ℕ)
     → PutsPlaced numbers k d e → PutsPlaced numbers l h e → (k ≡ l) × (d ≡ h)
 one_place numbers rise e k l d h (inside, one) (inside_too, other) =

@@ -8,7 +8,6 @@ use Rattle.acpi_check.specs.Processors.{number_of, numbers_in, AreNumbers}
 use Rattle.acpi_check.specs.declared.processors.Key.{Key}
 use Rattle.acpi_check.proofs.EntryPasses.Kept.{kept_has, kept_from}
 
--- the numbers of entries are those that entries name
 pub in_entries : {E : Type 0} (read : E → Option ℕ) (entries : List (PlacedEntry E)) (n : ℕ)
     → Contains (numbers_in read entries) n ↔ ((o : ℕ) × NamesAt read entries o n)
 in_entries {E} read entries n = (
@@ -21,7 +20,6 @@ in_entries {E} read entries n = (
     from listed = let (s, found, is) = kept_from (λ (s : PlacedEntry E). read s.entry) entries n listed in
         (s.offset, (s.entry, found, is))
 
--- in rising order they are those of the processors
 pub are_numbers : {X : Type 0} (k : Key) (madt : MadtContents) (gathered : List ℕ) (r : Result (Vec ℕ Global) X)
     → gathered ≡ numbers_in (number_of k) madt.entries
     → IfOk r (λ numbers. AllPairs (λ i j. i < j) numbers.items)

@@ -21,7 +21,6 @@ use Rattle.acpi_check.specs.declared.processors.Key.TheVariants as key
 
 -- ---- entries
 
--- a leaf has this ID
 is_leaf : (id : ℕ) (e : PpttEntry) → IsLeaf id e ↔ (leaf_id e ≡ Some id)
 is_leaf id (Node v) = (
   λ (valid, leaf, is). rw (and_from (has_bit v.flags 1) (has_bit v.flags 3) valid leaf, is) refl,
@@ -32,13 +31,11 @@ is_leaf id (Node v) = (
 )
 is_leaf id _ = (λ h. absurd h, λ is. none-some id is)
 
--- a processor has this UID
 has_uid : (uid : ℕ) (e : MadtEntry) → HasUid uid e ↔ (number_of key.Uid e ≡ Some uid)
 has_uid uid (LocalApic v) = (λ is. ap Some is, λ is. same_Some v.uid uid is)
 has_uid uid (X2apic v) = (λ is. ap Some is, λ is. same_Some v.uid uid is)
 has_uid uid _ = (λ h. absurd h, λ is. none-some uid is)
 
--- the UIDs are those of the MADT's processors
 are_uids : (madt : MadtContents) (uids : List ℕ) → AreNumbers key.Uid madt uids → (uid : ℕ)
     → Contains uids uid ↔ IsUid madt uid
 are_uids madt uids are uid = (from, λ (o, (e, stands, has)). (are.all uid).1 (o, (e, stands, (has_uid uid e).0 has)))
@@ -48,12 +45,11 @@ are_uids madt uids are uid = (from, λ (o, (e, stands, has)). (are.all uid).1 (o
 
 -- ---- the tables
 
--- a PPTT's Revision is that of its header
 pub revision : (whole : List ℕ) → (header_of whole).revision ≡ (pptt_contents whole).revision
 unfolding pptt_contents header_of
 revision whole = refl
 
--- what is found of the leaves is so of the tables
+-- what is found about the leaves holds for the tables
 pub leaves_found : (madt : MadtContents) (pptt : PpttContents) (uids : List ℕ) → AreNumbers key.Uid madt uids
     → 2 ≤ pptt.revision → IsWhollyTyped madt
     → (found : Option Witness) → FindsUnknown (Contains uids) leaf_id code.LeafUnknown pptt.entries found

@@ -40,7 +40,6 @@ stops {E} Known read {entries} {s} {left} here fault w own =
               (inr (own.at ∙ sym same, omega (arith, ap code_number own.code))) own.other one
         ]
 
--- where no entry is left all are known
 pub ends : {E : Type 0} (Known : ℕ → Type 0) (read : E → Option ℕ) {entries : List (PlacedEntry E)}
     → IsAt Known read entries [] → (o n : ℕ) → NamesAt read entries o n → Known n
 ends Known read here o n (e, stands, is) = all_passed here o e stands n is

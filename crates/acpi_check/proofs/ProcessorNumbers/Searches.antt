@@ -11,7 +11,6 @@ use Rattle.std.proofs.lemmas.List.Kept.{AllPairs-from_increasing, Contains-dedup
 use Rattle.std.proofs.lemmas.List.Sorted.{Contains-permutation, IsPermutation-sym}
 use Rattle.std.proofs.lemmas.Map.Keys.{IsStrictlyIncreasing-dedup}
 
--- each number is at least those before it
 pub never_falls : (xs : List ℕ) → AllPairs (λ x y. x < y) xs → (i j : ℕ) → i ≤ j → j < length xs
     → get_or xs i 0 ≤ get_or xs j 0
 never_falls xs rise i j least within =
@@ -22,7 +21,7 @@ never_falls xs rise i j least within =
       | inr (inr more) ↦ absurd (omega arith)
     ]
 
--- where those before a place are less than x, and those from there on greater, x is not among them
+-- if those before an index are less than x, and those from there on greater, x is not among them
 pub found : (xs : List ℕ) (x : ℕ) (r : Result ℕ ℕ)
     → MatchResult r (λ i. (i < length xs) × (get_or xs i 0 ≡ x))
     (λ i. (i ≤ length xs) × ((k : ℕ) → k < i → get_or xs k 0 < x)
@@ -38,7 +37,6 @@ found xs x (Err i) here =
           omega (arith, here.2 k behind within, is)
     ]
 
--- sorted numbers rise once each that is like the one before it is dropped, and are the same numbers
 pub in_order : (xs sorted kept : List ℕ) → IsPermutation xs sorted → IsSorted nat_cmp sorted → kept ≡ dedup eqb sorted
     → AllPairs (λ x y. x < y) kept × ((x : ℕ) → Contains kept x ↔ Contains xs x)
 in_order xs sorted kept moved order is = (

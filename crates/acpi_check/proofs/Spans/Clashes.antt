@@ -1,4 +1,4 @@
--- From the first overlap of spans to that of the ranges for which the spans stand.
+-- From the first overlap of spans to that of the ranges that the spans represent.
 use Rattle.std.proofs.Common.{◌≡◌, ℕ, ◌^◌, ◌<◌, List, refl, sym, ◌∙◌, arith}
 use Rattle.std.specs.Prelude.{◌↔◌, Contains}
 use Rattle.std.proofs.lemmas.List.Elements.{All-contains}
@@ -10,7 +10,6 @@ use Rattle.acpi_graph.specs.declared.clash.Clash.TheVariants as overlap
 use Rattle.acpi_graph.specs.declared.span.Span.{Span}
 use Rattle.acpi_check.specs.RangeSpans.{AreSpansOf, BeginLow, HasLowPoint, IsOverlapResult}
 
--- a number that two ranges hold lies in two spans
 lies_in_two : {HoldsAt : ℕ → ℕ → ℕ → Type 0} (spans : List Span) → AreSpansOf HoldsAt spans → (o p x : ℕ)
     → IsIntervalOverlap HoldsAt o p x → LiesInTwo spans x
 lies_in_two spans are o p x c =
@@ -26,12 +25,10 @@ lies_in_two spans are o p x c =
       other_holds = other.holds;
     }
 
--- where no number lies in two spans, none lies in two ranges
 pub apart : {HoldsAt : ℕ → ℕ → ℕ → Type 0} (spans : List Span) → AreSpansOf HoldsAt spans → IsClear spans
     → AreApart HoldsAt
 apart spans are clear o p x c = clear x (lies_in_two spans are o p x c)
 
--- the first overlap of the spans is that of the ranges
 pub first_clash : {HoldsAt : ℕ → ℕ → ℕ → Type 0} (spans : List Span) → AreSpansOf HoldsAt spans
     → (first second point : ℕ) → graph.IsFirstClash spans first second point
     → IsFirstIntervalOverlap HoldsAt first second point
@@ -64,8 +61,8 @@ first_clash {HoldsAt} spans are first second point found =
         (are.covers span.name span.start point).1
         (record { span = span; listed = listed; name = refl; start = refl; holds = inside })
 
--- two spans that share a number share the start of the later one: so the first number that two share has 64 bits where
--- spans begin at such numbers
+-- two spans that share a number share the start of the later one: so the lowest number that two share has 64 bits if spans
+-- begin at such numbers
 pub low_point : (spans : List Span) → BeginLow spans → (found : Clash) → IfAt found (graph.IsFirstClash spans)
     → HasLowPoint found
 low_point spans low overlap.None first = tt
@@ -83,7 +80,6 @@ low_point spans low (overlap.At a b point) first =
     let begins = All-contains (λ (span : Span). span.start < 2 ^ 64) spans two.later low two.later_listed in
     omega (arith, begins, first.least two.later.start shared)
 
--- what `first_clash` finds of the spans is so of the ranges
 pub is_found : {HoldsAt : ℕ → ℕ → ℕ → Type 0} (spans : List Span) → AreSpansOf HoldsAt spans → (found : Clash)
     → ((found ≡ overlap.None) ↔ IsClear spans) → IfAt found (graph.IsFirstClash spans) → IsOverlapResult HoldsAt found
 is_found spans are overlap.None none first = apart spans are (none.0 refl)

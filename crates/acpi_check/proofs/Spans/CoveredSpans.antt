@@ -1,5 +1,5 @@
--- The spans that are collected from the entries of an SRAT are the addresses that its enabled ranges cover, and their
--- first overlaps, by kinds of ranges, make the one that is reported.
+-- The spans that are collected from the entries of an SRAT are the addresses of its enabled ranges, and their first overlaps,
+-- by kinds of ranges, give the one that is reported.
 use Rattle.std.proofs.Common.{◌≡◌, ℕ, ◌+◌, ◌<◌, ◌≤◌, Bool, true, false, not, cond, nat_lt, List, map, Option, Some, None, refl, inl, inr, arith}
 use Rattle.std.specs.Prelude.{◌↔◌, ◌&&◌}
 use Rattle.std.proofs.lemmas.Bool.{and_parts, cases_lt, lt-ltb, le-ltb}
@@ -15,22 +15,19 @@ use Rattle.acpi_check.proofs.EntryPasses.Kept.{srat_rising}
 
 -- ---- ranges of one kind
 
--- the test tells which ranges are of the kind
+-- the test selects the ranges of the kind
 abbrev pub Tests : (MemoryValue → Bool) → (MemoryValue → Type 0) → Type 0
 Tests counts P = (v : MemoryValue) → (counts v ≡ true) ↔ P v
 
--- what is given under a test is given where the test holds
 where_some : (b : Bool) (o : Option SpanValue) (v : SpanValue) → cond b o None ≡ Some v → (b ≡ true) × (o ≡ Some v)
 where_some true o v is = (refl, is)
 where_some false o v is = absurd (none-some v is)
 
--- a span is named by its entry's offset
 named : (counts : MemoryValue → Bool) (o : ℕ) (e : SratEntry) (v : SpanValue) → covered_span counts o e ≡ Some v
     → v.name ≡ o
 named counts o (MemoryRange v) span is = grind (arith, from_is, is)
 named counts o _ span is = absurd cc
 
--- and holds the addresses that the entry covers
 covers : (counts : MemoryValue → Bool) (P : MemoryValue → Type 0) → Tests counts P → (o s x : ℕ) (e : SratEntry)
     → CoversFrom P s x e ↔ ((v : SpanValue) × (covered_span counts o e ≡ Some v) × (v.start ≡ s) × (s ≤ x)
     × (x < v.end))
@@ -42,7 +39,7 @@ covers counts P tests o s x (MemoryRange v) = (
 )
 covers counts P tests o s x _ = (λ h. absurd h, λ h. absurd (none-some h.0 h.1))
 
--- the spans of a kind that are collected of all entries are the ranges of this kind
+-- the spans of a kind that are collected from all entries are the ranges of this kind
 pub covered_spans : (counts : MemoryValue → Bool) (P : MemoryValue → Type 0) → Tests counts P
     → (whole : List ℕ) (spans : List Span)
     → map span_value spans ≡ spans_of (covered_span counts) (srat_contents whole).entries
@@ -51,15 +48,12 @@ covered_spans counts P tests whole spans is =
     are_spans (CoversFrom P) (covered_span counts) (record { named = named counts; covers = covers counts P tests }) 48
     _ (srat_rising whole) spans is
 
--- a test of all ranges
 pub tests_any : Tests (λ v. true) IsAny
 tests_any v = (λ _. tt, λ _. refl)
 
--- of those that are hot-pluggable
 pub tests_hot : Tests (λ v. is_hot_pluggable v.flags) IsHotPluggable
 tests_hot v = (λ is. is, λ is. is)
 
--- and of those that are not
 pub tests_other : Tests (λ v. not (is_hot_pluggable v.flags)) IsNotHotPluggable
 tests_other v =
     elim (is_hot_pluggable v.flags) as (λ b. (not b ≡ true) ↔ (b ≡ false)) [
@@ -68,15 +62,13 @@ tests_other v =
       | false ↦ (λ _. refl, λ _. refl)
     ]
 
--- ---- ranges that must be apart
+-- ---- ranges that are compared
 
--- where all ranges are compared, their first overlap is reported
 pub counted : (c : SratContents) (found : Clash) → IsOverlapResult (Covers IsAny c) found
     → IsRangesResult Counted c found
 counted c clash.None is = is
 counted c (clash.At first second point) is = is
 
--- where hot-pluggable ranges are apart, the earlier of the two overlaps is reported
 pub apart : (c : SratContents) (others hots : Clash) → IsOverlapResult (Covers IsNotHotPluggable c) others
     → IsOverlapResult (Covers IsHotPluggable c) hots → IsRangesResult Apart c (earlier_clash others hots)
 apart c clash.None clash.None none neither =
@@ -89,7 +81,6 @@ apart c (clash.At a b x) (clash.At a' b' x') first hot_first =
       | inr most ↦ rw (le-ltb x' x most) (inl (first, λ o p y clash. omega (arith, most, hot_first.least o p y clash)))
     ]
 
--- and its point has 64 bits where the points of both have
 pub earlier_low : (others hots : Clash) → HasLowPoint others → HasLowPoint hots
     → HasLowPoint (earlier_clash others hots)
 earlier_low clash.None hots none low = low

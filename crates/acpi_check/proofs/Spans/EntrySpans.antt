@@ -1,4 +1,4 @@
--- Spans that are collected from the entries of a table stand for the ranges that the entries say.
+-- Spans that are collected from the entries of a table represent the ranges of the entries.
 use Rattle.std.proofs.Common.{◌≡◌, ℕ, ◌<◌, ◌≤◌, List, map, Option, Some, sym, ◌∙◌, ap, subst, arith}
 use Rattle.std.specs.Prelude.{◌↔◌, AllPairs}
 use Rattle.std.proofs.Math.ListN.{get_or-map}
@@ -14,7 +14,6 @@ use Rattle.acpi_check.specs.RangeSpans.{HasSpan, AreSpansOf, SpanValue, span_val
 
 -- ---- what is collected
 
--- names of spans differ where those of their values rise
 names_differ : (spans : List Span) → AllPairs (λ v w. v.name < w.name) (map span_value spans) → NamesDiffer spans
 names_differ spans rise i j d before below =
     grind (
@@ -24,13 +23,13 @@ names_differ spans rise i j d before below =
       get_or-map span_value spans j d,
     )
 
--- `read` gives of an entry the span that holds what `Says` says of it, named by the entry's offset
+-- `read` gives for an entry the span of the range that `Says` says, with the entry's offset as its id
 pub record IsRead {E : Type 0} (Says : ℕ → ℕ → E → Type 0) (read : ℕ → E → Option SpanValue) : Type 0 where
   pub named : (o : ℕ) (e : E) (v : SpanValue) → read o e ≡ Some v → v.name ≡ o
   pub covers : (o s x : ℕ) (e : E)
       → Says s x e ↔ ((v : SpanValue) × (read o e ≡ Some v) × (v.start ≡ s) × (s ≤ x) × (x < v.end))
 
--- the spans of entries are the ranges that the entries say
+-- the spans of entries are the ranges of the entries
 pub are_spans : {E : Type 0} (Says : ℕ → ℕ → E → Type 0) (read : ℕ → E → Option SpanValue) → IsRead Says read
     → (low : ℕ) (entries : List (PlacedEntry E)) → AreRising low entries
     → (spans : List Span) → map span_value spans ≡ spans_of read entries
@@ -74,12 +73,10 @@ are_spans {E} Says read is_read low entries rises spans is =
 
 -- ---- spans
 
--- a span from a number on is what it was made of, and is not empty
 pub from_is : (start end name : ℕ) (v : SpanValue) → span_from start end name ≡ Some v
     → (start < end) × (v.start ≡ start) × (v.end ≡ end) × (v.name ≡ name)
 from_is start end name v is = grind (arith, nat_tests, cond_some, is)
 
--- and there is one where a number lies in it
 pub from_some : (start end name s x : ℕ) → start ≡ s → s ≤ x → x < end
     → (v : SpanValue) × (span_from start end name ≡ Some v) × (v.start ≡ s) × (s ≤ x) × (x < v.end)
 from_some start end name s x begins least below =

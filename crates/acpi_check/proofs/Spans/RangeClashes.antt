@@ -1,4 +1,4 @@
--- From the numbers that two I/O APICs serve, or the addresses that two ranges cover, to the first fault of a set.
+-- From the numbers that two I/O APICs serve, or the addresses in two ranges, to the first fault of a set.
 use Rattle.std.proofs.Common.{◌≡◌, ℕ, List, ap, map, arith}
 use Rattle.acpi_base.specs.Codes.{stage_of}
 use Rattle.acpi_base.specs.Memory.{Memory}
@@ -39,13 +39,11 @@ gsi_clash_first m q clean whole is w found = (
     fault : InterruptFault q (madt_contents whole) w.code w.at w.other w.point
     fault = rw found.code found.first.overlap
 
--- the test of a kind tells which ranges are of it
 tests : (k : RangeKind) → Tests (counts k) (IsOfKind k)
 tests kind.Any = tests_any
 tests kind.HotPluggable = tests_hot
 tests kind.NotHotPluggable = tests_other
 
--- the spans of a kind that are collected of all entries are the ranges of this kind
 pub kind_spans : (k : RangeKind) (whole : List ℕ) (spans : List Span)
     → map span_value spans ≡ spans_of (covered_span (counts k)) (srat_contents whole).entries
     → AreSpansOf (Covers (IsOfKind k) (srat_contents whole)) spans

@@ -1,5 +1,4 @@
--- Spans that begin in rising order are turned into others that end in rising order too, and numbers are looked up among
--- these.
+-- Spans that begin in rising order are turned into spans that also end in rising order, in which numbers are looked up.
 use Rattle.std.proofs.Common.{◌≡◌, ℕ, suc, ◌+◌, ◌<◌, ◌≤◌, List, [], ◌∷◌, ◌++◌, length, get_or, leb, leb-true, refl, sym, ◌∙◌, ap, subst, inl, inr, arith}
 use Rattle.std.specs.Prelude.{◌⊎◌, ◌↔◌, All, Contains, MatchBool, max}
 use Rattle.std.specs.List.Sorted.{IsNonDecreasingBy}
@@ -18,7 +17,6 @@ use Rattle.acpi_check.specs.ServedGsis.{IsInSpans, DoStartsRise, DoRise, IsPlace
 abbrev Rises : Span → Span → Type 0
 Rises a b = (a.start ≤ b.start) × (a.end ≤ b.end)
 
--- one more span after all others
 rise_with : (xs : List Span) (y : Span) → DoRise xs → ((x : Span) → Contains xs x → Rises x y) → DoRise (xs ++ y ∷ [])
 rise_with [] y rise each = λ i j d before within. absurd (omega arith)
 rise_with (x ∷ xs) y rise each =
@@ -179,7 +177,6 @@ one_more spans k end raised rising now span more d0 starts within is greatest be
               }
         ]
 
--- at the end they contain the same numbers
 pub same_numbers : (spans rising : List Span) (k end : ℕ) → length spans ≤ k → AreRising spans k end rising
     → (g : ℕ) → IsInSpans rising g ↔ IsInSpans spans g
 same_numbers spans rising k end over are g = (
@@ -191,7 +188,6 @@ same_numbers spans rising k end over are g = (
 
 -- ---- looked up
 
--- their ends do not fall
 pub ends_rise : (spans : List Span) → DoRise spans → IsNonDecreasingBy (λ (s : Span). s.end) spans
 ends_rise spans rise i j d upto within =
     elim (cases_eq i j) [
@@ -199,7 +195,6 @@ ends_rise spans rise i j d upto within =
       | inr other ↦ (rise i j d (omega (arith, upto, other)) within).1
     ]
 
--- a number is in no span if the span of its place begins after it, or if there is none
 pub in_none : (spans : List Span) (g place : ℕ) → DoRise spans → IsPlaceOf spans g place
     → ((d : Span) → place < length spans → g < (get_or spans place d).start) → ¬ IsInSpans spans g
 in_none spans g place rise is behind h =
@@ -227,7 +222,6 @@ in_none spans g place rise is behind h =
       ]
     ]
 
--- and otherwise in that span
 pub in_place : (spans : List Span) (g place : ℕ) (d0 : Span) → DoRise spans → IsPlaceOf spans g place
     → place < length spans
     → MatchBool (leb (get_or spans place d0).start g) (IsInSpans spans g) (¬ IsInSpans spans g)

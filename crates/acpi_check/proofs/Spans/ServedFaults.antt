@@ -25,13 +25,11 @@ use Rattle.acpi_check.specs.ServedGsis.{named_gsi, IsInSpans, DoStartsRise}
 
 -- ---- entries
 
--- an entry names an interrupt number
 names : (g : ℕ) (e : MadtEntry) → NamesGsi g e ↔ (named_gsi e ≡ Some g)
 names g (Override v) = (λ is. ap Some is, λ is. same_Some v.gsi g is)
 names g (NmiSource v) = (λ is. ap Some is, λ is. same_Some v.gsi g is)
 names g _ = (λ h. absurd h, λ is. none-some g is)
 
--- an I/O APIC has an input at least, so it serves a number
 one_input : (q : PolicyValue) → IsPolicy q → (address : ℕ) → 0 < inputs_of q address
 unfolding inputs_of
 one_input q is address =
@@ -45,19 +43,16 @@ serves_one q is (IoApic v) io =
     (v.gsi_base, (refl, omega arith, omega (arith, one_input q is v.address)))
 serves_one q is _ io = absurd io
 
--- and nothing else serves one
 is_io_apic : (q : PolicyValue) (s g : ℕ) (e : MadtEntry) → ServesFrom q s g e → IsIoApic e
 is_io_apic q s g (IoApic v) serves = tt
 is_io_apic q s g _ serves = absurd serves
 
 -- ---- spans
 
--- sorted spans begin in rising order
 pub starts_rise : (spans : List Span) → AllPairs ComesBefore spans → DoStartsRise spans
 starts_rise spans order i j d before within =
     elim (order i j d before within) [ inl less ↦ omega (arith, less) | inr same ↦ omega (arith, same.0) ]
 
--- where there is no span there is no I/O APIC
 pub no_io_apic : (q : PolicyValue) → IsPolicy q → (c : MadtContents) (spans : List Span)
     → AreSpansOf (Serves q c) spans → length spans ≡ 0 → ¬ HasIoApic c
 no_io_apic q is c spans are none (o, (e, stands, io)) =
@@ -65,7 +60,6 @@ no_io_apic q is c spans are none (o, (e, stands, io)) =
     let (k, within, _) = ((are.covers o s s).0 (e, stands, serves)).listed in
     omega (arith, within, none)
 
--- and where there is one, there is one
 pub has_io_apic : (q : PolicyValue) (c : MadtContents) (spans : List Span) → AreSpansOf (Serves q c) spans
     → 0 < length spans → HasIoApic c
 has_io_apic q c [] are some = absurd (omega (arith, some))
@@ -79,7 +73,6 @@ has_io_apic q c (span ∷ spans) are some =
     }) in
     (span.name, (e, stands, is_io_apic q span.start span.start e serves))
 
--- the numbers in the spans are those that are served
 are_served : (q : PolicyValue) (c : MadtContents) (spans : List Span) → AreSpansOf (Serves q c) spans → (g : ℕ)
     → IsInSpans spans g ↔ IsServed q c g
 are_served q c spans are g = (
@@ -94,7 +87,6 @@ are_served q c spans are g = (
       record { span = h.span; listed = h.listed; holds = h.holds }),
 )
 
--- in any order, and as spans that rise
 pub rising_served : (q : PolicyValue) (c : MadtContents) (spans sorted rising : List Span)
     → AreSpansOf (Serves q c) spans → IsPermutation spans sorted
     → ((g : ℕ) → IsInSpans rising g ↔ IsInSpans sorted g) → (g : ℕ) → IsInSpans rising g ↔ IsServed q c g
@@ -117,7 +109,7 @@ rising_served q c spans sorted rising are moved same g = (
 
 -- ---- the table
 
--- what is found of the entries is so of the table
+-- what is found about the entries holds for the table
 pub unserved_found : (q : PolicyValue) (c : MadtContents) (rising : List Span) → HasIoApic c
     → ((g : ℕ) → IsInSpans rising g ↔ IsServed q c g)
     → (found : Option Witness) → FindsUnknown (IsInSpans rising) named_gsi code.GsiNowhere c.entries found

@@ -9,12 +9,10 @@ use Rattle.acpi_check.specs.RangeSpans.{AreSpansOf, SpanValue, span_value, serve
 use Rattle.acpi_check.proofs.Spans.EntrySpans.{are_spans, from_is, from_some}
 use Rattle.acpi_check.proofs.EntryPasses.Kept.{madt_rising}
 
--- a span is named by its entry's offset
 named : (q : PolicyValue) (o : ℕ) (e : MadtEntry) (v : SpanValue) → served_span q o e ≡ Some v → v.name ≡ o
 named q o (IoApic v) span is = (from_is v.gsi_base (v.gsi_base + inputs_of q v.address) o span is).3
 named q o _ span is = absurd cc
 
--- and holds the interrupt numbers that the entry serves
 covers : (q : PolicyValue) (o s x : ℕ) (e : MadtEntry)
     → ServesFrom q s x e ↔ ((v : SpanValue) × (served_span q o e ≡ Some v) × (v.start ≡ s) × (s ≤ x) × (x < v.end))
 covers q o s x (IoApic v) = (
@@ -24,7 +22,6 @@ covers q o s x (IoApic v) = (
 )
 covers q o s x _ = (λ h. absurd h, λ h. absurd (none-some h.0 h.1))
 
--- the spans that are collected of all entries are the ranges that are served
 pub served_spans : (q : PolicyValue) (whole : List ℕ) (spans : List Span)
     → map span_value spans ≡ spans_of (served_span q) (madt_contents whole).entries
     → AreSpansOf (Serves q (madt_contents whole)) spans

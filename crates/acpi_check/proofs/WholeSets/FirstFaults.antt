@@ -31,7 +31,7 @@ use Rattle.acpi_read.specs.Roots.{RootValue}
 use Rattle.acpi_check.specs.HandedOn.{IsFacsNamed}
 use Rattle.acpi_check.specs.TableResults.{IsRootOf}
 
--- the least fault of the RSDP
+-- the first fault of the RSDP
 pub rsdp_first : (m : Memory) (q : PolicyValue) (w : Witness) (p : ℕ) (c : Code) → p ≡ q.rsdp
     → w ≡ record { code = c; at = p; other = 0; point = 0 } → stage_of c ≡ stage.Rsdp → RsdpFault m p c
     → ((d : Code) → RsdpFault m p d → code_number c ≤ code_number d)
@@ -47,14 +47,12 @@ rsdp_first m q w p c here is own fault least =
               (inr (sym other.holds.1, least v.code (rw here other.holds.0))) (sym other.holds.2) (sym other.holds.3);
         }
 
--- the faults of a set's root are at one place
 one_place : (m : Memory) (p : ℕ) (c d : Code) (at place : ℕ) → RootFault m p c at → RootFault m p d place → at ≡ place
 one_place m p c d at place (inl one) (inl other) = one.2 ∙ sym other.2
 one_place m p c d at place (inl one) (inr other) = absurd (no_root_and_root one.0 other.1)
 one_place m p c d at place (inr one) (inl other) = absurd (no_root_and_root other.0 one.1)
 one_place m p c d at place (inr one) (inr other) = (one_root m p at one.0 place other.0 one.1 other.1).0
 
--- and are those of the root that the RSDP names
 of_named : (m : Memory) (p : ℕ) (named : Addresses) (c : Code) (at : ℕ) → addresses_at m p ≡ Some named
     → RootFault m p c at → NamedRootFault m named c
 of_named m p named c at read (inl (none, is, here)) =
@@ -62,7 +60,7 @@ of_named m p named c at read (inl (none, is, here)) =
 of_named m p named c at read (inr (d, root, wrong)) =
     inr (at, d, rw (same_value root.named named root.read read) at root.chosen, wrong)
 
--- the first fault of the root, which is where its codes are reported
+-- the first fault of the root table, at the address at which its codes are reported
 pub root_first : (m : Memory) (q : PolicyValue) (w : Witness) (rsdp : RsdpValue) (at : ℕ) (c : Code)
     → CleanBefore stage.Root m q → IsRsdp m q.rsdp rsdp → w ≡ record { code = c; at = at; other = 0; point = 0 }
     → (c ≡ code.NoRoot → at ≡ rsdp.address)
@@ -97,7 +95,7 @@ root_first m q w rsdp at c clean read is none named own fault least = rw is (fir
               (sym other.holds.2);
         }
 
--- the first slot that lists a table with a fault, and that table's least fault
+-- the first slot that lists a table with a fault, and that table's first fault
 pub first_table_fault : (m : Memory) (q : PolicyValue) (root : RootValue) (c : Code) (k a : ℕ)
     → CleanBefore stage.Tables m q → IsRootOf m q.rsdp root → HasSlot root.bytes root.width k a
     → stage_of c ≡ stage.Tables
@@ -128,7 +126,6 @@ first_table_fault m q root c k a clean is slot own fault least before =
           | inr (inr more) ↦ absurd (excludes m v.other v.code stands (before v.at v.other more there))
         ]
 
--- the fault of a set that lists no FADT
 pub no_fadt_first : (m : Memory) (q : PolicyValue) → CleanBefore stage.Fadt m q → ListsNone m q.rsdp fadt_signature
     → IsFirstFault m q (record { code = code.NoFadt; at = 0; other = 0; point = 0 })
 no_fadt_first m q clean none =
@@ -183,11 +180,9 @@ facs_first m q fadt c clean own fault least =
     w : Witness
     w = record { code = c; at = facs_address fadt.whole; other = 0; point = 0 }
 
--- a FACS that is valid for the set's FADT is valid
 pub facs_valid : (m : Memory) (p : ℕ) (fadt : List ℕ) → IsFadt m p fadt → HasValidFacs m fadt → IsValidFacs m p
 facs_valid m p fadt is valid = λ whole also. rw (one_listed m p fadt_signature whole fadt also is) valid
 
--- what is read is the FACS that the FADT names
 pub facs_named : (m : Memory) (fadt : List ℕ) (found : Option FacsValue) → (found ≡ None → facs_address fadt ≡ 0)
     → IfSome found (λ facs. (facs.address ≡ facs_address fadt) × (facs.address ≢ 0) × IsFacs m facs.address facs.bytes)
     → IsFacsNamed m fadt found

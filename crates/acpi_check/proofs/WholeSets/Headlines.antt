@@ -13,25 +13,21 @@ use Rattle.acpi_base.proofs.Faults.Stages.{excludes}
 use Rattle.acpi_base.specs.Statements.{IsClean}
 use Rattle.acpi_check.specs.StageResults.{IfNo}
 
--- the last stage is that of the leaves
 to_18 : (s : Stage) → stage_number s ≤ 18
 to_18 stage.Rsdp = omega arith
 to_18 _ = omega arith
 
--- Yes is said exactly where all statements hold
 yes : (m : Memory) (q : PolicyValue) (verdict : Verdict) → IsVerdict stage.Leaves m q verdict
     → (verdict ≡ Yes) ↔ IsClean m q
 yes m q Yes clean = (λ is s. clean s (to_18 s), λ all. refl)
 yes m q (No w) first =
     (λ is. absurd cc, λ all. absurd (excludes m q w (stage_of w.code) first.0.fault.holds (all (stage_of w.code))))
 
--- and No with the first fault
 no : (m : Memory) (q : PolicyValue) (verdict : Verdict) → IsVerdict stage.Leaves m q verdict
     → IfNo (IsFirstFault m q) verdict
 no m q Yes clean = tt
 no m q (No w) first = first.0
 
--- where memory did not run out
 pub yes_found : {E : Type 0} (m : Memory) (q : PolicyValue) (result : Result Verdict E)
     → IfOk result (IsVerdict stage.Leaves m q) → IfOk result (λ verdict. (verdict ≡ Yes) ↔ IsClean m q)
 yes_found m q (Ok verdict) is = yes m q verdict is

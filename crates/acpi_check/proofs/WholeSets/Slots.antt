@@ -1,4 +1,4 @@
--- What the slots below one list first with a signature, from slot to slot.
+-- The first table with a signature among those that the slots below one list, from slot to slot.
 use Rattle.std.proofs.Common.{◌≡◌, ◌<◌, ◌≤◌, ◌+◌, ◌*◌, ℕ, List, length, Option, Some, None, true, false, cond, sym, ap, ◌∙◌, subst, inl, inr, arith}
 use Rattle.std.specs.Prelude.{◌&&◌}
 use Rattle.std.proofs.lemmas.Bool.{cases_lt, cases_Bool, both_ways}
@@ -22,11 +22,9 @@ use Rattle.acpi_read.proofs.FirstsKept.{bytes_of_first}
 use Rattle.acpi_check.specs.FirstBelow.{IsFirstBelow, AreFirstBelow}
 use Rattle.acpi_check.specs.TableResults.{IsRootOf, AreFirstTables}
 
--- below the first slot nothing is listed
 pub below_none : (m : Memory) (bytes : List ℕ) (d : ℕ) (signature : List ℕ) → IsFirstBelow m bytes d 0 signature None
 below_none m bytes d signature = λ j a below slot. absurd (omega arith)
 
--- a slot that lists nothing changes nothing
 pub below_skip : (m : Memory) (bytes : List ℕ) (d k : ℕ) (signature : List ℕ) (found : Option (List ℕ))
     → ((a : ℕ) → ¬ HasSlot bytes d k a) → IsFirstBelow m bytes d k signature found
     → IsFirstBelow m bytes d (k + 1) signature found
@@ -79,7 +77,7 @@ below_more m bytes d k a header whole signature None four slot table none =
               unsigned not_signed (subst (λ (x : ℕ). IsSigned m x signature) (one_slot bytes d k b a here slot) signed)
         ]
 
--- what all slots list first is what the set lists
+-- the first table that all slots list is the one that the set lists
 pub below_all : {m : Memory} {p r d : ℕ} {bytes : List ℕ} (k : ℕ) (signature : List ℕ) (found : Option (List ℕ))
     → IsRoot m p r d → IsRootTable m r d bytes
     → ((j a : ℕ) → HasSlot bytes d j a → j < k) → IsFirstBelow m bytes d k signature found
@@ -89,7 +87,6 @@ below_all k signature (Some whole) root table all (a, header, first, stands) = l
 
 -- ---- all kinds together
 
--- below the first slot nothing is listed
 pub none_below : (m : Memory) (root : RootValue) (firsts : FirstTables)
     → ((kind : TableKind) → first_table firsts kind ≡ None) → AreFirstBelow m root 0 firsts
 none_below m root firsts none = record {
@@ -97,7 +94,6 @@ none_below m root firsts none = record {
   first = λ kind. rw (none kind) (below_none m root.bytes root.width (signature_of kind));
 }
 
--- a slot that lists nothing changes nothing
 pub firsts_skip : (m : Memory) (root : RootValue) (k : ℕ) (firsts : FirstTables)
     → ((a : ℕ) → ¬ HasSlot root.bytes root.width k a) → AreFirstBelow m root k firsts
     → AreFirstBelow m root (k + 1) firsts
@@ -129,7 +125,6 @@ firsts_more m root k a header next old new slot valid table added below = record
       (length-signature_of kind) slot table (below.first kind));
 }
 
--- what all slots list first are the set's tables
 pub firsts_all : (m : Memory) (p k : ℕ) (root : RootValue) (firsts : FirstTables) → IsRootOf m p root
     → ((j a : ℕ) → HasSlot root.bytes root.width j a → j < k) → AreFirstBelow m root k firsts
     → AreFirstTables m p firsts
@@ -138,12 +133,11 @@ firsts_all m p k root firsts is all below = record {
       (below.first kind);
 }
 
--- every slot of a root stands before the end
 slots_end : (root : RootValue) (n j a : ℕ) → ((k : ℕ) → 36 + root.width * (k + 1) ≤ length root.bytes → k < n)
     → HasSlot root.bytes root.width j a → j < n
 slots_end root n j a below slot = below j slot.inside
 
--- where the tables of all slots are valid, so are the set's, and what all slots list first are the set's tables
+-- if the tables of all slots are valid, so are the set's, and the first ones that all slots list are the set's tables
 pub valid_and_first : (m : Memory) (p n : ℕ) (root : RootValue) (firsts : FirstTables) → IsRootOf m p root
     → ((k : ℕ) → 36 + root.width * (k + 1) ≤ length root.bytes → k < n) → AreFirstBelow m root n firsts
     → ((k a : ℕ) → IsSlot m p k a → IsValidTable m a) × AreFirstTables m p firsts

@@ -1,4 +1,4 @@
--- Stages that are asked one after another.
+-- Stages that are run one after another.
 use Rattle.std.proofs.Common.{◌≡◌, ◌≤◌, ◌+◌, Result, Ok, Err, sym, ap, subst, inl, inr, arith}
 use Rattle.std.specs.Result.{IsErr, IsErrAnd}
 use Rattle.std.proofs.lemmas.Bool.{cases_lt}
@@ -12,11 +12,9 @@ use Rattle.acpi_base.specs.declared.witness.Witness.{Witness}
 use Rattle.acpi_base.proofs.Faults.Numbers.{same_stage, stage_from_1}
 use Rattle.acpi_check.specs.StageResults.{Reads, ReadsTo}
 
--- no stage comes before the first
 pub before_first : (m : Memory) (q : PolicyValue) → CleanBefore stage.Rsdp m q
 before_first m q s before = absurd (omega (arith, stage_from_1 s, before))
 
--- the stages up to one hold where those before it hold and it does itself
 pub clean_to : (s : Stage) {m : Memory} {q : PolicyValue} → CleanBefore s m q → Holds s m q → CleanTo s m q
 clean_to s {m} {q} clean holds t up =
     elim (cases_lt (stage_number t) (stage_number s)) [
@@ -24,7 +22,6 @@ clean_to s {m} {q} clean holds t up =
       | inr behind ↦ subst (λ (x : Stage). Holds x m q) (same_stage s t (omega (arith, behind, up))) holds
     ]
 
--- and those up to it come before the next
 pub before_next : (s next : Stage) {m : Memory} {q : PolicyValue} → stage_number next ≡ stage_number s + 1
     → CleanTo s m q → CleanBefore next m q
 before_next s next is clean t before = clean t (omega (arith, is, before))
@@ -33,7 +30,7 @@ pub clean_before : (s next : Stage) {m : Memory} {q : PolicyValue} → stage_num
     → CleanBefore s m q → Holds s m q → CleanBefore next m q
 clean_before s next is clean holds = before_next s next is (clean_to s clean holds)
 
--- a fault of a stage that is handed on is one of the stages up to a later one
+-- a fault of a stage that is passed on is one of the stages up to a later one
 pub fault_of : {T U : Type 0} (s last : Stage) {m : Memory} {q : PolicyValue} (P : T → Type 0) (Q : U → Type 0)
     (w : Witness) (r : Result U Witness) → IsErr r → IsErrAnd r (λ v. v ≡ w)
     → stage_number s ≤ stage_number last → CleanBefore s m q → Reads s m q P (Err w) → ReadsTo last m q Q r

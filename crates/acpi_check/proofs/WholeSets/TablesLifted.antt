@@ -1,4 +1,4 @@
--- What is found of the tables that a set lists first is so of the set.
+-- From the result on the tables that a set lists to the result on the set.
 use Rattle.std.proofs.Common.{◌≡◌, ℕ, ◌<◌, List, Option, Some, None, Result, Ok, Err, sym, ◌∙◌, subst}
 use Rattle.std.specs.Prelude.{◌↔◌, ⊤, MatchOption}
 use Rattle.acpi_base.specs.Memory.{Memory}
@@ -26,24 +26,22 @@ use Rattle.acpi_check.specs.declared.refusal.Refusal.TheVariants.{Fault, OutOfMe
 
 -- ---- one table
 
--- the first table of a kind is the listed one, where the set lists it
+-- the first table of a kind is the listed one, if the set lists it
 pub listed_of_first : {m : Memory} {p : ℕ} {firsts : FirstTables} → AreFirstTables m p firsts → (kind : TableKind)
     → {found : Option (List ℕ)} → found ≡ first_table firsts kind
     → {whole : List ℕ} → found ≡ Some whole → IsListedTable m p (signature_of kind) whole
 listed_of_first {m} {p} all kind same is = subst (IsListed m p (signature_of kind)) (sym same ∙ is) (all.each kind)
 
--- where there is no first, it lists none
 pub none_listed : {m : Memory} {p : ℕ} {firsts : FirstTables} → AreFirstTables m p firsts → (kind : TableKind)
     → {found : Option (List ℕ)} → found ≡ first_table firsts kind
     → found ≡ None → ListsNone m p (signature_of kind)
 none_listed {m} {p} all kind same is = subst (IsListed m p (signature_of kind)) (sym same ∙ is) (all.each kind)
 
--- nothing is stated of a table that the set does not list
 pub of_none : {m : Memory} {p : ℕ} {signature : List ℕ} (P : List ℕ → Type 0) → ListsNone m p signature
     → ForListed m p signature P
 of_none P none whole is = absurd (none_and_listed none is)
 
--- what is found of the table that it lists first is so of the set, where the stage states this of the table, and the
+-- what is found about the table that the set lists first holds for the set, if the stage states it about the table, and the
 -- first fault of the table is the set's
 pub of_one : (s : Stage) {m : Memory} {q : PolicyValue} {signature : List ℕ} (Valid : List ℕ → Type 0)
     (IsFirst : List ℕ → Witness → Type 0)
@@ -57,7 +55,7 @@ of_one s Valid IsFirst holds first is (Ok _) found = (holds (for_listed Valid is
 of_one s Valid IsFirst holds first {whole} is (Err (Fault w)) found = first whole is w found
 of_one s Valid IsFirst holds first is (Err OutOfMemory) found = found
 
--- the first fault of a table is the set's, where the stage's faults are those of this table
+-- the first fault of a table is the set's, if the stage's faults are those of this table
 pub table_first : {s : Stage} {m : Memory} {q : PolicyValue} {signature : List ℕ}
     (IsFault : List ℕ → Code → ℕ → ℕ → ℕ → Type 0)
     → ((v : Witness) → FaultCondition s m q v ↔ HasListed m q.rsdp signature
@@ -75,7 +73,7 @@ table_first IsFault condition order clean whole is w first = (
   first.own,
 )
 
--- so it is where the stage's faults are those of the table
+-- the same for a stage whose faults are those of a table of entries
 pub of_faults : (s : Stage) {m : Memory} {q : PolicyValue} {signature : List ℕ} (Valid : List ℕ → Type 0)
     (IsFault : List ℕ → Code → ℕ → ℕ → ℕ → Type 0)
     → (ForListed m q.rsdp signature Valid → Holds s m q)
@@ -90,7 +88,7 @@ of_faults s Valid IsFault holds condition order clean is result found =
 
 -- ---- two tables
 
--- the first fault of two tables is the set's, where the stage's faults are those of these tables
+-- the first fault of two tables is the set's, if the stage's faults are those of these tables
 pub both_first : {s : Stage} {m : Memory} {q : PolicyValue} {one other : List ℕ}
     (IsFault : List ℕ → List ℕ → Code → ℕ → ℕ → ℕ → Type 0)
     → ((v : Witness) → FaultCondition s m q v ↔ HasListed m q.rsdp one
@@ -107,7 +105,7 @@ both_first {m = m} {q = q} {other = other} IsFault condition order clean x y is 
     ))
     order clean y also w first
 
--- so it is of two tables
+-- the same as `of_one` for two tables
 pub of_two : (s : Stage) {m : Memory} {q : PolicyValue} {one other : List ℕ} (Valid : List ℕ → List ℕ → Type 0)
     (IsFault : List ℕ → List ℕ → Code → ℕ → ℕ → ℕ → Type 0)
     → (ForListed m q.rsdp one (λ x. ForListed m q.rsdp other (Valid x)) → Holds s m q)
@@ -125,12 +123,11 @@ of_two s Valid IsFault holds condition order clean is also (Err OutOfMemory) fou
 
 -- ---- a stage
 
--- what the stages before one state holds
 pub earlier : {s t : Stage} {set : Set} → IsReady s set → s ≡ t → (e : Stage) → stage_number e < stage_number t
     → Holds e set.listed.image.now set.policy.now
 earlier ready is e before = ready.clean e (rw is before)
 
--- where the set does not list the table, nothing is said of it, and the stage holds
+-- if the set does not list the table, nothing is found, and the stage holds
 pub unlisted : {s t : Stage} {set : Set} {first : Option (List ℕ)} {said : Option (Result ⊤ Refusal)} → IsReady s set
     → s ≡ t
     → (kind : TableKind) → first ≡ first_table set.listed.tables kind → first ≡ None → said ≡ None
@@ -140,7 +137,7 @@ pub unlisted : {s t : Stage} {set : Set} {first : Option (List ℕ)} {said : Opt
 unlisted ready is kind same none silent holds =
     rw (silent, is) (holds (none_listed ready.tables.listed.tables kind same none), tt)
 
--- where it does, what is found of the table is so of the set
+-- otherwise what is found about the table holds for the set
 pub settled : {s t : Stage} {set : Set} {first : Option (List ℕ)} {whole : List ℕ} → IsReady s set → s ≡ t
     → (kind : TableKind) → first ≡ first_table set.listed.tables kind → first ≡ Some whole
     → (Valid : List ℕ → Type 0) (IsFault : List ℕ → Code → ℕ → ℕ → ℕ → Type 0)

@@ -4,7 +4,7 @@ use Rattle.acpi_base.specs.Pptt.{pptt_entry, pptt_contents}
 use Rattle.acpi_check.specs.Chains.{nodes_of, node_offsets, nodes_in, named_offset}
 use Rattle.acpi_check.proofs.chains.nodes_of.Given as goal
 
--- with those of the entries left the nodes so far are the table's
+-- the nodes so far, with those of the entries left, are the table's
 abbrev pub invariant-loop-at : goal.invariant-loop-at
 invariant-loop-at l =
     (l.offsets.items ++ node_offsets

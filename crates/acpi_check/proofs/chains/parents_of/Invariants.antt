@@ -3,7 +3,7 @@ use Rattle.std.specs.Prelude.{slice_index, slice_index_or}
 use Rattle.acpi_check.specs.Chains.{IsIndexOf}
 use Rattle.acpi_check.proofs.chains.parents_of.Given as goal
 
--- each parent so far is the index of what the node at its place names
+-- each parent so far is the index of the node that the node with its index names
 abbrev pub invariant-loop-k : goal.invariant-loop-k
 invariant-loop-k l =
     (length l.parents.items ≡ l.k)

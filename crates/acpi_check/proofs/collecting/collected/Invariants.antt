@@ -3,7 +3,7 @@ use Rattle.acpi_check.specs.PassResults.{Picks}
 use Rattle.acpi_check.proofs.EntryPasses.Collecting.{IsCollecting}
 use Rattle.acpi_check.proofs.collecting.collected.Given as goal
 
--- what is collected so far is what `pick` gives of the entries before those left
+-- what is collected so far is what `pick` gives for the entries before those left
 abbrev pub invariant-loop-entry : goal.invariant-loop-entry
 invariant-loop-entry g l =
     IsCollecting (Picks g.E.TableEntry.value (goal.F-post g l.pick))

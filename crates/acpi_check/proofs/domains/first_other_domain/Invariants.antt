@@ -5,7 +5,7 @@ use Rattle.acpi_check.specs.Processors.{PutsPlaced}
 use Rattle.acpi_check.proofs.EntryPasses.ValuesPass.{IsAt}
 use Rattle.acpi_check.proofs.domains.first_other_domain.Given as goal
 
--- of the processors with the numbers the first domains are kept, with which other entries so far agree; the entries
+-- of the processors with the numbers the first domains are kept, and the other entries so far agree with them; the entries
 -- left are the rest of the table's
 abbrev pub invariant-loop-at : goal.invariant-loop-at
 invariant-loop-at l =

@@ -4,7 +4,7 @@ use Rattle.acpi_base.specs.Madt.{madt_entry, madt_contents}
 use Rattle.acpi_check.proofs.EntryPasses.TypedPass.{IsAt}
 use Rattle.acpi_check.proofs.leaves.are_types_known.Given as goal
 
--- the entries so far are typed, and those left are the rest of the table's
+-- the entries so far are of known types, and those left are the rest of the table's
 abbrev pub invariant-loop-entry : goal.invariant-loop-entry
 invariant-loop-entry l =
     IsAt (madt_contents l.fn.madt) (entries_read_by madt_entry l.entries.entries)
