@@ -1,4 +1,4 @@
--- Numbers that are collected from the entries of a table, each with its place for its value.
+-- Numbers that are collected from the entries of a table, each with its place as its value.
 use Rattle.std.proofs.Common.{◌≡◌, ℕ, List, Option, Some, None, Result, Ok, Err, Vec, Global, refl, sym, ◌∙◌, ap, subst}
 use Rattle.std.specs.Prelude.{◌↔◌, Contains, IfOk, option_map}
 use Rattle.std.specs.List.{filter_map}
@@ -23,11 +23,10 @@ use Rattle.acpi_lint.proofs.SameNumbers.{found_later}
 
 -- ---- collected
 
--- the numbers that `read` gives of entries, each at its place
+-- the numbers that `read` gives for entries, each at its place
 abbrev pub numbers_at : {E : Type 0} → (PlacedEntry E → Option ℕ) → List (PlacedEntry E) → List Numbered
 numbers_at read entries = filter_map (λ s. option_map (at_place s.offset) (read s)) entries
 
--- what is made of a number is made at its place
 at_its_place : (at : ℕ) (number : Option ℕ) (g : Numbered) → option_map (at_place at) number ≡ Some g
     → (g ≡ at_place g.at g.number) × (g.at ≡ at) × (number ≡ Some g.number)
 at_its_place at None g is = cc
@@ -40,7 +39,6 @@ abbrev pub IsReadAt : {E : Type 0} → (PlacedEntry E → Option ℕ) → List (
 IsReadAt {E} read entries at n =
     (s : PlacedEntry E) × Contains entries s × (s.offset ≡ at) × (read s ≡ Some n)
 
--- they are the numbers of listed entries
 pub are_numbers : {E : Type 0} (read : PlacedEntry E → Option ℕ) (StandsAt : ℕ → ℕ → Type 0) (low : ℕ)
     (entries : List (PlacedEntry E)) (given : List Numbered) → AreRising low entries → given ≡ numbers_at read entries
     → ((at n : ℕ) → IsReadAt read entries at n ↔ StandsAt at n) → AreNumbersAt StandsAt given
@@ -71,7 +69,6 @@ are_numbers {E} read StandsAt low entries given rises is same =
     to at n (s, listed, here, number) =
         kept_has make entries s (at_place at n) listed (rw number (ap (λ (o : ℕ). Some (at_place o n)) here))
 
--- where it is read of what an entry says, it is what the entry names
 pub as_named : {E : Type 0} (read : E → Option ℕ) (entries : List (PlacedEntry E)) (at n : ℕ)
     → IsReadAt (λ s. read s.entry) entries at n ↔ NamesAt read entries at n
 as_named {E} read entries at n = (
@@ -80,7 +77,7 @@ as_named {E} read entries at n = (
   λ (e, stands, number). (record { offset = at; entry = e }, stands, refl, number),
 )
 
--- so they are where each call answers the number of its entry
+-- they are the numbers of the entries, if each call returns the number of its entry
 pub gathered_numbers : {E Said X : Type 0} (value : E → Said) {Answers : Bor (EntryAt E) → Option Numbered → Type 0}
     (read : PlacedEntry Said → Option ℕ) (StandsAt : ℕ → ℕ → Type 0) (low : ℕ)
     {said entries : List (PlacedEntry Said)} (r : Result (Vec Numbered Global) X) → AreRising low entries
@@ -100,7 +97,6 @@ collected_same h all found collects each =
     sym (map-id found)
     ∙ are_collected (λ x. x) h all found collects (λ s picked here gives. itself picked ∙ each s picked gives)
 
--- where A and B put the same numbers at places, those of A are those of B
 pub numbers_as : {A B : ℕ → ℕ → Type 0} (given : List Numbered) → ((at n : ℕ) → A at n ↔ B at n)
     → AreNumbersAt A given → AreNumbersAt B given
 numbers_as given same are =
@@ -110,9 +106,8 @@ numbers_as given same are =
       all = λ at n. (λ has. (same at n).0 ((are.all at n).0 has), λ stands. (are.all at n).1 ((same at n).1 stands));
     }
 
--- ---- the first one that stands twice
+-- ---- the first number that occurs twice
 
--- where A and B put the same numbers at places, those that stand twice are the same
 pub same_later : {A B : ℕ → ℕ → Type 0} (at other x : ℕ) → ((p n : ℕ) → A p n → B p n) → ((p n : ℕ) → B p n → A p n)
     → IsLater A at other x → IsLater B at other x
 same_later at other x to from later =
@@ -123,7 +118,6 @@ same_later at other x to from later =
       first = λ p there. later.first p (from p x there);
     }
 
--- what follows of what is found follows of it where memory may run out
 pub each_ok : {A X : Type 0} {P Q : A → Type 0} (r : Result A X) → ((a : A) → P a → Q a) → IfOk r P → IfOk r Q
 each_ok (Ok a) follows holds = follows a holds
 each_ok (Err e) follows holds = tt
@@ -139,7 +133,7 @@ found_twice given r are least =
     (λ p n has. (are.all p n).0 has) later)
     holds) least
 
--- ---- numbers that are gathered from entries, where each call answers the number that `read` gives
+-- ---- numbers that are gathered from entries, if each call returns the number that `read` gives
 
 pub repeated_read : {E Said : Type 0} (value : E → Said) {Answers : Bor (EntryAt E) → Option Numbered → Type 0}
     (read : Said → Option ℕ) (low : ℕ) (entries : List (PlacedEntry Said)) (found : Option Place)

@@ -21,7 +21,6 @@ use Rattle.acpi_lint.proofs.LeastPlaces.{least_as, least_outside, no_two, first_
 
 -- ---- what is looked for
 
--- the first entry that is looked for is at the least place
 least_sought : {E : Type 0} (t : EntryTable E) (whole : List ℕ) (what : SoughtEntry) (found : Option Place)
     → PicksFirst (FindsOwn (IsSoughtEntry t what)) (entries_in t whole) found
     → FindsLeast (IsFaultAt (IsSoughtEntry t what) (entries_in t whole)) found
@@ -29,7 +28,7 @@ least_sought t whole what found picks =
     least_picked (IsSoughtEntry t what) t.first (entries_in t whole) (rising t.read t.first whole)
     (FindsOwn (IsSoughtEntry t what)) (λ s p here gives. gives) found picks
 
--- in a table that ends before its first entry's place there is none
+-- a table that ends before the offset of its first entry has none
 nothing_picked : {S T : Type 0} (Gives : S → Option T → Type 0) (entries : List S) → ((s : S) → ¬ Contains entries s)
     → PicksFirst Gives entries None
 unfolding PicksFirst
@@ -75,7 +74,7 @@ second_found t whole c first found one behind =
     (λ at other point ((e, here, is), less, same, unused). (e, here, (is, less, same, unused)))
     (least_sought t whole (sought.SingleAfter first.at) found behind))
 
--- the least fault about what the code is about is that of the stage
+-- the lowest place of a fault about what the code is about is that of the stage
 pub of_stage : {E : Type 0} {s : Stage} {codes : EntryCodes} {table : PolicyValue → EntryTable E}
     {IsFault : PolicyValue → List ℕ → Code → ℕ → ℕ → ℕ → Type 0} {IsValid : PolicyValue → List ℕ → Type 0}
     (q : PolicyValue) (whole : List ℕ) (c : Code) (about : Subject) (found : Option Place)

@@ -21,7 +21,6 @@ use Rattle.acpi_lint.proofs.OfSets.{of_table, of_no_table}
 
 -- ---- a set that lists none
 
--- a set lists none with a signature exactly where no slot of its root is found
 pub lists_none : {m : Memory} {p : ℕ} {root : RootValue} {signature : List ℕ} (found : Option Slot) (b : Bool)
     → (IsTrue b ↔ IsNone found) → IsCompleteRoot m p root → FindsSlot m p (λ a. IsSigned m a signature) found
     → IsTrue b ↔ ListsNone m p signature
@@ -36,7 +35,6 @@ lists_none {m} {p} (Some s) b test is first = (
       first.here),
 )
 
--- a set with no whole root does not list none
 pub no_root_lists : {m : Memory} {p : ℕ} {signature : List ℕ} → ((root : RootValue) → ¬ IsCompleteRoot m p root)
     → ¬ ListsNone m p signature
 no_root_lists none lists =
@@ -45,7 +43,7 @@ no_root_lists none lists =
 
 -- ---- a set that lists one
 
--- faults of the stage are those of the table, where it is not that none is listed
+-- unless the code is `NoFadt`, faults of the stage are those of the table
 faults_as : (m : Memory) (q : PolicyValue) (fault : Code) (found : Option Place) → fault ≢ code.NoFadt
     → FindsLeast (λ at other point. HasListed m q.rsdp fadt_signature (λ bytes. IsFadtFault bytes fault at other point))
     found

@@ -1,4 +1,4 @@
--- What is picked first of the entries of a table is the least place.
+-- The first thing that is picked from the entries of a table is at the lowest place.
 use Rattle.std.proofs.Common.{◌≡◌, List, [], ◌∷◌, Option, Some, None, refl, inl, inr, ℕ, suc, ◌<◌, sym, ◌∙◌, ap, subst, arith}
 use Rattle.std.specs.Prelude.{Contains, ◌⊎◌}
 use Rattle.acpi_base.proofs.Elements.{later_element, first_element, first_or_later, no_element}
@@ -12,9 +12,9 @@ use Rattle.acpi_check.proofs.EntryPasses.Kept.{AreRising}
 use Rattle.acpi_check.proofs.EntryPasses.Passes.{none_passed, left_behind}
 use Rattle.acpi_lint.specs.declared.place.Place.{Place}
 
--- ---- a pass over entries up to the first of which something is picked
+-- ---- a pass over entries up to the first from which something is picked
 
--- what is picked first of those left is picked first of all
+-- what is picked first from those left is picked first from all
 pub record IsPicking {S T : Type 0} (Gives : S → Option T → Type 0) (all left : List S) : Type 0 where
   pub listed : (s : S) → Contains left s → Contains all s
   pub others : (found : Option T) → PicksFirst Gives left found → PicksFirst Gives all found
@@ -43,18 +43,16 @@ pub all_passed : {S T : Type 0} {Gives : S → Option T → Type 0} {all left : 
 unfolding PicksFirst
 all_passed before none = before.others None (rw none refl)
 
--- ---- what is picked first of the entries of a table is the least place
+-- ---- what is picked first from the entries of a table is at the lowest place
 
--- an entry stands at `at` that is at fault with these two numbers
+-- the entry at `at` is at fault with these two numbers
 abbrev pub IsFaultAt : {E : Type 0} → (ℕ → E → ℕ → ℕ → Type 0) → List (PlacedEntry E) → ℕ → ℕ → ℕ → Type 0
 IsFaultAt IsFault entries at other point = StandsWith entries at (λ e. IsFault at e other point)
 
--- those behind the first entry come behind it
 behind : {E : Type 0} (low : ℕ) (s : PlacedEntry E) (left : List (PlacedEntry E)) → AreRising low (s ∷ left)
     → (o : ℕ) (e : E) → Stands left o e → s.offset < o
 behind low s left rises o e stands = left_behind {s = s} (none_passed low (λ o e. Unit {0}) rises) o e stands
 
--- the entry is the first, or stands behind it
 here_or_behind : {E : Type 0} (s : PlacedEntry E) (left : List (PlacedEntry E)) (o : ℕ) (e : E) → Stands (s ∷ left) o e
     → ((s.offset ≡ o) × (s.entry ≡ e)) ⊎ Stands left o e
 here_or_behind {E} s left o e stands =
@@ -63,7 +61,7 @@ here_or_behind {E} s left o e stands =
       | inr later ↦ inr later
     ]
 
--- where the first entry is at fault at no numbers, the least place is that of the others
+-- if the first entry has no fault, the lowest place is that of the others
 from_left : {E : Type 0} (IsFault : ℕ → E → ℕ → ℕ → Type 0) (s : PlacedEntry E) (left : List (PlacedEntry E))
     → ((other point : ℕ) → ¬ IsFault s.offset s.entry other point)
     → (found : Option Place) → FindsLeast (IsFaultAt IsFault left) found
@@ -88,7 +86,6 @@ from_left {E} IsFault s left none (Some p) first =
           ];
     }
 
--- where the first entry is at fault, its least place is the least of all
 at_first : {E : Type 0} (IsFault : ℕ → E → ℕ → ℕ → Type 0) (low : ℕ) (s : PlacedEntry E) (left : List (PlacedEntry E))
     → AreRising low (s ∷ left) → (p : Place) → FindsOwn IsFault s (Some p) → IsLeast (IsFaultAt IsFault (s ∷ left)) p
 at_first {E} IsFault low s left rises p (place, wrong, least) =
@@ -102,7 +99,7 @@ at_first {E} IsFault low s left rises p (place, wrong, least) =
           ];
     }
 
--- what is picked first of entries at rising offsets, where each pick is the least place of its entry
+-- the lowest place is what is picked first from entries at rising offsets, if each pick is the lowest place of its entry
 pub least_picked : {E : Type 0} (IsFault : ℕ → E → ℕ → ℕ → Type 0) (low : ℕ) (entries : List (PlacedEntry E))
     → AreRising low entries → (Gives : PlacedEntry E → Option Place → Type 0)
     → ((s : PlacedEntry E) (picked : Option Place) → Contains entries s → Gives s picked → FindsOwn IsFault s picked)
@@ -122,7 +119,7 @@ least_picked IsFault low (s ∷ left) rises Gives each (Some p) (inr (none, more
     (Some p)
     more)
 
--- the same of what a call answers of each entry of a table
+-- the same for what a call returns for each entry of a table
 pub least_of_entries : {E Said : Type 0} (value : E → Said) {Answers : Bor (EntryAt E) → Option Place → Type 0}
     (IsFault : ℕ → Said → ℕ → ℕ → Type 0) (low : ℕ) {said entries : List (PlacedEntry Said)} (found : Option Place)
     → PicksFirst (Picks value Answers) said found → said ≡ entries → AreRising low entries

@@ -1,4 +1,4 @@
--- From what is found of a stage's code to the first fault with the code.
+-- The lowest place of a code is its first fault.
 use Rattle.std.proofs.Common.{◌≡◌, ◌≢◌, Option, Some, None, Result, Ok, Err, refl, sym, ap, subst, inl, inr, arith}
 use Rattle.std.specs.Prelude.{IfOk}
 use Rattle.acpi_base.specs.Codes.{code_number, stage_number, stage_of}
@@ -15,24 +15,21 @@ use Rattle.acpi_lint.specs.Places.{IsNotAfter, FindsLeast}
 use Rattle.acpi_lint.specs.StageFaults.{IsFaultOfStage, FindsFirstAt, fault_at}
 use Rattle.acpi_lint.specs.declared.place.Place.{Place}
 
--- the stage is none of the two of overlaps, whose faults have an order of their own
+-- the stage is not one of the two of overlaps, whose faults have their own order
 abbrev pub IsPlain : Stage → Type 0
 IsPlain s = (stage_number s ≢ 7) × (stage_number s ≢ 10)
 
--- its first fault with a code is the one that stands after none
 least_of_plain : (m : Memory) (q : PolicyValue) (s : Stage) (c : Code) (w : Witness) → stage_of c ≡ s → IsPlain s
     → ((v : Witness) → v.code ≡ c → Fault m q v → NotAfter w v) → IsLeastOfCode c m q w
 least_of_plain m q s code.GsiClash w is plain least = absurd (plain.0 (ap stage_number (sym is)))
 least_of_plain m q s code.Overlap w is plain least = absurd (plain.1 (ap stage_number (sym is)))
 least_of_plain m q s c w is plain least = least
 
--- of two faults with one code the order is that of their places
 not_after : (p : Place) (c : Code) (v : Witness) → v.code ≡ c → IsNotAfter p v.at v.other v.point
     → NotAfter (fault_at c p) v
 not_after p c v same (inl before) = inl before
 not_after p c v same (inr (at, rest)) = inr (at, inr (ap code_number (sym same), rest))
 
--- the condition of a fault with the code
 condition : (m : Memory) (q : PolicyValue) (s : Stage) (c : Code) (w : Witness) → stage_of c ≡ s → w.code ≡ c
     → Fault m q w → IsFaultOfStage s c m q w.at w.other w.point
 condition m q s c w is same fault =
@@ -40,7 +37,6 @@ condition m q s c w is same fault =
     (subst (λ (d : Code). Fault m q (record { code = d; at = w.at; other = w.other; point = w.point })) same
     fault).holds
 
--- the least place of a code's faults is that of the first
 pub first_of_stage : (m : Memory) (q : PolicyValue) (s : Stage) (c : Code) → stage_of c ≡ s → IsPlain s
     → (found : Option Place) → FindsLeast (IsFaultOfStage s c m q) found → FindsFirstAt c m q found
 first_of_stage m q s c is plain None none = λ w same fault.
@@ -57,7 +53,6 @@ first_of_stage m q s c is plain (Some p) first = (
   },
 )
 
--- the same where memory may run out
 pub first_of_result : (m : Memory) (q : PolicyValue) (s : Stage) (c : Code) {X : Type 0} → stage_of c ≡ s → IsPlain s
     → (r : Result (Option Place) X) → IfOk r (FindsLeast (IsFaultOfStage s c m q)) → IfOk r (FindsFirstAt c m q)
 first_of_result m q s c is plain (Ok found) first = first_of_stage m q s c is plain found first

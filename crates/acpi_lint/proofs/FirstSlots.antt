@@ -1,4 +1,4 @@
--- The first slot of a root whose address is looked for: the least place, and the table there.
+-- The first slot of a root table whose address is looked for: the lowest place, and the table there.
 use Rattle.std.proofs.Common.{◌≡◌, ℕ, List, Option, Some, None, refl, subst, ap, ◌∙◌, inl, inr, arith}
 use Rattle.std.specs.Prelude.{MatchOption}
 use Rattle.std.specs.Option.{option_map}
@@ -16,7 +16,6 @@ use Rattle.acpi_lint.specs.declared.place.Place.{Place}
 use Rattle.acpi_lint.specs.declared.listed_slots.Slot.{Slot}
 use Rattle.acpi_lint.proofs.LeastPlaces.{not_after_itself}
 
--- one address stands in a slot of a set
 pub one_listed : {m : Memory} {p k a b : ℕ} → IsSlot m p k a → IsSlot m p k b → a ≡ b
 one_listed {m} {p} {k} {a} {b} one other =
     one_slot one.whole one.d k a b one.slot
@@ -24,12 +23,12 @@ one_listed {m} {p} {k} {a} {b} one other =
 
 -- ---- its place
 
--- slot `at` lists an address of which this holds, and these are the two numbers that are said of it
+-- slot `at` lists an address for which this holds, and these are its two numbers
 abbrev pub IsSlotWith : Memory → ℕ → (ℕ → Type 0) → (ℕ → ℕ) → (ℕ → ℕ) → ℕ → ℕ → ℕ → Type 0
 IsSlotWith m p Is other_of point_of at other point =
     (a : ℕ) × IsSlot m p at a × Is a × (other ≡ other_of a) × (point ≡ point_of a)
 
--- the place that is said of a slot
+-- the place of a slot
 abbrev pub place_of : (ℕ → ℕ) → (ℕ → ℕ) → Slot → Place
 place_of other_of point_of s =
     record { at = s.number; other = other_of s.table.address; point = point_of s.table.address }
@@ -58,14 +57,13 @@ least_slot m p Is other_of point_of (Some s) first =
 
 -- ---- the table at its address
 
--- where no slot is found there is no table with the signature
 pub no_table : {m : Memory} {p : ℕ} (signature : List ℕ) → FindsSlot m p (λ a. IsSigned m a signature) None
     → IsFound m p signature None
 no_table signature none = λ whole listed.
     let first = listed.first in
     none first.first.k listed.a (root_slot first.root first.table first.first.slot) first.first.signed
 
--- where one is found, its table is the set's
+-- if one is found, its table is the set's
 pub table_there : {m : Memory} {p : ℕ} (signature : List ℕ) (s : Slot) (table : Option (List ℕ))
     → FindsSlot m p (λ a. IsSigned m a signature) (Some s)
     → MatchOption table ((header bytes : List ℕ) → ¬ IsTable m s.table.address header bytes)

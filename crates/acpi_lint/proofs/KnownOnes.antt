@@ -11,7 +11,7 @@ use Rattle.acpi_lint.specs.Numbered.{at_place, AreNumbersAt}
 use Rattle.acpi_lint.specs.declared.numbered.Numbered.{Numbered}
 use Rattle.acpi_lint.proofs.SameNumbers.{has_at}
 
--- those of entries are those that entries name
+-- the numbers of entries are those that entries name
 pub are_known : {E : Type 0} (read : E → Option ℕ) (entries : List (PlacedEntry E)) (gathered known : List ℕ)
     → gathered ≡ filter_map (λ s. read s.entry) entries → AllPairs (λ i j. i < j) known
     → ((n : ℕ) → Contains known n ↔ Contains gathered n) → AreKnown (IsNamed read entries) known
@@ -31,7 +31,7 @@ are_known {E} read entries gathered known is rise same =
     from : (n : ℕ) → ((s : PlacedEntry E) × Contains entries s × (make s ≡ Some n)) → IsNamed read entries n
     from n (s, listed, names) = (s.offset, (s.entry, listed, names))
 
--- and those that stand at places stand at some place
+-- and the numbers at places are those at any place
 pub are_placed : {X : Type 0} (StandsAt : ℕ → ℕ → Type 0) (given : List Numbered) (gathered : List ℕ)
     (r : Result (Vec ℕ Global) X) → AreNumbersAt StandsAt given → gathered ≡ map (λ g. g.number) given
     → IfOk r (λ numbers. AllPairs (λ i j. i < j) numbers.items)

@@ -19,7 +19,6 @@ use Rattle.acpi_lint.proofs.CollectedNumbers.{IsReadAt, as_named, numbers_as}
 
 -- ---- Parents
 
--- the Parents that entries name
 pub are_parents : {X : Type 0} (c : PpttContents) (given : List ℕ) (r : Result (Vec ℕ Global) X)
     → given ≡ filter_map (λ s. parent_of s.entry) c.entries
     → IfOk r (λ parents. (n : ℕ) → Contains parents.items n ↔ Contains given n)
@@ -35,7 +34,6 @@ are_parents c given (Ok parents) is same = λ o. (
         → IsParent c o
     from o (s, listed, names) = (s.offset, (s.entry, listed, names))
 
--- an offset is among others
 pub among : (parents : List ℕ) (o : ℕ) → Contains parents o → list_any (λ p. p == o) parents ≡ true
 among parents o (k, within, is) = list_any_at (λ p. p == o) parents k o within (grind (arith, nat_tests))
 
@@ -50,7 +48,6 @@ not_among parents o none =
 
 -- ---- nodes
 
--- a node whose ID is valid
 valid_node : (e : PpttEntry) (id : ℕ) → valid_id e ≡ Some id
     → (v : NodeValue) × (e ≡ Node v) × (v.id ≡ id) × (has_bit v.flags 1 ≡ true)
 valid_node (Node v) id is = let parts = cond_some (has_bit v.flags 1) v.id id is in (v, refl, parts.1, parts.0)
@@ -60,7 +57,6 @@ valid_node (Opaque e) id is = cc
 valid_of : (v : NodeValue) (id : ℕ) → v.id ≡ id → has_bit v.flags 1 ≡ true → valid_id (Node v) ≡ Some id
 valid_of v id is valid = rw (valid, is) refl
 
--- below Revision 2 the leaves are those that no node names
 pub unnamed_are_leaves : (c : PpttContents) → c.revision < 2 → (o id : ℕ) → IsUnnamedAt c o id ↔ IsLeafAt c o id
 unnamed_are_leaves c old o id = (
   λ ((e, stands, names), unnamed).
@@ -69,7 +65,6 @@ unnamed_are_leaves c old o id = (
   λ (e, stands, (v, is, here, valid, said, unnamed)). ((e, stands, rw is (valid_of v id here valid)), unnamed old),
 )
 
--- a node that says that it is a leaf
 given_where : (b : Bool) (number : Option ℕ) (id : ℕ) → cond b number None ≡ Some id → (b ≡ true) × (number ≡ Some id)
 given_where true number id is = (refl, is)
 given_where false number id is = cc
@@ -83,7 +78,6 @@ said_node (Node v) id is =
 said_node (Cache v) id is = cc
 said_node (Opaque e) id is = cc
 
--- from then on those that say it
 pub said_are_leaves : (c : PpttContents) → 2 ≤ c.revision → (o id : ℕ)
     → NamesAt said_leaf_id c.entries o id ↔ IsLeafAt c o id
 said_are_leaves c recent o id = (
@@ -96,7 +90,6 @@ said_are_leaves c recent o id = (
 
 -- ---- collected
 
--- what is read of the nodes that stand at none of the Parents
 pub read_unnamed : (c : PpttContents) (parents : List ℕ) → ((o : ℕ) → Contains parents o ↔ IsParent c o) → (o id : ℕ)
     → IsReadAt (λ s. unnamed_id parents s.offset s.entry) c.entries o id ↔ IsUnnamedAt c o id
 read_unnamed c parents same o id = (
@@ -118,7 +111,6 @@ read_unnamed c parents same o id = (
     given_else true number id is = cc
     given_else false number id is = (refl, is)
 
--- where A and B put the same numbers at places
 pub leaves_as : {A B : ℕ → ℕ → Type 0} {X : Type 0} (r : Result (Vec Numbered Global) X)
     → ((at n : ℕ) → A at n ↔ B at n) → IfOk r (λ v. AreNumbersAt A v.items) → IfOk r (λ v. AreNumbersAt B v.items)
 leaves_as (Ok v) same are = numbers_as v.items same are

@@ -1,4 +1,4 @@
--- The least place of findings, and what holds at one place at most.
+-- The lowest place of findings, and what holds at one place at most.
 use Rattle.std.proofs.Common.{◌≡◌, ℕ, refl, sym, inr, arith, ◌<◌, ◌≤◌, List, Option, Some, None, subst, inl}
 use Rattle.std.specs.Prelude.{◌↔◌, IsTrue, Bool, true, false, ◌⊎◌, IfSome}
 use Rattle.std.specs.Bool.{then_some}
@@ -14,11 +14,9 @@ use Rattle.acpi_base.specs.Entries.{PlacedEntry, StandsWith, AreUnused}
 abbrev pub IsPlace : Place → ℕ → ℕ → ℕ → Type 0
 IsPlace p at other point = (at ≡ p.at) × (other ≡ p.other) × (point ≡ p.point)
 
--- a place does not stand after itself
 pub not_after_itself : (p : Place) (at other point : ℕ) → IsPlace p at other point → IsNotAfter p at other point
 not_after_itself p at other point (one, two, three) = inr (sym one, inr (sym two, omega arith))
 
--- what holds at one place at most is found there where a test says that it holds
 pub finds_one : {P : ℕ → ℕ → ℕ → Type 0} (p : Place) (b : Bool) → (IsTrue b ↔ P p.at p.other p.point)
     → ((at other point : ℕ) → P at other point → IsPlace p at other point) → FindsLeast P (then_some b p)
 finds_one p true test only =
@@ -32,9 +30,8 @@ finds_one {P} p false test only = λ at other point holds.
     let no : IsTrue false = test.1 there in
     absurd cc
 
--- ---- the least place of findings, by what is said of it
+-- ---- the lowest place of findings, by what they are
 
--- what holds of the same numbers has the same least place
 pub least_as : {P Q : ℕ → ℕ → ℕ → Type 0} (found : Option Place)
     → ((at other point : ℕ) → P at other point → Q at other point)
     → ((at other point : ℕ) → Q at other point → P at other point) → FindsLeast P found → FindsLeast Q found
@@ -45,7 +42,7 @@ least_as (Some p) there back first =
       least = λ at other point holds. first.least at other point (back at other point holds);
     }
 
--- what is said of the numbers alone may stand beside what is said of the entry
+-- a condition on the numbers alone may be inside or outside the condition on the entry
 pub least_outside : {E : Type 0} (entries : List (PlacedEntry E)) (P : E → Type 0) (X : ℕ → ℕ → ℕ → Type 0)
     (found : Option Place) → FindsLeast (λ at other point. StandsWith entries at (λ e. P e × X at other point)) found
     → FindsLeast (λ at other point. StandsWith entries at P × X at other point) found
@@ -53,15 +50,14 @@ least_outside entries P X found least =
     least_as found (λ at other point (e, here, (holds, said)). ((e, here, holds), said))
     (λ at other point ((e, here, holds), said). (e, here, (holds, said))) least
 
--- ---- the lesser of two
+-- ---- the lower of two
 
--- the order is transitive
 pub not_after_trans : (p q : Place) (at other point : ℕ) → IsNotAfter p q.at q.other q.point
     → IsNotAfter q at other point
     → IsNotAfter p at other point
 not_after_trans p q at other point before after = grind arith
 
--- one more place is found: the lesser of it and the least so far is the least
+-- one more place is found: the lower of it and the lowest so far is the lowest
 pub finds_one_more : {P Q : ℕ → ℕ → ℕ → Type 0} (least : Option Place) (place r : Place) → FindsLeast P least
     → Q place.at place.other place.point → ((at other point : ℕ) → P at other point → Q at other point)
     → ((at other point : ℕ) → Q at other point
@@ -94,16 +90,14 @@ finds_one_more {P} {Q} least place r found here more split one after before =
 abbrev pub AreTwo : (ℕ → Type 0) → ℕ → ℕ → ℕ → Type 0
 AreTwo IsAt at other point = IsAt at × IsAt other × (other < at) × (point ≡ 0)
 
--- the first behind the first
+-- the first after the first
 abbrev pub IsBehind : (ℕ → Type 0) → ℕ → ℕ → ℕ → ℕ → Type 0
 IsBehind IsAt first at other point = IsAt at × (first < at) × (other ≡ first) × (point ≡ 0)
 
--- without a first there are no two
 pub no_two : {IsAt : ℕ → Type 0} → FindsLeast (λ at other point. IsAt at × AreUnused other point) None
     → FindsLeast (AreTwo IsAt) None
 no_two none = λ at other point (here, there, less, unused). none at 0 0 (here, (refl, refl))
 
--- no two of a kind stand before the first and the one behind it
 after_two : {IsAt : ℕ → Type 0} (first : ℕ) (p : Place) → p.other ≡ first → p.point ≡ 0
     → ((at : ℕ) → IsAt at → first ≤ at) → ((at : ℕ) → IsAt at → first < at → p.at ≤ at)
     → (at other point : ℕ) → AreTwo IsAt at other point → IsNotAfter p at other point
@@ -122,7 +116,6 @@ after_two first p is unused least behind at other point (here, there, less, none
           )
     ]
 
--- a least place stands at or before each
 place_upto : {p : Place} {at other point : ℕ} → IsNotAfter p at other point → p.at ≤ at
 place_upto (inl before) = omega (arith, before)
 place_upto (inr (same, rest)) = omega (arith, same)
@@ -131,7 +124,6 @@ at_least : {IsAt : ℕ → Type 0} {first : Place} → IsLeast (λ at other poin
     → (at : ℕ) → IsAt at → first.at ≤ at
 at_least least at here = place_upto (least.least at 0 0 (here, (refl, refl)))
 
--- the first and the first behind it are the least two of a kind
 pub first_two : {IsAt : ℕ → Type 0} (first : Place) (found : Option Place)
     → IsLeast (λ at other point. IsAt at × AreUnused other point) first
     → FindsLeast (IsBehind IsAt first.at) found → FindsLeast (AreTwo IsAt) found

@@ -1,4 +1,4 @@
--- The slots of a root that list an address.
+-- The slots of a root table that list an address.
 use Rattle.std.proofs.Common.{◌≡◌, ℕ, ◌<◌, ◌≤◌, ◌+◌, ◌*◌, List, [], ◌∷◌, ◌++◌, length, map, None, false, refl, sym, ap, ◌∙◌, inl, inr, arith}
 use Rattle.std.specs.Prelude.{◌⊎◌, Contains}
 use Rattle.std.proofs.lemmas.Bool.{cases_lt}
@@ -17,7 +17,7 @@ use Rattle.acpi_lint.specs.declared.listed_slots.Slot.{Slot}
 use Rattle.acpi_lint.specs.declared.numbered.Numbered.{Numbered}
 use Rattle.acpi_lint.proofs.RisingLists.{rise_more}
 
--- the slot at which a list is read that has none there
+-- a slot to read lists with
 abbrev pub no_slot : Slot
 no_slot = record { number = 0; table = record { address = 0; fault = None; kind = None; is_apart = false } }
 
@@ -65,7 +65,6 @@ one_more {m} {whole} {d} {n} s slots before number slot there =
       ];
     }
 
--- one that lists none
 pub none_more : {m : Memory} {whole : List ℕ} {d n : ℕ} (slots : List Slot) → AreSlots m (ListsBefore whole d n) slots
     → field whole (36 + d * n) d ≡ 0 → AreSlots m (ListsBefore whole d (n + 1)) slots
 none_more {m} {whole} {d} {n} slots before zero =
@@ -82,7 +81,6 @@ none_more {m} {whole} {d} {n} slots before zero =
         let here : HasSlot whole d n a = rw place at lists in
         absurd (here.listed (sym here.address ∙ zero))
 
--- where these list the same
 slots_as : {m : Memory} {Lists Others : ℕ → ℕ → Type 0} (slots : List Slot)
     → ((k a : ℕ) → Lists k a → Others k a) → ((k a : ℕ) → Others k a → Lists k a)
     → AreSlots m Lists slots → AreSlots m Others slots
@@ -93,20 +91,17 @@ slots_as slots to from are =
       all = λ k a lists. are.all k a (from k a lists);
     }
 
--- all of them
 pub all_listed : {m : Memory} {whole : List ℕ} {d n : ℕ} (slots : List Slot) → AreSlots m (ListsBefore whole d n) slots
     → ((k : ℕ) → 36 + d * (k + 1) ≤ length whole → k < n) → AreSlots m (HasSlot whole d) slots
 all_listed slots before inside =
     slots_as slots (λ k a lists. lists.1) (λ k a lists. (inside k lists.inside, lists)) before
 
--- those of a root are those of its set
 pub set_listed : {m : Memory} {p : ℕ} {root : RootValue} (slots : List Slot) → IsCompleteRoot m p root
     → AreSlots m (HasSlot root.bytes root.width) slots → AreSlots m (IsSlot m p) slots
 set_listed {m} {p} {root} slots is are =
     slots_as slots (λ k a here. root_slot is.named is.table here)
     (λ k a slot. slot_of_root m p root.address root.width k a root.bytes is.named is.table slot) are
 
--- without a root there are none
 pub no_slots : {m : Memory} {p : ℕ} → ((root : RootValue) → ¬ IsCompleteRoot m p root) → AreSlots m (IsSlot m p) []
 no_slots none =
     record {
@@ -121,7 +116,6 @@ no_slots none =
 pub at_numbers : (slots : List Slot) (g : Numbered) → Contains (map numbered_slot slots) g → g.value ≡ g.at
 at_numbers slots g here = (let (s, listed, is) = element_of_map numbered_slot slots g here in rw (← is) refl)
 
--- each address stands at its slot's number
 pub are_numbered : {m : Memory} {Lists : ℕ → ℕ → Type 0} (slots : List Slot) → AreSlots m Lists slots
     → AreNumbersAt Lists (map numbered_slot slots)
 are_numbered {Lists = Lists} slots are =

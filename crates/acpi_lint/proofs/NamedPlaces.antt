@@ -1,4 +1,4 @@
--- What the entries of a PPTT name that is at none of some offsets, and where it dangles.
+-- Dangling references of a PPTT's entries: those at none of some offsets.
 use Rattle.std.proofs.Common.{◌≡◌, ℕ, ◌*◌, ◌<◌, ◌≤◌, Bool, true, true≢false, List, Option, Some, None, Result, Ok, Err, refl, sym, ◌∙◌, ap, subst, inl, inr, arith}
 use Rattle.std.specs.Prelude.{◌↔◌, ◌⊎◌, Contains, IfOk, is_some, not}
 use Rattle.std.specs.List.{filter_map}
@@ -28,7 +28,6 @@ offset_is : (test : PpttEntry → Bool) (s : PlacedEntry PpttEntry) (o : ℕ) �
     → (test s.entry ≡ true) × (o ≡ s.offset)
 offset_is test s o is = (let parts = cond_some (test s.entry) s.offset o is in (parts.0, sym parts.1))
 
--- the offsets are those at which entries stand that pass the test
 stand : (test : PpttEntry → Bool) (entries : List (PlacedEntry PpttEntry)) (o : ℕ)
     → Contains (filter_map (offset_where test) entries) o ↔ StandsWith entries o (λ e. test e ≡ true)
 stand test entries o = (
@@ -42,7 +41,6 @@ stand test entries o = (
         let (passes, same) = offset_is test s o gives in
         (s.entry, subst (λ (k : ℕ). Stands entries k s.entry) (sym same) found, passes)
 
--- a set of the offsets of entries with a link has the places of their kind
 pub linked_there : (kind : Chain) (whole offsets : List ℕ)
     → offsets ≡ filter_map (offset_where (is_linked kind)) (pptt_contents whole).entries
     → (o : ℕ) → Contains offsets o ↔ IsAt (Says (named_offset kind) (pptt_contents whole)) o
@@ -57,7 +55,6 @@ linked_there kind whole offsets are o =
       λ (p, (e, stands, names)). (stand (is_linked kind) said o).1 (e, stands, ap is_some names),
     )
 
--- one of the offsets of entries of another type than a node has the places of private resources
 pub resources_there : (whole offsets : List ℕ)
     → offsets ≡ filter_map (offset_where is_resource) (pptt_contents whole).entries
     → (o : ℕ) → Contains offsets o ↔ IsResourceAt (pptt_contents whole) o
@@ -69,7 +66,6 @@ resources_there whole offsets are o =
       λ (e, stands, other). (stand is_resource said o).1 (e, stands, ap not (ne_eqb _ _ other)),
     )
 
--- in a function that returns the set
 pub same_places : {X : Type 0} {IsThere : ℕ → Type 0} (offsets : List ℕ) (r : Result OffsetSet X)
     → ((o : ℕ) → Contains offsets o ↔ IsThere o) → IfOk r (λ s. (o : ℕ) → IsIn s o ↔ Contains offsets o)
     → IfOk r (AreOffsets IsThere)
@@ -78,7 +74,7 @@ same_places offsets (Err e) there same = tt
 
 -- ---- what dangles
 
--- an entry that is linked to none of the places of its kind dangles
+-- an entry whose link is at none of the offsets of its kind dangles
 pub links_dangle : (kind : Chain) (c : PpttContents) (offsets : OffsetSet) (found : Option Place)
     → AreOffsets (IsAt (Says (named_offset kind) c)) offsets
     → FindsLeast (IsFaultAt (NamesNoLink kind offsets) c.entries) found
@@ -92,7 +88,6 @@ links_dangle kind c offsets found are least =
     (e, stands, (is, dangles.some, λ listed. dangles.nowhere ((are other).0 listed), zero)))
     least
 
--- and so does a private resource that is none of the places of theirs
 pub resources_dangle : (c : PpttContents) (offsets : OffsetSet) (found : Option Place)
     → AreOffsets (IsResourceAt c) offsets → FindsLeast (IsFaultAt (NamesNoResource offsets) c.entries) found
     → FindsLeast (ReferenceFault c code.DanglingResource) found
@@ -104,7 +99,7 @@ resources_dangle c offsets found are least =
 
 -- ---- private resources
 
--- a node all of whose private resources are there
+-- for a node all of whose private resources are present
 pub none_missing : (offsets : OffsetSet) (references : List ℕ) (count : ℕ) (s : PlacedEntry PpttEntry) (v : NodeValue)
     → s.entry ≡ Node v → v.resources ≡ numbers_in references count
     → ((j : ℕ) → j < count → IsIn offsets (field references (4 * j) 4)) → FindsOwn (NamesNoResource offsets) s None
@@ -112,7 +107,7 @@ none_missing offsets references count s v node are all = λ other point (is, not
     let (below, number) = number_is references count other point (rw are at (rw node at is)) in
     not (rw number (all other below))
 
--- and one of which the first that is not is this one
+-- for one whose first private resource that is missing is this one
 pub first_missing : (offsets : OffsetSet) (references : List ℕ) (count j : ℕ) (s : PlacedEntry PpttEntry)
     (v : NodeValue) → s.entry ≡ Node v → v.resources ≡ numbers_in references count → j < count
     → ¬ IsIn offsets (field references (4 * j) 4)

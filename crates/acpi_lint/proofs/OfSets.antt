@@ -15,7 +15,6 @@ use Rattle.acpi_lint.specs.declared.place.Place.{Place}
 use Rattle.acpi_lint.specs.declared.complete_tables.CompleteTables.{CompleteTables}
 use Rattle.acpi_lint.proofs.LeastPlaces.{least_as}
 
--- the least place in the first listed table is the set's
 pub of_table : {m : Memory} {p : ℕ} {signature whole : List ℕ} (P : List ℕ → ℕ → ℕ → ℕ → Type 0) (found : Option Place)
     → IsListedTable m p signature whole → FindsLeast (P whole) found
     → FindsLeast (λ at other point. HasListed m p signature (λ bytes. P bytes at other point)) found
@@ -23,13 +22,12 @@ of_table {whole = whole} P found listed first =
     least_as found (λ at other point holds. (whole, listed, holds))
     (λ at other point has. of_listed (λ bytes. P bytes at other point) listed has) first
 
--- where none is listed there is none
 pub of_no_table : {m : Memory} {p : ℕ} {signature : List ℕ} (P : List ℕ → ℕ → ℕ → ℕ → Type 0)
     → ((whole : List ℕ) → ¬ IsListedTable m p signature whole)
     → FindsLeast (λ at other point. HasListed m p signature (λ bytes. P bytes at other point)) None
 of_no_table P none = λ at other point (whole, listed, holds). none whole listed
 
--- the same of what was looked for and found, or not
+-- the same for what was looked for and found, or not
 pub of_found : (m : Memory) (p : ℕ) (signature : List ℕ) {whole : List ℕ} {found : Option (List ℕ)}
     (P : List ℕ → ℕ → ℕ → ℕ → Type 0) (place : Option Place) → IsFound m p signature found → found ≡ Some whole
     → FindsLeast (P whole) place
@@ -41,7 +39,7 @@ pub of_not_found : (m : Memory) (p : ℕ) (signature : List ℕ) {found : Option
     → FindsLeast (λ at other point. HasListed m p signature (λ bytes. P bytes at other point)) None
 of_not_found m p signature P looked is = of_no_table P (rw is at looked)
 
--- a table that is found and long enough says what the set says
+-- what a table that is found and long enough says is what the set says
 pub some_long : (m : Memory) (p : ℕ) (signature : List ℕ) (P : List ℕ → ℕ → ℕ → ℕ → Type 0) {X : Type 0}
     {found : Option (List ℕ)} {whole : List ℕ} (r : Result (Option Place) X) → IsFound m p signature found
     → found ≡ Some whole → IfOk r (FindsLeast (P whole))
@@ -49,7 +47,7 @@ pub some_long : (m : Memory) (p : ℕ) (signature : List ℕ) (P : List ℕ → 
 some_long m p signature P (Ok place) looked is least = of_found m p signature P place looked is least
 some_long m p signature P (Err e) looked is least = tt
 
--- and one that is not found, or too short, says nothing where those that are too short say nothing
+-- a table that is not found, or too short, says nothing, if those that are too short say nothing
 pub none_long : (m : Memory) (p : ℕ) (signature : List ℕ) (least : ℕ) (P : List ℕ → ℕ → ℕ → ℕ → Type 0)
     (found : Option (List ℕ)) → IsFound m p signature found → IsLong least found None
     → ((whole : List ℕ) → length whole < least → (at other point : ℕ) → ¬ P whole at other point)
@@ -58,7 +56,7 @@ none_long m p signature least P None looked long short = of_no_table P looked
 none_long m p signature least P (Some bytes) looked long short =
     of_table P None looked (short bytes (long bytes refl))
 
--- the root and the table of each kind are those of the set
+-- the root table and the table of each kind are those of the set
 pub are_whole : {m : Memory} {p : ℕ} (tables : CompleteTables)
     → IsRootOf m p tables.root → AreSlots m (IsSlot m p) tables.slots.items → AreFirstSlots m p tables.firsts
     → IsFound m p fadt_signature tables.fadt → IsFound m p madt_signature tables.madt

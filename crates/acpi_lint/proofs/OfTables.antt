@@ -1,4 +1,4 @@
--- From what is found in a table to what is found of the set that lists it.
+-- From what is found in a table to what is found in the set that lists it.
 use Rattle.std.proofs.Common.{◌≡◌, ℕ, ◌≤◌, List, length, Option, Some, None, Result, Ok, Err, refl, ap, arith}
 use Rattle.std.specs.Prelude.{◌↔◌, IfOk, MatchOption, option_map}
 use Rattle.std.specs.Option.{option_zip}
@@ -36,12 +36,11 @@ use Rattle.acpi_lint.proofs.LeastPlaces.{least_as}
 
 -- ---- the tables of a set
 
--- `Of P` says P of what the set's table says: that is what this view says, and without a view nothing is said
+-- `Of P` says that P holds for what the set's table says: for what this view says, and without a view P does not hold
 abbrev pub Lifts : {C : Type 0} → ((C → Type 0) → Type 0) → (List ℕ → C) → Option (List ℕ) → Type 1
 Lifts {C} Of read None = (P : C → Type 0) → ¬ Of P
 Lifts {C} Of read (Some whole) = (P : C → Type 0) → Of P ↔ P (read whole)
 
--- so it is of the first listed table
 pub listed_lifts : (m : Memory) (p : ℕ) (signature : List ℕ) (found : Option (List ℕ)) → IsFound m p signature found
     → Lifts (HasListed m p signature) (λ whole. whole) found
 listed_lifts m p signature None looked = λ P (whole, listed, holds). looked whole listed
@@ -50,7 +49,6 @@ listed_lifts m p signature (Some whole) looked = λ P. (
   λ holds. (whole, looked, holds),
 )
 
--- and of it where it is long enough
 long_lifts : (Of : (List ℕ → Type 0) → Type 0) (least : ℕ) (found view : Option (List ℕ)) → Lifts Of (λ whole. whole)
     found
     → IsLong least found view → Lifts (λ P. Of (λ whole. (least ≤ length whole) × P whole)) (λ whole. whole) view
@@ -63,7 +61,6 @@ long_lifts Of least (Some other) (Some whole) lifts (is, size) = λ P.
     let both = rw same at (lifts (λ whole. (least ≤ length whole) × P whole)) in
     (λ has. (both.0 has).1, λ holds. both.1 (size, holds))
 
--- and of what its bytes say
 read_lifts : {C : Type 0} (Of : (List ℕ → Type 0) → Type 0) (read : List ℕ → C) (view : Option (List ℕ))
     → Lifts Of (λ whole. whole) view → Lifts (λ P. Of (λ whole. P (read whole))) read view
 read_lifts Of read None lifts = λ P. lifts (λ whole. P (read whole))
@@ -128,7 +125,7 @@ of_two Of read With say P {A = A} B r (Some one) second lifts other is none some
     zipped None is = is
     zipped (Some two) is = is
 
--- ---- what is found of entries
+-- ---- what is found in entries
 
 -- entries are those of the table that is viewed
 viewed : {T E : Type 0} (A : Type 0) (B : T → Type 0) (said : T → E) (read : List ℕ → E) (entries : Option T)
@@ -226,7 +223,7 @@ slit_found : (m : Memory) (q : PolicyValue) {tables : CompleteTables} (view : Op
 slit_found m q {tables = tables} view are is =
     rw is (listed_lifts m q.rsdp slit_signature tables.slit (are.listed kind.Slit))
 
--- no SLIT of the set has its size
+-- if no SLIT of the set has its size
 pub no_slit : (m : Memory) (q : PolicyValue) {tables : CompleteTables} (view : Option (List ℕ))
     → AreCompleteTables m q.rsdp tables → view ≡ tables.slit
     → MatchOption view (Unit {0}) (λ slit. ¬ HasSlitSize (slit_contents slit)) → (P : SlitContents → Type 0)
@@ -236,7 +233,6 @@ no_slit m q None are is not P (slit, listed, (size, has)) =
 no_slit m q (Some whole) are is not P (slit, listed, (size, has)) =
     not ((slit_found m q (Some whole) are is (λ other. HasSlitSize (slit_contents other))).0 (slit, listed, size))
 
--- one that has its size is that of the set
 pub sized_slit : (m : Memory) (q : PolicyValue) {tables : CompleteTables} (slit : List ℕ) (n : ℕ)
     → AreCompleteTables m q.rsdp tables → Some slit ≡ tables.slit → HasRows slit n
     → Lifts (OfSlit m q) slit_contents (Some slit)
@@ -246,7 +242,7 @@ sized_slit m q slit n are is rows = λ P.
     in
     (λ has. (both.0 has).1, λ holds. both.1 (rw rows.count rows.size, holds))
 
--- so many localities are those of that SLIT
+-- the number of localities is that of the SLIT
 pub past_localities : (m : Memory) (q : PolicyValue) (slit : List ℕ) (n : ℕ) (found : Option Place) → HasRows slit n
     → Lifts (OfSlit m q) slit_contents (Some slit)
     → FindsLeast (λ at other point. OfSrat m q (λ srat. OnEntry (IsDomainPastSlit n) srat.entries at other point)) found

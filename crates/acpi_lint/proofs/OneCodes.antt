@@ -1,4 +1,4 @@
--- Stages that have one code.
+-- The codes that are alone in their stage.
 use Rattle.std.proofs.Common.{◌≡◌, ℕ, ◌^◌, ◌<◌, List, length, Option, Some, None, Result, Ok, Err, refl, subst, inl, inr}
 use Rattle.std.specs.Prelude.{⊤, IfOk, IfSome}
 use Rattle.acpi_base.specs.Memory.{Memory}
@@ -59,7 +59,6 @@ one_leaf_unknown madt pptt _ at other point wrong = absurd wrong
 
 -- ---- cycles
 
--- the cycle that is reported is at the least place
 pub cycle_least : (links : Chain) (c : PpttContents) (w : Witness) → FindsCycle links c (Some w)
     → IsLeast (IsCycle (Names links c) (most_of links c)) (place w)
 cycle_least links c w (_, first) =
@@ -71,9 +70,8 @@ cycle_least links c w (_, first) =
           (first.least at other point cycle);
     }
 
--- ---- overlaps, which have an order of their own
+-- ---- overlaps, which have their own order
 
--- what a fault with a code says
 present : (m : Memory) (q : PolicyValue) (c : Code) (w : Witness) → w.code ≡ c → Fault m q w
     → FaultCondition (stage_of c) m q (record { code = c; at = w.at; other = w.other; point = w.point })
 present m q c w own fault =
@@ -81,7 +79,7 @@ present m q c w own fault =
     fault in
     same.holds
 
--- the first interrupt number that two I/O APICs serve
+-- the lowest interrupt number that two I/O APICs serve
 pub gsi_found : (m : Memory) (q : PolicyValue) (whole : List ℕ) → IsListedTable m q.rsdp madt_signature whole
     → (verdict : Result ⊤ Refusal) (found : Option Place)
     → Finds stage.Interrupts (AreInterruptsApart q (madt_contents whole))
@@ -102,7 +100,7 @@ gsi_found m q whole is (Err (refusal.Fault w)) (Some p) first same =
     )
 gsi_found m q whole is _ _ found same = absurd same
 
--- the first address that two ranges cover that are compared
+-- the lowest address in two ranges that are compared
 pub overlap_found : (m : Memory) (q : PolicyValue) (whole : List ℕ) → IsListedTable m q.rsdp srat_signature whole
     → (verdict : Result ⊤ Refusal) (found : Option Place)
     → Finds stage.Ranges (AreRangesApart q.hotplug (srat_contents whole))
@@ -128,7 +126,7 @@ overlap_found m q whole is (Err (refusal.Fault w)) (Some p) first same fits =
     )
 overlap_found m q whole is _ _ found same fits = absurd same
 
--- the same where memory may run out
+-- the same if memory may run out
 pub gsi_result : (m : Memory) (q : PolicyValue) (whole : List ℕ) {X : Type 0}
     → IsListedTable m q.rsdp madt_signature whole → (verdict : Result ⊤ Refusal) (r : Result (Option Place) X)
     → Finds stage.Interrupts (AreInterruptsApart q (madt_contents whole))
@@ -147,7 +145,6 @@ overlap_result m q whole is verdict (Ok found) finds same fits = overlap_found m
     fits
 overlap_result m q whole is verdict (Err e) finds same fits = tt
 
--- where no table is found that is long enough there is none
 pub no_gsi : (m : Memory) (q : PolicyValue) (found : Option (List ℕ)) → IsFound m q.rsdp madt_signature found
     → IsLong 44 found None → FindsFirstAt code.GsiClash m q None
 no_gsi m q found looked long = λ w own fault.

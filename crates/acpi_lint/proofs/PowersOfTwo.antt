@@ -1,4 +1,4 @@
--- Powers of two have one bit.
+-- Powers of two have exactly one bit set.
 use Rattle.std.proofs.Common.{◌≡◌, ℕ, zero, suc, ◌/◌, ◌%◌, ◌^◌, ◌≤◌, IsTrue, count_ones, ◌∙◌, ap, inl, inr, arith}
 use Rattle.std.specs.Prelude.{◌↔◌}
 use Rattle.std.specs.Int.{is_power_of_two}
@@ -8,7 +8,6 @@ use lib.Count.{ones_step}
 use Rattle.std.proofs.lemmas.Bool.{cases_eq, eqb-true, eq-eqb}
 use Rattle.acpi_base.specs.Lint.PpttAdvice.{IsPowerOfTwo}
 
--- a number of at most d with one bit
 one_bit : (d n : ℕ) → n ≤ d → count_ones n ≡ 1 → IsPowerOfTwo n
 one_bit zero n less one = absurd (omega (arith, less, one, ones_le_self n))
 one_bit (suc d) n less one =
@@ -21,7 +20,6 @@ one_bit (suc d) n less one =
           (suc k, omega (arith, is, even, pow-suc 2 k))
     ]
 
--- a power has one
 power : (k : ℕ) → count_ones (2 ^ k) ≡ 1
 power zero = omega (arith, ones_step 1, ones_le_self 0)
 power (suc k) =

@@ -1,11 +1,11 @@
--- What is reported of codes and of rules, one after another by their numbers: the first of each kind that has one.
+-- The reports of codes and of rules, one after another by their numbers: the first of each that has one.
 use Rattle.std.proofs.Common.{◌≡◌, ℕ, ◌+◌, ◌<◌, List, ◌∷◌, [], ◌++◌, sym, ◌∙◌, ap}
 use Rattle.std.specs.Prelude.{◌↔◌, Contains}
 use Rattle.acpi_lint.proofs.RisingLists.{IsUpTo, none_next, one_next}
 
 module _ {X K : Type 0} (First : X → Type 0) (kind : X → K) (number : K → ℕ)
     (same : (k l : K) → number k ≡ number l → k ≡ l) where
-  -- those of the kinds with lower numbers
+  -- the reports for lower numbers
   abbrev pub AreBelow : ℕ → List X → Type 0
   AreBelow n xs = IsUpTo First (λ x. number (kind x)) n xs
 

@@ -1,4 +1,4 @@
--- Lists in which keys rise: made by adding what has the next key, and the first with a property.
+-- Lists in which keys rise: made by adding what has the next key, and the first element with a property.
 use Rattle.std.proofs.Common.{◌≡◌, ◌≢◌, ℕ, ◌+◌, ◌<◌, ◌≤◌, List, [], ◌∷◌, ◌++◌, length, get_or, sym, ap, subst, ◌∙◌, inl, inr, arith}
 use Rattle.std.specs.Prelude.{◌⊎◌, AllPairs, Contains}
 use Rattle.std.proofs.Math.ListN.{get_or-append}
@@ -14,7 +14,6 @@ pub record IsUpTo {X : Type 0} (P : X → Type 0) (key : X → ℕ) (n : ℕ) (x
   pub all : (x : X) → P x → key x < n → Contains xs x
   pub rise : AllPairs (λ x y. key x < key y) xs
 
--- none is below a number that is below all keys
 pub none_below : {X : Type 0} (P : X → Type 0) (key : X → ℕ) (n : ℕ) → ((x : X) → P x → n ≤ key x)
     → IsUpTo P key n []
 none_below P key n above =
@@ -24,7 +23,6 @@ none_below P key n above =
       rise = λ i j d before within. absurd (omega (arith, within));
     }
 
--- where none has the next key the list stays
 pub none_next : {X : Type 0} {P : X → Type 0} {key : X → ℕ} {n : ℕ} {xs : List X} → IsUpTo P key n xs
     → ((x : X) → P x → key x ≢ n) → IsUpTo P key (n + 1) xs
 none_next {key = key} {n = n} before none =
@@ -39,7 +37,6 @@ none_next {key = key} {n = n} before none =
       rise = before.rise;
     }
 
--- keys rise where one more comes last that has the greatest
 pub rise_more : {X : Type 0} (key : X → ℕ) (xs : List X) (y : X) → AllPairs (λ x z. key x < key z) xs
     → ((x : X) → Contains xs x → key x < key y) → AllPairs (λ x z. key x < key z) (xs ++ y ∷ [])
 rise_more {X} key xs y rise below i j d before within =
@@ -53,7 +50,6 @@ rise_more {X} key xs y rise below i j d before within =
           rw (first, last, get_or-append_seam xs y [] d) (below (get_or xs i d) (Contains-get_or xs i d inside))
     ]
 
--- what has the next key comes last
 pub one_next : {X : Type 0} {P : X → Type 0} {key : X → ℕ} {n : ℕ} {xs : List X} (y : X) → IsUpTo P key n xs → P y
     → key y ≡ n → ((x : X) → P x → key x ≡ n → x ≡ y) → IsUpTo P key (n + 1) (xs ++ y ∷ [])
 one_next {X} {P} {key} {n} {xs} y before holds next one =
@@ -78,7 +74,7 @@ one_next {X} {P} {key} {n} {xs} y before holds next one =
 
 -- ---- the first with P
 
--- one with P is the one at i, or has a greater key, where none before i has P
+-- if none before i has P, one with P is the one at i, or has a greater key
 pub at_or_behind : {X : Type 0} (key : X → ℕ) (P : X → Type 0) (xs : List X) (i : ℕ) (d t : X)
     → AllPairs (λ x y. key x < key y) xs → i < length xs → ((j : ℕ) → j < i → ¬ P (get_or xs j d)) → Contains xs t
     → P t → (t ≡ get_or xs i d) ⊎ (key (get_or xs i d) < key t)
@@ -91,7 +87,6 @@ at_or_behind {X} key P xs i d t rise within passed (j, inside, is) holds =
       | inr (inr behind) ↦ absurd (passed j behind (subst P (sym there) holds))
     ]
 
--- and there is none where none before the end has P
 pub none_such : {X : Type 0} (P : X → Type 0) (xs : List X) (i : ℕ) (d t : X) → length xs ≤ i
     → ((j : ℕ) → j < i → ¬ P (get_or xs j d)) → Contains xs t → ¬ P t
 none_such P xs i d t end passed (j, inside, is) holds =

@@ -1,4 +1,4 @@
--- The faults of the root that an RSDP names stand at its address.
+-- The faults of the root table that an RSDP names are at its address.
 use Rattle.std.proofs.Common.{◌≡◌, ℕ, Some, refl, sym, subst, inl, inr}
 use Rattle.std.specs.Option.{option_map}
 use Rattle.std.proofs.lemmas.Option.{same_Some}
@@ -9,7 +9,6 @@ use Rattle.acpi_base.specs.declared.code.Code.{Code}
 use Rattle.acpi_base.proofs.Images.PresentBytes.{cases_Option, none_and_some}
 use Rattle.acpi_base.proofs.Root.Named.{no_root_and_root, one_root}
 
--- what is chosen of the addresses that are read is the root
 pub root_of_read : {m : Memory} {p r d : ℕ}
     → Some (Some (record { address = r; width = d })) ≡ option_map chosen_root (addresses_at m p) → IsRoot m p r d
 root_of_read {m} {p} {r} {d} is =
@@ -19,7 +18,6 @@ root_of_read {m} {p} {r} {d} is =
       | inr none ↦ absurd (none_and_some refl (sym (rw none at is)))
     ]
 
--- a fault of stage 2 is one of the root
 pub at_root : {m : Memory} {p r d : ℕ} (fault : Code) → IsRoot m p r d → (at : ℕ) → RootFault m p fault at
     → (at ≡ r) × RootTableFault m r d fault
 at_root fault root at (inl none) = absurd (no_root_and_root none.0 root)

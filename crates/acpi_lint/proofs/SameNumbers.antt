@@ -1,4 +1,4 @@
--- Numbers whose value is their place: one that is given again is one whose value is another than at its first place.
+-- Numbers whose value is their place: a number that occurs again is one whose value differs from that at its first place.
 use Rattle.std.proofs.Common.{◌≡◌, ℕ, ◌<◌, ◌≤◌, List, Option, sym, ◌∙◌, ap, subst, refl, inl, inr, arith}
 use Rattle.std.specs.Prelude.{Contains}
 use Rattle.std.proofs.Math.Nat.{eq-or-lt_of_le}
@@ -14,7 +14,6 @@ use Rattle.acpi_lint.proofs.LeastPlaces.{least_as}
 abbrev pub AreAtPlaces : List Numbered → Type 0
 AreAtPlaces given = (g : Numbered) → Contains given g → g.value ≡ g.at
 
--- such a one is given at its place
 pub has_at : (given : List Numbered) (g : Numbered) → AreAtPlaces given → Contains given g → HasAt given g.at g.number
 has_at given g placed listed =
     subst (Contains given) (ap (λ (v : ℕ). record { number = g.number; at = g.at; value = v }) (placed g listed)) listed
@@ -66,7 +65,6 @@ later_to given at other point placed later = (
           | inr less ↦ inl less
         ]
 
--- so the least place is the same
 pub found_later : (given : List Numbered) (found : Option Place) → AreAtPlaces given
     → FindsLeast (IsUnlikeAt Later given) found → FindsLeast (IsLater (HasAt given)) found
 found_later given found placed least =

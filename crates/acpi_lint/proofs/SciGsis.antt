@@ -15,18 +15,15 @@ use Rattle.acpi_lint.specs.Places.{IsNotAfter, IsLeast, FindsLeast}
 use Rattle.acpi_lint.specs.declared.place.Place.{Place}
 use Rattle.acpi_lint.proofs.LeastPlaces.{finds_one}
 
--- an override of the interrupt gives it some number
 some_number : (c : MadtContents) (source at : ℕ) → StandsWith c.entries at (IsOverrideOf source)
     → (other : ℕ) × IsOverrideAt source c at other 0
 some_number c source at (Override v, stands, (bus, is)) = (v.gsi, (Override v, stands, (bus, is, refl, refl)))
 some_number c source at (_, stands, is) = absurd is
 
--- the least place is not behind another
 upto : (p : Place) (at other point : ℕ) → IsNotAfter p at other point → p.at ≤ at
 upto p at other point (inl less) = omega arith
 upto p at other point (inr (same, rest)) = omega (arith, same)
 
--- the override at the least place is the first
 pub is_first_override : (c : MadtContents) (source : ℕ) (p : Place) → IsLeast (IsOverrideAt source c) p
     → IsFirstOverride c source p.other
 is_first_override c source p first = go first.here
@@ -41,12 +38,10 @@ is_first_override c source p first = go first.here
         record { at = p.at; v = v; stands = stands; of = (bus, is); is = gsi; first = least }
     go (_, stands, is) = absurd is
 
--- where there is none there is no first
 none_is_first : (c : MadtContents) (source g : ℕ) → ((p : ℕ) → ¬ StandsWith c.entries p (IsOverrideOf source))
     → ¬ IsFirstOverride c source g
 none_is_first c source g none first = none first.at (Override first.v, first.stands, first.of)
 
--- the first override gives one number
 one_first : (whole : List ℕ) (source g h : ℕ) → IsFirstOverride (madt_contents whole) source g
     → IsFirstOverride (madt_contents whole) source h → g ≡ h
 one_first whole source g h one other =
@@ -59,7 +54,6 @@ one_first whole source g h one other =
     let value : one.v ≡ other.v = cc in
     sym one.is ∙ ap (λ (v : OverrideValue). v.gsi) value ∙ other.is
 
--- an ISA interrupt has one interrupt number
 pub one_gsi : (whole : List ℕ) (source g h : ℕ) → IsGsiOf (madt_contents whole) source g
     → IsGsiOf (madt_contents whole) source h → g ≡ h
 one_gsi whole source g h (inl one) (inl other) = one_first whole source g h one other
@@ -67,7 +61,6 @@ one_gsi whole source g h (inl one) (inr none) = absurd (none_is_first (madt_cont
 one_gsi whole source g h (inr none) (inl other) = absurd (none_is_first (madt_contents whole) source h none.0 other)
 one_gsi whole source g h (inr one) (inr other) = one.1 ∙ sym other.1
 
--- without an override it is its own
 pub own_gsi : (c : MadtContents) (source : ℕ) → FindsLeast (IsOverrideAt source c) None → IsGsiOf c source source
 own_gsi c source none =
     inr (λ p stands. (let (other, here) = some_number c source p stands in none p other 0 here), refl)
@@ -82,7 +75,6 @@ serves_number : (q : PolicyValue) (start g : ℕ) (e : MadtEntry) → ServesFrom
 serves_number q start g (IoApic v) (is, least, below) = rw is (least, below)
 serves_number q start g _ is = absurd is
 
--- an I/O APIC serves a number exactly where it does from some start on
 pub served : (q : PolicyValue) (c : MadtContents) (g : ℕ) (b : Bool)
     → (IsTrue b ↔ ((o : ℕ) × StandsWith c.entries o (ServesNumber q g))) → IsTrue b ↔ IsServed q c g
 served q c g b is = (
@@ -95,7 +87,7 @@ served q c g b is = (
 
 -- ---- SCI_INT
 
--- its number is served by none exactly where the rule is broken, at one place
+-- no I/O APIC serves its number exactly if the rule is broken, at one place
 pub nowhere_at : (q : PolicyValue) (whole : List ℕ) (c : MadtContents) (g : ℕ) (b : Bool)
     → IsGsiOf c (field whole 46 2) g → ((h : ℕ) → IsGsiOf c (field whole 46 2) h → h ≡ g)
     → (IsTrue b ↔ IsNowhere q whole c g)

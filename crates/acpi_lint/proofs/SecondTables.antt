@@ -21,7 +21,6 @@ differs_from a b x y is = (λ same. grind (arith, nat_tests), grind (arith, nat_
 differs_to : (a b : ℕ) (x : Place) → a ≢ b → (if a == b then None else Some x) ≡ Some x
 differs_to a b x differs = grind (arith, nat_tests)
 
--- such a slot is a second one
 pub second_from : {m : Memory} {p : ℕ} (firsts : FirstSlots) (s : Slot) (place : Place) → AreFirstSlots m p firsts
     → IsSlot m p s.number s.table.address → IsTableAt m s.table → second_place firsts s ≡ Some place
     → IsSecondTable m p place.at place.other place.point × (place.at ≡ s.number)
@@ -56,7 +55,6 @@ second_from {m} {p} firsts s place are slot there is = from s.table.kind refl is
     from None same is = cc
     from (Some kind) same is = behind kind (first_of firsts kind) same (are kind) is
 
--- and a second one is such a slot
 pub second_to : {m : Memory} {p at other point : ℕ} (firsts : FirstSlots) (s : Slot) → AreFirstSlots m p firsts
     → s.number ≡ at → s.table.address ≡ point → IsTableAt m s.table → IsSecondTable m p at other point
     → second_place firsts s ≡ Some (record { at = at; other = other; point = point })

@@ -1,4 +1,4 @@
--- The faults of a SLIT, by their codes, and where its distances differ from those of the way back.
+-- The faults of a SLIT, by their codes, and distances that differ from those in the other direction.
 use Rattle.std.proofs.Common.{◌≡◌, ◌≢◌, ◌<◌, ◌≤◌, ◌+◌, ◌-◌, ◌*◌, ◌/◌, ◌%◌, ℕ, zero, suc, List, length, Option, None, refl, subst, sym, ap, ◌∙◌, inl, inr, arith}
 use Rattle.std.specs.Prelude.{◌⊎◌, slice_index}
 use Rattle.std.proofs.lemmas.Bool.{cases_order}
@@ -55,7 +55,6 @@ placed whole n a b at rows cell =
       place = omega (arith, rw rows.count at cell.place);
     }
 
--- a cell of a row stands before those of later rows
 row_before : (n i j a b : ℕ) → j < n → i < a → 44 + n * i + j < 44 + n * a + b
 row_before n i j a b column above = (let next : i + 1 ≤ a = omega arith in omega (arith, mul-le-mul_left n next))
 
@@ -97,11 +96,10 @@ no_diagonal whole n i rows all tens = λ at other point ((_, (a, b, cell, (same,
 
 -- ---- low distances
 
--- the cells before this offset are 10 at least
+-- the cells before this offset are at least 10
 abbrev pub AreHigh : List ℕ → ℕ → Type 0
 AreHigh whole at = (o : ℕ) → 44 ≤ o → o < at → 10 ≤ slice_index whole o
 
--- the cell of a low distance stands behind them
 low_at : (whole : List ℕ) (n a b at : ℕ) → HasRows whole n → IsCell (slit_contents whole) a b at
     → distance (slit_contents whole) a b < 10 → slice_index whole at < 10
 low_at whole n a b at rows cell low =
@@ -112,7 +110,6 @@ some_row : (n k : ℕ) → k < n * n → 0 < n
 some_row zero k below = absurd (omega (arith, below))
 some_row (suc n) k below = omega arith
 
--- a byte behind the first 44 is a cell
 cell_there : (whole : List ℕ) (n o : ℕ) → HasRows whole n → 44 ≤ o → o < length whole
     → (i j : ℕ) × IsPlaced n i j o
 cell_there whole n o rows from below =
@@ -174,13 +171,12 @@ abbrev pub AreSame : List ℕ → ℕ → ℕ → ℕ → Type 0
 AreSame whole n i j =
     (k : ℕ) → i < k → k < j → slice_index whole (44 + n * i + k) ≡ slice_index whole (44 + n * k + i)
 
--- distances that are the same both ways by their bytes do not differ
 same_ways : (whole : List ℕ) (n i k : ℕ) → HasRows whole n
     → slice_index whole (44 + n * i + k) ≡ slice_index whole (44 + n * k + i)
     → distance (slit_contents whole) i k ≡ distance (slit_contents whole) k i
 same_ways whole n i k rows same = sym (distance_at whole n i k rows) ∙ same ∙ distance_at whole n k i rows
 
--- one of row i that differs, by the bytes
+-- a distance of row i that differs, by the bytes
 record DiffersAt (whole : List ℕ) (n i at other : ℕ) : Type 0 where
   j : ℕ
   upper : i < j
@@ -240,7 +236,7 @@ none_in_row whole n i j rows all same = λ at other point found.
     let d = by_bytes whole n i at other point rows found in
     d.differ (same d.j d.upper (omega (arith, d.column, all)))
 
--- none of the rows before i has one that differs
+-- no distance of the rows before i differs
 abbrev pub NoneBefore : SlitContents → ℕ → Type 0
 NoneBefore c i = (k : ℕ) → k < i → FindsLeast (IsRowDiffers c k) None
 
@@ -268,7 +264,6 @@ first_row c i p none first =
 pub no_row : (c : SlitContents) (i : ℕ) → NoneBefore c i → c.count ≤ i → FindsLeast (IsSlitDiffers c) None
 no_row c i none all = λ at other point found. none found.i (omega (arith, found.here.row)) at other point (found, refl)
 
--- where the table has its size, they are those of a table that has it
 pub sized : (whole : List ℕ) (n : ℕ) (found : Option Place) → HasRows whole n
     → FindsLeast (IsSlitDiffers (slit_contents whole)) found → FindsLeast (IsSizedDiffers (slit_contents whole)) found
 sized whole n found rows least =

@@ -1,4 +1,4 @@
--- Whether anything is picked of the entries of a table.
+-- Whether anything is picked from the entries of a table.
 use Rattle.std.proofs.Common.{◌≡◌, ℕ, List, [], ◌∷◌, Option, Some, None, Bool, true, false, refl, subst, inl, inr}
 use Rattle.std.specs.Option.{is_some}
 use Rattle.std.specs.Prelude.{◌↔◌, Contains, IsTrue, not}
@@ -10,7 +10,7 @@ use Rattle.acpi_check.specs.PassResults.{Picks}
 use Rattle.acpi_lint.specs.Places.{PicksFirst}
 use Rattle.acpi_lint.specs.EntryNumbers.{IsAnyNamed}
 
--- something is given of an entry exactly where this holds of it
+-- something is given for an entry exactly if this holds for it
 abbrev GivesWhere : {S T : Type 0} → (S → Option T → Type 0) → (S → Type 0) → Type 0
 GivesWhere {S} {T} Gives Is = (s : S) (picked : Option T) → Gives s picked → IsTrue (is_some picked) ↔ Is s
 
@@ -41,7 +41,7 @@ any_picked Gives Is (s ∷ left) (Some value) (inr (none, more)) each = (
   λ any. refl,
 )
 
--- the same of what a call answers of each entry of a table
+-- the same for what a call returns for each entry of a table
 pub any_of_entries : {E Said T : Type 0} (value : E → Said) {Answers : Bor (EntryAt E) → Option T → Type 0}
     (Is : Said → Type 0) {said entries : List (PlacedEntry Said)} (found : Option T)
     → PicksFirst (Picks value Answers) said found → said ≡ entries
@@ -58,7 +58,6 @@ any_of_entries {E} {Said} {T} value {Answers} Is {said} {entries} found picks sa
     where_given s picked (at, is, answers) =
         subst (λ (t : PlacedEntry Said). IsTrue (is_some picked) ↔ Is t.entry) is (each at picked answers)
 
--- whether something is picked tells whether there is none
 pub where_none : {T : Type 0} {Q : ℕ → Type 0} (found : Option T) (answer : Bool)
     → IsTrue (is_some found) ↔ ((o : ℕ) × Q o) → is_some found ≡ not answer → IsTrue answer ↔ ((o : ℕ) → ¬ Q o)
 where_none None true tells is = (λ yes. λ o holds. absurd (let there = tells.1 (o, holds) in cc), λ none. refl)
@@ -66,7 +65,7 @@ where_none None false tells is = cc
 where_none (Some v) true tells is = cc
 where_none (Some v) false tells is = (λ yes. cc, λ none. (let (o, holds) = tells.0 refl in absurd (none o holds)))
 
--- a number that `read` gives of any entry
+-- a number that `read` gives for any entry
 abbrev pub HasSome : {E : Type 0} → (E → Option ℕ) → E → Type 0
 HasSome read e = (n : ℕ) × (read e ≡ Some n)
 

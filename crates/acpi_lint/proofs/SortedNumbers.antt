@@ -29,7 +29,6 @@ not_above : (m n p q v w : ℕ)
     → (m < n) ⊎ ((m ≡ n) × ((p < q) ⊎ ((p ≡ q) × (v ≤ w))))
 not_above m n p q v w upto = grind (arith, nat_tests)
 
--- sorted, each stands before those that are not below it
 pub in_order : (sorted : List Numbered) → IsSorted numbered_cmp sorted → AllPairs IsNotAbove sorted
 in_order sorted order i j d before within =
     not_above (get_or sorted i d).number (get_or sorted j d).number (get_or sorted i d).at (get_or sorted j d).at
@@ -37,7 +36,6 @@ in_order sorted order i j d before within =
     (sorted_far (λ a b. is_lt (numbered_cmp a b)) (ranks_by numbered_cmp_total (λ n. n)) sorted order i j d
     (omega arith) within)
 
--- in another order the same numbers have another value than at their first places
 moved_unlike : (given others : List Numbered) (g f : Numbered) → ((x : Numbered) → Contains given x → Contains others x)
     → ((x : Numbered) → Contains others x → Contains given x) → IsUnlike given g f → IsUnlike others g f
 moved_unlike given others g f to from unlike =
@@ -52,7 +50,6 @@ moved_unlike given others g f to from unlike =
       differ = unlike.differ;
     }
 
--- and where the sort may run out of memory
 pub in_order_ok : {X Y : Type 0} (r : Result X Y) (sorted : List Numbered) → OnOk r (IsSorted numbered_cmp sorted)
     → OnOk r (AllPairs IsNotAbove sorted)
 in_order_ok (Ok x) sorted order = in_order sorted order

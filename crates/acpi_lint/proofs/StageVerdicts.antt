@@ -1,4 +1,4 @@
--- From the verdict of a stage that has one code to the least place of its faults.
+-- From the verdict of a stage that has one code to the lowest place of its faults.
 use Rattle.std.proofs.Common.{◌≡◌, ℕ, Option, Some, None, Result, Ok, Err, ap, inl, inr, arith}
 use Rattle.std.specs.Prelude.{⊤, IfOk}
 use Rattle.acpi_base.specs.Codes.{code_number}
@@ -17,13 +17,12 @@ use Rattle.acpi_lint.specs.declared.place.Place.{Place}
 abbrev pub place : Witness → Place
 place w = record { at = w.at; other = w.other; point = w.point }
 
--- of two faults with one code the order is that of their places
 pub place_not_after : (w v : Witness) → w.code ≡ v.code → NotAfter w v → IsNotAfter (place w) v.at v.other v.point
 place_not_after w v same (inl before) = inl before
 place_not_after w v same (inr (at, inl less)) = absurd (omega (arith, less, ap code_number same))
 place_not_after w v same (inr (at, inr (code, rest))) = inr (at, rest)
 
--- a stage that has one code finds the least place of it
+-- the stage of a code that is alone in it finds the code's lowest place
 pub of_verdict : (s : Stage) (c : Code) (Valid : Type 0) (IsFault : Code → ℕ → ℕ → ℕ → Type 0)
     → ((at other point : ℕ) → IsFault c at other point → ¬ Valid)
     → ((d : Code) (at other point : ℕ) → IsFault d at other point → d ≡ c)
@@ -41,7 +40,7 @@ of_verdict s c Valid IsFault excludes one (Err (Fault w)) (Some p) first is =
     }
 of_verdict s c Valid IsFault excludes one _ _ found is = absurd is
 
--- the same where memory may run out
+-- the same if memory may run out
 pub verdict_found : (s : Stage) (c : Code) (Valid : Type 0) (IsFault : Code → ℕ → ℕ → ℕ → Type 0) {X : Type 0}
     → ((at other point : ℕ) → IsFault c at other point → ¬ Valid)
     → ((d : Code) (at other point : ℕ) → IsFault d at other point → d ≡ c)

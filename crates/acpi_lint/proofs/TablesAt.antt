@@ -15,7 +15,6 @@ use Rattle.acpi_lint.specs.Slots.{IsTableAt, HasSought, IsSought}
 use Rattle.acpi_lint.specs.declared.table_at.Sought.{Sought}
 use Rattle.acpi_lint.specs.declared.table_at.Sought.TheVariants as sought
 
--- of a header that is present
 signed_there : {m : Memory} {a : ℕ} {signature : List ℕ} (header : List ℕ) → bytes_at m a 36 ≡ Some header
     → (has_signature header signature ≡ true) ↔ IsSigned m a signature
 signed_there {m} {a} {signature} header present = (

@@ -1,4 +1,4 @@
--- The domains in which GICC affinities of an SRAT place the processors with UIDs, as they are collected.
+-- The domains into which GICC affinities of an SRAT put the processors with UIDs, as they are collected.
 use Rattle.std.proofs.Common.{◌≡◌, ℕ, ◌≤◌, List, Option, Some, None, refl, sym, ◌∙◌, ap, subst, inl, inr, arith}
 use Rattle.std.specs.Prelude.{Contains, option_map}
 use Rattle.std.specs.List.{filter_map}
@@ -23,7 +23,6 @@ use Rattle.acpi_lint.proofs.LeastPlaces.{least_as}
 
 -- ---- an entry
 
--- what is given is the UID that it places and its domain
 made_of : (at : ℕ) (uid domain : Option ℕ) (g : Numbered)
     → option_and_then (λ u. option_map (λ d. record { number = u; at = at; value = d }) domain) uid ≡ Some g
     → (uid ≡ Some g.number) × (domain ≡ Some g.value) × (at ≡ g.at)
@@ -33,7 +32,6 @@ made_of at (Some u) (Some d) g is =
     let same : ◌≡◌ {A = Numbered} (record { number = u; at = at; value = d }) g = same_Some _ g is in
     rw (← same) (refl, refl, refl)
 
--- an affinity that places a UID has a domain
 has_domain : (e : SratEntry) (uid : ℕ) → placed_uid e ≡ Some uid → (d : ℕ) × (processor_domain e ≡ Some d)
 has_domain (Opaque e) uid is =
     let yes = (cond_some (is_gicc_affinity e) (field e 6 4) uid is).0 in (field e 2 4, rw yes refl)
@@ -43,7 +41,7 @@ has_domain (X2apicDomain v) uid is = cc
 
 -- ---- all entries
 
--- these are what is given of the entries
+-- the numbers that are collected from the entries
 abbrev pub uid_domains : SratContents → List Numbered
 uid_domains c = filter_map (λ s. domain_of_uid s.offset s.entry) c.entries
 
@@ -62,7 +60,6 @@ places_to c o uid d ones ((e, stands, names), (f, also, domain)) =
     kept_has (λ s. domain_of_uid s.offset s.entry) c.entries (record { offset = o; entry = e })
     (record { number = uid; at = o; value = d }) stands (rw (names, rw same at domain) refl)
 
--- at one offset an entry has one domain
 check_domains : (c : SratContents) (o p uid vid d f : ℕ) → AreOnes c.entries → o ≡ p → PlacesUid c o uid d
     → PlacesUid c p vid f → d ≡ f
 check_domains c o p uid vid d f ones same (_, (e, stands, domain)) (_, (b, also, other)) =
@@ -120,7 +117,6 @@ two_to c at other point ones two = (
           | inr less ↦ inl less
         ]
 
--- so the least place is the same
 pub found_domains : (c : SratContents) (given : List Numbered) (found : Option Place) → AreOnes c.entries
     → given ≡ uid_domains c → FindsLeast (IsUnlikeAt First given) found → FindsLeast (IsTwoUidDomains c) found
 found_domains c given found ones is least =

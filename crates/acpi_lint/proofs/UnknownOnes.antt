@@ -1,5 +1,4 @@
--- Numbers that are none of those that are known: what is found of entries by lists of known numbers is what the rules
--- say.
+-- Looking numbers up in a sorted list: what is found in entries by lists of known numbers is what the rules say.
 use Rattle.std.proofs.Common.{◌≡◌, ◌≢◌, ℕ, ◌<◌, ◌⊎◌, List, length, Option, Some, None, Bool, true, false, refl, sym, ◌∙◌, inl, inr, arith}
 use Rattle.std.specs.Prelude.{◌↔◌, if◌then◌else◌, Contains, IsTrue, MatchOption, slice_index}
 use Rattle.std.specs.Bool.{then_some}
@@ -35,7 +34,7 @@ some_known known are some =
 
 -- ---- entries of one number
 
--- what is found of a number is found of the entry that has it
+-- what is found about a number is found about the entry that has it
 own_as : {E N : Type 0} (P : ℕ → N → ℕ → ℕ → Type 0) (Q : ℕ → E → ℕ → ℕ → Type 0) (s : PlacedEntry E) (number : N)
     (found : Option Place) → ((other point : ℕ) → P s.offset number other point → Q s.offset s.entry other point)
     → ((other point : ℕ) → Q s.offset s.entry other point → P s.offset number other point)
@@ -51,7 +50,7 @@ own_number read known s found own =
     own_as (IsUnknown known) (IsUnknownOf read known) s (read s.entry) found (λ other point wrong. wrong)
     (λ other point wrong. wrong) own
 
--- an entry of a number that is none of the known ones stands at `at`
+-- the entry at `at` has a number that is unknown
 abbrev pub IsUnknownNamed : {E : Type 0} → (E → Option ℕ) → (ℕ → Type 0) → List (PlacedEntry E) → ℕ → ℕ → ℕ → Type 0
 IsUnknownNamed read IsKnown entries at other point =
     NamesAt read entries at point × (¬ IsKnown point) × (other ≡ 0)
@@ -68,7 +67,6 @@ unknown_named read IsKnown entries known found are least =
     (e, stands, (is, λ listed. none ((are.all point).0 listed), unused)))
     least
 
--- a place that is asked only where the rules read all processors
 pub read_place : (c : madt.MadtContents) (p : Place) (b : Bool) → IsTrue b ↔ AreProcessorsRead c
     → IsWhereRead c (Some p) (then_some b p)
 read_place c p true test = (refl, test.0 refl)
@@ -84,12 +82,12 @@ where_all_read c P (Some p) (Some r) (is, read) least =
 
 -- ---- entries of one of two numbers
 
--- the one that it has is unknown
+-- the number that it has is unknown
 abbrev pub IsUnknownOfTwo : {E : Type 0} → List ℕ → List ℕ → (E → Option ℕ) → (E → Option ℕ) → ℕ → E → ℕ → ℕ → Type 0
 IsUnknownOfTwo ids uids first second at e other point =
     IsUnknown ids at (first e) other point ⊎ IsUnknown uids at (second e) other point
 
--- where an entry has no number of the one kind, what is found of the other is all
+-- if an entry has no number of one kind, what is found about the other is all
 pub own_first : {E : Type 0} (ids uids : List ℕ) (first second : E → Option ℕ) (s : PlacedEntry E)
     (found : Option Place) → second s.entry ≡ None
     → FindsOwn (IsUnknown ids) (record { offset = s.offset; entry = first s.entry }) found
@@ -110,7 +108,6 @@ own_second ids uids first second s found none own =
     (λ other point wrong.
     elim wrong [ inr is ↦ is | inl (is, _, _) ↦ absurd (none-some point (sym none ∙ is)) ]) own
 
--- an affinity has one number, and a processor too
 pub affinity_has_one : (e : srat.SratEntry) (uid : ℕ) → placed_uid e ≡ Some uid → placed_apic_id e ≡ None
 affinity_has_one (srat.ApicDomain v) uid is = cc
 affinity_has_one (srat.X2apicDomain v) uid is = cc
@@ -127,7 +124,7 @@ pub processor_has_one : (e : madt.MadtEntry) (uid : ℕ) → gicc_uid_on e ≡ S
 processor_has_one (madt.Opaque e) uid is = none_of_gicc (is_gicc e) (has_bit (field e 12 4) 0) (field e 8 4)
 processor_has_one e uid is = cc
 
--- such an entry stands at `at`
+-- such an entry is at `at`
 abbrev pub IsUnknownNamedOfTwo : {E : Type 0} → (E → Option ℕ) → (ℕ → Type 0) → (E → Option ℕ) → (ℕ → Type 0)
     → List (PlacedEntry E) → ℕ → ℕ → ℕ → Type 0
 IsUnknownNamedOfTwo first IsId second IsUid entries at other point =
@@ -156,7 +153,7 @@ unknown_of_two {E} first second IsId IsUid entries ids uids found some others le
 
 -- ---- numbers at places
 
--- what a search tells
+-- the result of a search
 abbrev pub IsSearch : List ℕ → ℕ → Option ℕ → Type 0
 IsSearch known n found = MatchOption found (¬ Contains known n) (λ k. (k < length known) × (slice_index known k ≡ n))
 
@@ -170,7 +167,7 @@ pub is_found : (known : List ℕ) (n : ℕ) (found : Option ℕ) → IsSearch kn
 is_found known n None none is = cc
 is_found known n (Some k) (within, here) is = (k, within, get_or_default known k n 0 within ∙ here)
 
--- so it is of those that stand at places
+-- the same for numbers at places
 pub unknown_placed : (IsKnown : ℕ → Type 0) (StandsAt : ℕ → ℕ → Type 0) (known : List ℕ) (given : List Numbered)
     (found : Option Place) → AreKnown IsKnown known → AreNumbersAt StandsAt given
     → FindsLeast (IsUnknownAt known given) found

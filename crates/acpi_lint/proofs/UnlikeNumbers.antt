@@ -1,4 +1,4 @@
--- A loop over sorted numbers that are given at places: which of them is the first of its number, and the least place of
+-- A loop over sorted numbers that are given at places: which of them is the first of its number, and the lowest place of
 -- those that were passed with another value than that one.
 use Rattle.std.proofs.Common.{◌≡◌, ◌≢◌, ℕ, ◌+◌, ◌<◌, ◌≤◌, List, length, get_or, Option, Some, None, refl, sym, ◌∙◌, ap, inl, inr, ◌⊎◌, arith}
 use Rattle.std.specs.Prelude.{AllPairs, Contains, IfSome}
@@ -13,7 +13,6 @@ use Rattle.acpi_lint.proofs.LeastPlaces.{least_as, finds_one_more}
 
 -- ---- the first of a number
 
--- a number is given a first time in one way
 same_numbered : (a b : Numbered) → a.number ≡ b.number → a.at ≡ b.at → a.value ≡ b.value → a ≡ b
 same_numbered a b same place value =
     ap (λ (n : ℕ). record a { number = n }) same
@@ -31,7 +30,7 @@ one_first {given} {f} {e} one other same =
     both (inr here) (inl behind) = absurd (omega (arith, here.0))
     both (inr here) (inr there) = same_numbered f e same here.0 (omega (arith, here.1, there.1))
 
--- at the place i, f is the first of its number; numbers before the place are no greater, those behind no less
+-- at the index i, f is the first of its number; numbers before the index are no greater, those after it no less
 pub record IsStanding (sorted : List Numbered) (i : ℕ) (f : Numbered) : Type 0 where
   pub first : IsFirstOfNumber sorted f
   pub before : (k : ℕ) (d : Numbered) → k < i → (get_or sorted k d).number ≤ f.number
@@ -41,7 +40,6 @@ number_upto : (a b : Numbered) → IsNotAbove a b → a.number ≤ b.number
 number_upto a b (inl less) = omega arith
 number_upto a b (inr (same, rest)) = omega (arith, same)
 
--- numbers do not fall
 never_falls : (sorted : List Numbered) → AllPairs IsNotAbove sorted → (i j : ℕ) (d : Numbered) → i ≤ j
     → j < length sorted → (get_or sorted i d).number ≤ (get_or sorted j d).number
 never_falls sorted order i j d least within =
@@ -54,7 +52,6 @@ never_falls sorted order i j d least within =
 itself_no_later : (f : Numbered) → IsNoLater f f
 itself_no_later f = inr (refl, omega arith)
 
--- the one at i is no later than those of its number that stand from i on
 first_from : (sorted : List Numbered) → AllPairs IsNotAbove sorted → (i j : ℕ) (d : Numbered) → i ≤ j
     → j < length sorted → (get_or sorted j d).number ≡ (get_or sorted i d).number
     → IsNoLater (get_or sorted i d) (get_or sorted j d)
@@ -69,7 +66,6 @@ first_from sorted order i j d least within same =
       | inr (inr more) ↦ absurd (omega arith)
     ]
 
--- so the one at i is the first of its number where those before it have lesser numbers
 first_at : (sorted : List Numbered) → AllPairs IsNotAbove sorted → (i : ℕ) (h : Numbered) → i < length sorted
     → get_or sorted i h ≡ h → ((k : ℕ) (d : Numbered) → k < i → (get_or sorted k d).number < h.number)
     → IsFirstOfNumber sorted h
@@ -90,7 +86,6 @@ first_at sorted order i h within is lesser =
               rw (is, there) at found
         ]
 
--- before the first one, the first of all is the first of its number
 pub standing_first : (sorted : List Numbered) (f : Numbered) → AllPairs IsNotAbove sorted → 0 < length sorted
     → get_or sorted 0 f ≡ f → IsStanding sorted 0 f
 standing_first sorted f order within is =
@@ -102,20 +97,18 @@ standing_first sorted f order within is =
           omega (arith, up, ap (λ (x : Numbered). x.number) (get_or_default sorted 0 d f within ∙ is));
     }
 
--- at the place i, where h stands, f is the first of h's number
+-- at the index i, where h is, f is the first of h's number
 pub record IsCurrent (sorted : List Numbered) (i : ℕ) (h f : Numbered) : Type 0 where
   pub within : i < length sorted
   pub here : get_or sorted i h ≡ h
   pub first : IsFirstOfNumber sorted f
   pub same : h.number ≡ f.number
 
--- it may be the one that was the first before
 pub same_number : (sorted : List Numbered) (i : ℕ) (h f : Numbered) → i < length sorted → get_or sorted i h ≡ h
     → IsStanding sorted i f → h.number ≡ f.number → IsCurrent sorted i h f
 same_number sorted i h f within is standing same =
     record { within = within; here = is; first = standing.first; same = same }
 
--- or it is h
 pub next_number : (sorted : List Numbered) (i : ℕ) (h f : Numbered) → AllPairs IsNotAbove sorted → i < length sorted
     → get_or sorted i h ≡ h → IsStanding sorted i f → h.number ≢ f.number → IsCurrent sorted i h h
 next_number sorted i h f order within is standing differ =
@@ -133,7 +126,6 @@ next_number sorted i h f order within is standing differ =
     above : f.number < h.number
     above = omega (arith, upto, differ)
 
--- behind the place
 pub stands_next : (sorted : List Numbered) (i : ℕ) (h f : Numbered) → AllPairs IsNotAbove sorted
     → IsCurrent sorted i h f → IsStanding sorted (i + 1) f
 stands_next sorted i h f order now =
@@ -146,7 +138,7 @@ stands_next sorted i h f order now =
     number : (d : Numbered) → (get_or sorted i d).number ≡ f.number
     number d = ap (λ (x : Numbered). x.number) (get_or_default sorted i d h now.within ∙ now.here) ∙ now.same
 
--- ---- the least place
+-- ---- the lowest place
 
 -- x is among the first i of these
 abbrev pub IsPassed : {X : Type 0} → List X → ℕ → X → Type 0
@@ -158,11 +150,10 @@ IsUnlikeSoFar order sorted i at other point =
     (g : Numbered) × (f : Numbered) × IsPassed sorted i g × IsUnlike sorted g f
     × (unlike_place order g f ≡ record { at = at; other = other; point = point })
 
--- none was passed before the first
 pub none_so_far : (order : Order) (sorted : List Numbered) → FindsLeast (IsUnlikeSoFar order sorted 0) None
 none_so_far order sorted at other point (g, f, (k, below, here), unlike, is) = omega arith
 
--- those that were passed at i + 1 were at i, but for the one that stands at i
+-- those that were passed at i + 1 were at i, but for the one that is at i
 passed_next : {X : Type 0} (xs : List X) (i : ℕ) (h g : X) → i < length xs → get_or xs i h ≡ h → IsPassed xs (i + 1) g
     → IsPassed xs i g ⊎ (g ≡ h)
 passed_next xs i h g within here (k, below, is) =
@@ -180,7 +171,7 @@ still : (order : Order) (sorted : List Numbered) (i at other point : ℕ) → Is
     → IsUnlikeSoFar order sorted (i + 1) at other point
 still order sorted i at other point (g, f, passed, unlike, is) = (g, f, passed_still sorted i g passed, unlike, is)
 
--- what is unlike the first of its number at i + 1 was so at i, or is the one at i
+-- what differs from the first of its number at i + 1 did so at i, or is the one at i
 next_unlike : (order : Order) (sorted : List Numbered) (i : ℕ) (h f : Numbered) → IsCurrent sorted i h f
     → (at other point : ℕ) → IsUnlikeSoFar order sorted (i + 1) at other point
     → IsUnlikeSoFar order sorted i at other point
@@ -195,7 +186,6 @@ next_unlike order sorted i h f now at other point (g, e, passed, unlike, is) =
           inr (rw (same, first) at differ, rw (same, first) at is)
     ]
 
--- where the one at i has the value of the first of its number, the least place stays
 pub found_like : (order : Order) (sorted : List Numbered) (i : ℕ) (h f : Numbered) (least : Option Place)
     → IsCurrent sorted i h f → h.value ≡ f.value → FindsLeast (IsUnlikeSoFar order sorted i) least
     → FindsLeast (IsUnlikeSoFar order sorted (i + 1)) least
@@ -208,7 +198,7 @@ found_like order sorted i h f least now like found =
     ])
     found
 
--- and where it has another, its place is one more
+-- and if it has another value, its place is one more
 pub found_unlike : (order : Order) (sorted : List Numbered) (i : ℕ) (h f : Numbered) (least : Option Place) (r : Place)
     → IsCurrent sorted i h f → h.value ≢ f.value → FindsLeast (IsUnlikeSoFar order sorted i) least
     → (r ≡ unlike_place order h f) ⊎ (least ≡ Some r)
@@ -236,7 +226,6 @@ found_unlike order sorted i h f least r now unlike found one after before =
     ])
     one after before
 
--- at the end all were passed
 pub all_passed : (order : Order) (sorted : List Numbered) (i : ℕ) (least : Option Place) → length sorted ≤ i
     → FindsLeast (IsUnlikeSoFar order sorted i) least → FindsLeast (IsUnlikeAt order sorted) least
 all_passed order sorted i least end found =

@@ -1,4 +1,4 @@
--- The tables of a set that are looked at, as far as they are complete.
+-- The complete tables of a set.
 use Rattle.std.specs.Prelude.{◌≡◌, ℕ, ◌<◌, ◌≤◌, List, length, Option, Some, None, MatchOption, option_map}
 use Rattle.acpi_base.specs.Memory.{Memory}
 use Rattle.acpi_base.specs.Listed.{IsListedTable}

@@ -1,4 +1,4 @@
--- Numbers that are read from entries, those that are looked up, and those that are not known.
+-- Numbers that are read from entries, numbers that are looked up, and those that are unknown.
 use Rattle.std.specs.Prelude.{◌<◌, ◌↔◌, ℕ, List, AllPairs, Contains, Option, option_map, ◌≡◌, ◌⊎◌, Some, None, MatchOption}
 use Rattle.std.specs.Option.{option_and_then}
 use Rattle.acpi_base.specs.Lint.Processors as said
@@ -28,7 +28,7 @@ domain_of_uid at e =
 
 -- ---- numbers that are gathered from entries: `Gives` says what may be gathered of each
 
--- the first number that is gathered of a second entry
+-- the number of an entry that an earlier entry has too, at its first place
 abbrev pub FindsRepeated : {S : Type 0} → (S → Option Numbered → Type 0) → List S → Option Place → Type 0
 FindsRepeated Gives entries found =
     (given : List Numbered) × Collects Gives entries given × FindsLeast (IsUnlikeAt Later given) found
@@ -52,7 +52,7 @@ IsAnyNamed read entries = (n : ℕ) × IsNamed read entries n
 
 -- ---- numbers that are not among the known ones
 
--- the number at `at`, if any, is `point`, which is not among the known ones
+-- the number at `at`, if any, is `point`, which is unknown
 abbrev pub IsUnknown : List ℕ → ℕ → Option ℕ → ℕ → ℕ → Type 0
 IsUnknown known at number other point = (number ≡ Some point) × (¬ Contains known point) × (other ≡ 0)
 
@@ -65,12 +65,12 @@ abbrev pub IsUnknownAffinity : List ℕ → List ℕ → ℕ → SratEntry → �
 IsUnknownAffinity ids uids at e other point =
     IsUnknown ids at (placed_apic_id e) other point ⊎ IsUnknown uids at (placed_uid e) other point
 
--- the same for a processor that is on, for a GIC CPU interface by its UID
+-- the same for a usable processor, for a GIC CPU interface by its UID
 abbrev pub IsUnplaced : List ℕ → List ℕ → ℕ → MadtEntry → ℕ → ℕ → Type 0
 IsUnplaced ids uids at e other point =
     IsUnknown ids at (apic_id_on e) other point ⊎ IsUnknown uids at (gicc_uid_on e) other point
 
--- one of these numbers is at `at` and is not among the known ones
+-- one of these numbers is at `at` and is unknown
 abbrev pub IsUnknownAt : List ℕ → List Numbered → ℕ → ℕ → ℕ → Type 0
 IsUnknownAt known given at other point =
     (g : Numbered) × Contains given g × (g.at ≡ at) × IsUnknown known at (Some g.number) other point

@@ -1,4 +1,4 @@
--- The leaves of a PPTT: by their flags, and by the absence of a child.
+-- The leaves of a PPTT (ACPI 6.5, 5.2.30.1): by their flags, and as nodes without children.
 use Rattle.std.specs.Prelude.{ℕ, Option, Some, None, List, ◌==◌, if◌then◌else◌}
 use Rattle.std.specs.List.{list_any}
 use Rattle.acpi_base.specs.Lint.Numbered.{NamesAt}

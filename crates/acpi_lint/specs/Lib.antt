@@ -1,4 +1,4 @@
--- What the contracts of the linter cite.
+-- The definitions that contracts of the linter cite.
 pub mod EntryNumbers
 pub mod Leaves
 pub mod Numbered

@@ -1,11 +1,11 @@
--- Values that are given to numbers at places.
+-- Values that are given to numbers at places, such as offsets or slots.
 use Rattle.std.specs.Prelude.{◌≡◌, ◌≢◌, ℕ, ◌<◌, ◌≤◌, ◌⊎◌, ◌↔◌, List, AllPairs, Contains}
 use Rattle.acpi_lint.specs.declared.numbered.Numbered.{Numbered}
 use Rattle.acpi_lint.specs.declared.numbered.Order.{Order}
 use Rattle.acpi_lint.specs.declared.numbered.Order.TheVariants.{Later, First}
 use Rattle.acpi_lint.specs.declared.place.Place.{Place}
 
--- a is at an earlier place than b, or at the same one with no greater value
+-- a is at an earlier place than b, or at the same one with a value that is not greater
 abbrev pub IsNoLater : Numbered → Numbered → Type 0
 IsNoLater a b = (a.at < b.at) ⊎ ((a.at ≡ b.at) × (a.value ≤ b.value))
 
@@ -30,7 +30,7 @@ abbrev pub unlike_place : Order → Numbered → Numbered → Place
 unlike_place Later g f = record { at = g.at; other = f.at; point = g.number }
 unlike_place First g f = record { at = f.at; other = g.at; point = g.number }
 
--- these are the numbers of the report that a number has another value than at its first place
+-- a number has another value than at its first place, which is reported with these numbers
 abbrev pub IsUnlikeAt : Order → List Numbered → ℕ → ℕ → ℕ → Type 0
 IsUnlikeAt order given at other point =
     (g : Numbered) × (f : Numbered) × IsUnlike given g f
@@ -44,7 +44,7 @@ at_place at n = record { number = n; at = at; value = at }
 abbrev pub HasAt : List Numbered → ℕ → ℕ → Type 0
 HasAt given at n = Contains given (at_place at n)
 
--- these are the numbers with their places by `StandsAt at n`, each with its place as its value; the places rise
+-- these are the numbers at places by `StandsAt at n`, each with its place as its value; the places rise
 pub record AreNumbersAt (StandsAt : ℕ → ℕ → Type 0) (given : List Numbered) : Type 0 where
   pub rise : AllPairs (λ a b. a.at < b.at) given
   pub placed : (g : Numbered) → Contains given g → g.value ≡ g.at

@@ -47,7 +47,7 @@ FindsOwn IsFault s (Some p) =
     (p.at ≡ s.offset) × IsFault s.offset s.entry p.other p.point
     × ((other point : ℕ) → IsFault s.offset s.entry other point → (p.other < other) ⊎ ((p.other ≡ other) × (p.point ≤ point)))
 
--- ---- where the entries are that are looked for in a table
+-- ---- the entries that are looked for in a table
 
 -- the entry, which is at `at`, is looked for
 abbrev pub IsSoughtEntry : {E : Type 0} → EntryTable E → SoughtEntry → ℕ → E → ℕ → ℕ → Type 0
@@ -55,7 +55,7 @@ IsSoughtEntry t (sought.Own code) at e other point = t.IsOwn code e × AreUnused
 IsSoughtEntry t sought.Single at e other point = t.IsSingle e × AreUnused other point
 IsSoughtEntry t (sought.SingleAfter first) at e other point = t.IsSingle e × (first < at) × (other ≡ first) × (point ≡ 0)
 
--- ---- where a FADT is at fault, and where its fields disagree (ACPI 6.5, 5.2.9)
+-- ---- places of a FADT's faults and of its fields that disagree (ACPI 6.5, 5.2.9)
 
 -- the table has the fault with this code, which is reported at the offset `at`
 abbrev pub IsFadtFault : List ℕ → Code → ℕ → ℕ → ℕ → Type 0
@@ -71,7 +71,7 @@ abbrev pub IsBlock : List ℕ → ℕ → ℕ → ℕ → ℕ → Type 0
 IsBlock whole k at other point =
     ((gas_at whole (148 + 12 * k)).space ≡ 1) × AreTwoFields whole (56 + 4 * k) (152 + 12 * k) at other point
 
--- ---- where the FACS that a FADT names is at fault (ACPI 6.5, 5.2.10)
+-- ---- places of the faults of the FACS that a FADT names (ACPI 6.5, 5.2.10)
 
 -- the FACS that these bytes of a FADT name has the fault with this code, which is reported at `at`
 abbrev pub IsFacsFault : Memory → List ℕ → Code → ℕ → ℕ → ℕ → Type 0
@@ -81,12 +81,12 @@ IsFacsFault m fadt fault at other point = NamedFacsFault m fadt fault at × AreU
 abbrev pub IsFacsFaultOf : Memory → List ℕ → Code → ℕ → ℕ → ℕ → Type 0
 IsFacsFaultOf m fadt fault at other point = (116 ≤ length fadt) × IsFacsFault m fadt fault at other point
 
--- ---- where distances of a SLIT differ from those in the other direction (ACPI 6.5, 5.2.17)
+-- ---- places of distances of a SLIT that differ from those in the other direction (ACPI 6.5, 5.2.17)
 
--- one from this locality differs
+-- a distance from this locality differs
 abbrev pub IsRowDiffers : SlitContents → ℕ → ℕ → ℕ → ℕ → Type 0
 IsRowDiffers c i at other point = (differs : IsSlitDiffers c at other point) × (differs.i ≡ i)
 
--- one of a table that has the right size differs
+-- a distance in a table that has the right size differs
 abbrev pub IsSizedDiffers : SlitContents → ℕ → ℕ → ℕ → Type 0
 IsSizedDiffers c at other point = HasSlitSize c × IsSlitDiffers c at other point

@@ -22,7 +22,7 @@ is_resource e = not (pptt_type e == 0)
 abbrev pub AreOffsets : (ℕ → Type 0) → OffsetSet → Type 0
 AreOffsets IsThere offsets = (o : ℕ) → IsIn offsets o ↔ IsThere o
 
--- where a link dangles
+-- the place of a dangling link
 abbrev pub IsDanglingLink : Chain → PpttContents → ℕ → ℕ → ℕ → Type 0
 IsDanglingLink kind c at other point = Dangles (Says (named_offset kind) c) at other × (point ≡ 0)
 

@@ -20,7 +20,7 @@ use Rattle.acpi_lint.specs.declared.table_at.TableAt.{TableAt}
 
 -- ---- what is at an address
 
--- the signature of a table that should not be listed is present at a
+-- the signature of a DSDT or a FACS is present at a
 abbrev pub IsApart : Memory → ℕ → Type 0
 IsApart m a = IsSigned m a dsdt_signature ⊎ IsSigned m a facs_signature
 
@@ -30,13 +30,13 @@ IsSought m (sought.Fault code) a = TableFault m a code
 IsSought m (sought.Kind kind) a = IsSigned m a (signature_of kind)
 IsSought m sought.Apart a = IsApart m a
 
--- the same by what is noted of an address
+-- the same by what is recorded about an address
 abbrev pub HasSought : Sought → TableAt → Type 0
 HasSought (sought.Fault code) table = table.fault ≡ Some code
 HasSought (sought.Kind kind) table = table.kind ≡ Some kind
 HasSought sought.Apart table = IsTrue table.is_apart
 
--- what is noted of an address is what is there
+-- what is recorded about an address is what is there
 pub record IsTableAt (m : Memory) (table : TableAt) : Type 0 where
   pub tells : (sought : Sought) → HasSought sought table ↔ IsSought m sought table.address
 
@@ -77,11 +77,11 @@ AreFirstSlots m p firsts = (kind : TableKind) → FindsSlot m p (IsSought m (sou
 
 -- ---- advice
 
--- a slot's address, which stands at the slot's number
+-- a slot's address, at the slot's number
 abbrev pub numbered_slot : Slot → Numbered
 numbered_slot s = record { number = s.table.address; at = s.number; value = s.number }
 
--- where a slot lists another address than the first slot of its kind
+-- the place of a slot that lists another address than the first slot of its kind
 abbrev pub second_after : Slot → Slot → Option Place
 second_after s first =
     if first.table.address == s.table.address

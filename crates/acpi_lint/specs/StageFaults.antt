@@ -1,4 +1,4 @@
--- Where an image is at fault with a code, and what is found for a code and for a rule.
+-- Places of faults with a code, and what is found for a code and for a rule.
 use Rattle.std.specs.Prelude.{◌≡◌, ⊤, Option, Some, None, Result, Ok, Err, ℕ, option_map}
 use Rattle.acpi_check.specs.declared.refusal.Refusal.{Refusal}
 use Rattle.acpi_check.specs.declared.refusal.Refusal.TheVariants.{Fault}

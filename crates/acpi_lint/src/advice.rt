@@ -38,8 +38,8 @@ fn past_slit(tables: &CompleteTables<'_>) -> Option<Place>
     first_own_place(tables.srat_entries(), |at| domain_past_slit(localities, at))
 }
 
-/// The place of the first finding of a rule: one line for each, in the order of what they look at. What is found in a
-/// table is none if the set lists no complete one with all its fields.
+/// The place of the first finding of a rule: one line for each, in the order of the tables that they check. A rule on a
+/// table finds nothing if the set lists no complete one with all its fields.
 fn first_place(
     alloc: Global,
     image: &Image,
@@ -90,7 +90,7 @@ fn first_place(
         Rule::TwoUidDomains => srat.map_or(Ok(None), |srat| two_uid_domains(alloc, &srat)),
         Rule::SameLeaf => pptt.map_or(Ok(None), |pptt| same_leaf(alloc, &pptt)),
         Rule::SameCacheId => pptt.map_or(Ok(None), |pptt| same_cache_id(alloc, &pptt)),
-        // Numbers that are looked up, and what is not there.
+        // Numbers that are looked up.
         Rule::SciNowhere => Ok(
             fadt.zip(madt)
                 .and_then(|(fadt, madt)| sci_nowhere(policy, &fadt, &madt)),

@@ -1,4 +1,4 @@
-//! The tables of a set that are looked at.
+//! The tables of a set that the finders read.
 
 ghost use Rattle.std.specs.Prelude.{◌≡◌, ℕ, IfOk, option_map};
 ghost use Rattle.acpi_base.specs.Entries.{entries_read_by};
@@ -87,7 +87,7 @@ impl<'a> CompleteTables<'a> {
         Fadt::new(self.table(TableKind::Fadt)?).ok()
     }
 
-    /// The table of a kind, if it does not end before its first entry's place.
+    /// The table of a kind, if it does not end before the offset of its first entry.
     fn long<E: TableEntry<'a>>(&self, kind: TableKind) -> Option<Table<'a>>
         ensures { IsLong E.first (table_of self.now kind) result }
     {

@@ -59,8 +59,8 @@ pub fn leaf_ids(alloc: Global, pptt: &Table<'_>) -> Result<Vec<u64>, AllocError>
 
 // ---- entries of a kind
 
-/// Whether the bytes of an entry of a MADT describe processors in a form that no rule reads: a local SAPIC, a core of another
-/// architecture, or a GIC CPU interface that is too short.
+/// Whether the bytes of an entry of a MADT describe processors in a form that no rule reads: a local SAPIC, a core of
+/// another architecture, or a GIC CPU interface that is too short.
 fn is_other_form(bytes: &[u8]) -> bool
     requires { 2 ≤ length bytes.now }
     ensures { IsTrue result ↔ IsOtherProcessor (madts.Opaque bytes.now) }
@@ -93,7 +93,7 @@ pub fn are_processors_read(madt: &Table<'_>) -> bool
     other.is_none()
 }
 
-/// Whether a MADT has a processor that is on.
+/// Whether a MADT has a usable processor.
 pub fn is_any_on(madt: &Table<'_>) -> bool
     ensures { IsTrue result ↔ IsAnyNamed uid_on (madt_contents madt.now).entries }
 {
@@ -111,7 +111,7 @@ fn is_gicc_entry(entry: &MadtEntry<'_>) -> bool
     }
 }
 
-/// Whether a MADT has one.
+/// Whether a MADT has a GIC CPU interface that the rules read.
 pub fn has_gicc(madt: &Table<'_>) -> bool
     ensures { IsTrue result
         ↔ ((o : ℕ) × StandsWith (madt_contents madt.now).entries o IsGicc) }

@@ -1,8 +1,8 @@
 //! All that is wrong with a set of tables: the first fault of each code, and the first finding of each rule of
 //! advice.
 //!
-//! Earlier stages need not hold: a table whose checksum is wrong is still looked at, and a dangling reference ends
-//! its chain.
+//! Earlier stages need not hold: a table whose checksum is wrong is still checked, and a dangling reference ends its
+//! chain.
 //!
 //! An example, from `crates/acpi_tests/src/lint.rt`. The RSDP at 0xE0000 has a wrong byte in its signature, and so a
 //! wrong checksum. It names an RSDT that lists the address 0x2000 in slots 0 and 1, where there is no table.

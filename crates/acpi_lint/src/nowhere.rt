@@ -1,6 +1,6 @@
-//! Rules on numbers that are looked up elsewhere and are not there: UIDs, APIC IDs and x2APIC IDs among those of the
-//! MADT's processors, of the SRAT's affinities or of the PPTT's leaves. A rule that asks whether the rules read all
-//! processors of the MADT looks at that last: mostly there is nothing to report.
+//! Rules on numbers that are looked up elsewhere and are missing there: UIDs, APIC IDs and x2APIC IDs among those of
+//! the MADT's processors, of the SRAT's affinities or of the PPTT's leaves. Whether the rules read all processors of
+//! the MADT is tested last, since there is mostly nothing to report.
 
 ghost use Rattle.std.specs.Prelude.{◌<◌, AllPairs, IfOk};
 ghost use Rattle.acpi_base.specs.Lint.MadtAdvice.{nmi_uid, IsNmiNowhere, IsNoProcessor};
@@ -56,7 +56,7 @@ fn where_read(madt: &Table<'_>, place: Option<Place>) -> Option<Place>
 
 // ---- the MADT alone
 
-/// The place of a MADT that has no processor that is on, if the rules read all of them.
+/// The place of a MADT that has no usable processor, if the rules read all processors.
 pub fn no_processor(madt: &Table<'_>) -> Option<Place>
     ensures { FindsLeast (IsNoProcessor (madt_contents madt.now)) result }
 {
@@ -74,7 +74,7 @@ fn unknown_nmi(uids: &[u64], at: &EntryAt<MadtEntry<'_>>) -> Option<Place>
     unknown_place(uids, at.offset, nmi_uid(&at.entry))
 }
 
-/// The first local NMI for a UID that no processor has, if the rules read all of them; `point` is the UID. Allocates
+/// The first local NMI for a UID that no processor has, if the rules read all processors; `point` is the UID. Allocates
 /// for the UID of each processor.
 pub fn nmi_nowhere(alloc: Global, madt: &Table<'_>) -> Result<Option<Place>, AllocError>
     ensures { IfOk result (FindsLeast (IsNmiNowhere (madt_contents madt.now))) }
@@ -104,7 +104,7 @@ fn unknown_affinity(ids: &[u64], uids: &[u64], at: &EntryAt<SratEntry<'_>>) -> O
     }
 }
 
-/// The first affinity of an SRAT that is for no processor of a MADT, if the rules read all of them; `point` is the
+/// The first affinity of an SRAT that is for no processor of a MADT, if the rules read all processors; `point` is the
 /// number that none has. Allocates for the numbers of each processor.
 pub fn affinity_nowhere(
     alloc: Global,
@@ -133,7 +133,7 @@ pub fn affinity_nowhere(
     Ok(where_read(madt, place))
 }
 
-/// The place of a processor that is on and whose number is unknown: its APIC ID or x2APIC ID, or for a GIC CPU
+/// The place of a usable processor whose number is unknown: its APIC ID or x2APIC ID, or for a GIC CPU
 /// interface its UID.
 fn unplaced(ids: &[u64], uids: &[u64], at: &EntryAt<MadtEntry<'_>>) -> Option<Place>
     requires ids { AllPairs (λ i j. i < j) ids.now }
@@ -146,7 +146,7 @@ fn unplaced(ids: &[u64], uids: &[u64], at: &EntryAt<MadtEntry<'_>>) -> Option<Pl
     }
 }
 
-/// The first processor of a MADT that is on and for which an SRAT has no affinity, if the SRAT has some, and the
+/// The first usable processor of a MADT for which an SRAT has no affinity, if the SRAT has some, and the
 /// rules read all processors; `point` is its number. Allocates for each affinity.
 pub fn no_domain(
     alloc: Global,
@@ -180,7 +180,7 @@ pub fn no_domain(
 
 // ---- the MADT and the PPTT
 
-/// The place of a processor that is on and whose UID is not among the leaves' IDs.
+/// The place of a usable processor whose UID is not among the leaves' IDs.
 fn leafless(ids: &[u64], at: &EntryAt<MadtEntry<'_>>) -> Option<Place>
     requires { AllPairs (λ i j. i < j) ids.now }
     ensures { FindsOwn (IsUnknownOf uid_on ids.now) (entry_at_value madt_value at.now) result }
@@ -188,7 +188,7 @@ fn leafless(ids: &[u64], at: &EntryAt<MadtEntry<'_>>) -> Option<Place>
     unknown_place(ids, at.offset, uid_on(&at.entry))
 }
 
-/// The first processor of a MADT that is on and for which a PPTT has no leaf, if the PPTT has some, and the rules
+/// The first usable processor of a MADT for which a PPTT has no leaf, if the PPTT has some, and the rules
 /// read all processors; `point` is its UID. Allocates for each leaf, and below Revision 2 for each node.
 pub fn no_leaf(
     alloc: Global,

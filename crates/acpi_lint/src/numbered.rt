@@ -98,7 +98,7 @@ fn sort_numbers(given: &mut Vec<Numbered>) -> Result<(), AllocError>
     ensures permutation { IsPermutation given.old.items given.new.items }
     ensures sorted { OnOk result (AllPairs IsNotAbove given.new.items) }
 {
-    // The other sort clears a buffer of 4 KiB first, which takes as long as all finders on a set of firmware.
+    // The sort of the library first clears a buffer of 4 KiB, which takes as long as all finders on a set of firmware.
     if given.len() <= FEW {
         given.sort_unstable();
         return Ok(());

@@ -1,5 +1,5 @@
-//! Codes 39, 40, 45 and 55 to 59: those of stages that have one code. The stage's finder is called on the set's
-//! tables, whatever the earlier stages find.
+//! Codes 39, 40, 45 and 55 to 59, each alone in its stage. The stage's finder is called on the set's tables, whatever
+//! the earlier stages find.
 
 ghost use Rattle.std.specs.Prelude.{◌≡◌, IfOk};
 ghost use Rattle.acpi_base.specs.Chains.{IsCycle};

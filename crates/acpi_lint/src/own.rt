@@ -1,4 +1,4 @@
-//! Rules on an entry by itself: what is looked for is in the entry, and nowhere else.
+//! Rules on an entry by itself.
 
 ghost use Rattle.std.specs.Prelude.{◌≡◌, ◌<◌, ◌≤◌, ◌↔◌, length, ℕ, Option, IsTrue, MatchOption};
 ghost use denote.Ref.{Bor};

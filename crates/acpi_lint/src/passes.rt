@@ -43,7 +43,7 @@ pub fn first_picked<'a, E: TableEntry<'a> + Copy, T: Drop, F: Fn(&EntryAt<E>) ->
 pub enum SoughtEntry {
     /// One that has the fault with this code by itself.
     Own(Code),
-    /// One of those of which a table has at most one.
+    /// One of a kind of which a table has at most one.
     Single,
     /// One of these after the first, which is at this offset.
     SingleAfter(u64),
@@ -76,7 +76,7 @@ fn sought_place<'a, E: TableEntry<'a>>(
     })
 }
 
-/// The place of the first entry that is looked for, if the table has the place of its first entry.
+/// The place of the first entry that is looked for, if the table does not end before the offset of its first entry.
 #[inline(always)]
 fn first_sought<'a, E: TableEntry<'a> + Copy>(
     policy: &Policy,
@@ -99,7 +99,7 @@ fn first_sought<'a, E: TableEntry<'a> + Copy>(
     None
 }
 
-/// The place of the second entry of those of which a table has at most one, beside the first.
+/// The place of the second entry of a kind of which a table has at most one; `other` is the first.
 fn second_single<'a, E: TableEntry<'a> + Copy>(
     policy: &Policy,
     code: Code,

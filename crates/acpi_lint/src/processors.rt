@@ -23,7 +23,7 @@ pub struct Processor {
     pub uid: u32,
     /// Its APIC ID or x2APIC ID: they are one number space. A GIC CPU interface has none.
     pub apic_id: Option<u32>,
-    /// Whether it is Enabled or Online Capable, or for a GIC CPU interface Enabled.
+    /// Whether it is usable: Enabled or Online Capable, for a GIC CPU interface Enabled.
     pub on: bool,
 }
 
@@ -81,7 +81,7 @@ pub fn uid_of(entry: &MadtEntry<'_>) -> Option<u32>
     Some(processor.uid)
 }
 
-/// The UID of a processor that is on.
+/// The UID of a usable processor.
 pub fn uid_on(entry: &MadtEntry<'_>) -> Option<u32>
     ensures { result ≡ uid_on (madt_value entry.now) }
 {
@@ -96,7 +96,7 @@ pub fn apic_id_of(entry: &MadtEntry<'_>) -> Option<u32>
     processor_of(entry)?.apic_id
 }
 
-/// The same for a processor that is on.
+/// The same for a usable processor.
 pub fn apic_id_on(entry: &MadtEntry<'_>) -> Option<u32>
     ensures { result ≡ apic_id_on (madt_value entry.now) }
 {
@@ -108,7 +108,7 @@ pub fn apic_id_on(entry: &MadtEntry<'_>) -> Option<u32>
     }
 }
 
-/// The UID of a GIC CPU interface that is on.
+/// The UID of a usable GIC CPU interface.
 pub fn gicc_uid_on(entry: &MadtEntry<'_>) -> Option<u32>
     ensures { result ≡ gicc_uid_on (madt_value entry.now) }
 {

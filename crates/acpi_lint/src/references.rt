@@ -1,4 +1,4 @@
-//! Codes 52 to 54: the references of the PPTT's entries (ACPI 6.5, 5.2.30), whatever their lengths are.
+//! Codes 52 to 54: the references of the PPTT's entries (ACPI 6.5, 5.2.30), whatever the entries' lengths.
 
 ghost use Rattle.std.specs.Prelude.{◌≡◌, IfOk};
 ghost use Rattle.acpi_base.specs.Chains.{IsAt};

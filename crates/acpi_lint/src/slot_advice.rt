@@ -1,4 +1,4 @@
-//! Advice on the slots of the root table: what is listed again, and what should not be listed (ACPI 6.5, 5.2.7,
+//! Advice on the slots of the root table: what is listed twice, and what should not be listed (ACPI 6.5, 5.2.7,
 //! 5.2.8).
 
 ghost use Rattle.std.specs.Prelude.{◌≡◌, ℕ, map, IfOk};

@@ -68,7 +68,8 @@ fn is_apart(header: &[u8]) -> bool
 }
 
 impl TableAt {
-    /// What is at an address, for which the image is searched once. Its bytes are summed only if all of them are present.
+    /// What is at an address, for which the image is searched once. Its bytes are summed only if all of them are
+    /// present.
     pub fn of(image: &Image, address: u64) -> TableAt
         ensures there { result.address ≡ address }
         ensures noted { IsTableAt image.now result }

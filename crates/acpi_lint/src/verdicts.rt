@@ -1,4 +1,4 @@
-//! What stages on single tables find.
+//! The places of the faults that stages on single tables find.
 
 ghost use Rattle.std.specs.Prelude.{◌<◌, ◌^◌, IfOk, IfSome};
 ghost use Rattle.acpi_lint.specs.StageFaults.{IsPlaceOf};

@@ -180,7 +180,7 @@ returns-in-SameCacheId c =
     c.pptt-pptt.result c.requires c.pptt-pptt.ensures)
     c.map_or-in-SameCacheId.ensures (λ none. none) (λ whole found. search rules))
 
--- ---- numbers that are looked up, and what is not there
+-- ---- numbers that are looked up
 
 pub returns-in-SciNowhere : goal.returns-in-SciNowhere
 returns-in-SciNowhere c =

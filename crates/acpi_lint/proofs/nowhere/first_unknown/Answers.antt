@@ -10,7 +10,7 @@ use Rattle.acpi_lint.proofs.RisingLists.{at_or_behind, none_such}
 use Rattle.acpi_lint.proofs.UnknownOnes.{not_found, is_found}
 use Rattle.acpi_lint.proofs.nowhere.first_unknown.Goals as goal
 
--- the number at which a list is read that has none there
+-- a number to read lists with
 abbrev none : Numbered
 none = record { number = 0; at = 0; value = 0 }
 

@@ -6,7 +6,7 @@ use Rattle.acpi_lint.proofs.LeastPlaces.{least_as}
 use Rattle.acpi_lint.proofs.UnknownOnes.{where_all_read}
 use Rattle.acpi_lint.proofs.nowhere.no_processor.Goals as goal
 
--- no processor is on, which is found at the place 0
+-- no processor is usable, which is found at the place 0
 abbrev IsNoneOn : MadtContents → ℕ → ℕ → ℕ → Type 0
 IsNoneOn c at other point = ((uid : ℕ) → ¬ IsNamed uid_on c.entries uid) × (at ≡ 0) × (other ≡ 0) × (point ≡ 0)
 

@@ -5,12 +5,11 @@ use Rattle.acpi_base.specs.Pptt.{PpttEntry, Cache, CacheValue}
 use Rattle.acpi_read.specs.Pptts.{pptt_value, cache24_value, cache28_value}
 use Rattle.acpi_lint.proofs.own.is_odd_cache.Goals as goal
 
--- what a cache says, or this where the entry is none
+-- the fields of a cache, or these if the entry is none
 abbrev said_or : CacheValue → PpttEntry → CacheValue
 said_or other (Cache v) = v
 said_or other _ = other
 
--- an entry that is a cache is odd where its shape is
 of_cache : (v : CacheValue) {e : PpttEntry} {odd : Bool} → e ≡ Cache v → IsTrue odd ↔ HasOddShape v
     → IsTrue odd ↔ ((w : CacheValue) × (e ≡ Cache w) × HasOddShape w)
 of_cache v is shape = rw is (

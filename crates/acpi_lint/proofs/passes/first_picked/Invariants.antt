@@ -3,7 +3,7 @@ use Rattle.acpi_check.specs.PassResults.{Picks}
 use Rattle.acpi_lint.proofs.FirstEntries.{IsPicking}
 use Rattle.acpi_lint.proofs.passes.first_picked.Given as goal
 
--- nothing is picked of the entries before those left
+-- nothing is picked from the entries before those left
 abbrev pub invariant-loop-entry : goal.invariant-loop-entry
 invariant-loop-entry g l =
     IsPicking (Picks g.E.TableEntry.value (goal.F-post g l.pick))

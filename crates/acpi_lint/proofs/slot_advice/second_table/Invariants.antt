@@ -3,7 +3,7 @@ use Rattle.acpi_lint.specs.Slots.{second_place}
 use Rattle.acpi_lint.proofs.ListedSlots.{no_slot}
 use Rattle.acpi_lint.proofs.slot_advice.second_table.Given as goal
 
--- none before this one is a second one
+-- no slot before this one is a second one
 abbrev pub invariant-loop-slot : goal.invariant-loop-slot
 invariant-loop-slot l = (j : ℕ) → j < l.slot-index
     → second_place l.tables.firsts (get_or l.tables.slots.items j no_slot) ≡ None
