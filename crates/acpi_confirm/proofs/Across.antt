@@ -13,7 +13,6 @@ use Rattle.acpi_confirm.proofs.MadtFaults.{serves_from, serves_gsi, madt_size, m
 
 -- ---- interrupt numbers
 
--- an I/O APIC that serves a number serves it from some start on
 pub served : (q : PolicyValue) (c : MadtContents) (g : ℕ) (b : Bool)
     → (IsTrue b ↔ ((o : ℕ) × StandsWith c.entries o (ServesGsi q g))) → IsTrue b ↔ IsServed q c g
 served q c g b is = (

@@ -1,4 +1,4 @@
--- The cells of a SLIT.
+-- The cells of a SLIT: each offset has at most one row and column.
 use Rattle.std.proofs.Common.{◌≡◌, ◌<◌, ◌≤◌, ◌+◌, ◌*◌, ◌-◌, ◌/◌, ◌%◌, ℕ, List, length, refl, inl, inr, subst, sym, ap, ◌∙◌, arith}
 use Rattle.std.specs.Prelude.{◌↔◌, Option, Some, None, MatchOption, IsTrue, Bool, false, slice_index}
 use Rattle.std.proofs.lemmas.Bool.{cases_lt}
@@ -10,7 +10,6 @@ use Rattle.acpi_base.proofs.Slit.{slit_size, slit_count, slit_distance}
 use Rattle.acpi_confirm.specs.Cells.{HasCell, HasNoCell}
 use Rattle.acpi_confirm.specs.declared.slit.Cell.{Cell}
 
--- a place is that of one row
 one_row : (n i j a b : ℕ) → j < n → b < n → n * i + j ≡ n * a + b → i ≡ a
 one_row n i j a b column other same =
     elim (cases_lt i a) [
@@ -32,7 +31,6 @@ one_cell c at i j a b here there =
     let row : i ≡ a = one_row c.count i j a b here.column there.column (omega (arith, here.place, there.place)) in
     record { row = row; column = grind (arith, here.place, there.place) }
 
--- P of the row and the column of the cell at an offset is P of some cell there
 some_cell : (c : SlitContents) (at : ℕ) (cell : Cell) (P : ℕ → ℕ → Type 0) (b : Bool) → HasCell c at cell
     → (IsTrue b ↔ P cell.row cell.column) → IsTrue b ↔ (HasSlitSize c × SomeCell c at P)
 some_cell c at cell P b here is = (
@@ -42,7 +40,7 @@ some_cell c at cell P b here is = (
       is.1 (subst (λ (k : ℕ). P k cell.column) one.row (subst (P i) one.column holds)),
 )
 
--- what is said of the cell at an offset, and false where none stands there
+-- what is tested of the cell at an offset; false if there is none
 pub test_of_cell : (c : SlitContents) (at : ℕ) (P : ℕ → ℕ → Type 0) (Says : Cell → Type 0) (found : Option Cell)
     (test : Bool) → MatchOption found (HasNoCell c at) (HasCell c at) → MatchOption found (test ≡ false) Says
     → ((cell : Cell) → Says cell → HasCell c at cell → (IsTrue test ↔ P cell.row cell.column))
@@ -51,7 +49,6 @@ test_of_cell c at P Says None test none is decides =
     rw is (λ true. absurd (cc), λ (size, (i, j, here, _)). absurd (none size i j here))
 test_of_cell c at P Says (Some cell) test here says decides = some_cell c at cell P test here (decides cell says here)
 
--- a cell stands behind the first 44 bytes, and within the table
 cell_inside : (c : SlitContents) (at i j : ℕ) → HasSlitSize c → IsCell c i j at → (44 ≤ at) × (at < c.size)
 cell_inside c at i j size here =
     let row : i + 1 ≤ c.count = omega (arith, here.row) in
@@ -65,7 +62,6 @@ pub none_behind : (slit : List ℕ) (at : ℕ) → length slit ≤ at → HasNoC
 none_behind slit at behind size i j here =
     omega (arith, cell_inside (slit_contents slit) at i j size here, slit_size slit)
 
--- a table with an offset among its cells has a row
 pub some_rows : (slit : List ℕ) (at : ℕ) → HasSlitSize (slit_contents slit) → 44 ≤ at → at < length slit
     → 0 < field slit 36 8
 some_rows slit at size from below =
@@ -77,7 +73,6 @@ some_rows slit at size from below =
           absurd (omega (arith, size, slit_size slit, square))
     ]
 
--- and there a cell
 pub cell_there : (slit : List ℕ) (at n : ℕ) → HasSlitSize (slit_contents slit) → 44 ≤ at → at < length slit
     → n ≡ field slit 36 8
     → HasCell (slit_contents slit) at

@@ -1,4 +1,4 @@
--- Chains of a PPTT's entries.
+-- Chains of a PPTT's entries, followed step by step.
 use Rattle.std.proofs.Common.{◌≡◌, ◌≢◌, ◌+◌, ◌-◌, ◌<◌, ◌≤◌, zero, suc, ℕ, List, length, drop, Option, Some, None, refl, sym, ap, ◌∙◌, subst, inl, inr, arith}
 use Rattle.std.specs.Prelude.{◌↔◌, IsTrue, Bool}
 use Rattle.std.proofs.lemmas.Option.{same_Some}
@@ -14,7 +14,6 @@ use Rattle.acpi_confirm.proofs.Walks.{at_first, at_next}
 
 -- ---- a walk that goes on
 
--- from an entry on the same stands ahead as in the whole table
 pub ahead : (n first start : ℕ) (whole : List ℕ) (at : ℕ) (e : List ℕ) → length whole ≤ first + n
     → Stands (entries_of first whole) start e → start ≤ at → IsOnWay first start whole at
 ahead zero first start whole at e few stands behind =
@@ -43,11 +42,10 @@ ahead (suc n) first start whole at e few stands behind =
 
 -- ---- steps
 
--- whatever an offset names is the one that it names
+-- what an offset names is the one offset that it names
 abbrev IsNamed : (ℕ → ℕ → Type 0) → ℕ → Option ℕ → Type 0
 IsNamed Named o named = IsOnly (Named o) named
 
--- no step leads on from one that names none, or where none of the kind stands at what it names
 pub no_step_to_none : (Named : ℕ → ℕ → Type 0) (o n : ℕ) → IsNamed Named o (Some n) → n ≡ 0 → (p : ℕ)
     → ¬ IsStep Named o p
 no_step_to_none Named o n named none p step = step.some (sym (same_Some _ _ ((named.is p).0 step.names)) ∙ none)
@@ -62,7 +60,6 @@ no_step_nowhere Named o n named nowhere p step =
 pub no_step : (Named : ℕ → ℕ → Type 0) (o : ℕ) → IsNamed Named o None → (p : ℕ) → ¬ IsStep Named o p
 no_step Named o none p step = none_and_some refl ((none.is p).0 step.names)
 
--- a step leads to what is named where one of the kind stands there
 pub step_to : (Named : ℕ → ℕ → Type 0) (o n m : ℕ) → IsNamed Named o (Some n) → n ≢ 0 → IsNamed Named n (Some m)
     → IsStepTo Named o (record { at = n; names = m })
 step_to Named o n m named some there =
@@ -103,7 +100,6 @@ led_next Named from steps here (suc k) m n led some named step =
       );
     })
 
--- nothing is led to where no step leads on
 pub led_nowhere : (Named : ℕ → ℕ → Type 0) (from steps here left : ℕ) → IsLed Named from steps here left → 0 < left
     → ((p : ℕ) → ¬ IsStep Named here p) → IsOnly (LeadsTo Named steps from) None
 led_nowhere Named from steps here zero led some none = absurd (omega arith)
@@ -115,7 +111,6 @@ led_nowhere Named from steps here (suc k) led some none =
       );
     }
 
--- and what is led to once none is left is where they led
 pub led_there : (Named : ℕ → ℕ → Type 0) (from steps here left : ℕ) → IsLed Named from steps here left → left ≡ 0
     → IsOnly (LeadsTo Named steps from) (Some here)
 led_there Named from steps here zero led none =

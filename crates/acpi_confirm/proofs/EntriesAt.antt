@@ -1,4 +1,4 @@
--- What stands at an offset of a table, by what its entries say.
+-- The entry at an offset of a table, by what it says.
 use Rattle.std.proofs.Common.{◌≡◌, ◌≢◌, ℕ, List, [], ◌∷◌, Option, Some, None, refl, sym, ap, ◌∙◌, subst, inl, inr}
 use denote.Ref.{Bor}
 use Rattle.std.specs.Prelude.{◌↔◌, IsTrue, Bool, true, false}
@@ -10,7 +10,6 @@ use Rattle.acpi_base.proofs.Images.PresentBytes.{none_and_some}
 use Rattle.acpi_base.proofs.EntryOffsets.{said_from}
 use Rattle.acpi_confirm.specs.Walks.{IsThere, IsOnly, FindsAny}
 
--- what an entry says stands where the entry does
 pub said_at : {E : Type 0} (read : List ℕ → E) (entries : List (PlacedEntry (List ℕ))) (o : ℕ) (e : List ℕ)
     → Stands entries o e → Stands (entries_read_by read entries) o (read e)
 said_at read [] o e stands = absurd (no_element _ stands)
@@ -23,7 +22,6 @@ said_at {E} read (s ∷ entries) o e stands =
       | inr later ↦ later_element _ _ _ (said_at read entries o e later)
     ]
 
--- P of what the entry at an offset says
 pub some_with : {E : Type 0} (read : List ℕ → E) (entries : List (PlacedEntry (List ℕ))) (o : ℕ) (e : List ℕ)
     (P : E → Type 0) → IsThere entries o (Some e) → P (read e) ↔ StandsWith (entries_read_by read entries) o P
 some_with {E} read entries o e P there = (
@@ -40,7 +38,7 @@ none_with read entries o P there (v, stands, holds) =
     let (d, here, says) = said_from read entries o v stands in
     none_and_some refl ((there.is d).0 here)
 
--- what is said of the entry at an offset, and false where none stands there
+-- what is tested of the entry at an offset; false if there is none
 pub test_at : {E : Type 0} (read : List ℕ → E) (entries : List (PlacedEntry (List ℕ))) (o : ℕ) (P : E → Type 0)
     (Says : Bor (List ℕ) → Type 0) (found : Option (Bor (List ℕ))) (test : Bool)
     → IsThere entries o (option_map (λ entry. entry.now) found) → MatchOption found (test ≡ false) Says
@@ -53,7 +51,7 @@ test_at read entries o P Says (Some entry) test there says decides =
     let is = decides entry says in
     (λ true. with.0 (is.0 true), λ stands. is.1 (with.1 stands))
 
--- the one value of which the entry at an offset says R, and none where no entry stands there
+-- the one value for which the entry at an offset satisfies R; none if there is no entry
 pub only_at : {E X : Type 0} (read : List ℕ → E) (entries : List (PlacedEntry (List ℕ))) (o : ℕ) (R : X → E → Type 0)
     (Says : Bor (List ℕ) → Type 0) (found : Option (Bor (List ℕ))) (only : Option X)
     → IsThere entries o (option_map (λ entry. entry.now) found) → MatchOption found (only ≡ None) Says
@@ -73,12 +71,11 @@ only_at read entries o R Says (Some entry) only there says says_one =
           (λ stands. (one.is x).0 (with.1 stands), λ same. with.0 ((one.is x).1 same)));
     }
 
--- what equals an option has the same value alone
 pub only_of : {X : Type 0} (P : X → Type 0) (is only : Option X) → IsOnly P is → only ≡ is → IsOnly P only
 only_of P is only one same =
     record { is = λ x. (λ holds. same ∙ (one.is x).0 holds, λ some. (one.is x).1 (sym same ∙ some)) }
 
--- what is said of the only values of which P and Q hold, and false where either has none
+-- what is tested of the only values with P and Q; false if there is none for either
 pub test_of_two : {X : Type 0} (P Q : X → Type 0) (R : X → X → Type 0) (Says : X × X → Type 0) (one other : Option X)
     (both : Option (X × X)) (test : Bool)
     → IsOnly P one → IsOnly Q other → both ≡ option_zip one other → MatchOption both (test ≡ false) Says
@@ -105,7 +102,6 @@ test_of_two {X} P Q R Says (Some f) (Some g) both test one other is says decides
           with.1 (subst (λ (v : X). R v g) (sym same) (subst (λ (v : X). R x v) (sym also) related)),
     )
 
--- two values that differ, where what is known besides stands among what is asked
 pub differ : {X : Type 0} {Known : Type 0} {P Q : X → Type 0} {test : Bool} → Known
     → (IsTrue test ↔ ((x : X) × (y : X) × P x × Q y × (x ≢ y)))
     → IsTrue test ↔ ((x : X) × (y : X) × P x × Q y × Known × (x ≢ y))
@@ -114,11 +110,9 @@ differ known is = (
   λ (x, y, first, second, _, apart). is.1 (x, y, first, second, apart),
 )
 
--- an option that is this one has its value alone
 pub only_same : {X : Type 0} (is only : Option X) → only ≡ is → IsOnly (λ x. is ≡ Some x) only
 only_same is only same = record { is = λ x. (λ some. same ∙ some, λ some. sym same ∙ some) }
 
--- whether P holds of any
 pub only_some : {X : Type 0} (P : X → Type 0) (only : Option X) → IsOnly P only
     → IsTrue (is_some only) ↔ ((x : X) × P x)
 only_some P None is = (λ true. absurd (cc), λ (x, holds). absurd (none_and_some refl ((is.is x).0 holds)))
@@ -126,7 +120,7 @@ only_some P (Some x) is = (λ _. (x, (is.is x).1 refl), λ _. refl)
 
 -- ---- of all entries
 
--- whether P holds of what some entry says, by a search that answers so at each
+-- whether P holds for what some entry says, by a search that gives this answer for each
 pub found : {E : Type 0} (read : List ℕ → E) (entries : List (PlacedEntry (List ℕ))) (P : E → Type 0)
     (Answers : Bor (List ℕ) → Bool → Type 0) (r : Bool) → FindsAny Answers entries r
     → ((entry : Bor (List ℕ)) (b : Bool) → Answers entry b → (IsTrue b ↔ P (read entry.now)))

@@ -1,4 +1,4 @@
--- What a root's slots list first is what the set lists.
+-- The first table in a root table's slots is the one that the set lists.
 use Rattle.std.proofs.Common.{◌≡◌, ◌+◌, ◌≤◌, ◌<◌, ◌↔◌, ℕ, Bool, true, false, not, Option, Some, None, is_some, List, length, IsTrue, MatchOption, inl, inr, refl, subst, arith}
 use borrow.Author.Count.{below_more}
 use denote.Ref.{Bor}
@@ -16,13 +16,11 @@ use Rattle.acpi_confirm.specs.Roots.{IsFirstSoFar, IsSignedIn, IsCompleteRoot}
 
 -- ---- one table
 
--- a set without a root lists no table
 pub none_without_root : {m : Memory} {p : ℕ} {signature : List ℕ}
     → ((d : ℕ) (bytes : List ℕ) → ¬ IsCompleteRoot m p d bytes) → (whole : List ℕ) → ¬ IsListedTable m p signature whole
 none_without_root none whole listed =
     let first = listed.first in none _ _ (record { r = first.r; root = first.root; table = first.table })
 
--- the table that a set lists comes first in its slots
 pub first_of_listed : {m : Memory} {p d : ℕ} {bytes signature whole : List ℕ} → IsCompleteRoot m p d bytes
     → (listed : IsListedTable m p signature whole) → IsFirstListed m bytes d signature listed.a
 first_of_listed root listed = listed_of_root root.root root.table listed.first
@@ -59,9 +57,8 @@ test_of_none {m} {signature = signature} (Some a) false root is first = (
       (of_root (λ x bs. IsNoneListed m bs x signature) none.root root.root none.table root.table none.none) first),
 )
 
--- ---- a table with P of its bytes
+-- ---- a table whose bytes have P
 
--- a test of the listed table's bytes is one of the set
 pub test_of_listed : {m : Memory} {p : ℕ} {signature whole : List ℕ} {test : Bool} (P : List ℕ → Type 0)
     → IsListedTable m p signature whole → (IsTrue test ↔ P whole) → IsTrue test ↔ HasListed m p signature P
 test_of_listed {m} {p} {signature} {whole} P listed decides = (
@@ -70,12 +67,11 @@ test_of_listed {m} {p} {signature} {whole} P listed decides = (
       (subst P (one_listed m p signature has.0 whole has.1 listed) has.2),
 )
 
--- a set that does not list the table has none
 pub none_has_listed : {m : Memory} {p : ℕ} {signature : List ℕ} (P : List ℕ → Type 0)
     → ((whole : List ℕ) → ¬ IsListedTable m p signature whole) → IsTrue false ↔ HasListed m p signature P
 none_has_listed P none = (λ yes. absurd cc, λ has. absurd (none has.0 has.1))
 
--- what is said of the listed table's bytes, and false where none is listed
+-- what is tested of the listed table's bytes; false if none is listed
 pub test_of_found : {m : Memory} {p : ℕ} {signature : List ℕ} (P : List ℕ → Type 0) (Says : Bor (List ℕ) → Type 0)
     (found : Option (Bor (List ℕ))) (test : Bool)
     → MatchOption found ((whole : List ℕ) → ¬ IsListedTable m p signature whole)
@@ -85,7 +81,7 @@ pub test_of_found : {m : Memory} {p : ℕ} {signature : List ℕ} (P : List ℕ 
 test_of_found P Says None test none is decides = rw is (none_has_listed P none)
 test_of_found P Says (Some whole) test listed says decides = test_of_listed P listed (decides whole says)
 
--- the same of two tables
+-- the same for two tables
 pub test_of_both : {m : Memory} {p : ℕ} {first second : List ℕ} (P : List ℕ → List ℕ → Type 0)
     (Says : Bor (List ℕ) × Bor (List ℕ) → Type 0) (one other : Option (Bor (List ℕ)))
     (both : Option (Bor (List ℕ) × Bor (List ℕ))) (test : Bool)
@@ -126,10 +122,9 @@ test_of_facs {m} {p} {fadt} code at listed decides = (
       (one_listed m p fadt_signature fault.0 fadt fault.1 listed) (fault.2, fault.3)),
 )
 
--- ---- what the slots list first, one after the other
+-- ---- the first table that the slots list, from slot to slot
 
 module _ (m : Memory) (bytes signature : List ℕ) (d k : ℕ) where
-  -- and one slot more
   pub so_far_next : (found here next : Option ℕ) → next ≡ option_or found here
       → IsFirstSoFar m bytes d k signature found → IsSignedIn m bytes d k signature here
       → IsFirstSoFar m bytes d (k + 1) signature next
@@ -143,7 +138,6 @@ module _ (m : Memory) (bytes signature : List ℕ) (d k : ℕ) where
       record { k = k; slot = at.0; signed = at.1; none_before = λ j b below slot signed. none j b below slot signed } in
       rw is first
 
-  -- and all of them
   pub so_far_all : (n : ℕ) (found : Option ℕ) → ((j b : ℕ) → HasSlot bytes d j b → j < n) → n ≤ k
       → IsFirstSoFar m bytes d k signature found
       → MatchOption found (IsNoneListed m bytes d signature) (IsFirstListed m bytes d signature)

@@ -16,7 +16,6 @@ pub madt_cut : (madt : List ℕ) → (madt_contents madt).cut ≡ cut_of 44 madt
 unfolding madt_contents
 madt_cut madt = refl
 
--- the faults that an entry has by itself
 pub own_codes : (q : PolicyValue) (c : MadtContents) (fault : Code) (at other point : ℕ) → ¬ (fault ≡ code.MadtShort)
     → ¬ (fault ≡ code.MadtEntryCut) → ¬ (fault ≡ code.SecondAddressOverride)
     → MadtFault q c fault at other point ≡ (StandsWith c.entries at (MadtEntryFault q fault) × AreUnused other point)

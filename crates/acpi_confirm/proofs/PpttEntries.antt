@@ -1,4 +1,4 @@
--- The entries of a PPTT.
+-- The entries of a PPTT: nodes, caches and what they name.
 use Rattle.std.proofs.Common.{◌≡◌, ◌+◌, ◌*◌, ◌<◌, ◌≤◌, ℕ, List, length, Option, Some, None, refl, ap, ◌∙◌, inl, inr, arith}
 use Rattle.std.specs.Prelude.{slice_index, slice_get, Bool, true, false}
 use Rattle.std.proofs.lemmas.Bool.{and_parts, or_cases, eqb-true}
@@ -17,7 +17,6 @@ form_type : (e : List ℕ) (type size : ℕ) → has_form e type size ≡ true �
 unfolding has_form
 form_type e type size form = eqb-true _ _ (and_parts _ _ form).0
 
--- a node has type 0, and a cache type 1
 pub node_type : (e : List ℕ) → has_node_form e ≡ true → slice_index e 0 ≡ 0
 unfolding has_node_form
 node_type e form = form_type e 0 (20 + 4 * resource_count e) form
@@ -35,11 +34,9 @@ not_true : (b : Bool) → (b ≡ true → ⊥) → b ≡ false
 not_true true not = absurd (not refl)
 not_true false not = refl
 
--- so a cache is no node
 pub cache_no_node : (e : List ℕ) → has_cache_form e ≡ true → has_node_form e ≡ false
 cache_no_node e cache = not_true (has_node_form e) (λ node. omega (arith, node_type e node, cache_type e cache))
 
--- the type of an entry, typed or not, is its first byte
 pub type_of : (e : List ℕ) → pptt_type (pptt_entry e) ≡ slice_index e 0
 unfolding pptt_entry
 type_of e = grind (arith, node_type, cache_type)
@@ -71,7 +68,6 @@ pub ruleset resources = (resource_is, no_resource, node_size)
 
 -- ---- what entries name
 
--- what an entry names by a chain is all that is named there
 pub names_of : (chain : Chain) (c : PpttContents) (at : ℕ) (only : Option ℕ)
     → IsOnly (λ p. StandsWith c.entries at (λ e. named_offset chain e ≡ Some p)) only → IsOnly (Names chain c at) only
 names_of Parents c at only is = is

@@ -12,7 +12,6 @@ use Rattle.acpi_confirm.specs.Srats.{CoversWith, AreCompared}
 use Rattle.acpi_base.specs.declared.code.Code.{Code}
 use Rattle.acpi_base.specs.declared.code.Code.TheVariants as code
 
--- a number of three bytes is one of two bytes and the third
 pub three_bytes : (e : List ℕ) → field e 9 3 ≡ field e 9 2 + 65536 * field e 11 1
 unfolding field
 three_bytes e = grind (arith, get_or-drop 9 e 0 0, get_or-drop 9 e 1 0, get_or-drop 9 e 2 0, get_or-drop 11 e 0 0)
@@ -25,7 +24,6 @@ pub srat_cut : (srat : List ℕ) → (srat_contents srat).cut ≡ cut_of 48 srat
 unfolding srat_contents
 srat_cut srat = refl
 
--- the faults that an entry has by itself
 pub own_codes : (c : SratContents) (fault : Code) (at other point : ℕ) → ¬ (fault ≡ code.SratShort)
     → ¬ (fault ≡ code.SratEntryCut)
     → SratFault c fault at other point ≡ (StandsWith c.entries at (SratEntryFault fault) × AreUnused other point)
@@ -40,14 +38,13 @@ pub ruleset srat_codes = (srat_size, srat_cut, own_codes)
 abbrev CoversAt : SratContents → ℕ → ℕ → ℕ → Type 0
 CoversAt c o x flags = StandsWith c.entries o (CoversWith x flags)
 
--- an enabled range with these flags covers the address as one of those that P holds of
 covers : (P : MemoryValue → Type 0) (c : SratContents) (o x flags : ℕ) → ((v : MemoryValue) → v.flags ≡ flags → P v)
     → CoversAt c o x flags → (s : ℕ) × Covers P c o s x
 covers P c o x flags holds (MemoryRange v, stands, (enabled, from, below, is)) =
     (v.base, (MemoryRange v, stands, (enabled, holds v is, refl, from, below)))
 covers P c o x flags holds (_, stands, not) = absurd not
 
--- and the other way round
+-- conversely, a range with P covers the address, with its flags
 record CoversBy (P : MemoryValue → Type 0) (c : SratContents) (o x : ℕ) : Type 0 where
   range : MemoryValue
   there : CoversAt c o x range.flags
@@ -60,7 +57,6 @@ covered P c o s x (MemoryRange v, stands, (enabled, kind, base, from, below)) =
     record { range = v; there = (MemoryRange v, stands, (enabled, least, most, refl)); kind = kind }
 covered P c o s x (_, stands, not) = absurd not
 
--- two ranges of one kind clash where both cover the address
 clash : (P : MemoryValue → Type 0) (c : SratContents) (o p x f g : ℕ) → CoversAt c o x f → CoversAt c p x g → o ≢ p
     → ((v : MemoryValue) → v.flags ≡ f → P v) → ((v : MemoryValue) → v.flags ≡ g → P v)
     → IsIntervalOverlap (Covers P c) o p x
@@ -92,7 +88,6 @@ cover_both h P c o p x compared clash =
     let other = covered P c p clash.t x clash.other_holds in
     (one.range.flags, other.range.flags, one.there, other.there, compared one.range other.range one.kind other.kind)
 
--- which is what an overlap of two offsets is
 pub overlap : (h : HotPlug) (c : SratContents) (o p x : ℕ) → o ≢ p → CoverBoth h c o p x ↔ IsOverlap h c o p x
 overlap Counted c o p x apart = (
   λ (f, g, one, other, _). clash IsAny c o p x f g one other apart (λ v same. tt) (λ v same. tt),

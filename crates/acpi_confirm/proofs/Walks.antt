@@ -1,4 +1,4 @@
--- A walk over the entries of a table, and where they begin.
+-- A walk over the entries of a table, and notes of where they begin.
 use Rattle.std.proofs.Common.{◌≡◌, ℕ, ◌+◌, ◌<◌, ◌≤◌, List, [], ◌∷◌, length, drop, Option, Some, None, refl, ap, ◌∙◌, sym, subst, inl, inr, arith, length-drop}
 use Rattle.std.specs.Prelude.{◌⊎◌}
 use Rattle.std.proofs.lemmas.List.{nil_from_length}
@@ -19,13 +19,11 @@ use Rattle.acpi_confirm.proofs.Chains.{ahead}
 
 -- ---- the walk
 
--- nothing stands behind the end of the table
 pub is_past : (start : ℕ) (whole : List ℕ) → length whole ≤ start → IsEnd start whole
 is_past start whole past =
     is_end start whole (ap first_entry (nil_from_length (drop start whole) (omega (arith, length-drop start whole)))
     ∙ nothing_at_end)
 
--- the entry that the bytes from the start on begin with, or none
 pub end_or_next : (start : ℕ) (whole : List ℕ) (found : Option (Bor (List ℕ)))
     → option_map (λ entry. entry.now) found ≡ first_entry (drop start whole)
     → MatchOption found (IsEnd start whole) (λ entry. IsNext start whole entry.now)
@@ -35,7 +33,6 @@ end_or_next start whole (Some e) is = is_next start whole e.now (sym is)
 pub at_first : (first : ℕ) (whole : List ℕ) (at : ℕ) → IsOnWay first first whole at
 at_first first whole at = record { same = λ e. (λ h. h, λ h. h) }
 
--- over an entry that stands before the offset
 pub at_next : (first start : ℕ) (whole : List ℕ) (at : ℕ) (e : List ℕ) → IsOnWay first start whole at
     → IsNext start whole e → start < at → IsOnWay first (start + length e) whole at
 at_next first start whole at e way next before =
@@ -49,11 +46,9 @@ at_next first start whole at e way next before =
       );
     }
 
--- no entry stands at an offset before those that are left
 none_before : (start : ℕ) (whole : List ℕ) (at : ℕ) (e : List ℕ) → at < start → ¬ Stands (entries_of start whole) at e
 none_before start whole at e before stands = absurd (omega (arith, entry_within start whole at e stands))
 
--- where none is left, none stands at the offset
 pub none_there : (first start : ℕ) (whole : List ℕ) (at : ℕ) → IsOnWay first start whole at → IsEnd start whole
     → IsThere (entries_of first whole) at None
 none_there first start whole at way end =
@@ -64,7 +59,6 @@ none_there first start whole at way end =
       );
     }
 
--- nor where the walk has passed the offset
 pub passed_there : (first start : ℕ) (whole : List ℕ) (at : ℕ) → IsOnWay first start whole at → at < start
     → IsThere (entries_of first whole) at None
 passed_there first start whole at way before =
@@ -75,7 +69,7 @@ passed_there first start whole at way before =
       );
     }
 
--- at the offset itself the next entry stands, or none
+-- the next entry is at the offset itself, or none
 pub is_there : (first start : ℕ) (whole : List ℕ) (at : ℕ) (found : Option (Bor (List ℕ))) → start ≡ at
     → IsOnWay first start whole at → MatchOption found (IsEnd start whole) (λ entry. IsNext start whole entry.now)
     → IsThere (entries_of first whole) at (option_map (λ entry. entry.now) found)
@@ -98,7 +92,7 @@ pub ruleset walking = (at_first, at_next, is_past, end_or_next, none_there)
 
 -- ---- a search
 
--- from the start on the same entries stand as in the whole table, but for some of which No holds
+-- from the start on there are the same entries as in the complete table, except for some for which `No` holds
 pub record IsOver (No : List ℕ → Type 0) (first start : ℕ) (whole : List ℕ) : Type 0 where
   pub listed : (o : ℕ) (e : List ℕ) → Stands (entries_of start whole) o e → Stands (entries_of first whole) o e
   pub passed : (o : ℕ) (e : List ℕ) → Stands (entries_of first whole) o e → Stands (entries_of start whole) o e ⊎ No e
@@ -125,7 +119,6 @@ over_all No first start whole over end o e stands =
 
 -- ---- what is noted
 
--- each start stays one with another that is noted
 pub noted_with : (size start : ℕ) (old new whole : List ℕ) → AreStarts size old whole → HasEntryAt whole start
     → AreNotedWith size start old new → AreStarts size new whole
 noted_with size start old new whole starts here with =
@@ -139,14 +132,12 @@ noted_with size start old new whole starts here with =
 
 -- ---- the walk over all entries
 
--- the entry that the walk has come to is one of the table's
 pub has_entry : (No : List ℕ → Type 0) (start : ℕ) (whole e : List ℕ) → IsOver No 36 start whole → IsNext start whole e
     → HasEntryAt whole start
 has_entry No start whole e over next = (e, over.listed start e (rw next.first (first_element _ _)))
 
 -- ---- a look-up
 
--- what the walk from the table's first entry comes to is what the walk from a start does
 pub there_ahead : (pptt : List ℕ) (start at : ℕ) (there : Option (List ℕ)) → HasEntryAt pptt start → start ≤ at
     → IsThere (entries_of start pptt) at there → IsThere (entries_of 36 pptt) at there
 there_ahead pptt start at there (e, stands) behind is =

@@ -1,4 +1,4 @@
--- The cell of a SLIT at an offset.
+-- The cell of a SLIT at an offset (ACPI 6.5, 5.2.17).
 use Rattle.std.specs.Prelude.{◌≡◌, ℕ}
 use Rattle.acpi_base.specs.Slit.{SlitContents, HasSlitSize, IsCell, distance}
 use Rattle.acpi_confirm.specs.declared.slit.Cell.{Cell}

@@ -1,4 +1,4 @@
--- References between entries of a PPTT.
+-- References between entries of a PPTT (ACPI 6.5, 5.2.30).
 use Rattle.std.specs.Prelude.{ℕ, Option, Some}
 use Rattle.acpi_base.specs.Chains.{IsStep}
 use Rattle.acpi_base.specs.Pptt.{PpttEntry, PpttContents, parent_of, next_level_of, NamesParent, NamesNextLevel}
@@ -17,7 +17,7 @@ abbrev pub Names : Chain → PpttContents → ℕ → ℕ → Type 0
 Names Parents c = NamesParent c
 Names NextLevels c = NamesNextLevel c
 
--- a step leads from o to this node, with these contents
+-- a step leads from o to this node or cache, with this reference
 pub record IsStepTo (Named : ℕ → ℕ → Type 0) (o : ℕ) (next : Linked) : Type 0 where
   pub step : IsStep Named o next.at
   pub names : IsOnly (Named next.at) (Some next.names)

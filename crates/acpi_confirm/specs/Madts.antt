@@ -1,4 +1,4 @@
--- The contents of an entry of a MADT.
+-- Conditions on an entry of a MADT (ACPI 6.5, 5.2.12).
 use Rattle.std.specs.Prelude.{◌≤◌, ◌<◌, ◌+◌, ℕ, length}
 use Rattle.acpi_base.specs.Madt as said
 use Rattle.acpi_base.specs.Policy.{PolicyValue, inputs_of}

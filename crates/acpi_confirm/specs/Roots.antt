@@ -1,4 +1,4 @@
--- The root table of a set and its slots.
+-- The root table of a set and its slots (ACPI 6.5, 5.2.7, 5.2.8).
 use Rattle.std.specs.Prelude.{◌≡◌, ℕ, ◌<◌, ◌≤◌, List, length, Option, Some, MatchOption}
 use denote.Ref.{Bor}
 use Rattle.acpi_base.specs.Memory.{Memory, bytes_at}
@@ -17,7 +17,8 @@ pub record HasSlots (d : ℕ) (bytes : List ℕ) : Type 0 where
   pub width : IsSlotWidth d
   pub long : 36 ≤ length bytes
 
--- what slot k of a root's bytes lists: its address and the header there, if the slot has an address and one is present there
+-- what slot k of a root table's bytes lists: its address and the header there, if the slot has an address and one is present
+-- there
 abbrev pub IsHeaderIn : Memory → List ℕ → ℕ → ℕ → Option (ℕ × Bor (List ℕ)) → Type 0
 IsHeaderIn m bytes d k found =
     MatchOption found ((a : ℕ) (header : List ℕ) → HasSlot bytes d k a → ¬ (bytes_at m a 36 ≡ Some header))

@@ -1,4 +1,4 @@
--- The contents of an entry of an SRAT.
+-- Conditions on an entry of an SRAT (ACPI 6.5, 5.2.16).
 use Rattle.std.specs.Prelude.{◌≡◌, ◌≤◌, ◌<◌, ◌+◌, ℕ, length, true}
 use Rattle.acpi_base.specs.Srat.{is_enabled, is_hot_pluggable}
 use Rattle.acpi_base.specs.Srat as said

@@ -37,7 +37,8 @@ FindsOne Answers entries false = (o : ℕ) (e : List ℕ) → Stands entries o e
 pub record FindsAny (Answers : Bor (List ℕ) → Bool → Type 0) (entries : List (PlacedEntry (List ℕ))) (r : Bool) : Type 0 where
   pub one : FindsOne Answers entries r
 
--- ---- notes of where entries of a PPTT begin. The table's bytes are divided into blocks of one size. The note of a block says how many bytes after the block's beginning an entry begins; 255 means that there is no note
+-- ---- notes of where entries of a PPTT begin. The table's bytes are divided into blocks of one size. The note of a block
+-- says how many bytes after the block's beginning an entry begins; 255 means that there is no note.
 
 -- there is an entry at the offset
 abbrev pub HasEntryAt : List ℕ → ℕ → Type 0

@@ -1,4 +1,4 @@
-//! The entries of a table, one after another.
+//! The entries of a table, one after another, and searches for them.
 
 ghost use Rattle.std.specs.Prelude.{◌≡◌, ◌<◌, IfSome, List, ℕ};
 ghost use denote.Ref.{Bor};

@@ -1,4 +1,4 @@
-//! Codes 32 to 59: the first listed tables that the codes are about, each judged by its bytes.
+//! Codes 32 to 59: the first listed tables that the codes are about, each checked by its bytes.
 
 ghost use Rattle.std.specs.Prelude.{◌↔◌, IsTrue};
 ghost use Rattle.acpi_base.specs.Across.{DomainFault, LeafFault};

@@ -1,4 +1,4 @@
-//! Confirming a fault: whether an image has a fault that a checker reports, judged independently of the checker.
+//! Confirming a fault: whether an image has a fault that a checker reports, checked independently of the checker.
 //!
 //! `confirm` returns true exactly for the faults of the definitions, wherever the witness comes from and whatever its
 //! three numbers are. It does not require that earlier stages hold. With the crates that check it shares only
@@ -20,7 +20,7 @@
 //!
 //! ```text
 //! rsdp      1 to 7     the RSDP
-//! root      8 to 14    the root, and its bytes for the codes behind it
+//! root      8 to 14    the root table, and its bytes for the later codes
 //! tables   15 to 18    a listed table
 //! fadt     19 to 25    the FADT
 //! facs     26 to 31    the FACS
@@ -31,8 +31,8 @@
 //! cross    57 to 59    two tables, or two kinds of entries
 //! ```
 //!
-//! `listed` finds the first listed table with a signature. `in_tables` passes its bytes on to be judged, and `entries`
-//! walks over the entries of a table.
+//! `listed_tables` finds the first listed table with a signature. `in_tables` passes its bytes on to be checked, and
+//! `entries` walks over the entries of a table.
 #![tactic(auto)]
 
 ghost use Rattle.std.specs.Prelude.{◌↔◌, IsTrue};

@@ -22,7 +22,7 @@ pub(crate) fn listed<'a>(image: &'a Image, policy: &Policy, signature: &[u8; 4])
 }
 
 /// The bytes of the first listed table with the one signature, and of that with the other, each if it is complete. The
-/// slots are gone over once for both.
+/// slots are read once for both.
 pub(crate) fn both_listed<'a>(
     image: &'a Image,
     policy: &Policy,

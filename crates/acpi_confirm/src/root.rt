@@ -20,7 +20,7 @@ struct Addresses {
     xsdt: u64,
 }
 
-/// Where the root table is, and how wide its slots are.
+/// The address of the root table, and the width of its slots.
 #[derive(Clone, Copy, Debug)]
 struct RootPlace {
     address: u64,

@@ -156,7 +156,7 @@ fn covering_at(srat: &[u8], at: u64, address: u64) -> Option<u32>
     })
 }
 
-/// Whether two ranges with these flags must not overlap.
+/// Whether two ranges with these flags are compared, so that they must not overlap.
 fn are_compared(hotplug: HotPlug, one: u32, other: u32) -> bool
     ensures { IsTrue result ↔ AreCompared hotplug one other }
 {

@@ -76,7 +76,7 @@ fn steps_fit(most: u64, lead: u64, round: u64) -> bool
 }
 
 /// Whether `other` steps lead from the offset `at` to one from which `point` steps lead back to it, at most `most` in
-/// all, with which they are compared before the first is taken. It is not inlined, so that no other call takes the
+/// all. That is tested before the first step is taken. It is not inlined, so that no other call takes the
 /// stack for the notes.
 #[inline(never)]
 fn is_cycle(pptt: &[u8], chain: Chain, most: u64, witness: &Witness) -> bool

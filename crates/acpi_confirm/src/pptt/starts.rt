@@ -2,7 +2,7 @@
 //!
 //! The table's bytes are divided into blocks of one size. One walk over all entries notes where the first one of each
 //! block begins, in one byte. A look-up of an entry starts at the note of its block, so it walks over at most one
-//! block. It is proved that a note is the start of an entry; that it is the first one matters only for time.
+//! block. It is proved that a note is the start of an entry; that it is the first one affects only speed.
 
 ghost use Rattle.std.specs.Prelude.{◌≡◌, ◌≤◌, IfSome, length};
 ghost use Rattle.std.specs.Option.{option_map};

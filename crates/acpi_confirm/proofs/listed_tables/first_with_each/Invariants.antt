@@ -1,7 +1,7 @@
 use Rattle.acpi_confirm.specs.Roots.{IsFirstSoFar}
 use Rattle.acpi_confirm.proofs.listed_tables.first_with_each.Given as goal
 
--- what the slots before k list first is known
+-- the first table that the slots before k list is known
 abbrev pub invariant-loop-k : goal.invariant-loop-k
 invariant-loop-k l = record {
   one : IsFirstSoFar l.image l.root.bytes.now l.root.width l.k l.one l.first;
