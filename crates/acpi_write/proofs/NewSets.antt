@@ -1,4 +1,4 @@
--- What stands in a rebuilt image, and that it says the same.
+-- The tables of a rebuilt image, and that they say the same.
 pub mod KeptSets
 pub mod NamedFacs
 pub mod NewImage

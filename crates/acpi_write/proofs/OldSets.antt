@@ -1,4 +1,4 @@
--- What the tables of a clean set are, and what it says.
+-- The tables of a clean set, and what they say.
 pub mod CleanSets
 pub mod FirstListed
 pub mod FirstTables

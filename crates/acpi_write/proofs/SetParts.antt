@@ -1,4 +1,4 @@
--- The parts of a set, and where they are put.
+-- The parts of a set, and their addresses.
 pub mod PartLengths
 pub mod PartPlaces
 pub mod PartsInOrder

@@ -1,4 +1,4 @@
--- The bytes of a table: what is written for what one says.
+-- The bytes of a table: what is written for what it says.
 pub mod EntryRuns
 pub mod FadtBodies
 pub mod KeptContents

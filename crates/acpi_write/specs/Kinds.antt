@@ -1,4 +1,4 @@
--- Which tables are read as those of a kind, and what is required of them.
+-- Which tables are read by their contents as those of a kind, and what is required of them.
 use Rattle.std.specs.Prelude.{◌≡◌, ℕ, ◌<◌, Bool, true, false, not, List, length, take, slice_index_or, Option, Some, None, is_none}
 use Rattle.std.specs.List.{list_any}
 use Rattle.acpi_base.specs.Number.{byte_sum}

@@ -1,4 +1,4 @@
--- What the laws about values say.
+-- The laws about values.
 use Rattle.std.specs.Prelude.{◌≡◌, ℕ, ◌^◌, ◌<◌, List, length, drop, Some, true}
 use Rattle.acpi_base.specs.Signature.{has_signature}
 use Rattle.acpi_base.specs.Entries.{IsEntry}

@@ -12,8 +12,8 @@ use Rattle.acpi_write.specs.Values.{TableValue, Known, Fadt, SetValue}
 use Rattle.acpi_write.specs.declared.placing.RebuildFault.{RebuildFault}
 use Rattle.acpi_write.specs.declared.placing.RebuildFault.TheVariants as fault
 
--- where blocks of these lengths end, after their last byte: the first begins at an address, each further one at the
--- lowest multiple of 64 not below the end of the one before
+-- the ends of blocks of these lengths, after their last byte: the first begins at an address, each further one at the lowest
+-- multiple of 64 not below the end of the one before
 unfoldable pub block_ends : ℕ → List ℕ → List ℕ
 block_ends a [] = []
 block_ends a (n ∷ rest) = (a + n) ∷ block_ends (aligned_address (a + n)) rest

@@ -30,7 +30,7 @@ unfoldable pub blocks_from : ℕ → List (List ℕ) → List PlacedBlock
 blocks_from a [] = []
 blocks_from a (bytes ∷ rest) = record { address = a; bytes = bytes } ∷ blocks_from (aligned_address (a + length bytes)) rest
 
--- where blocks of these lengths begin
+-- the addresses of blocks of these lengths
 unfoldable pub block_places : ℕ → List ℕ → List ℕ
 block_places a [] = []
 block_places a (n ∷ rest) = a ∷ block_places (aligned_address (a + n)) rest
@@ -55,7 +55,7 @@ xsdt_length v = 36 + 8 * length v.tables
 abbrev pub part_lengths : SetValue → List ℕ
 part_lengths v = 36 ∷ xsdt_length v ∷ (map length (option_list v.facs) ++ map encoded_length v.tables)
 
--- where they begin, the first at the base address
+-- the parts' addresses, the first of which is the base address
 abbrev pub part_places : SetValue → ℕ → List ℕ
 part_places v base = block_places base (part_lengths v)
 

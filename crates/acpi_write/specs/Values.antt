@@ -25,7 +25,7 @@ kind_of (Fadt _) = kind.Fadt
 
 -- the contents of a table; if it is of a kind, those of its header except signature, length and checksum (5.2.6)
 pub data TableValue : Type 0 where
-  Known : HeadValue → BodyValue → TableValue  -- of the header, and of what stands behind it
+  Known : HeadValue → BodyValue → TableValue  -- of the header, and of what comes after it
   Other : List ℕ → TableValue  -- all bytes of any other table, also of a later one with such a signature
 
 -- the contents of a set: the RSDP's OEMID, the root table's header, the listed tables in the order of their slots,

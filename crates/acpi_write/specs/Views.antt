@@ -1,4 +1,4 @@
--- Values of the program as plain values, and their shape.
+-- Values of the program as plain values, and whether they can be written.
 use Rattle.std.specs.Prelude.{◌≡◌, ◌*◌, ◌^◌, ◌<◌, ◌≤◌, length, map, slice_index}
 use Rattle.std.specs.List.{All}
 use Rattle.std.specs.Option.{option_map}
@@ -76,7 +76,7 @@ abbrev pub values_fault_of : Refusal → ValuesFault
 values_fault_of (Fault w) = values_fault.NotClean w
 values_fault_of OutOfMemory = values_fault.Memory
 
--- ---- shape: whether there are bytes for it
+-- ---- shape: whether there are bytes for a value
 
 -- an entry that is kept as bytes has its own length in its length byte, and a type without a meaning in its table
 abbrev pub IsShapedMadt : MadtEntry → Type 0

@@ -1,4 +1,4 @@
-//! Tables as bytes.
+//! Tables written as bytes.
 
 ghost use Rattle.std.specs.Prelude.{◌≡◌, ◌≢◌, ◌+◌, ◌*◌, ◌^◌, ◌<◌, ◌≤◌, ◌++◌, length, map, flat_map, IsTrue, IfOk, IfErr, OnOk, MatchOption, ◌↔◌};
 ghost use Rattle.acpi_write.specs.Encoded.{table_bytes, encoded_bytes, body_of, encoded_length, FitsHead};

@@ -1,4 +1,4 @@
-//! Entries as bytes.
+//! Entries written as bytes.
 
 ghost use Rattle.std.specs.Prelude.{◌≡◌, ◌≢◌, ◌≤◌, ◌*◌, ◌^◌, ◌++◌, ℕ, List, ◌↔◌, length, slice_index, flat_map, IsTrue, OnOk, MatchOption};
 ghost use Rattle.std.specs.List.{All};

@@ -1,4 +1,4 @@
-//! The FACS's address in a FADT.
+//! The body of a FADT with another FACS address.
 
 ghost use Rattle.std.specs.Prelude.{◌≡◌, ◌≤◌, ◌<◌, ◌^◌, length, IfOk};
 ghost use Rattle.acpi_write.specs.FadtBody.{with_facs};

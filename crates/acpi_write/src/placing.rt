@@ -70,9 +70,9 @@ fn written_length(table: &TableValue<'_>) -> u64
     ensures length { result ≡ encoded_length (table_value table.now) }
 {
     match table {
-        // They are known to sum to 0, and are not read again.
+        // Tables of other kinds are known to sum to 0, and are not read again.
         TableValue::Other { bytes } => bytes.len() as u64,
-        // There is a length for a value that has the right shape.
+        // A value of the right shape has a length.
         _ => size_of(table).unwrap_or(0) as u64,
     }
 }
@@ -90,7 +90,7 @@ fn append_lengths(lengths: &mut Vec<u64>, tables: &[TableValue<'_>]) -> Result<(
     Ok(())
 }
 
-/// Where blocks of these lengths begin that are placed from a base address on, each at the next multiple of 64.
+/// The addresses of blocks of these lengths that are placed from a base address on, each at the next multiple of 64.
 /// Refuses with `PastEnd` if one would pass the last address, and with `Memory`.
 fn places_of(alloc: Global, base: u64, lengths: &[u64]) -> Result<Vec<u64>, RebuildFault>
     requires { All (λ n. 0 < n) lengths.now }

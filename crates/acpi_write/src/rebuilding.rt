@@ -1,4 +1,4 @@
-//! Sets at another address.
+//! Sets rebuilt at another address.
 
 ghost use Rattle.std.specs.Prelude.{IfOk, IfErr};
 ghost use Rattle.acpi_base.specs.Memory.{IsImage};

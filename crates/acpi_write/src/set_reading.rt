@@ -1,4 +1,4 @@
-//! Values of sets.
+//! The contents of clean sets.
 
 ghost use Rattle.std.specs.Prelude.{IfOk, IfErr};
 ghost use Rattle.std.specs.List.{All};

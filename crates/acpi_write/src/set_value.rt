@@ -1,4 +1,4 @@
-//! The contents of sets of tables.
+//! The value of a set of tables.
 
 ghost use Rattle.std.specs.Prelude.{◌≡◌};
 

@@ -84,7 +84,7 @@ fn part(
 }
 
 /// The image that has the parts of a set at their addresses, the first of which is the base address, and nothing
-/// else. The bytes of only one part at a time are kept beside the image.
+/// else. Besides the image, the bytes of only one part at a time are in memory.
 pub(crate) fn written_set(
     alloc: Global,
     value: &SetValue<'_>,

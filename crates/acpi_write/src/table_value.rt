@@ -1,4 +1,4 @@
-//! The contents of tables.
+//! The values of tables and headers.
 
 use acpi_read::{MadtEntry, PpttEntry, SratEntry};
 

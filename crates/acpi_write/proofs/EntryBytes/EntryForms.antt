@@ -1,4 +1,4 @@
--- What entries of a table say, by the list of its kinds.
+-- What entries of a table say, by the list of the table's kinds.
 use Rattle.std.proofs.Common.{◌≡◌, ℕ, ◌≤◌, true, false, List, [], ◌∷◌, length, refl, sym, ap, subst, ◌∙◌, inl, inr, arith, ◌+◌, ◌*◌, flat_map, length-append}
 use Rattle.std.specs.Prelude.{◌==◌, slice_index, ◌⊎◌}
 use Rattle.std.proofs.lemmas.Bool.{cases_Bool, eqb-true, and_parts, eq-eqb, ne_eqb}
@@ -16,11 +16,10 @@ use Rattle.acpi_read.specs.Madts.{madt_bytes, madt_kept}
 use Rattle.acpi_read.specs.Srats.{srat_bytes, srat_kept}
 use Rattle.acpi_read.specs.Pptts.{pptt_bytes}
 
--- an entry of a kind is an entry
 pub is_entry : {V : Type 0} (k : EntryType V) → 2 ≤ k.size → (e : List ℕ) (v : V) → IsEntryOf k e v → IsEntry e
 is_entry k some e v is = record { least = subst (λ (n : ℕ). 2 ≤ n) (sym is.count) some; said = is.said ∙ sym is.count }
 
--- one of none of the types is opaque
+-- an entry with none of the types is opaque
 none_reads : {E : Type 0} (kinds : List (EntryType E)) (opaque : List ℕ → E) (e : List ℕ)
     → ¬ IsTypeOf kinds (slice_index e 0) → value_of_kind kinds opaque e ≡ opaque e
 unfolding has_form
@@ -60,7 +59,6 @@ pub record IsAgain {E : Type 0} (read : List ℕ → E) (e w : List ℕ) : Type 
   pub typed : slice_index w 0 ≡ slice_index e 0
   pub same : read w ≡ read e
 
--- the first kind says it, or the others do
 chosen : {E : Type 0} (k : EntryType E) (kinds : List (EntryType E)) (opaque : List ℕ → E) (e : List ℕ)
     → has_form e k.type k.size ≡ true → value_of_kind (k ∷ kinds) opaque e ≡ k.read e
 chosen k kinds opaque e is = rw is refl
@@ -69,7 +67,6 @@ passed : {E : Type 0} (k : EntryType E) (kinds : List (EntryType E)) (opaque : L
     → has_form e k.type k.size ≡ false → value_of_kind (k ∷ kinds) opaque e ≡ value_of_kind kinds opaque e
 passed k kinds opaque e not = rw not refl
 
--- as many bytes are written for what an entry says
 pub length_by : {E : Type 0} (write : E → List ℕ) (kinds : List (EntryType E)) (opaque : List ℕ → E) → KeepKinds write kinds
     → ((e : List ℕ) → write (opaque e) ≡ e) → (e : List ℕ)
     → length (write (value_of_kind kinds opaque e)) ≡ length e
@@ -81,7 +78,7 @@ length_by write (k ∷ kinds) opaque keep kept e =
       | inr not ↦ ap (λ v. length (write v)) (passed k kinds opaque e not) ∙ length_by write kinds opaque keep.1 kept e
     ]
 
--- and they say it again
+-- and the bytes say it again
 pub again_by : {E : Type 0} (write : E → List ℕ) (kinds : List (EntryType E)) (opaque : List ℕ → E) → KeepKinds write kinds
     → ((e : List ℕ) → write (opaque e) ≡ e) → (e : List ℕ)
     → AreByteValues e → IsEntry e → IsAgain (value_of_kind kinds opaque) e (write (value_of_kind kinds opaque e))

@@ -50,7 +50,6 @@ list_ends value IsRead all left found none so_far =
 
 -- ---- each can be written
 
--- what is so of each entry is so of what was found
 pub all_found : {E Said : Type 0} (value : E → Said) (P : Said → Type 0) (found : List E)
     (entries : List (PlacedEntry Said)) → map value found ≡ entries_in entries
     → ((o : ℕ) (e : Said) → Stands entries o e → P e) → All (λ v. P (value v)) found

@@ -1,4 +1,4 @@
--- What an entry says is said again by the bytes that are written for it.
+-- The bytes that are written for what an entry says say the same.
 use Rattle.std.proofs.Common.{◌≡◌, ℕ, ◌+◌, ◌*◌, ◌<◌, ◌≤◌, true, false, List, length, get_or, drop, map, refl, sym, subst, inl, inr, arith, length-drop}
 use Rattle.std.specs.Prelude.{◌⊎◌, ◌==◌, Some, None}
 use Rattle.std.specs.List.{range_with_len}

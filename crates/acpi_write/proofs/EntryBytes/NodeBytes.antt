@@ -21,7 +21,6 @@ cache24_says e v is = (is_entry cache24 (omega arith) e v is, sym (cache24_typed
 pub cache28_says : (e : List ℕ) (v : CacheValue) → IsEntryOf cache28 e v → SaysEntry pptt_entry e (Cache v)
 cache28_says e v is = (is_entry cache28 (omega arith) e v is, sym (cache28_typed e v is))
 
--- an entry of another type is kept as it is
 pub pptt_kept : (e : List ℕ) → IsEntry e → 2 ≤ slice_index e 0 → pptt_entry e ≡ Opaque e
 pptt_kept e is other =
     sym (others_opaque e (λ h. absurd (omega (arith, h, other))) (λ h. absurd (omega (arith, h, other))))
@@ -39,7 +38,6 @@ few_references h = h.fits
 
 pub ruleset node_sizes = (node_length, few_references)
 
--- four bytes and their number
 four : (a b c d : ℕ) (rest : List ℕ) → a < 256 → b < 256 → c < 256 → d < 256
     → number_bytes 4 (field (a ∷ b ∷ c ∷ d ∷ rest) 0 4) ≡ a ∷ b ∷ c ∷ d ∷ []
 unfolding number_bytes field
@@ -63,7 +61,6 @@ field_dropped : (bytes : List ℕ) (at width : ℕ) → field bytes at width ≡
 unfolding field
 field_dropped bytes at width = refl
 
--- references that are read are written as they were
 references_again : (n j : ℕ) (bytes : List ℕ) → ((k : ℕ) → get_or bytes k 0 < 256) → length bytes ≡ 4 * (j + n)
     → flat_map (λ r. number_bytes 4 r) (map (λ i. field bytes (4 * i) 4) (range_with_len j n)) ≡ drop (4 * j) bytes
 references_again zero j bytes low count = sym (drop_all (4 * j) bytes (omega (arith, count)))

@@ -1,4 +1,4 @@
--- The rebuilt image of a clean set holds a clean set that says the same.
+-- The rebuilt image of a clean set has a clean set that says the same.
 use Rattle.std.proofs.Common.{◌≡◌, ℕ, List, sym, ap, ◌∙◌, subst}
 use Rattle.acpi_base.specs.Memory.{Memory}
 use Rattle.acpi_base.specs.Fadt.{IsFadt, IsValidFadt}
@@ -24,7 +24,6 @@ use Rattle.acpi_write.proofs.NewSets.SameStages.{AreSameListed, clean_again}
 
 -- ---- the first tables
 
--- the first table of each kind keeps its contents, from one set to another
 are_same : (m : Memory) (q : PolicyValue) (v : SetValue) (base : ℕ) → (said : IsSetValue m q.rsdp v)
     → IsNewSet v base said.tables → AreSameListed m q.rsdp (rebuilt_image v base) base
 are_same m q v base said new kind other is =
@@ -38,7 +37,7 @@ are_same m q v base said new kind other is =
 
 -- ---- stages 4 and 5
 
--- what is said of the old set's FADT is known of the new one's
+-- the facts about the old set's FADT hold for the new one
 record IsFadtKept (v : SetValue) (base : ℕ) : Type 0 where
   valid : IsValidFadt (rebuilt_image v base) base
   facs : (fadt : List ℕ) → IsFadt (rebuilt_image v base) base fadt → IsFacsOf (rebuilt_image v base) fadt v.facs
@@ -63,7 +62,7 @@ fadt_kept m q v base clean said placed new =
       facs_valid = λ other listed. subst (HasValidFacs n) (one other listed) valid;
     }
 
--- ---- the whole
+-- ---- all stages
 
 kept_clean : (m : Memory) (q : PolicyValue) (v : SetValue) (base : ℕ) → IsClean m q → (said : IsSetValue m q.rsdp v)
     → IsNewSet v base said.tables → IsFadtKept v base → IsClean (rebuilt_image v base) (with_rsdp q base)

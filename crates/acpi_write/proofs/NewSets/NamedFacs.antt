@@ -59,7 +59,6 @@ field-put_at bytes at width x h fits =
 
 -- ---- a body with a FACS address
 
--- fields from 4 to 96 stay
 field-with_facs : (body : List ℕ) (facs offset width : ℕ) → 4 ≤ length body → 4 ≤ offset → offset + width ≤ 96
     → field (with_facs body facs) offset width ≡ field body offset width
 field-with_facs body facs offset width h past below =

@@ -1,4 +1,4 @@
--- A rebuilt image holds its parts, and leads to its tables.
+-- A rebuilt image has its parts, and leads to its tables.
 use Rattle.std.proofs.Common.{◌≡◌, ℕ, zero, suc, ◌+◌, ◌^◌, ◌<◌, ◌≤◌, List, [], ◌∷◌, ◌++◌, length, get_or, take, drop, map, Option, Some, None, refl, sym, ap, ◌∙◌, subst, arith, ◌-◌, inl}
 use Rattle.std.proofs.lemmas.Bool.{ne_eqb}
 use Rattle.std.proofs.lemmas.List.{length-map, take-take}
@@ -29,7 +29,6 @@ abbrev Rising : ℕ → List PlacedBlock → Type 0
 Rising bound [] = Unit {0}
 Rising bound (p ∷ ps) = (bound ≤ p.address) × Rising (p.address + length p.bytes) ps
 
--- pieces from a bound on leave what stands below it
 below_stays : (m : Memory) (bound : ℕ) (ps : List PlacedBlock) (x : ℕ) → Rising bound ps → x < bound
     → byte_of (with_blocks m ps) x ≡ byte_of m x
 unfolding with_blocks
@@ -40,7 +39,6 @@ below_stays m bound (p ∷ ps) x r l =
     ∙ ap (λ (o : Option ℕ). option_or o (byte_of m x))
     (present_none (run_at p.address p.bytes) x (inl (omega (arith, r.0))))
 
--- bytes that were just put in stand, whatever comes behind them
 first_stands : (m : Memory) (a : ℕ) (bytes : List ℕ) (ps : List PlacedBlock) → Rising (a + length bytes) ps
     → HoldsBlock (with_blocks (with_bytes m a bytes) ps) (record { address = a; bytes = bytes })
 first_stands m a bytes ps r =
@@ -78,14 +76,13 @@ parts_are_present v base =
     all_stand empty base (blocks_from base (part_bytes v base))
     (laid_rising base base (part_bytes v base) (omega arith))
 
--- ---- places
+-- ---- addresses
 
 pub length-block_places : (a : ℕ) (ns : List ℕ) → length (block_places a ns) ≡ length ns
 unfolding block_places
 length-block_places a [] = refl
 length-block_places a (n ∷ ns) = ap suc (length-block_places (aligned_address (a + n)) ns)
 
--- no place is below the first, and one of some length is an address
 place_within : (a : ℕ) (ns : List ℕ) (k : ℕ) → k < length ns → 0 < get_or ns k 0 → DoEndInside (block_ends a ns)
     → (a ≤ get_or (block_places a ns) k 0) × (get_or (block_places a ns) k 0 < 2 ^ 64)
 unfolding block_places block_ends
@@ -112,7 +109,7 @@ lengths_some [] k h = absurd (omega arith)
 lengths_some (t ∷ ts) zero h = omega arith
 lengths_some (t ∷ ts) (suc k) h = lengths_some ts k (omega arith)
 
--- the tables' places are those of blocks laid from some place on
+-- the tables' addresses are those of blocks laid from some address on
 record AreTablePlaces (xs : List ℕ) (ns : List ℕ) : Type 0 where
   a : ℕ
   above : 0 < a
@@ -149,9 +146,9 @@ tables_are v base placed =
           (places_are from.a (map encoded_length v.tables) from.above (lengths_some v.tables) from.inside),
     )
 
--- ---- what stands at an address
+-- ---- what is at an address
 
--- the image holds these bytes from an address on
+-- the image has these bytes from an address on
 abbrev pub Holds : Memory → ℕ → List ℕ → Type 0
 Holds m a bytes = bytes_at m a (length bytes) ≡ Some bytes
 
@@ -164,7 +161,6 @@ pub signed_front : (bytes signature : List ℕ) (k : ℕ) → length signature �
 unfolding has_signature
 signed_front bytes signature k h = rw (take-take (length signature) k bytes h) refl
 
--- a structure that says how long it is
 pub frame_present : (f : Frame) {m : Memory} {a : ℕ} {bytes : List ℕ} → f.header ≤ f.least → f.length_at + 4 ≤ f.header
     → Holds m a bytes → f.least ≤ length bytes → frame_length f bytes ≡ length bytes
     → IsFrame f m a (take f.header bytes) bytes
@@ -177,7 +173,6 @@ frame_present f {m} {a} {bytes} fits inside present least count =
       present = ap (λ (k : ℕ). bytes_at m a k) size ∙ present;
     }
 
--- an XSDT
 xsdt_present : (m : Memory) (a : ℕ) (head : HeadValue) (xs bytes : List ℕ) → Holds m a bytes → IsWrittenXsdt head xs bytes
     → IsValidRootTable m a 8 bytes
 xsdt_present m a head xs bytes present xsdt =
@@ -192,7 +187,6 @@ xsdt_present m a head xs bytes present xsdt =
       zero_sum = xsdt.table.zero_sum;
     }
 
--- an RSDP
 rsdp_present : (m : Memory) (a xsdt : ℕ) (oemid bytes : List ℕ) → Holds m a bytes → IsWrittenRsdp oemid xsdt bytes
     → IsValidRsdp m a
 rsdp_present m a xsdt oemid bytes present rsdp =
@@ -231,7 +225,7 @@ names_root m a xsdt names above = record {
   chosen = rw (ne_eqb xsdt 0 (λ nil. absurd (omega (arith, above, nil)))) refl;
 }
 
--- the image holds the first two parts
+-- the image has the first two parts
 first_parts : (v : SetValue) (base : ℕ) (oemid_bytes xsdt_bytes : List ℕ) (rest : List (List ℕ)) (m : Memory)
     → length oemid_bytes ≡ 36
     → AllByRecursion (HoldsBlock m) (blocks_from base (oemid_bytes ∷ xsdt_bytes ∷ rest))

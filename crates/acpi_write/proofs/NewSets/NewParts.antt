@@ -1,4 +1,4 @@
--- Where the parts of a rebuilt image stand.
+-- The addresses of the parts of a rebuilt image.
 use Rattle.std.proofs.Common.{◌≡◌, ℕ, suc, ◌+◌, ◌%◌, ◌^◌, ◌<◌, ◌≤◌, List, [], ◌∷◌, ◌++◌, length, get_or, drop, map, Option, Some, None, refl, subst, arith}
 use Rattle.std.specs.List.{AllByRecursion, AllZip}
 use Rattle.acpi_base.specs.Memory.{Memory}
@@ -8,23 +8,20 @@ use Rattle.acpi_write.specs.Rebuilt.{aligned_address, blocks_from, block_places,
 use Rattle.acpi_write.specs.Values.{SetValue}
 use Rattle.acpi_write.proofs.NewSets.NewImage.{Holds, aligned_from, parts_are_present}
 
--- ---- blocks at their places
+-- ---- blocks at their addresses
 
--- laid blocks stand at the places of blocks of their lengths
 laid_stand : (m : Memory) (a : ℕ) (blocks : List (List ℕ)) → AllByRecursion (HoldsBlock m) (blocks_from a blocks)
     → AllZip (Holds m) (block_places a (map length blocks)) blocks
 unfolding blocks_from block_places
 laid_stand m a [] present = tt
 laid_stand m a (b ∷ bs) present = (present.0, laid_stand m (aligned_address (a + length b)) bs present.1)
 
--- those behind others
 zip_behind : (R : ℕ → List ℕ → Type 0) (xs : List ℕ) (front back : List (List ℕ)) → AllZip R xs (front ++ back)
     → AllZip R (drop (length front) xs) back
 zip_behind R xs [] back zip = zip
 zip_behind R [] (y ∷ ys) back zip = absurd zip
 zip_behind R (x ∷ xs) (y ∷ ys) back zip = zip_behind R xs ys back zip.1
 
--- each part stands at its place
 pub parts_stand : (v : SetValue) (base : ℕ) → map length (part_bytes v base) ≡ part_lengths v
     → AllZip (Holds (rebuilt_image v base)) (part_places v base) (part_bytes v base)
 parts_stand v base lengths =
@@ -46,7 +43,7 @@ tables_stand v base parts =
 
 -- ---- the FACS
 
--- where the FACS stands, if there is one, or no address
+-- the address of the FACS, if there is one, or no address
 pub record IsFacsPlace (m : Memory) (bytes : List ℕ) (f : ℕ) : Type 0 where
   pub stands : Holds m f bytes
   pub aligned : f % 64 ≡ 0

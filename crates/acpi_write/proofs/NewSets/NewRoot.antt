@@ -26,7 +26,6 @@ length-slots (x ∷ xs) =
 slots_behind : (x : ℕ) (xs : List ℕ) → drop 8 (flat_map (number_bytes 8) (x ∷ xs)) ≡ flat_map (number_bytes 8) xs
 slots_behind x xs = drop_at (number_bytes 8 x) (flat_map (number_bytes 8) xs) 8 (length-number_bytes 8 x)
 
--- the k-th number
 slot_number : (xs : List ℕ) (k : ℕ) → k < length xs → get_or xs k 0 < 2 ^ 64
     → field (flat_map (number_bytes 8) xs) (8 * k) 8 ≡ get_or xs k 0
 slot_number [] k h fits = absurd (omega arith)
@@ -52,7 +51,7 @@ listed_rest whole xs k (suc n) all each some =
     ∙ ap (λ (l : List ℕ). get_or xs k 0 ∷ l) rest
     ∙ sym (drop_more xs k 0 (omega arith))
 
--- an XSDT that is written of addresses
+-- an XSDT that is written for addresses
 pub record IsWrittenXsdt (head : HeadValue) (xs whole : List ℕ) : Type 0 where
   pub table : IsTableOf xsdt_signature head whole
   pub count : length whole ≡ 36 + 8 * length xs

@@ -27,7 +27,6 @@ use Rattle.acpi_write.proofs.NewSets.NewTables.{new_whole, fadt_again, narrow_fi
 use Rattle.acpi_write.proofs.SetParts.PartPlaces.{clean_parts_are_laid}
 use Rattle.acpi_write.proofs.OldSets.OldTables.{listed_of, clean_tables, oemid_is_six, root_fits_head, IsFacsBytes, facs_bytes}
 
--- its address fits
 pub place_fits : (m n : Memory) (old : List ℕ) (facs : Option (List ℕ)) (f : ℕ) → IsFacsOf m old facs
     → HasFacsPlace n facs f → f < 2 ^ 64
 place_fits m n old None f is place = omega (arith, place)
@@ -45,7 +44,6 @@ stands_again n bytes f are place =
       signed = signed_front bytes facs_signature 8 (omega arith) ∙ are.signed;
     }
 
--- it is what the new FADT names
 pub facs_again : (m n : Memory) (old new : List ℕ) (facs : Option (List ℕ)) (f : ℕ) → IsFacsOf m old facs
     → HasFacsPlace n facs f → facs_address new ≡ f → IsFacsOf n new facs
 facs_again m n old new None f is place named = named ∙ place
@@ -56,7 +54,6 @@ facs_again m n old new (Some bytes) f is place named =
           (stands_again n bytes f (facs_bytes m (facs_address old) bytes is.1) place),
     )
 
--- and it is valid
 pub facs_valid_again : (m n : Memory) (old new : List ℕ) (facs : Option (List ℕ)) → HasValidFacs m old
     → is_reduced new ≡ is_reduced old → IsFacsOf m old facs → IsFacsOf n new facs → HasValidFacs n new
 facs_valid_again m n old new None valid same is again =
@@ -64,7 +61,7 @@ facs_valid_again m n old new None valid same is again =
 facs_valid_again m n old new (Some bytes) valid same is again =
     record { none = λ nil. absurd (again.0 nil); named = λ some. (bytes, again.1) }
 
--- ---- what stands
+-- ---- the new set
 
 all_present : (n : Memory) (xs : List ℕ) (blocks : List (List ℕ)) → AllZip (Holds n) xs blocks
     → AllByRecursion IsCompleteTable blocks → AllZip (IsCompleteAt n) xs blocks

@@ -27,7 +27,7 @@ use Rattle.acpi_write.proofs.OldSets.FirstTables.{first_table_with, AreCleanTabl
 use Rattle.acpi_write.proofs.NewSets.RewrittenTables.{IsCleanBehind, new_of, new_kept, rewritten, new_fadt}
 use Rattle.acpi_write.proofs.OldSets.ValuesBehind.{AmongAlike, says}
 
--- ---- of each, behind those before it
+-- ---- of each, after those before it
 
 abbrev AreCleanBehind : List (List ℕ) → List (List ℕ) → Type 0
 AreCleanBehind before [] = Unit {0}
@@ -76,11 +76,10 @@ says_again facs others before (t ∷ ts) alike clean =
     (alike_more others before new t alike here.signature) clean.1 in
     λ i. said i ∷ rest i
 
--- the tables say what they were written for
 pub values_again : (facs : ℕ) (ts : List (List ℕ)) → AreCleanTables ts → values_of (new_tables facs ts) ≡ values_of ts
 values_again facs ts clean = says_again facs [] [] ts (λ s four. refl) (of_clean ts clean)
 
--- ---- each is whole
+-- ---- each is complete
 
 whole_behind : (facs : ℕ) (before ts : List (List ℕ)) → AreCleanBehind before ts
     → AllByRecursion IsCompleteTable (new_behind facs before ts)
@@ -94,7 +93,7 @@ new_whole facs ts clean = whole_behind facs [] ts (of_clean ts clean)
 
 -- ---- the first with a signature
 
--- the new table is written for the old one, which is the first with the signature behind others; or there is neither
+-- the new table is written for the old one, which is the first with the signature after others; or there is neither
 AreFirsts : ℕ → List ℕ → Option (List ℕ) → Option (List ℕ) → Type 0
 AreFirsts facs signature (Some old) (Some new) =
     (passed : List (List ℕ)) × IsCleanBehind passed old × (is_first passed old signature ≡ true)
@@ -119,7 +118,7 @@ firsts : (facs : ℕ) (ts : List (List ℕ)) (signature : List ℕ) → length s
     → AreFirsts facs signature (first_table_with signature ts) (first_table_with signature (new_tables facs ts))
 firsts facs ts signature four clean = firsts_behind facs [] ts signature four refl (of_clean ts clean)
 
--- the first one of a kind has the contents of the old one
+-- the first table of a kind has the contents of the old one
 pub contents_again : (facs : ℕ) (ts : List (List ℕ)) (kind : TableKind) (new : List ℕ) → AreCleanTables ts
     → first_table_with (signature_of kind) (new_tables facs ts) ≡ Some new
     → (old : List ℕ) × (first_table_with (signature_of kind) ts ≡ Some old)

@@ -18,7 +18,7 @@ use Rattle.acpi_write.proofs.Tables.Kinds.{facts}
 use Rattle.acpi_write.proofs.TablesWritten.FadtBodies.{with_facs-with_facs}
 use Rattle.acpi_write.proofs.TablesWritten.KeptContents.{IsCleanTable, kept}
 
--- what a table needs for it, behind others
+-- what is required of a table, after others, for this
 pub record IsCleanBehind (before : List (List ℕ)) (whole : List ℕ) : Type 0 where
   pub clean : IsCleanTable whole
   pub readable : (kind : TableKind) → is_first before whole (signature_of kind) ≡ true → IsReadableAs (Some kind) whole
@@ -28,7 +28,6 @@ pub record IsCleanBehind (before : List (List ℕ)) (whole : List ℕ) : Type 0 
 abbrev pub new_of : ℕ → List (List ℕ) → List ℕ → List ℕ
 new_of facs before old = encoded_bytes_with facs (table_value_behind before old)
 
--- it keeps the contents
 pub new_kept : (facs : ℕ) (before : List (List ℕ)) (old : List ℕ) (kind : TableKind) → IsCleanBehind before old
     → is_first before old (signature_of kind) ≡ true → KeepsContents kind old (new_of facs before old)
 new_kept facs before old kind is first =
@@ -44,7 +43,6 @@ new_fadt facs before old is first =
     ∙ ap (table_bytes fadt_signature (head_of old))
     (with_facs-with_facs (drop 36 old) 0 facs (omega (arith, length-drop 36 old, long)))
 
--- and says the same
 rewritten_as : (facs : ℕ) (before : List (List ℕ)) (old : List ℕ) → IsCleanBehind before old → (kind : Option TableKind)
     → IsKindBehind before old kind → IsRewritten before old (new_of facs before old)
 rewritten_as facs before old is (Some kind) first =

@@ -1,4 +1,4 @@
--- The stages of the tables with entries hold of a set where each of its tables says what one of a clean set says.
+-- The stages of the tables with entries hold for a set if each of its tables says what one of a clean set says.
 use Rattle.std.proofs.Common.{◌≡◌, ℕ, List, sym, subst}
 use Rattle.acpi_base.specs.Memory.{Memory}
 use Rattle.acpi_base.specs.Policy.{PolicyValue, with_rsdp, inputs_of}
@@ -35,7 +35,7 @@ pub record IsValidFront (m : Memory) (p : ℕ) : Type 0 where
   pub fadt : IsValidFadt m p
   pub facs : IsValidFacs m p
 
--- ---- the policy: what is asked of a MADT does not hang on the RSDP's address
+-- ---- the policy: the requirements on a MADT do not depend on the RSDP's address
 
 entry_again : (q : PolicyValue) (base : ℕ) (e : madt.MadtEntry) → madt.IsValidMadtEntry q e
     → madt.IsValidMadtEntry (with_rsdp q base) e
@@ -51,7 +51,6 @@ madt_again q base c valid = record {
   one_address = valid.one_address;
 }
 
--- an entry serves the same interrupt numbers
 serves_again : (q : PolicyValue) (base start g : ℕ) (e : madt.MadtEntry) → madt.ServesFrom q start g e
     → madt.ServesFrom (with_rsdp q base) start g e
 unfolding inputs_of
@@ -84,7 +83,7 @@ served_again q base c served has o g names =
     let entry = by.2 in
     (by.0, by.1, (entry.0, entry.1, serves_again q base by.1 g entry.0 entry.2))
 
--- ---- what is asked of contents
+-- ---- the requirements on contents
 
 module _ {m n : Memory} {p base : ℕ} (same : AreSameListed m p n base) where
   moved : (kind : TableKind) (P Q : ContentsOf kind → Type 0) → ((c : ContentsOf kind) → P c → Q c)
@@ -99,7 +98,6 @@ module _ {m n : Memory} {p base : ℕ} (same : AreSameListed m p n base) where
       → ForListed n base (signature_of kind) (λ whole. P (contents_of kind whole))
   still kind P = moved kind P P (λ c holds. holds)
 
--- every stage holds
 pub clean_again : (m n : Memory) (q : PolicyValue) (base : ℕ) → IsClean m q → AreSameListed m q.rsdp n base
     → IsValidFront n base → IsClean n (with_rsdp q base)
 clean_again m n q base clean same front = each

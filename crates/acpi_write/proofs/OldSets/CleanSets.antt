@@ -103,7 +103,6 @@ at m root d j (suc n) ts k none inside zip below =
           ];
         }
 
--- slots below the count are inside
 slots_inside : (root : List ℕ) (d : ℕ) → IsSlotWidth d → Inside root d (0 + (length root - 36) / d)
 slots_inside root d (inl four) i below =
     let b : i < 0 + (length root - 36) / 4 = subst (λ (x : ℕ). i < 0 + (length root - 36) / x) four below in
@@ -120,7 +119,6 @@ at_listed m root d ts k none width zip below =
 
 -- ---- the first with a signature
 
--- a table with the signature is among those up to k
 among : (ts : List (List ℕ)) (k l : ℕ) (none signature : List ℕ) → l < k → k < length ts
     → has_signature (get_or ts l none) signature ≡ true → is_among (take k ts) signature ≡ true
 among [] k l none signature less below is = absurd (omega arith)
@@ -161,7 +159,6 @@ first_listed_table m p r d root ts k none signature named table zip below four i
 
 -- ---- each can be read
 
--- a table that stands where a valid one does sums to 0
 zero_sum : (m : Memory) (a : ℕ) (whole : List ℕ) → IsValidTable m a → IsCompleteAt m a whole → byte_sum whole ≡ 0
 zero_sum m a whole valid stands =
     subst (λ (b : List ℕ). byte_sum b ≡ 0) (one_frame valid.frame stands.1) valid.zero_sum

@@ -1,4 +1,4 @@
--- Which of the tables that a root lists is the set's first with a signature.
+-- Which of the tables that a root table lists is the set's first with a signature.
 use Rattle.std.proofs.Common.{◌≡◌, ℕ, zero, suc, ◌+◌, ◌-◌, ◌*◌, ◌/◌, ◌<◌, ◌≤◌, true, false, List, [], ◌∷◌, length, take, get_or, Some, None, refl, sym, ap, ◌∙◌, subst, inl, inr, arith}
 use Rattle.std.specs.List.{AllByRecursion, AllZip}
 use Rattle.std.proofs.lemmas.Bool.{cases_Bool, cases_eq, both_ways}
@@ -16,7 +16,7 @@ use Rattle.acpi_write.proofs.OldSets.CleanSets.{first_listed_table}
 use Rattle.acpi_write.proofs.OldSets.FirstTables.{first_table_with}
 use Rattle.acpi_write.proofs.OldSets.Listing.{listed_from, listed_is, listed_skip, listed_take}
 
--- ---- the first table, by its place
+-- ---- the first table, by its index
 
 record IsFirstAt (ts : List (List ℕ)) (t signature : List ℕ) : Type 0 where
   k : ℕ
@@ -41,7 +41,6 @@ first_at (u ∷ ts) t signature is =
       | inr other ↦ later u ts t signature other (first_at ts t signature (sym (rw other refl) ∙ is))
     ]
 
--- where there is no first one, no table has the signature
 none_with : (ts : List (List ℕ)) (signature : List ℕ) → first_table_with signature ts ≡ None
     → AllByRecursion (λ t. has_signature t signature ≡ false) ts
 unfolding first_table_with
@@ -54,7 +53,7 @@ none_with (u ∷ ts) signature none =
 
 -- ---- the table that a slot lists
 
--- it is one of those listed
+-- the table that a slot lists is one of those listed
 pub record IsSlotTable (m : Memory) (P : List ℕ → Type 0) (a : ℕ) : Type 0 where
   pub t : List ℕ
   pub stands : IsCompleteAt m a t

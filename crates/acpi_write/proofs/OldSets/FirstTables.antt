@@ -1,4 +1,4 @@
--- The first of a list of tables with a signature, and what is asked of the tables that are written anew.
+-- The first of a list of tables with a signature, and the requirements on the tables that are written again.
 use Rattle.std.proofs.Common.{◌≡◌, ℕ, Bool, true, false, List, [], ◌∷◌, ◌++◌, map, Option, Some, None, refl, ◌∙◌, subst, inl, inr}
 use Rattle.std.specs.Prelude.{not, ◌&&◌, ◌||◌, if◌then◌else◌}
 use Rattle.std.specs.List.{AllByRecursion}
@@ -23,14 +23,14 @@ unfoldable pub first_table_with : List ℕ → List (List ℕ) → Option (List 
 first_table_with signature [] = None
 first_table_with signature (t ∷ ts) = if has_signature t signature then Some t else first_table_with signature ts
 
--- tables are whole, the first of each kind can be read by its contents, and the first FADT is valid
+-- tables are complete, the first of each kind can be read by its contents, and the first FADT is valid
 pub record AreCleanTables (ts : List (List ℕ)) : Type 0 where
   pub each : AllByRecursion IsCleanTable ts
   pub readable : (kind : TableKind) (t : List ℕ) → first_table_with (signature_of kind) ts ≡ Some t
       → IsReadableAs (Some kind) t
   pub valid : (t : List ℕ) → first_table_with fadt_signature ts ≡ Some t → IsValidFadtTable t
 
--- the tables that are written for what these say, where the FACS stands at this address
+-- the tables that are written for what these say, if the FACS is at this address
 abbrev pub new_tables : ℕ → List (List ℕ) → List (List ℕ)
 new_tables facs ts = map (encoded_bytes_with facs) (values_of ts)
 
@@ -46,7 +46,6 @@ or_parts false false e = (refl, refl)
 or_parts false true e = absurd (cc)
 or_parts true b e = absurd (cc)
 
--- it is the first of the tables before it, itself, and those behind it
 pub first_is : (before : List (List ℕ)) (t : List ℕ) (rest : List (List ℕ)) (signature : List ℕ)
     → is_first before t signature ≡ true → first_table_with signature (before ++ t ∷ rest) ≡ Some t
 unfolding first_table_with
@@ -56,7 +55,6 @@ first_is (b ∷ before) t rest signature is =
     let others = or_parts (has_signature b signature) (is_among before signature) parts.1 in
     rw others.0 (first_is before t rest signature (rw (parts.0, others.1) refl))
 
--- of those behind others
 pub is_behind : (before : List (List ℕ)) (t signature : List ℕ) → is_among before signature ≡ false
     → is_first before t signature ≡ has_signature t signature
 is_behind before t signature none = rw none (and-true (has_signature t signature))
@@ -70,7 +68,6 @@ none_more before t signature none other =
         → (is_among before signature || is_among (t ∷ []) signature) ≡ false
     both none other = rw (none, other) refl
 
--- what holds of all tables holds of the first
 pub holds_of_first : (P : List ℕ → Type 0) (signature : List ℕ) (ts : List (List ℕ)) (t : List ℕ) → AllByRecursion P ts
     → first_table_with signature ts ≡ Some t → P t
 unfolding first_table_with

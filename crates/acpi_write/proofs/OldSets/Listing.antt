@@ -17,7 +17,6 @@ pub listed_is : (whole : List ℕ) (d : ℕ) → listed_addresses whole d ≡ li
 unfolding listed_addresses
 listed_is whole d = refl
 
--- a slot that lists nothing is left out, and another one is not
 pub listed_skip : (root : List ℕ) (d j n : ℕ) → field root (36 + d * j) d ≡ 0
     → listed_from root d j (suc n) ≡ listed_from root d (j + 1) n
 listed_skip root d j n nil = rw (eq-eqb (field root (36 + d * j) d) 0 nil) refl

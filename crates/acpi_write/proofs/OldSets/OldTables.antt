@@ -1,4 +1,4 @@
--- What the tables, the root, the RSDP and the FACS of a clean set are, and that it says one value.
+-- The tables, the root table, the RSDP and the FACS of a clean set, and that it has one value.
 use Rattle.std.proofs.Common.{◌≡◌, ℕ, zero, suc, ◌^◌, ◌<◌, ◌≤◌, true, List, [], ◌∷◌, length, take, drop, get_or, refl, sym, ap, ◌∙◌, subst, arith, length-drop, Option, Some, None}
 use Rattle.std.specs.List.{AllByRecursion, AllZip, All}
 use Rattle.std.proofs.lemmas.List.{length-take-le}
@@ -48,7 +48,7 @@ each_is : (P : List ℕ → Type 0) (ts : List (List ℕ)) → ((k : ℕ) → k 
 each_is P [] h = tt
 each_is P (t ∷ ts) h = (h zero (omega arith), each_is P ts (λ k below. h (suc k) (omega arith)))
 
--- ---- a table that stands in an image
+-- ---- a table in an image
 
 pub present_bytes : (m : Memory) (a : ℕ) (whole : List ℕ) → IsImage m → IsCompleteAt m a whole → AreByteValues whole
 present_bytes m a whole image (header, table) = bytes_below m image a (length_of header) whole table.present

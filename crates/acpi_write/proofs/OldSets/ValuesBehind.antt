@@ -1,4 +1,4 @@
--- What a table says behind others, from table to table, and when another table says the same there.
+-- What a table says after others, from table to table, and when another table says the same there.
 use Rattle.std.proofs.Common.{◌≡◌, ℕ, Bool, true, false, cond, List, [], ◌∷◌, length, take, Option, Some, None, refl, sym, ap, ◌∙◌, subst, suc, ◌+◌, ◌<◌, ◌++◌, get_or, arith, append_assoc}
 use Rattle.std.specs.Cmp.Lexicographic.{same_text}
 use Rattle.std.specs.List.{AllByRecursion, find}
@@ -24,9 +24,8 @@ use Rattle.acpi_write.specs.Views.{IsCompleteTable}
 use Rattle.acpi_write.proofs.OldSets.FirstTables.{first_parts}
 use Rattle.acpi_write.proofs.Tables.Kinds.{each_kind}
 
--- ---- what a table says behind others
+-- ---- what a table says after others
 
--- a table is the first of one kind
 one_behind : (before : List (List ℕ)) (whole : List ℕ) (one other : Option TableKind) → IsKindBehind before whole one
     → IsKindBehind before whole other → one ≡ other
 one_behind before whole None None is also = refl
@@ -55,7 +54,6 @@ found_in test (k ∷ ks) = by (test k) (find test ks) refl (found_in test ks)
     by false (Some other) is found = found
     by false None is found = (is, found)
 
--- every table is the first of a kind or of none, and says what it says as such
 pub kind_found : (before : List (List ℕ)) (whole : List ℕ)
     → (kind : Option TableKind) × IsKindBehind before whole kind
     × (table_value_behind before whole ≡ table_value_as kind whole)
@@ -76,7 +74,7 @@ says before whole kind is =
     subst (λ (k : Option TableKind). table_value_behind before whole ≡ table_value_as k whole)
     (one_behind before whole found.0 kind found.1 is) found.2
 
--- ---- a table that is written anew
+-- ---- a table that is written again
 
 -- the same signatures of four letters are among the tables
 abbrev pub AmongAlike : List (List ℕ) → List (List ℕ) → Type 0
@@ -104,7 +102,7 @@ first_same : (others before : List (List ℕ)) (new old s : List ℕ) → is_amo
     → has_signature new s ≡ has_signature old s → is_first others new s ≡ is_first before old s
 first_same others before new old s among has = rw (among, has) refl
 
--- of a kind
+-- a table of a kind
 pub as_first : (kind : TableKind) (before : List (List ℕ)) (old new : List ℕ)
     → is_first before old (signature_of kind) ≡ true → IsTableOf (signature_of kind) (head_of old) new
     → table_value_as (Some kind) new ≡ table_value_as (Some kind) old → IsRewritten before old new
@@ -122,7 +120,6 @@ as_first kind before old new is table same =
           (has_same new old letters signature four) ∙ is) ∙ same ∙ sym (says before old (Some kind) is);
     }
 
--- any other
 pub as_it_was : (before : List (List ℕ)) (old : List ℕ) → IsKindBehind before old None → IsCompleteTable old
     → IsRewritten before old old
 as_it_was before old none whole =
@@ -135,7 +132,7 @@ as_it_was before old none whole =
           ∙ sym (says before old None none);
     }
 
--- ---- what was seen
+-- ---- the tables before it
 
 among_more : (tables : List (List ℕ)) (whole signature : List ℕ)
     → is_among (tables ++ whole ∷ []) signature ≡ (is_among tables signature || has_signature whole signature)
@@ -173,7 +170,6 @@ firsts_more tables next listed old new is has added kind =
     (kept_or_not (first_table old kind) listed.table (has_signature listed.table (signature_of kind))
     (is_among tables (signature_of kind)) (has kind))
 
--- so the kind is that of the table behind them
 pub kind_behind : (tables : List (List ℕ)) (whole : List ℕ) (firsts : FirstTables) (kind : Option TableKind)
     → HasFirsts tables firsts → IsFirstOf firsts whole kind → IsKindBehind tables whole kind
 kind_behind tables whole firsts (Some kind) has (signed, none) = rw (signed, ← has kind, none) refl
@@ -181,7 +177,6 @@ kind_behind tables whole firsts None has none = λ kind. rw (← has kind) (none
 
 -- ---- what tables say
 
--- one more table behind them
 pub values_more : (before tables : List (List ℕ)) (whole : List ℕ)
     → values_behind before (tables ++ whole ∷ []) ≡ values_behind before tables ++ table_value_behind (before ++ tables)
     whole ∷ []
@@ -203,7 +198,6 @@ next_take tables k below =
     let next : k + 1 ≡ suc k = omega arith in
     ap (λ n. take n tables) next ∙ take-suc tables k [] below
 
--- of the tables up to one, and that one
 pub values_next : (tables : List (List ℕ)) (k : ℕ) → k < length tables
     → values_of (take (k + 1) tables) ≡ values_of (take k tables) ++ table_value_behind (take k tables)
     (get_or tables k []) ∷ []

@@ -1,4 +1,4 @@
--- The places and the lengths of a set's parts.
+-- The addresses and the lengths of a set's parts.
 use Rattle.std.proofs.Common.{◌≡◌, ℕ, zero, suc, ◌+◌, ◌*◌, ◌<◌, ◌≤◌, List, [], ◌∷◌, ◌++◌, length, get_or, drop, map, Option, Some, None, true, false, refl, sym, ap, ◌∙◌, arith, ◌/◌, ◌^◌, subst}
 use Rattle.std.specs.List.{All, list_any}
 use Rattle.std.specs.Option.{option_map}
@@ -14,7 +14,6 @@ use Rattle.acpi_write.specs.Views.{set_value, table_value}
 use Rattle.acpi_write.specs.declared.set_value.SetValue.{SetValue}
 use Rattle.acpi_write.specs.declared.table_value.TableValue.{TableValue}
 
--- the length at the index is the first of those to come
 next_length : (ns : List ℕ) (i n : ℕ) → i < length ns → n ≡ get_or ns i 0 → drop i ns ≡ n ∷ drop (i + 1) ns
 next_length ns i n h e = drop_more ns i 0 h ∙ ap (λ (x : ℕ). x ∷ drop (i + 1) ns) (sym e)
 
@@ -43,7 +42,7 @@ pub none_inside : (a : ℕ) (ns : List ℕ) (i : ℕ) → length ns ≤ i → Do
 unfolding block_ends
 none_inside a ns i h = subst (λ (xs : List ℕ). DoEndInside (block_ends a xs)) (sym (drop_all i ns h)) tt
 
--- the lengths, as they are put together
+-- the lengths, as they are appended
 pub lengths_are : (v : SetValue) (lengths fs : List ℕ) → fs ≡ map length (option_list (set_value v).facs)
     → lengths ≡ (36 ∷ (36 + 8 * length v.tables.items) ∷ fs) ++ map (λ t. encoded_length (table_value t)) v.tables.items
     → lengths ≡ part_lengths (set_value v)
@@ -59,7 +58,6 @@ two_some x zero d h = omega arith
 two_some x (suc zero) d h = omega arith
 two_some x (suc (suc k)) d h = absurd (omega arith)
 
--- each part has some
 pub parts_some : (v : value.SetValue) → All (λ bytes. 0 < length bytes) (option_list v.facs)
     → All (λ n. 0 < n) (part_lengths v)
 parts_some v some =
@@ -69,7 +67,7 @@ parts_some v some =
     (All-map (λ n. 0 < n) length (option_list v.facs) some)
     (All-map (λ n. 0 < n) encoded_length v.tables (λ k d h. omega arith)))
 
--- ---- the FACS's place
+-- ---- the FACS's address
 
 some_mapped : {X Y : Type 0} (f : X → Y) (o : Option X) → is_some o ≡ true → is_some (option_map f o) ≡ true
 some_mapped f None some = some
@@ -97,7 +95,6 @@ facs_place_is v base some =
     place_there (set_value v).facs (slice_index (part_places (set_value v) base) 2)
     (some_mapped (λ bytes. bytes.now) v.facs some)
 
--- what stands in a list, whatever would stand past its end
 pub any_default : (xs : List ℕ) (k a b : ℕ) → k < length xs → get_or xs k a ≡ get_or xs k b
 any_default [] k a b h = absurd (omega arith)
 any_default (x ∷ xs) zero a b h = refl

@@ -1,4 +1,4 @@
--- The parts of what a clean set says are as long as their places are counted from.
+-- The parts of a clean set's value have the lengths from which their addresses are computed.
 use Rattle.std.proofs.Common.{◌≡◌, ℕ, suc, ◌+◌, ◌*◌, ◌<◌, ◌≤◌, List, [], ◌∷◌, ◌++◌, length, get_or, take, drop, map, flat_map, Option, refl, sym, ap, ◌∙◌, subst, arith, append_assoc, append-nil, length-append, length-drop}
 use Rattle.std.specs.Prelude.{slice_index}
 use Rattle.std.specs.List.{All, AllZip}
@@ -25,7 +25,6 @@ use Rattle.acpi_write.proofs.OldSets.ValuesBehind.{kind_found}
 use Rattle.acpi_write.proofs.TablesWritten.KeptContents.{length-encoded_bytes_with}
 use Rattle.acpi_write.proofs.TablesWritten.CompleteTables.{HasWidths, widths_of, length-table_bytes}
 
--- blocks are laid at the places that are counted from their lengths
 laid_at_places : (a : ℕ) (blocks : List (List ℕ))
     → map (λ p. p.address) (blocks_from a blocks) ≡ block_places a (map length blocks)
 unfolding blocks_from block_places
@@ -34,7 +33,7 @@ laid_at_places a (b ∷ bs) = ap (λ (xs : List ℕ). a ∷ xs) (laid_at_places 
 
 -- ---- tables
 
--- of tables behind others
+-- the same for tables after others
 lengths_behind : (facs : ℕ) (before ts : List (List ℕ)) → All (λ t. 36 ≤ length t) ts
     → ((k : ℕ) (none : List ℕ) → k < length ts → (kind : Option TableKind)
     → IsKindBehind (before ++ take k ts) (get_or ts k none) kind → IsReadableAs kind (get_or ts k none))
@@ -76,7 +75,6 @@ length-rsdp_bytes : (oemid : List ℕ) (xsdt : ℕ) → length oemid ≡ 6 → l
 unfolding rsdp_bytes
 length-rsdp_bytes oemid xsdt six = simp (length-append, length-number_bytes, six) (omega arith)
 
--- there is a place for each table
 length-table_places : (v : SetValue) (base : ℕ) → length (table_places v base) ≡ length v.tables
 length-table_places v base =
     let facs = map length (option_list v.facs) in

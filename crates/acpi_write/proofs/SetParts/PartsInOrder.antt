@@ -39,7 +39,6 @@ pub IfOk-both : {T E : Type 0} (r : Result T E) (P Q : T → Type 0) → IfOk r 
 IfOk-both (Ok x) P Q p q = (p, q)
 IfOk-both (Err e) P Q p q = tt
 
--- a FADT with the FACS's address
 pub fadt_count : (head : HeadValue) (body : List ℕ) (facs : ℕ) → 80 ≤ length body → 36 + length body < 2 ^ 32
     → FitsHead head → length (table_bytes fadt_signature head (with_facs body facs)) ≡ 36 + length body
 fadt_count head body facs long short fits =
@@ -48,15 +47,13 @@ fadt_count head body facs long short fits =
     length_of_parts (table_bytes fadt_signature head (with_facs body facs)) (with_facs body facs) is.0.least is.1
     ∙ ap (λ (n : ℕ). 36 + n) same
 
--- a table that is no FADT is written as it is
 pub encoded_without : (facs : ℕ) (t : written.TableValue) → ((head : _) (body : _) → t ≡ table.Fadt head body → ⊥)
     → encoded_bytes_with facs (table_value t) ≡ encoded_bytes (table_value t)
 encoded_without facs (table.Fadt head body) not = absurd (not head body refl)
 encoded_without facs _ not = refl
 
--- ---- room behind all that the image holds
+-- ---- room after everything that the image has
 
--- bytes that are put there meet nothing
 pub never_refused : (m : Memory) (a : ℕ) (bytes : List ℕ) → EndsBelow m a → a + length bytes ≤ 2 ^ 64
     → add_refusal m a bytes ≡ None
 never_refused m a bytes below fits =
@@ -112,13 +109,13 @@ mapped_at f g [] k x d below is = absurd (omega arith)
 mapped_at f g (y ∷ ys) zero x d below is = ap (λ z. f (g z)) (sym is)
 mapped_at f g (y ∷ ys) (suc k) x d below is = mapped_at f g ys k x d (omega arith) is
 
--- the bytes are those of a part behind the RSDP and the XSDT, where the third part stands at this place
+-- the bytes are those of a part after the RSDP and the XSDT, if the third part is at this address
 abbrev pub IsBehindRoots : Option (List ℕ) → ℕ → List TableValue → ℕ → List ℕ → Type 0
 IsBehindRoots facs place ts j bytes =
     (bytes ≡ get_or (option_list facs ++ map (encoded_bytes_with (place_of_facs facs place)) (map table_value ts)) j [])
     × (length bytes ≡ get_or (map length (option_list facs) ++ map encoded_length (map table_value ts)) j 0)
 
--- a table where there is no FACS
+-- a table if there is no FACS
 pub table_alone : (place : ℕ) (ts : List TableValue) (j : ℕ) (t : TableValue) (bytes : List ℕ) → j < length ts
     → t ≡ get_or ts j t
     → (bytes ≡ encoded_bytes_with 0 (table_value t)) × (length bytes ≡ encoded_length (table_value t))
@@ -128,7 +125,7 @@ table_alone place ts j t bytes below is (same, count) = (
   count ∙ sym (mapped_at encoded_length table_value ts j t 0 below is),
 )
 
--- and behind one
+-- and after a FACS
 pub table_behind : (facs : List ℕ) (place : ℕ) (ts : List TableValue) (j : ℕ) (t : TableValue) (bytes : List ℕ)
     → j < length ts → t ≡ get_or ts j t
     → (bytes ≡ encoded_bytes_with place (table_value t)) × (length bytes ≡ encoded_length (table_value t))
@@ -151,7 +148,7 @@ behind_roots v places k j facs bytes named index is =
 
 -- ---- the parts so far
 
--- the image has the first k parts; those to come have their places behind all that it holds, and none passes the last
+-- the image has the first k parts; those to come have their addresses after everything that it has, and none passes the last
 -- address
 pub record IsPartialSet (m : Memory) (found : List ℕ) (v : value.SetValue) (base k : ℕ) : Type 0 where
   pub a : ℕ
@@ -167,7 +164,7 @@ none_so_far v base m found placed is new =
     subst (λ (x : Memory). IsPartialSet x found v base 0) (sym new)
     (record { a = base; behind = λ x past. get-empty nat_cmp x; placed = is; inside = placed.inside; image = refl })
 
--- the next part goes behind all that the image holds, and then it is one of those so far
+-- the next part goes after everything that the image has, and then it is one of those so far
 pub record IsNext (m : Memory) (found : List ℕ) (v : value.SetValue) (base k : ℕ) (bytes : List ℕ) : Type 0 where
   pub behind : EndsBelow m (get_or found k 0)
   pub fits : get_or found k 0 + length bytes ≤ 2 ^ 64
@@ -210,7 +207,6 @@ next_part m found v base k bytes is below part so_far =
           });
     }
 
--- at last they are all of them
 pub all_put : (m : Memory) (found : List ℕ) (v : value.SetValue) (base k : ℕ) → found ≡ part_places v base
     → length found ≤ k → IsPartialSet m found v base k → m ≡ rebuilt_image v base
 unfolding with_blocks blocks_from

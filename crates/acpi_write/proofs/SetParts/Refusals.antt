@@ -1,4 +1,4 @@
--- Which sets can stand from a base address on, and that no set is both refused and rebuilt there.
+-- Which sets can be placed at a base address, and that no set is both refused and rebuilt there.
 use Rattle.std.proofs.Common.{ℕ, ◌^◌, ◌<◌, List, [], ◌∷◌, arith, ◌⊎◌, inl, inr, refl, subst}
 use Rattle.std.proofs.lemmas.Bool.{cases_lt}
 use Rattle.acpi_base.specs.Memory.{Memory}
@@ -12,7 +12,6 @@ use Rattle.acpi_write.specs.declared.placing.RebuildFault.{RebuildFault}
 use Rattle.acpi_write.specs.declared.placing.RebuildFault.TheVariants as fault
 use Rattle.acpi_write.proofs.OldSets.OldTables.{value_is_one}
 
--- whether none of the addresses is past the last one
 inside_or_not : (ns : List ℕ) → DoEndInside ns ⊎ (¬ DoEndInside ns)
 inside_or_not [] = inl tt
 inside_or_not (n ∷ ns) =
@@ -63,7 +62,6 @@ placed_unless_refused v base = (
       },
 )
 
--- a clean set says one value, so where that can stand no value that it says is refused
 none_refused : (m : Memory) (q : PolicyValue) (base : ℕ) (new : Memory) (fault : RebuildFault)
     → (v : SetValue) × IsSetValue m q.rsdp v × IsPlacingRefusal v base fault → ¬ IsRebuilt m q base new
 none_refused m q base new fault (v, said, refused) is =

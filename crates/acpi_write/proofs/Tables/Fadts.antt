@@ -1,4 +1,4 @@
--- What is proved of the FADT, whose body has the FACS's address.
+-- The facts about the FADT, whose body has the FACS's address.
 use Rattle.std.proofs.Common.{◌≡◌, ℕ, ◌+◌, ◌≤◌, List, length, drop, refl, ap, ◌∙◌, subst, arith, length-drop}
 use Rattle.acpi_base.specs.Listed.{fadt_signature}
 use Rattle.acpi_base.specs.declared.stage.Stage.TheVariants as stage
@@ -14,7 +14,6 @@ use Rattle.acpi_write.proofs.TablesWritten.FadtBodies.{length-with_facs, with_fa
 room : (whole : List ℕ) → 40 ≤ length whole → 4 ≤ length (drop 36 whole)
 room whole long = omega (arith, length-drop 36 whole, long)
 
--- the last one that was put in counts
 last : (facs : ℕ) (whole : List ℕ) → 40 ≤ length whole
     → with_facs (with_facs (drop 36 whole) 0) facs ≡ with_facs (drop 36 whole) facs
 last facs whole long = with_facs-with_facs (drop 36 whole) 0 facs (room whole long)
@@ -50,7 +49,6 @@ facts = record {
       fadt.valid.long);
 }
 
--- what is written for a value says it
 pub says : (body whole : List ℕ) → 36 ≤ length whole → drop 36 whole ≡ body_bytes (Fadt body) → 80 ≤ length body
     → SpellsBody (Fadt body) whole
 says body whole least there long = (omega (arith, long, least, ap length there, length-drop 36 whole), there)

@@ -1,4 +1,4 @@
--- What is proved of the tables of every kind, from what is proved of each.
+-- The facts about the tables of every kind, from the facts about each.
 use Rattle.std.proofs.Common.{◌≡◌, ℕ, ◌+◌, ◌^◌, ◌<◌, ◌≤◌, List, length, drop, refl, sym, ap, ◌∙◌, true, Some, subst}
 use Rattle.std.specs.List.{AllByRecursion}
 use Rattle.acpi_base.specs.Header.{HeadValue, head_of}
@@ -30,7 +30,6 @@ facts kind.Srat = srats.facts
 facts kind.Slit = slits.facts
 facts kind.Pptt = pptts.facts
 
--- what holds of all in the list holds of each
 pub each_kind : (P : TableKind → Type 0) → AllByRecursion P kinds → (kind : TableKind) → P kind
 each_kind P all kind.Fadt = all.0
 each_kind P all kind.Madt = all.1.0
@@ -40,7 +39,7 @@ each_kind P all kind.Pptt = all.1.1.1.1.0
 
 -- ---- what is written for a value of the program
 
--- it says the value, and has its length
+-- the bytes encode the value, and are as many as its length
 abbrev pub IsWritten : TableValue → Type 0
 IsWritten v = Spells v (encoded_bytes v) × (length (encoded_bytes v) ≡ encoded_length v)
 
@@ -71,7 +70,6 @@ is_written (table.Other bytes) shaped short say = ((shaped, refl), length_of_par
 
 -- ---- one value
 
--- bytes say one value of a kind
 pub one_body : (bytes : List ℕ) (v w : BodyValue) → kind_of v ≡ kind_of w → SpellsBody v bytes → SpellsBody w bytes
     → v ≡ w
 one_body bytes (Madt a f vs) (Madt b g ws) same v w = madts.one bytes a b f g vs ws v w

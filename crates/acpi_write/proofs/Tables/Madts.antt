@@ -1,4 +1,4 @@
--- What is proved of the MADT.
+-- The facts about the MADT.
 use Rattle.std.proofs.Common.{◌≡◌, ℕ, ◌+◌, ◌^◌, ◌<◌, ◌≤◌, List, ◌++◌, length, get_or, drop, map, flat_map, None, refl, sym, ◌∙◌, arith, length-append}
 use Rattle.std.specs.List.{All}
 use Rattle.acpi_base.specs.Number.{field, number_bytes}
@@ -27,7 +27,6 @@ use Rattle.acpi_write.proofs.TablesWritten.RewrittenEntries.{entries_kept, writt
 abbrev parts_of : List ℕ → List ℕ
 parts_of whole = flat_map madt_bytes (entries_in (entries_read_by madt_entry (entries_of 44 whole)))
 
--- how many bytes a body has
 pub length-body : (address flags : ℕ) (parts : List ℕ)
     → 36 + length (number_bytes 4 address ++ (number_bytes 4 flags ++ parts)) ≡ 44 + length parts
 length-body address flags parts =
@@ -79,12 +78,10 @@ facts = record {
   readable = λ m q whole clean is. filled_madt q whole (clean stage.Madt whole is);
 }
 
--- entries that can be written have lengths of their types
 own_length : (v : MadtEntry) → IsShapedMadt v → IsOfOwnLength (madt_value v)
 own_length (entry.Opaque bytes) shaped = shaped.1
 own_length _ shaped = tt
 
--- what is written for a value says it
 pub says : (address flags : ℕ) (entries : List MadtEntry) (whole : List ℕ) → 36 ≤ length whole
     → drop 36 whole ≡ body_bytes (Madt address flags (map madt_value entries)) → address < 2 ^ 32 → flags < 2 ^ 32
     → DoEntriesSay madt_entry madt_bytes madt_value entries → All IsShapedMadt entries
@@ -106,7 +103,6 @@ says address flags entries whole least body low_address low_flags say shaped =
       spell_entries madt_entry madt_bytes madt_value IsOfOwnLength 44 whole entries to_entries entries_there say own,
     )
 
--- bytes say one
 pub one : (bytes : List ℕ) (a b f g : ℕ) (vs ws : List madt.MadtEntry) → SpellsBody (Madt a f vs) bytes
     → SpellsBody (Madt b g ws) bytes → Madt a f vs ≡ Madt b g ws
 one bytes a b f g vs ws v w =

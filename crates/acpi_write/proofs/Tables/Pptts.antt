@@ -1,4 +1,4 @@
--- What is proved of the PPTT.
+-- The facts about the PPTT.
 use Rattle.std.proofs.Common.{◌≡◌, ℕ, ◌+◌, ◌≤◌, List, length, get_or, drop, map, None, refl, arith}
 use Rattle.std.specs.List.{All}
 use Rattle.acpi_base.specs.Entries.{cut_of}
@@ -46,12 +46,10 @@ facts = record {
   readable = λ m q whole clean is. filled_pptt whole (clean stage.Pptt whole is);
 }
 
--- entries that can be written have lengths of their types
 own_length : (v : PpttEntry) → IsShapedPptt v → ¬ HasOtherPpttLength (pptt_value v)
 own_length (entry.Opaque bytes) shaped = λ other. omega (arith, shaped.1, other)
 own_length _ shaped = λ other. other
 
--- what is written for a value says it
 pub says : (entries : List PpttEntry) (whole : List ℕ) → 36 ≤ length whole
     → drop 36 whole ≡ body_bytes (Pptt (map pptt_value entries))
     → DoEntriesSay pptt_entry pptt_bytes pptt_value entries → All IsShapedPptt entries
@@ -61,7 +59,6 @@ says entries whole least body say shaped =
     λ k d h. own_length (get_or entries k d) (shaped k d h) in
     spell_entries pptt_entry pptt_bytes pptt_value (λ e. ¬ HasOtherPpttLength e) 36 whole entries least body say own
 
--- bytes say one
 pub one : (bytes : List ℕ) (vs ws : List pptt.PpttEntry) → SpellsBody (Pptt vs) bytes → SpellsBody (Pptt ws) bytes
     → Pptt vs ≡ Pptt ws
 one bytes vs ws v w =

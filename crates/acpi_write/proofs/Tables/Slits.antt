@@ -1,4 +1,4 @@
--- What is proved of the SLIT.
+-- The facts about the SLIT.
 use Rattle.std.proofs.Common.{◌≡◌, ℕ, ◌+◌, ◌*◌, ◌^◌, ◌<◌, ◌≤◌, List, length, drop, refl, sym, ap, ◌∙◌, arith, length-append, length-drop}
 use Rattle.acpi_base.specs.Number.{field, number_bytes}
 use Rattle.acpi_base.specs.Slit.{IsValidSlit, slit_contents}
@@ -48,7 +48,6 @@ facts = record {
   readable = λ m q whole clean is. readable whole (clean stage.Slit whole is);
 }
 
--- what is written for a value says it
 pub says : (count : ℕ) (cells whole : List ℕ) → 36 ≤ length whole → drop 36 whole ≡ body_bytes (Slit count cells)
     → count < 2 ^ 64 → length cells ≡ count * count → SpellsBody (Slit count cells) whole
 says count cells whole least body fits square =
@@ -59,7 +58,6 @@ says count cells whole least body fits square =
       there,
     )
 
--- bytes say one
 pub one : (bytes : List ℕ) (n m : ℕ) (cells others : List ℕ) → SpellsBody (Slit n cells) bytes
     → SpellsBody (Slit m others) bytes → Slit n cells ≡ Slit m others
 one bytes n m cells others v w = λ k. Slit ((sym v.1 ∙ w.1) k) ((sym v.2 ∙ w.2) k)

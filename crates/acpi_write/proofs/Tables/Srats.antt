@@ -1,4 +1,4 @@
--- What is proved of the SRAT.
+-- The facts about the SRAT.
 use Rattle.std.proofs.Common.{◌≡◌, ℕ, ◌+◌, ◌≤◌, List, ◌++◌, length, get_or, drop, map, flat_map, replicate, None, refl, ◌∙◌, arith, length-append}
 use Rattle.std.specs.List.{All}
 use Rattle.acpi_base.specs.Number.{number_bytes}
@@ -29,7 +29,6 @@ parts_of whole = flat_map srat_bytes (entries_in (entries_read_by srat_entry (en
 length-reserved : length srat_reserved ≡ 12
 length-reserved = omega (arith, length-append (number_bytes 4 1) (replicate 8 0), length-number_bytes 4 1)
 
--- how many bytes a body has
 pub length-body : (parts : List ℕ) → 36 + length (srat_reserved ++ parts) ≡ 48 + length parts
 length-body parts = omega (arith, length-append srat_reserved parts, length-reserved)
 
@@ -59,12 +58,10 @@ facts = record {
   readable = λ m q whole clean is. filled_srat whole (clean stage.Srat whole is);
 }
 
--- entries that can be written have lengths of their types
 own_length : (v : SratEntry) → IsShapedSrat v → IsOfOwnLength (srat_value v)
 own_length (entry.Opaque bytes) shaped = shaped.1
 own_length _ shaped = tt
 
--- what is written for a value says it
 pub says : (entries : List SratEntry) (whole : List ℕ) → 36 ≤ length whole
     → drop 36 whole ≡ body_bytes (Srat (map srat_value entries))
     → DoEntriesSay srat_entry srat_bytes srat_value entries → All IsShapedSrat entries
@@ -77,7 +74,6 @@ says entries whole least body say shaped =
     spell_entries srat_entry srat_bytes srat_value IsOfOwnLength 48 whole entries to_entries
     (behind 36 12 48 whole srat_reserved parts body length-reserved refl) say own
 
--- bytes say one
 pub one : (bytes : List ℕ) (vs ws : List srat.SratEntry) → SpellsBody (Srat vs) bytes → SpellsBody (Srat ws) bytes
     → Srat vs ≡ Srat ws
 one bytes vs ws v w = (let entries = one_entries srat_entry IsOfOwnLength 48 bytes vs ws v w in λ k. Srat (entries k))

@@ -1,4 +1,4 @@
--- The bytes of a table with its header are all of a table's, sum to 0, and say what they were made of.
+-- The bytes of a table with its header are all of a table's, sum to 0, and say what they were made from.
 use Rattle.std.proofs.Common.{◌≡◌, ℕ, ◌+◌, ◌^◌, ◌<◌, ◌≤◌, List, ◌++◌, length, drop, sum, true, refl, sym, ap, ◌∙◌, arith, append_assoc, length-append, length-drop}
 use Rattle.std.proofs.lemmas.Cmp.{nat_list_eq_equiv}
 use Rattle.std.proofs.lemmas.List.{length-take-le, take_at}
@@ -13,7 +13,7 @@ use Rattle.acpi_write.specs.Laws.{AreByteValues}
 use Rattle.acpi_write.specs.Spells.{IsTableOf}
 use Rattle.acpi_write.proofs.TablesWritten.Sums.{sum-append, sum-cons, closes, closing_below}
 
--- the widths of what is written
+-- what is written fits its fields
 record FitsTable (signature : List ℕ) (head : HeadValue) (body : List ℕ) : Type 0 where
   name : length signature ≡ 4
   head_fits : FitsHead head
@@ -47,7 +47,6 @@ table_sum signature head body =
     let opened = header_bytes (header_with signature (36 + length body) 0 head) ++ body in
     closes opened _ (header_sum signature head (36 + length body) (checksum_of opened) body (closing_below opened))
 
--- the bytes begin with the signature
 begins : (signature : List ℕ) (head : HeadValue) (body : List ℕ)
     → (rest : List ℕ) × (table_bytes signature head body ≡ signature ++ rest)
 unfolding table_bytes header_bytes
@@ -57,7 +56,7 @@ own_signature : (signature rest : List ℕ) → has_signature (signature ++ rest
 unfolding has_signature
 own_signature signature rest = rw (take_at signature rest (length signature) refl) (nat_list_eq_equiv.refl signature)
 
--- the bytes of a table are all of one's with this signature, and say the head and the body
+-- the bytes are those of a complete table with this signature, and say the head and the body
 pub complete_table : (signature : List ℕ) (head : HeadValue) (body : List ℕ) → length signature ≡ 4 → FitsHead head
     → 36 + length body < 2 ^ 32
     → IsTableOf signature head (table_bytes signature head body) × (drop 36 (table_bytes signature head body) ≡ body)
@@ -79,7 +78,6 @@ complete_table signature head body four head_fits short =
       drop-header_bytes v body wide,
     )
 
--- a table has its header and its body
 pub length_of_parts : (new body : List ℕ) → 36 ≤ length new → drop 36 new ≡ body → length new ≡ 36 + length body
 length_of_parts new body least is = omega (arith, least, ap length is, length-drop 36 new)
 
@@ -103,7 +101,6 @@ unfolding table_bytes header_bytes
 length-table_bytes signature head body four widths =
     simp (length-append, length-number_bytes, four, widths.oemid, widths.oem_table_id) (omega arith)
 
--- so do its numbers
 pub fits_head : (whole : List ℕ) → AreByteValues whole → 36 ≤ length whole → FitsHead (head_of whole)
 unfolding header_of
 fits_head whole low long =

@@ -1,4 +1,4 @@
--- Entries one after another: what is read of them, and what is written for them.
+-- Entries one after another: what is read from them, and what is written for them.
 use Rattle.std.proofs.Common.{◌≡◌, ℕ, zero, suc, ◌+◌, ◌≤◌, List, [], ◌∷◌, ◌++◌, length, get_or, take, drop, map, flat_map, Some, None, refl, sym, ap, ◌∙◌, arith, length-append, length-drop}
 use Rattle.std.specs.List.{All}
 use Rattle.std.proofs.lemmas.Bool.Decides.{nat_tests}
@@ -9,7 +9,7 @@ use Rattle.acpi_base.proofs.Entries.{no_cut_fault, one_cut}
 use Rattle.acpi_write.specs.Bodies.{SpellEntries, entries_in}
 use Rattle.acpi_write.specs.Spells.{SaysEntry, DoEntriesSay}
 
--- ---- from a cut to the entries that stand
+-- ---- from a cut to the entries of the table
 
 -- these entries one after another from an offset on
 abbrev pub standing : ℕ → List (List ℕ) → List (PlacedEntry (List ℕ))
@@ -42,7 +42,6 @@ entries_again (suc n) offset (e ∷ es) left each joined count =
     (omega (arith, count)) in
     rw begins (ap (λ (l : List (PlacedEntry (List ℕ))). record { offset = offset; entry = e } ∷ l) more)
 
--- each has at least two bytes, so there are no more of them than bytes
 few : (es : List (List ℕ)) → All IsEntry es → length es ≤ length (flat_map (λ e. e) es)
 few [] each = omega arith
 few (e ∷ es) each =
@@ -51,7 +50,6 @@ few (e ∷ es) each =
     let rest = few es (All-tail IsEntry e es each) in
     omega (arith, least, rest, length-append e (flat_map (λ x. x) es))
 
--- the entries of a cut stand one after another from the first entry's place on
 pub cut_stands : (first : ℕ) (whole : List ℕ) (es : List (List ℕ)) → All IsEntry es
     → flat_map (λ e. e) es ≡ drop first whole → entries_of first whole ≡ standing first es
 unfolding entries_of
@@ -64,14 +62,13 @@ pub said_standing : {E : Type 0} (read : List ℕ → E) (offset : ℕ) (es : Li
 said_standing read offset [] = refl
 said_standing read offset (e ∷ es) = ap (λ l. read e ∷ l) (said_standing read (offset + length e) es)
 
--- of each entry that stands, and so of each of the entries
 each_in : {E : Type 0} (P : E → Type 0) (entries : List (PlacedEntry E)) → ((o : ℕ) (e : E) → Stands entries o e → P e)
     → All P (entries_in entries)
 each_in {E} P entries own =
     All-map P (λ (s : PlacedEntry E). s.entry) entries
     (λ k d h. own (get_or entries k d).offset (get_or entries k d).entry (All-contains_itself entries k d h))
 
--- the entries that stand in a table that they fill are spelled by its bytes
+-- the bytes of a table that entries fill encode these entries
 pub spelled_entries : {E : Type 0} (read : List ℕ → E) (Own : E → Type 0) (first : ℕ) (whole : List ℕ)
     → first ≤ length whole → cut_of first whole ≡ None
     → ((o : ℕ) (e : E) → Stands (entries_read_by read (entries_of first whole)) o e → Own e)
@@ -118,7 +115,6 @@ spell_entries read bytes_of value Own first whole xs long behind say own =
       lengths = All-map Own value xs own;
     }
 
--- bytes spell one list of entries
 pub one_entries : {E : Type 0} (read : List ℕ → E) (Own : E → Type 0) (first : ℕ) (bytes : List ℕ) (vs ws : List E)
     → SpellEntries read Own first bytes vs → SpellEntries read Own first bytes ws → vs ≡ ws
 one_entries read Own first bytes vs ws a b =
@@ -126,13 +122,11 @@ one_entries read Own first bytes vs ws a b =
 
 -- ---- parts of a body
 
--- what stands behind a part
 pub behind : (first n at : ℕ) (whole part rest : List ℕ) → drop first whole ≡ part ++ rest → length part ≡ n
     → at ≡ first + n → drop at whole ≡ rest
 behind first n at whole part rest stands count is =
     ap (λ (k : ℕ). drop k whole) is ∙ sym (drop-drop n first whole) ∙ ap (drop n) stands ∙ drop_at part rest n count
 
--- a table reaches what stands behind a part of it
 pub reaches : (first n : ℕ) (whole part rest : List ℕ) → first ≤ length whole → drop first whole ≡ part ++ rest
     → length part ≡ n → first + n ≤ length whole
 reaches first n whole part rest long stands count =

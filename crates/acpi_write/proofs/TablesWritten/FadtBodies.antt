@@ -1,4 +1,4 @@
--- The FACS address in a FADT's body: what is put together is the body with the address.
+-- The FACS address in a FADT's body: the appended parts are the body with the address.
 use Rattle.std.proofs.Common.{◌≡◌, ℕ, ◌+◌, ◌-◌, ◌<◌, ◌≤◌, inl, inr, List, [], ◌++◌, append_assoc, length, take, drop, refl, sym, ap, ◌∙◌, arith, length-append, length-drop}
 use Rattle.std.proofs.lemmas.Bool.{cases_lt, le-leb, lt-leb}
 use Rattle.std.proofs.lemmas.List.{drop-drop, take_at, drop_at, take_rest, length-take-le}
@@ -16,7 +16,6 @@ length-put_over bytes offset new h =
     let d = length-take-le offset bytes (omega arith) in
     omega (arith, a, b, c, d)
 
--- a body of the extended FADT
 pub with_facs-wide : (body : List ℕ) (facs : ℕ) → 104 ≤ length body
     → with_facs body facs ≡ put_over (put_over body 0 (number_bytes 4 0)) 96 (number_bytes 8 facs)
 unfolding with_facs
@@ -41,7 +40,6 @@ length-with_facs body facs h =
           (number_bytes 8 facs) (omega (arith, a, eight)) ∙ a
     ]
 
--- the bytes one after another
 wide_parts : (body : List ℕ) (facs : ℕ) → 104 ≤ length body
     → with_facs body facs ≡ number_bytes 4 0 ++ (take 92 (drop 4 body) ++ (number_bytes 8 facs ++ drop 104 body))
 unfolding put_over number_bytes
@@ -77,7 +75,6 @@ narrow_appended body facs x0 x1 x2 narrow short n e0 e1 e2 =
     e2 ∙ (λ i. (e1 ∙ ap (λ (l : List ℕ). l ++ narrow) e0) i ++ take_rest body 4 i)
     ∙ ap (λ (l : List ℕ). l ++ drop 4 body) n ∙ sym (narrow_parts body facs short)
 
--- the last FACS address that was put in counts
 pub with_facs-with_facs : (body : List ℕ) (one other : ℕ) → 4 ≤ length body
     → with_facs (with_facs body one) other ≡ with_facs body other
 with_facs-with_facs body one other h =

@@ -13,13 +13,12 @@ use Rattle.acpi_write.specs.Values.{kind_of}
 use Rattle.acpi_write.proofs.Tables.Kinds.{facts}
 use Rattle.acpi_write.proofs.TablesWritten.CompleteTables.{complete_table, length_of_parts, fits_head, widths_of, length-table_bytes}
 
--- a whole table in bytes, whose Length has 32 bits
+-- the bytes of a complete table, whose Length has 32 bits
 pub record IsCleanTable (whole : List ℕ) : Type 0 where
   pub table : IsCompleteTable whole
   pub bytes : AreByteValues whole
   pub small : length whole < 2 ^ 32
 
--- what is written for a table keeps its contents, wherever the FACS stands
 pub kept : (kind : TableKind) (facs : ℕ) (whole : List ℕ) → IsCleanTable whole → IsFilledAs kind whole
     → KeepsContents kind whole (encoded_bytes_with facs (table_value_as (Some kind) whole))
 kept kind facs whole is filled =
@@ -45,7 +44,6 @@ contents_are_kept kind whole is low small filled =
 
 -- ---- lengths
 
--- what the table says is written in as many bytes
 pub said_length : (o : Option TableKind) (whole : List ℕ) → 36 ≤ length whole → IsReadableAs o whole
     → encoded_length (table_value_as o whole) ≡ length whole
 said_length (Some kind) whole least readable =
@@ -54,7 +52,6 @@ said_length (Some kind) whole least readable =
     ∙ (facts kind).count 0 whole least filled
 said_length None whole least readable = omega (arith, least, length-drop 36 whole)
 
--- wherever the FACS stands
 pub length-encoded_bytes_with : (facs : ℕ) (o : Option TableKind) (whole : List ℕ) → 36 ≤ length whole
     → IsReadableAs o whole
     → length (encoded_bytes_with facs (table_value_as o whole)) ≡ encoded_length (table_value_as o whole)

@@ -1,4 +1,4 @@
--- The entries that are written for those of a table: they stand where they stood, in as many bytes.
+-- The entries that are written for those of a table: they have the same offsets and as many bytes.
 use Rattle.std.proofs.Common.{◌≡◌, ℕ, zero, suc, ◌+◌, ◌-◌, ◌<◌, ◌≤◌, cond, List, [], ◌∷◌, ◌++◌, length, get_or, drop, map, flat_map, Some, None, refl, sym, ap, ◌∙◌, subst, inl, inr, arith, length-append, length-drop}
 use Rattle.std.specs.Prelude.{nat_lt, slice_index, sum_by}
 use Rattle.std.specs.List.{All}
@@ -99,7 +99,7 @@ module _ {E : Type 0} (read : List ℕ → E) (bytes_of : E → List ℕ)
       (All-tail (WrittenAgain read bytes_of) e es each) in
       λ i. record { offset = same i; entry = here.says.1 i } ∷ rest i
 
-  -- the entries that were written stand where they stood, and fill the table
+  -- the written entries are at the same offsets, and fill the table
   pub entries_kept : (first : ℕ) (whole new : List ℕ) → AreByteValues whole → cut_of first whole ≡ None
       → drop first new ≡ flat_map bytes_of (entries_in (entries_read_by read (entries_of first whole)))
       → (entries_read_by read (entries_of first new) ≡ entries_read_by read (entries_of first whole))
@@ -120,7 +120,7 @@ module _ {E : Type 0} (read : List ℕ → E) (bytes_of : E → List ℕ)
         none ∙ sym filled,
       )
 
--- they have as many bytes as the table behind the first entry's place
+-- they have as many bytes as the table from the first entry on
 pub written_length : {E : Type 0} (read : List ℕ → E) (bytes_of : E → List ℕ)
     → ((e : List ℕ) → length (bytes_of (read e)) ≡ length e) → (first : ℕ) (whole : List ℕ)
     → first ≤ length whole → cut_of first whole ≡ None

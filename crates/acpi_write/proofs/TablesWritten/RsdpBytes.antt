@@ -52,7 +52,6 @@ pub rsdp_written : (oemid : List ℕ) (xsdt : ℕ) → length oemid ≡ 6 → xs
 rsdp_written (a ∷ b ∷ c ∷ d ∷ e ∷ f ∷ []) xsdt h fits = of_six xsdt a b c d e f fits
 rsdp_written _ xsdt h fits = absurd (omega arith)
 
--- a head and its tail, as they are put together
 pub tail_appended : (xsdt checksum : ℕ) (head x1 x2 size address : List ℕ) → x1 ≡ head ++ size
     → size ≡ number_bytes 4 36 → x2 ≡ x1 ++ address → address ≡ number_bytes 8 xsdt
     → x2 ++ checksum ∷ 0 ∷ 0 ∷ 0 ∷ [] ≡ head ++ rsdp_tail xsdt checksum

@@ -1,4 +1,4 @@
--- Sums of bytes, and the byte that closes one.
+-- Sums of bytes, and the checksum byte that makes one 0.
 use Rattle.std.proofs.Common.{◌≡◌, ℕ, ◌+◌, ◌<◌, List, ◌∷◌, ◌++◌, sum, arith, ◌-◌, ◌%◌, length, ap, ◌∙◌}
 use Rattle.std.proofs.lemmas.List.Sums.{sum_by-append, sum_by-cons}
 use Rattle.acpi_base.specs.Number.{byte_sum}
@@ -11,7 +11,6 @@ sum-append xs ys = sum_by-append (λ x. x) xs ys
 pub sum-cons : (x : ℕ) (xs : List ℕ) → sum (x ∷ xs) ≡ x + sum xs
 sum-cons x xs = sum_by-cons (λ x. x) x xs
 
--- bytes whose sum is that of others and their closing byte sum to 0
 pub closes : (opened bytes : List ℕ) → sum bytes ≡ sum opened + checksum_of opened → byte_sum bytes ≡ 0
 unfolding checksum_of byte_sum
 closes opened bytes e = omega (arith, e)

@@ -10,7 +10,6 @@ placed-requires-clause-facs c =
     facs_some c.args.image.now c.args.policy.now (set_value c.in_ok-value.value) c.in_ok-value.ensures.clean
     c.in_ok-value.ensures.value
 
--- the rebuilt image is kept as a set, so it is clean
 pub returns-clause-clean : goal.returns-clause-clean
 returns-clause-clean c =
     let kept =

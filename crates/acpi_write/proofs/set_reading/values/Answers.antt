@@ -25,7 +25,6 @@ use Rattle.acpi_write.proofs.OldSets.CleanSets.{clean_readable}
 use Rattle.acpi_write.proofs.set_reading.values.Goals.{in-Some, in-None}
 use Rattle.acpi_write.proofs.set_reading.values.Goals as goal
 
--- a check's refusal is that of the value
 refused : {T U : Type 0} (m : Memory) (q : PolicyValue) (P : U → Type 0) (refusal : Refusal) (r : Result T ValuesFault)
     → IsErrAnd r (λ v. v ≡ values_fault_of refusal)
     → IsResultTo stage.Leaves m q P (Err refusal) → IfErr r (IsValuesRefusal m q)
@@ -34,7 +33,7 @@ refused m q P (Fault w) (Err v) is settled =
     rw is (λ all. excludes m q w (stage_of w.code) settled.0.fault.holds (all (stage_of w.code)), settled.0)
 refused m q P OutOfMemory (Err v) is settled = rw is settled.1
 
--- the FACS that was handed on is that of the FADT
+-- the FACS that was passed on is that of the FADT
 some_facs : (m : Memory) (fadt : List ℕ) (f : FacsValue) (bytes : List ℕ) → bytes ≡ f.bytes
     → IsFacsNamed m fadt (Some f) → IsFacsOf m fadt (Some bytes)
 some_facs m fadt f bytes same named =

@@ -17,7 +17,6 @@ loop-k-init c = (
   rw c.new-found.ensures.items (All-nil IsShort),
 )
 
--- it is the same however it is come by
 same_table : (listed : List Listed) (k : ℕ) (here none kept : Listed) → k < length (map table_of listed)
     → here ≡ get_or listed k here → kept ≡ here → table_of kept ≡ table_of (get_or listed k none)
 same_table listed k here none kept below is copied =
