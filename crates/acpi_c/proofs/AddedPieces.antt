@@ -21,13 +21,11 @@ use Rattle.acpi_c.specs.Sources.{Fails, pieces_source}
 use Rattle.acpi_c.specs.declared.pieces.Piece.{Piece}
 use Rattle.acpi_c.specs.declared.refusal.Refusal.TheVariants.{PiecesOverlap}
 
--- no piece has been added
 pub stands_first : (ps : List Piece) → Stands ps 0 (Ok empty)
 stands_first ps = (refl, λ a. ap (λ o. second_with (is_some o) 0 ps a) (get-empty nat_cmp a))
 
 -- ---- a piece that fits
 
--- it has an address or not
 has_or_not : (p : Piece) (a : ℕ)
     → ((has_address p a ≡ true) × (p.address ≤ a) × (a < p.address + length p.bytes.now))
     ⊎ ((has_address p a ≡ false) × ((a < p.address) ⊎ (p.address + length p.bytes.now ≤ a)))
@@ -39,7 +37,7 @@ has_or_not p a = elim (cases_lt a p.address) [
   ]
 ]
 
--- where none of its addresses was present, the search for the second holder goes on behind it
+-- if none of its addresses was present, the search for the second piece with an address continues after it
 passed : (m : Memory) (p : Piece) (rest : List Piece) (index a : ℕ)
     → first_present m p.address (length p.bytes.now) ≡ None
     → second_with (is_some (byte_of (with_bytes m p.address p.bytes.now) a)) (suc index) rest a
@@ -104,7 +102,6 @@ stands_next ps index d (Ok m) new below fits is (so_far, seen) =
 
 -- ---- how adding ends
 
--- the first piece fits
 fits_first : (p : Piece) (rest : List Piece) → p.address + length p.bytes.now ≤ 2 ^ 64 → FirstFits (p ∷ rest)
 fits_first p rest fits =
     rw (
@@ -112,7 +109,6 @@ fits_first p rest fits =
       first_of_none (byte_of empty) p.address (length p.bytes.now) (λ k l. get-empty nat_cmp (p.address + k)),
     ) refl
 
--- once a piece was added, the first one fits
 pub begun_next : (ps : List Piece) (index : ℕ) (d : Piece) → index < length ps
     → (get_or ps index d).address + length (get_or ps index d).bytes.now ≤ 2 ^ 64 → (index ≡ 0) ⊎ FirstFits ps
     → (index + 1 ≡ 0) ⊎ FirstFits ps
@@ -121,7 +117,6 @@ begun_next (p ∷ rest) index d below fits (inr first) = inr first
 begun_next (p ∷ rest) zero d below fits (inl start) = inr (fits_first p rest fits)
 begun_next (p ∷ rest) (suc index) d below fits (inl start) = absurd (omega arith)
 
--- the piece at which adding stopped is refused, where none before it repeats an address
 pub stopped : (ps : List Piece) (index : ℕ) (m : Memory) (fault : ImageFault) → Stands ps index (Ok m)
     → RefusesFirst (drop index ps) fault → (index ≡ 0) ⊎ FirstFits ps
     → Fails (pieces_source ps) (piece_refusal index fault)

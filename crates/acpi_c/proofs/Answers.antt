@@ -32,7 +32,6 @@ use Rattle.acpi_c.specs.declared.refusal.Refusal.TheVariants.{OutOfMemory}
 use Rattle.acpi_c.specs.declared.settings.Inputs.{Inputs}
 use Rattle.acpi_c.specs.declared.settings.Settings.{Settings}
 
--- what is found in the image is found in what was passed
 pub finds : (source : Source) (m : Memory) (found : Option ℕ) → source.Is m → IfSome found (IsFound m)
     → (IsNone found → IsNowhere m) → Finds source (Ok found)
 finds source m None is some none = (m, is, none refl)
@@ -40,7 +39,6 @@ finds source m (Some p) is some none = (m, is, some)
 
 -- ---- a verdict on what was passed
 
--- what was asked, once the tested policy has its numbers of inputs
 pub asks : (source : Source) (settings : Settings) (inputs : List Inputs) (m : Memory) (tested q : PolicyValue)
     → source.Is m → policy_of settings inputs ≡ Ok (with_inputs tested inputs) → q ≡ with_inputs tested inputs
     → Asks source settings inputs m q
@@ -68,7 +66,6 @@ reports source settings inputs m q faults advice asked found =
 
 -- ---- memory that runs out
 
--- pieces that give an image begin with one that fits
 pub pieces_begin : (pieces : List Piece) (m : Memory) → with_pieces 0 empty pieces ≡ Ok m → FirstFits pieces
 pieces_begin [] m e = tt
 pieces_begin (p ∷ rest) m e = go (add_refusal empty p.address p.bytes.now) e
@@ -78,11 +75,9 @@ pieces_begin (p ∷ rest) m e = go (add_refusal empty p.address p.bytes.now) e
     go None h = refl
     go (Some fault) h = absurd (cc)
 
--- a text that gives an image has no fault
 pub text_faultless : (bytes : List ℕ) (m : Memory) → IsText bytes m → MayRunOut bytes
 text_faultless bytes m is = inr (is.0, is.1)
 
--- nothing is wrong with the numbers, and memory runs out
 pub runs_out : (numbers : Option Refusal) (source : Source) (r : Refusal) → numbers ≡ None → source.MayRunOut
     → r ≡ OutOfMemory → IsRefusal numbers source r
 runs_out numbers source r none may out = inr (none, inl (out, may))
@@ -95,7 +90,6 @@ neither one other e f = rw e f
 ok_same : {A E : Type 0} (x y : A) → ◌≡◌ {A = Result A E} (Ok x) (Ok y) → x ≡ y
 ok_same x y e = cc
 
--- a text has one image
 text_image : (text : List ℕ) (m n : Memory) → IsText text m → IsText text n → m ≡ n
 text_image text m n one other =
     let same : one.0 ≡ other.0 = ok_same one.0 other.0 (sym one.1 ∙ other.1) in

@@ -10,7 +10,6 @@ use Rattle.acpi_base.specs.declared.rule.Advice.{Advice}
 use Rattle.acpi_base.specs.declared.witness.Witness.{Witness}
 use Rattle.acpi_base.proofs.Faults.Numbers.{code_below, code_from, rule_below, rule_from}
 
--- numbers that rise from `low` on are at least that and their place
 rises : {X : Type 0} (number : X → ℕ) (low : ℕ) (xs : List X) (d : X) → ((x : X) → low ≤ number x)
     → AllPairs (λ x y. number x < number y) xs → (i : ℕ) → i < length xs → low + i ≤ number (slice_index_or xs i d)
 rises number low xs d from rise zero below = let least = from (slice_index_or xs 0 d) in omega arith
@@ -20,7 +19,6 @@ rises number low xs d from rise (suc i) below =
     rise i (suc i) d (omega arith) below in
     omega arith
 
--- so there are at most as many as there are numbers
 fits : {X : Type 0} (number : X → ℕ) (low high : ℕ) (xs : List X) → ((x : X) → low ≤ number x)
     → ((x : X) → number x < high) → AllPairs (λ x y. number x < number y) xs → length xs ≤ high - low
 fits number low high [] from to rise = omega arith

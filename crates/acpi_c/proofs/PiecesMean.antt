@@ -1,4 +1,4 @@
--- The image that pieces make up has their bytes, and no others.
+-- The image that pieces give has their bytes, and no others.
 use Rattle.std.proofs.Common.{◌≡◌, ◌⊎◌, inl, inr, ℕ, suc, ◌-◌, ◌≤◌, List, [], ◌∷◌, length, slice_get, Option, Some, None, IsSome, is_some, Ok, refl, sym, subst, ap, ◌∙◌, arith}
 use Rattle.std.specs.Prelude.{◌↔◌}
 use Rattle.std.specs.FinMap.{empty, get-empty}
@@ -35,7 +35,6 @@ has_byte_at p a b h =
     let same : a - p.address ≡ h.offset = omega (arith, h.place) in
     present_from (run_at p.address p.bytes.now) a above ∙ ap (slice_get p.bytes.now) same ∙ h.byte
 
--- an image with one more piece, no address of which it had
 one_more : (m : Memory) (p : Piece) (a b : ℕ) → add_refusal m p.address p.bytes.now ≡ None
     → (byte_of (with_bytes m p.address p.bytes.now) a ≡ Some b) ↔ ((byte_of m a ≡ Some b) ⊎ HasByte p a b)
 one_more m p a b free = (there (byte_at p a) refl, back)
@@ -62,7 +61,6 @@ one_more m p a b free = (there (byte_at p a) refl, back)
     back (inl h) = still (byte_at p a) refl h
     back (inr h) = has ∙ ap (λ o. option_or o (byte_of m a)) (has_byte_at p a b h)
 
--- an image with all the pieces
 pub all_mean : (ps : List Piece) (i : ℕ) (m n : Memory) → with_pieces i m ps ≡ Ok n → (a b : ℕ)
     → (byte_of n a ≡ Some b) ↔ ((byte_of m a ≡ Some b) ⊎ HaveByte ps a b)
 all_mean [] i m n e a b = (λ h. inl (subst (λ o. byte_of o a ≡ Some b) (sym (ok e)) h), back)

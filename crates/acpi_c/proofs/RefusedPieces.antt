@@ -21,7 +21,7 @@ use Rattle.acpi_c.specs.declared.refusal.Refusal.{Refusal}
 use Rattle.acpi_c.specs.declared.refusal.Refusal.TheVariants.{PiecePastEnd, PiecesOverlap}
 use Rattle.acpi_c.proofs.PiecesMean.{byte_at, byte_at_has, has_byte_at, pieces_mean}
 
--- The first piece that cannot be added, where those before it make up an image.
+-- The first piece that cannot be added, if those before it give an image.
 record Refused (i : ℕ) (m : Memory) (ps : List Piece) (r : Refusal) : Type 0 where
   pub piece : Piece
   pub earlier : List Piece
@@ -33,7 +33,6 @@ record Refused (i : ℕ) (m : Memory) (ps : List Piece) (r : Refusal) : Type 0 w
   pub why : add_refusal image piece.address piece.bytes.now ≡ Some fault
   pub same : r ≡ piece_refusal (i + length earlier) fault
 
--- pieces that are refused have such a one
 refused : (ps : List Piece) (i : ℕ) (m : Memory) (r : Refusal) → with_pieces i m ps ≡ Err r → Refused i m ps r
 refused [] i m r e = absurd (cc)
 refused (p ∷ ps) i m r e =
@@ -75,7 +74,6 @@ refused (p ∷ ps) i m r e =
           same = rest.same ∙ ap (λ k. piece_refusal k rest.fault) place;
         }
 
--- pieces that have such a one are refused
 refuse : (earlier : List Piece) (i : ℕ) (m image : Memory) (p : Piece) (later : List Piece) (fault : ImageFault)
     → with_pieces i m earlier ≡ Ok image → add_refusal image p.address p.bytes.now ≡ Some fault
     → with_pieces i m (earlier ++ (p ∷ later)) ≡ Err (piece_refusal (i + length earlier) fault)
@@ -157,7 +155,6 @@ past_fault image.PastEnd k index e = (refl, cc)
 past_fault (image.Twice a) k index e = absurd (cc)
 past_fault image.Memory k index e = absurd (cc)
 
--- a refused piece stands behind those that make up an image
 behind : (ps : List Piece) (r : Refusal) (index : ℕ) (it : Refused 0 empty ps r) → 0 + length it.earlier ≡ index
     → StandsBehind ps index it.piece it.earlier
 behind ps r index it e =
@@ -196,14 +193,12 @@ overlap_fault image.PastEnd k index a e = absurd (cc)
 overlap_fault (image.Twice b) k index a e = (let same : b ≡ a = cc in ap (λ x. Twice x) same, cc)
 overlap_fault image.Memory k index a e = absurd (cc)
 
--- the piece has a byte at its first address that is present
 own_byte : (m : Memory) (p : Piece) (a : ℕ) → IsFirstAt (byte_of m) p.address (length p.bytes.now) a
     → (b : ℕ) × HasByte p a b
 own_byte m p a first =
     let found = a_value (byte_at p a) (present_some (run_at p.address p.bytes.now) a first.from first.below) in
     (found.0, byte_at_has p a found.0 found.1)
 
--- no lesser address of the piece is one of the earlier pieces'
 least_shared : (m : Memory) (p : Piece) (earlier : List Piece) (a : ℕ) → with_pieces 0 empty earlier ≡ Ok m
     → IsFirstAt (byte_of m) p.address (length p.bytes.now) a
     → (x b c : ℕ) → HasByte p x b → HaveByte earlier x c → a ≤ x
@@ -233,7 +228,7 @@ overlap_there ps index a it =
       least = least_shared it.image it.piece it.earlier a it.made first;
     }
 
--- the least address of the piece that the image has
+-- the lowest address of the piece that the image has
 shared_first : (m : Memory) (p : Piece) (earlier : List Piece) (a : ℕ) → with_pieces 0 empty earlier ≡ Ok m
     → ((b : ℕ) × HasByte p a b) → ((b : ℕ) × HaveByte earlier a b)
     → ((x b c : ℕ) → HasByte p x b → HaveByte earlier x c → a ≤ x)

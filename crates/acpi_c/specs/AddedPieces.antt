@@ -1,4 +1,4 @@
--- Pieces that are added one after the other, of which one may repeat an address.
+-- Pieces that are added one after another, of which one may repeat an address.
 use Rattle.std.specs.Prelude.{◌≡◌, ℕ, suc, ◌+◌, ◌^◌, ◌<◌, ◌≤◌, List, [], ◌∷◌, length, drop, Bool, true, false, nat_le, nat_lt, ◌&&◌, is_some, if◌then◌else◌, Result, Ok, Err}
 use Rattle.std.specs.FinMap.{empty}
 use Rattle.acpi_base.specs.Memory.{Memory, byte_of}
@@ -11,8 +11,8 @@ use Rattle.acpi_c.specs.declared.refusal.Refusal.TheVariants as refusal
 abbrev pub has_address : Piece → ℕ → Bool
 has_address p a = nat_le p.address a && nat_lt a (p.address + length p.bytes.now)
 
--- The index of the second piece with this address, where the first piece of the list has this index. If the address has
--- been seen, it is that of the first piece with it.
+-- The index of the second piece with this address, if the first piece of the list has this index. If the address has
+-- occurred, it is that of the first piece with it.
 abbrev pub second_with : Bool → ℕ → List Piece → ℕ → ℕ
 second_with seen index [] a = index
 second_with seen index (p ∷ rest) a =

@@ -1,4 +1,4 @@
--- What it means that pieces give an image, or are refused, and that an image has one verdict however it is passed.
+-- The laws of pieces and of texts: which image pieces give, why they are refused, and that one image has one verdict.
 use Rattle.std.specs.Prelude.{◌≡◌, ◌↔◌, ◌⊎◌, ℕ, ◌+◌, ◌^◌, ◌<◌, ◌≤◌, ◌++◌, List, [], ◌∷◌, length, slice_get, Some, Ok, Err}
 use Rattle.std.specs.FinMap.{empty}
 use Rattle.acpi_base.specs.Memory.{Memory, byte_of}

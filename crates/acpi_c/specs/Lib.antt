@@ -1,4 +1,4 @@
--- What the contracts of the exported functions cite.
+-- The definitions that contracts of the exported functions cite.
 pub mod AddedPieces
 pub mod Answers
 pub mod Kinds

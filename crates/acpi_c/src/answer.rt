@@ -1,4 +1,4 @@
-//! Answers as numbers.
+//! Results of calls as numbers.
 
 ghost use Rattle.std.specs.Prelude.{◌≡◌, Ok};
 ghost use Rattle.acpi_c.specs.Answers.{check_answer, confirm_answer, find_answer, plain_answer, refusal_answer};

@@ -1,4 +1,4 @@
-//! Verdicts for C.
+//! The calls that check an image, for C.
 
 ghost use Rattle.std.specs.Prelude.{◌≡◌, Result};
 ghost use Rattle.acpi_base.specs.declared.verdict.Verdict.{Verdict};

@@ -1,4 +1,4 @@
-//! One fault, confirmed for C.
+//! The call that confirms one fault, for C.
 
 ghost use Rattle.std.specs.Prelude.{◌≡◌, Bool, IfOk, Result};
 ghost use Rattle.std.specs.Result.{result_err};
@@ -53,9 +53,9 @@ fn confirmed(
 
 /// Whether the finding is a fault of the image that the pieces give. It need not be the first one.
 ///
-/// Refuses, in this order: `BadSize`, `BadDefaultInputs`, `BadHotPlug`, `BadProcessors`, `BadInputs`, as `acpiset_check`
-/// does; `BadCode` if the finding's number is that of no code, as that of a finding of advice is; `PiecePastEnd`,
-/// `PiecesOverlap`, `OutOfMemory`, as `acpiset_check` does.
+/// Refuses, in this order: `BadSize`, `BadDefaultInputs`, `BadHotPlug`, `BadProcessors`, `BadInputs`, as
+/// `acpiset_check` does; `BadCode` if the finding's number is that of no code, as that of a finding of advice is;
+/// `PiecePastEnd`, `PiecesOverlap`, `OutOfMemory`, as `acpiset_check` does.
 #[unsafe(no_mangle)]
 pub extern "C" fn acpiset_confirm(
     alloc: Global,

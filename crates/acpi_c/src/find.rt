@@ -1,4 +1,4 @@
-//! The search for the RSDP, for C.
+//! The call that searches for the RSDP, for C.
 
 ghost use Rattle.std.specs.Prelude.{◌≡◌, ℕ, Option, Result};
 ghost use Rattle.acpi_c.specs.Answers.{find_answer};

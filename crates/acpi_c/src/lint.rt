@@ -1,4 +1,4 @@
-//! All findings, for C.
+//! The call that returns all findings, for C.
 
 ghost use Rattle.std.specs.Prelude.{◌≡◌, ◌≤◌, ◌++◌, List, Result, Ok, IfOk, MatchResult, OnOk, length, map};
 ghost use Rattle.acpi_base.specs.declared.rule.Advice.{Advice};
@@ -119,8 +119,8 @@ fn answer_of(found: &Findings) -> Answer
 /// Returns `Yes` if there is no fault, otherwise `No`, with the number of faults, at most `MOST_FAULTS`, and the number
 /// of findings of advice, at most `MOST_ADVICE`. An array of as many as both together is always long enough.
 ///
-/// Refuses, in this order, and then writes nothing: `BadSize`, `BadDefaultInputs`, `BadHotPlug`, `BadProcessors`, `BadInputs`,
-/// `PiecePastEnd`, `PiecesOverlap`, `OutOfMemory`, as `acpiset_check` does.
+/// Refuses, in this order, and then writes nothing: `BadSize`, `BadDefaultInputs`, `BadHotPlug`, `BadProcessors`,
+/// `BadInputs`, `PiecePastEnd`, `PiecesOverlap`, `OutOfMemory`, as `acpiset_check` does.
 #[unsafe(no_mangle)]
 pub extern "C" fn acpiset_lint(
     alloc: Global,

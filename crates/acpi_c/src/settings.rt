@@ -139,7 +139,7 @@ fn add_count(policy: &mut Policy, inputs: &Inputs) -> Result<(), AllocError>
 }
 
 /// Gives the policy these numbers of inputs. If an address is repeated, the first number wins. If memory runs out, the
-/// policy has some of them. A call does this once it has an image: so it looks at the first piece before it allocates.
+/// policy has some of them. A call does this once it has an image: so it tests the first piece before it allocates.
 pub fn add_inputs(policy: &mut Policy, inputs: &[Inputs]) -> Result<(), AllocError>
     requires { inputs_refusal 0 inputs.now ≡ None }
     ensures { OnOk result (policy.new ≡ with_inputs policy.old inputs.now) }
