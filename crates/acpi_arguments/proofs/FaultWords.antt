@@ -22,7 +22,6 @@ use Rattle.acpi_arguments.proofs.Spellings.{lacks}
 
 -- ---- words
 
--- a word and a blank are what stands before and behind the first blank
 first_is : (word rest : List ℕ) → list_all is_no_blank word ≡ true → word_of (word ++ 32 ∷ rest) ≡ word
 first_is word rest none = before_first-at 32 word rest (lacks is_no_blank 32 word refl none)
 
@@ -31,13 +30,11 @@ rest_is word rest none = after_first-at 32 word rest (lacks is_no_blank 32 word 
 
 -- ---- what the words say
 
--- each code is found by its name
 code_is_named : (c : Code) → code_by_name (code_name c) ≡ Some c
 unfolding code_by_name
 code_is_named code.RsdpOut = refl
 code_is_named _ = refl
 
--- each number is read back
 number_is : (n : ℕ) → n < 2 ^ 64 → number_behind_0x (hex_text n) ≡ n
 unfolding hex_text
 number_is n fits = hex_reads_back n fits
@@ -46,7 +43,6 @@ line_is : (w : Witness) → witness_line w ≡ decimal (stage_number (stage_of w
 unfolding witness_line behind_stage behind_name behind_at
 line_is w = simp append_assoc
 
--- the words of a fault's text name it
 names_itself : (w : Witness) → NumbersFit w → named_fault (witness_line w) ≡ Some w
 unfolding named_fault behind_stage behind_name behind_at
 names_itself w fits =
@@ -79,13 +75,11 @@ names_itself w fits =
       number_is w.point fits.2,
     ) refl
 
--- ---- the fault that a text is of
+-- ---- the fault with a text
 
--- a fault whose numbers fit passes the test of it
 fit_is_true : (w : Witness) → NumbersFit w → numbers_fit w ≡ true
 fit_is_true w fits = rw (lt-ltb _ _ fits.0, lt-ltb _ _ fits.1, lt-ltb _ _ fits.2) refl
 
--- its text is read as it
 pub is_read : (text : List ℕ) (w : Witness) → NumbersFit w → text ≡ witness_line w → written_fault text ≡ Some w
 unfolding written_fault
 is_read text w fits line =
@@ -93,7 +87,6 @@ is_read text w fits line =
     let same : bytes_eq (witness_line w) text ≡ true = (bytes_eq-Decides (witness_line w) text).1 (sym line) in
     rw (named, same, fit_is_true w fits) refl
 
--- and what is read as a fault is its text
 pub read_is_written : (text : List ℕ) (w : Witness) → written_fault text ≡ Some w
     → NumbersFit w × (text ≡ witness_line w)
 unfolding written_fault
@@ -108,7 +101,6 @@ read_is_written text w e =
       sym ((bytes_eq-Decides (witness_line v) text).0 is.0),
     ))
 
--- a text that is of no fault is not read
 pub none_is_read : (text : List ℕ) → ((w : Witness) → NumbersFit w → text ≡ witness_line w → ⊥)
     → None ≡ written_fault text
 none_is_read text none = go (written_fault text) refl
@@ -119,13 +111,11 @@ none_is_read text none = go (written_fault text) refl
 
 -- ---- its first byte
 
--- a fault's text begins with a digit
 stage_is_plain : (c : Code) → IsPlain (decimal (stage_number (stage_of c)))
 unfolding digits
 stage_is_plain code.RsdpOut = refl
 stage_is_plain _ = refl
 
--- so with no hyphen
 pub fault_is_plain : (text : List ℕ) (w : Witness) → written_fault text ≡ Some w → IsPlain text
 fault_is_plain text w e =
     let is = read_is_written text w e in

@@ -10,7 +10,6 @@ use Rattle.acpi_base.specs.Policy.{PolicyValue, inputs_of, new_policy, with_inpu
 use Rattle.acpi_arguments.specs.CommandLine.{first_count, with_inputs}
 use Rattle.acpi_arguments.specs.declared.policy_words.Inputs.{Inputs}
 
--- one count more leaves those of other addresses, and one that its address has
 one_count_more : (q : PolicyValue) (a n address : ℕ)
     → get (with_input q a n).inputs address ≡ option_or (get q.inputs address) (cond (a == address) (Some n) None)
 one_count_more q a n address = go (get q.inputs a) (get q.inputs address) refl refl
@@ -24,7 +23,6 @@ one_count_more q a n address = go (get q.inputs a) (get q.inputs address) refl r
     go (Some here) None e f = rw (e, f) (grind (arith, nat_tests))
     go (Some here) (Some there) e f = rw (e, f) refl
 
--- the first of some counts wins, unless the address had one before
 pub first_stands : (q : PolicyValue) (counts : List Inputs) (address : ℕ)
     → get (with_inputs q counts).inputs address ≡ option_or (get q.inputs address) (first_count counts address)
 first_stands q [] address = sym (or_none (get q.inputs address))
@@ -46,7 +44,6 @@ first_stands q (first ∷ counts) address =
     in_turn (Some n) true = refl
     in_turn (Some n) false = refl
 
--- only the counts change
 pub only_counts : (q : PolicyValue) (counts : List Inputs)
     → with_inputs q counts ≡ record q { inputs = (with_inputs q counts).inputs }
 only_counts q [] = refl
@@ -61,7 +58,6 @@ only_counts q (first ∷ counts) =
     same_others true inputs = refl
     same_others false inputs = refl
 
--- the inputs of an I/O APIC in the policy of some counts
 pub inputs_stand : (default_inputs address : ℕ) (counts : List Inputs)
     → inputs_of (with_inputs (new_policy 0 default_inputs) counts) address ≡ unwrap_or (first_count counts address)
     default_inputs

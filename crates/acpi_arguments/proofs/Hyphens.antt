@@ -32,23 +32,20 @@ plain_if_read reads (c ∷ cs) t nothing hyphen e = elim (eqb_tells c 45) [
   | inr other ↦ rw other.0 refl
 ]
 
--- nor is the value of an option that is read so
+-- and so is the value of an option that is read so
 pub value_is_plain : {T : Type 0} (reads : Option Text → Option T) (value : Option Text) (t : T)
     → reads (Some []) ≡ None → ((rest : Text) → reads (Some (45 ∷ rest)) ≡ None)
     → reads value ≡ Some t → IfSome value IsPlain
 value_is_plain reads None t nothing hyphen e = tt
 value_is_plain reads (Some text) t nothing hyphen e = plain_if_read (λ text. reads (Some text)) text t nothing hyphen e
 
--- a hyphen is no digit
 pub no_number : (some short : Bool) (n : ℕ) → cond (some && (short && false)) (Some n) None ≡ None
 no_number some short n = simp and-false
 
--- nor does one with more behind it
 pub plain_with_more : (text more : Text) → IsPlain text → IsPlain (text ++ more)
 plain_with_more [] more plain = absurd (true≢false (sym plain))
 plain_with_more (c ∷ cs) more plain = plain
 
--- nor a word `ADDRESS=COUNT`
 inputs_are_plain : (word : Text) (inputs : Inputs) → inputs_word word ≡ Some inputs → IsPlain word
 inputs_are_plain word inputs e =
     let s = spelling word inputs e in
@@ -56,7 +53,6 @@ inputs_are_plain word inputs e =
     subst IsPlain (sym s.is) (plain_with_more (s.address ++ codes "=") s.count
     (plain_with_more s.address (codes "=") address))
 
--- nor any of several
 pub all_are_plain : (words : List Text) (counts : List Inputs) → all_inputs words ≡ Some counts → ArePlain words
 all_are_plain [] counts e = tt
 all_are_plain (word ∷ words) counts e =

@@ -35,13 +35,13 @@ built_flag = with_index 1 (filled (flag_rule (codes "strict")))
 abbrev built_inputs : Rule
 built_inputs = with_index 1 (filled inputs_rule)
 
--- the options of such a line, the flag, where the command has it, `ADDRESS=COUNT` and the command's own `--help`
+-- the options of such a line, the flag, if the command has it, `ADDRESS=COUNT` and the command's own `--help`
 unfoldable pub rules : List (Text × Option Text) → Option Bool → List Rule
 rules [] None = filled_from 1 (inputs_rule ∷ help_rule ∷ [])
 rules [] (Some is_given) = filled_from 1 (flag_rule (codes "strict") ∷ inputs_rule ∷ help_rule ∷ [])
 rules (choice ∷ options) flag = built_option choice.0 ∷ rules options flag
 
--- a command, what stands in the line for each of its options, and whether `--strict` does, where the command has it
+-- a command, the value in the line for each of its options, and whether `--strict` is there, if the command has it
 pub record Line : Type 0 where
   pub name : Text
   pub options : List (Text × Option Text)
@@ -53,7 +53,7 @@ pub record Line : Type 0 where
 unfoldable pub shape : Line → Shape
 shape l = record (new_shape l.name) { rules = rules l.options l.flag; disable_help_subcommand = true; is_built = true }
 
--- the first rule that passes a test, where of all options only one passes
+-- the first rule that passes a test, if only one of all options passes
 finds_option : (test : Rule → Bool) (id : Text) (options : List (Text × Option Text)) (flag : Option Bool)
     → ((other : Text) → test (built_option other) ≡ bytes_eq other id) → has_option id options ≡ true
     → find test (rules options flag) ≡ Some (built_option id)
@@ -69,7 +69,6 @@ finds_option test id (choice ∷ options) flag tells is =
         rw (tells choice.0, e) (ap (λ (i : Text). Some (built_option i)) ((bytes_eq-Decides choice.0 id).0 e))
     go false e others = rw (tells choice.0, e) (others (ap (λ (b : Bool). b || has_option id options) (sym e) ∙ is))
 
--- `ADDRESS=COUNT` is found by its id
 finds_inputs : (options : List (Text × Option Text)) (flag : Option Bool) → has_option (codes "inputs") options ≡ false
     → arg_by_id (rules options flag) (codes "inputs") ≡ Some built_inputs
 unfolding rules
@@ -79,7 +78,7 @@ finds_inputs (choice ∷ options) flag none =
     let others = or_parts (bytes_eq choice.0 (codes "inputs")) (has_option (codes "inputs") options) none in
     rw others.0 (finds_inputs options flag others.1)
 
--- and `--strict` by its name, where the command has it
+-- and `--strict` by its name, if the command has it
 finds_flag : (test : Rule → Bool) (options : List (Text × Option Text)) (is_given : Bool)
     → ((other : Text) → test (built_option other) ≡ bytes_eq other (codes "strict")) → test built_flag ≡ true
     → has_option (codes "strict") options ≡ false → find test (rules options (Some is_given)) ≡ Some built_flag
@@ -89,7 +88,6 @@ finds_flag test (choice ∷ options) is_given tells is none =
     let others = or_parts (bytes_eq choice.0 (codes "strict")) (has_option (codes "strict") options) none in
     rw (tells choice.0, others.0) (finds_flag test options is_given tells is others.1)
 
--- `ADDRESS=COUNT` takes the first word that is no option
 takes_words : (options : List (Text × Option Text)) (flag : Option Bool)
     → arg_by_index (rules options flag) 1 ≡ Some built_inputs
 unfolding rules
@@ -97,18 +95,18 @@ takes_words [] None = refl
 takes_words [] (Some is_given) = refl
 takes_words (choice ∷ options) flag = takes_words options flag
 
--- ---- the walk over the words
+-- ---- the walk over the arguments
 
 -- what is read so far, and whose values are being read
 abbrev pub present : List Row → Option (Text × List Text) → Present
 present rows pending = record { rows = rows; pending = pending; skip = 0 }
 
--- the walk between two words, before any `--`
+-- the walk between two arguments, before any `--`
 abbrev pub standing : List Row → Option (Text × List Text) → Waiting → Walk
 standing rows pending waiting =
     record { present = present rows pending; waiting = waiting; position = 1; is_trailing = false; stopped = None }
 
--- from here on the words have no fault, and give these rows
+-- from here on the arguments have no fault, and give these rows
 pub record Reads (l : Line) (start : Walk) (words : List Text) (rows : List Row) : Type 0 where
   pub no_fault : walk_fault (shape l) [] start words ≡ []
   pub settles : settle_fault (rules l.options l.flag) false (fold (walked (rules l.options l.flag) []) start words).present
@@ -116,17 +114,16 @@ pub record Reads (l : Line) (start : Walk) (words : List Text) (rows : List Row)
   pub gives : (settled (rules l.options l.flag) (fold (walked (rules l.options l.flag) []) start words).present).rows
       ≡ rows
 
--- what is read so far and what is pending come to these rows
+-- what is read so far and what is pending give these rows
 record Holds (l : Line) (before : List Row) (pending : Option (Text × List Text)) (rows : List Row) : Type 0 where
   pub valid : settle_fault (rules l.options l.flag) false (present before pending) ≡ []
   pub come_to : settled_rows (rules l.options l.flag) pending before ≡ rows
 
--- the word has no fault, and leads on
+-- the argument has no fault, and leads on
 record Steps (l : Line) (start : Walk) (word : Text) (next : Walk) : Type 0 where
   pub valid : turn_fault (shape l) [] start word ≡ []
   pub leads : walked (rules l.options l.flag) [] start word ≡ next
 
--- no word is left
 reads_none : (l : Line) (before rows : List Row) (pending : Option (Text × List Text)) (waiting : Waiting)
     → Holds l before pending rows
     → Reads l (standing before pending waiting) [] rows
@@ -134,7 +131,6 @@ unfolding clap_on_literals
 reads_none l before rows pending waiting holds =
     record { no_fault = refl; settles = holds.valid; gives = holds.come_to }
 
--- one word more
 reads_one : (l : Line) (start next : Walk) (word : Text) (words : List Text) (rows : List Row) → Steps l start word next
     → Reads l next words rows
     → Reads l start (word ∷ words) rows
@@ -154,12 +150,12 @@ reads_one l start next word words rows steps reads = record {
 
 -- ---- options
 
--- a word is `--` and this id
+-- an argument is `--` and this id
 abbrev names_only : Option (Text × Option Text) → Text → Bool
 names_only None id = false
 names_only (Some met) id = bytes_eq met.0 id && not (is_some met.1)
 
--- one of the options has this id, and `--ID` is no other word
+-- one of the options has this id, and `--ID` is no other argument
 abbrev pub is_option : List (Text × Option Text) → Text → Bool
 is_option options id =
     has_option id options && (names_only (long_of (codes "--" ++ id)) id && not
@@ -172,7 +168,6 @@ record IsOption (options : List (Text × Option Text)) (flag : Option Bool) (id 
   pub long : long_of (codes "--" ++ id) ≡ Some (id, None)
   pub more : bytes_eq (codes "--" ++ id) (codes "--") ≡ false
 
--- such a word has the name of the option, and no value
 long_is : (met : Option (Text × Option Text)) (id : Text) → names_only met id ≡ true → met ≡ Some (id, None)
 long_is None id is = absurd (true≢false (sym is))
 long_is (Some (name, None)) id is =
@@ -192,7 +187,7 @@ option_is options flag id is =
       more = not-true (bytes_eq (codes "--" ++ id) (codes "--")) words.1;
     }
 
--- its name is read
+-- the name of an option is read
 to_option : (l : Line) (id : Text) (rows : List Row) (pending : Option (Text × List Text))
     → IsOption l.options l.flag id
     → settle_fault (rules l.options l.flag) false (present rows pending) ≡ []
@@ -204,7 +199,6 @@ to_option l id rows pending is valid = record {
   leads = rw (is.more, is.long, is.by_long) refl;
 }
 
--- and then its value
 to_value : (l : Line) (id text : Text) (rows : List Row) → IsOption l.options l.flag id → IsPlain text
     → Steps l (standing rows (Some (id, [])) (option id)) text (standing rows (Some (id, text ∷ [])) idle)
 unfolding shape clap_on_literals
@@ -214,7 +208,6 @@ to_value l id (c ∷ cs) rows is plain = record {
   leads = simp (not-true (c == 45) plain, is.by_id, (bytes_eq-Decides id id).1 refl);
 }
 
--- an option that was not given before comes behind what is read
 option_behind : (l : Line) (id text : Text) (rows : List Row) → IsOption l.options l.flag id → has_row id rows ≡ false
     → Holds l rows (Some (id, text ∷ [])) (rows ++ option_rows id (Some text))
 option_behind l id text rows is other = record {
@@ -225,7 +218,7 @@ option_behind l id text rows is other = record {
       ∙ at_row_absent id (more_values CommandLine (text ∷ [])) _ rows other);
 }
 
--- `--ID TEXT`, where there is a text, and then the words behind it
+-- `--ID TEXT`, if there is a text, and then the arguments after it
 reads_option : (l : Line) (id : Text) (text : Option Text) (words : List Text) (before options rows : List Row)
     (pending : Option (Text × List Text)) → IsOption l.options l.flag id
     → IfSome text IsPlain → Holds l before pending options → has_row id options ≡ false
@@ -240,14 +233,14 @@ reads_option l id (Some text) words before options rows pending is plain holds o
     (reads_one l _ _ _ _ _ (to_value l id text options is plain)
     (reads options (Some (id, text ∷ [])) (option_behind l id text options is other))))
 
--- ---- words without a hyphen
+-- ---- arguments without a hyphen
 
--- what waits behind a word `ADDRESS=COUNT`, and else, where no option does
+-- what is expected after an argument `ADDRESS=COUNT`, and otherwise, if no option expects a value
 abbrev behind : Bool → Waiting
 behind true = positional
 behind false = idle
 
--- it is the next word of `ADDRESS=COUNT`, and may come where what is pending has no fault
+-- the next argument `ADDRESS=COUNT`, which may come if what is pending has no fault
 to_word : (l : Line) (text : Text) (rows : List Row) (pending : Option (Text × List Text)) (is_more : Bool)
     → IsPlain text → settle_fault (rules l.options l.flag) false (present rows pending) ≡ []
     → Steps l (standing rows pending (behind is_more)) text
@@ -263,7 +256,7 @@ to_word l (c ∷ cs) rows pending false plain valid = record {
   leads = simp (not-true (c == 45) plain, takes_words l.options l.flag, and-false);
 }
 
--- a word without a hyphen, and then the words behind it
+-- an argument without a hyphen, and then the arguments after it
 reads_word : (l : Line) (text : Text) (words : List Text) (before now rows : List Row)
     (pending : Option (Text × List Text)) (is_more : Bool) → IsPlain text
     → Holds l before pending now → Reads l (standing now (Some (codes "inputs", text ∷ [])) positional) words rows
@@ -273,7 +266,6 @@ reads_word l text words before now rows pending is_more plain holds reads =
     (subst (λ (r : List Row). Reads l (standing r (Some (codes "inputs", text ∷ [])) positional) words rows)
     (sym holds.come_to) reads)
 
--- one more word is put behind those that are read
 one_more_word : (l : Line) (options : List Row) (read : List Text) (word : Text)
     → has_row (codes "inputs") options ≡ false
     → Holds l (options ++ word_rows read) (Some (codes "inputs", word ∷ [])) (options ++ word_rows (read ++ word ∷ []))
@@ -291,7 +283,7 @@ one_more_word l options read word other = record {
         at_row_behind (codes "inputs") (more_values CommandLine (word ∷ [])) (row (codes "inputs") (word ∷ []) ∷ [])
         options (word_rows (first ∷ read)) other
 
--- all words after the first
+-- all arguments after the first
 reads_words : (l : Line) (options : List Row) (read : List Text) (word : Text) (words : List Text)
     → has_row (codes "inputs") options ≡ false → ArePlain words
     → Reads l (standing (options ++ word_rows read) (Some (codes "inputs", word ∷ [])) positional) words
@@ -305,7 +297,7 @@ reads_words l options read word (next ∷ words) other plain =
     (options ++ word_rows all))
     (append_assoc read (word ∷ []) (next ∷ words)) (reads_words l options (read ++ word ∷ []) next words other plain.1))
 
--- the words behind the options
+-- the arguments after the options
 reads_all_words : (l : Line) (before options : List Row) (pending : Option (Text × List Text)) (words : List Text)
     → Holds l before pending options
     → has_row (codes "inputs") options ≡ false → ArePlain words
@@ -321,7 +313,7 @@ reads_all_words l before options pending (word ∷ words) holds other plain =
 
 -- ---- the flag
 
--- it is put behind what is read
+-- the flag is put after what is read
 flag_behind : (l : Line) (is_given : Bool) (rows : List Row) (pending : Option (Text × List Text))
     → l.flag ≡ Some is_given → settle_fault (rules l.options l.flag) false (present rows pending) ≡ []
     → has_row (codes "strict") (settled_rows (rules l.options l.flag) pending rows) ≡ false
@@ -344,12 +336,12 @@ flag_behind l is_given rows pending has valid other = record {
         rw has (finds_flag (λ a. not (is_some a.index) && has_long a (codes "strict")) l.options is_given
         (λ other. or-false (bytes_eq other (codes "strict"))) refl l.no_strict)
 
--- `--strict`, where it is given
+-- `--strict`, if it is given
 abbrev pub flag_words : Option Bool → List Text
 flag_words None = []
 flag_words (Some is_given) = strict_words is_given
 
--- the flag and the words behind the options
+-- the flag and the arguments after the options
 reads_flag : (l : Line) (flag : Option Bool) (before options : List Row) (pending : Option (Text × List Text))
     (words : List Text)
     → l.flag ≡ flag → Holds l before pending options → has_row (codes "inputs") options ≡ false
@@ -383,7 +375,7 @@ abbrev pub AllPlain : List (Text × Option Text) → Type 0
 AllPlain [] = Unit {0}
 AllPlain (choice ∷ options) = IfSome choice.1 IsPlain × AllPlain options
 
--- the options that are left, and the words behind them
+-- the options that are left, and the arguments after them
 reads_rest : (l : Line) (done left : List (Text × Option Text)) (words : List Text) (before : List Row)
     (pending : Option (Text × List Text))
     → done ++ left ≡ l.options → list_all (λ choice. is_option l.options choice.0) left ≡ true
@@ -406,7 +398,7 @@ reads_rest l done (choice ∷ left) words before pending e are new begin plain h
     (append_assoc done (choice ∷ []) left ∙ e) first.1 others.1 begin.1 plain
     (record { valid = holds.valid; come_to = holds.come_to ∙ sym (rows_of_one_more done choice) }))
 
--- all options and words of a plain line
+-- all options and arguments of a plain line
 pub reads_options : (l : Line) (words : List Text) → list_all (λ choice. is_option l.options choice.0) l.options ≡ true
     → are_new [] l.options ≡ true → AllPlain l.options → ArePlain words
     → Reads l (standing [] None idle) (options_words l.options (flag_words l.flag ++ words))
@@ -414,19 +406,17 @@ pub reads_options : (l : Line) (words : List Text) → list_all (λ choice. is_o
 reads_options l words are new begin plain =
     reads_rest l [] l.options words [] None refl are new begin plain (record { valid = refl; come_to = refl })
 
--- ---- at the end of the words
+-- ---- at the end of the arguments
 
--- a choice of the same
 either_way : {X : Type 0} (b : Bool) (x : X) → cond b x x ≡ x
 either_way true x = refl
 either_way false x = refl
 
--- the flag has a value where it is not given
+-- the flag has a value if it is not given
 abbrev pub flagged : Option Bool → List Row → List Row
 flagged None rows = rows
 flagged (Some is_given) rows = with_default rows built_flag
 
--- no other argument has a default of `clap`'s
 no_defaults : (options : List (Text × Option Text)) (flag : Option Bool) (rows : List Row)
     → fold with_default rows (rules options flag) ≡ flagged flag rows
 unfolding rules
@@ -436,7 +426,6 @@ no_defaults (choice ∷ options) flag rows =
     ap (λ (r : List Row). fold with_default r (rules options flag)) (either_way (has_row choice.0 rows) rows)
     ∙ no_defaults options flag rows
 
--- so none is refused
 no_default_fault : (options : List (Text × Option Text)) (flag : Option Bool) (rows : List Row)
     → defaults_fault rows (rules options flag) ≡ []
 unfolding rules clap_on_literals
@@ -445,7 +434,6 @@ no_default_fault [] (Some is_given) rows = simp (or-true, or-false, either_way)
 no_default_fault (choice ∷ options) flag rows =
     rw (or-true, either_way (has_row choice.0 rows) rows) (no_default_fault options flag rows)
 
--- and none is needed
 none_needed : (options : List (Text × Option Text)) (flag : Option Bool) (rows : List Row)
     → list_any (λ (a : Rule). a.required && not (is_given a.id rows)) (rules options flag) ≡ false
 unfolding rules
@@ -453,7 +441,6 @@ none_needed [] None rows = refl
 none_needed [] (Some is_given) rows = refl
 none_needed (choice ∷ options) flag rows = none_needed options flag rows
 
--- `clap` takes the words
 pub taken : (l : Line) (words : List Text) (rows : List Row) → Reads l (standing [] None idle) words rows
     → level_fault (shape l) [] nothing_present words false [] ≡ []
 unfolding shape
@@ -466,12 +453,11 @@ taken l words rows reads =
           (fold (walked (rules l.options l.flag) []) (standing [] None idle) words).present),
     ) refl
 
--- what it then has read
 pub given : (l : Line) (words : List Text) (rows : List Row) → Reads l (standing [] None idle) words rows
     → rows_after (rules l.options l.flag) [] words ≡ flagged l.flag rows
 given l words rows reads = no_defaults l.options l.flag _ ∙ ap (flagged l.flag) reads.gives
 
--- of a plain line these are the options, the flag, where it is given, the words, and else the flag's value
+-- for a plain line these are the options, the flag, if it is given, the arguments, and otherwise the flag's value
 pub all_given : (options : List (Text × Option Text)) (flag : Option Bool) (words : List Text)
     → has_option (codes "strict") options ≡ false
     → flagged flag (options_rows options ++ (flag_rows flag ++ word_rows words))

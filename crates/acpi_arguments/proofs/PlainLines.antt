@@ -1,4 +1,4 @@
--- Command lines with valid arguments, and what they ask for.
+-- Command lines with valid arguments, and the jobs that they give.
 use Rattle.std.proofs.Common.{◌≡◌, ◌∙◌, ◌++◌, ℕ, Bool, List, [], ◌∷◌, Option, Some, None, true, false, true≢false, cond, codes, append_assoc, append-nil, refl, ap, sym, ◌==◌}
 use Rattle.std.specs.Prelude.{IfSome, find as find_first, fold, is_some, option_and_then, option_map}
 use Rattle.std.specs.List.{list_all}
@@ -25,7 +25,6 @@ use Rattle.acpi_arguments.proofs.JudgingArguments.{AllPlain, Line, Reads, all_gi
 
 -- ---- what comes before the arguments of a command
 
--- the walk that has come to a command keeps the words behind it
 words_behind : (c : List Rule) (names : Names) (w : Walk) (name : Text) (before words : List Text)
     → fold (walked c names) (record w { stopped = Some (name, before) }) words ≡ record w
     { stopped = Some (name, before ++ words) }
@@ -36,14 +35,13 @@ words_behind c names w name before (word ∷ words) =
     words_behind c names w name (before ++ word ∷ []) words
     ∙ ap (λ (all : List Text). record w { stopped = Some (name, all) }) (append_assoc before (word ∷ []) words)
 
--- and has no fault in them
 no_fault_behind : (s : Shape) (names : Names) (w : Walk) (name : Text) (before words : List Text)
     → walk_fault s names (record w { stopped = Some (name, before) }) words ≡ []
 unfolding walked walk_fault
 no_fault_behind s names w name before [] = refl
 no_fault_behind s names w name before (word ∷ words) = no_fault_behind s names w name (before ++ word ∷ []) words
 
--- what is left to be judged once the walk is over
+-- what is left to be checked once the walk is over
 after_walk : (a : App) (words : List Text) (w : Walk) → walk a.top.rules (names_of a) nothing_present words ≡ w
     → walk_fault a.top (names_of a) (walk_from nothing_present) words ≡ []
     → built_fault a nothing_present words
@@ -53,7 +51,6 @@ after_walk : (a : App) (words : List Text) (w : Walk) → walk a.top.rules (name
     (check_fault a.top (finished a.top.rules w.present) (is_some (entered a w.stopped)))))
 after_walk a words w e fault = rw (fault, e) refl
 
--- the whole command line as `clap` builds it
 program_line : App
 unfolding command_line check_line lint_line confirm_line rebuild_line show_line find_line
 program_line = built command_line
@@ -64,18 +61,15 @@ record HasCommand (l : Line) : Type 0 where
   pub met : subcommand_met (names_of program_line) idle l.name ≡ Some l.name
   pub is : find_first (λ (s : Shape). answers_to l.name (label_of s)) program_line.subs ≡ Some (shape l)
 
--- the walk over `COMMAND WORDS..`
 at_command : Line → List Text → Walk
 at_command l words = record (walk_from nothing_present) { stopped = Some (l.name, words) }
 
--- the walk comes to the command
 walks_to : (l : Line) (words : List Text) → HasCommand l
     → walk program_line.top.rules (names_of program_line) nothing_present (l.name ∷ words) ≡ at_command l words
 unfolding walked at_command
 walks_to l words has =
     rw has.met (words_behind program_line.top.rules (names_of program_line) (walk_from nothing_present) l.name [] words)
 
--- and has no fault up to it
 no_fault_to : (l : Line) (words : List Text) → HasCommand l
     → walk_fault program_line.top (names_of program_line) (walk_from nothing_present) (l.name ∷ words) ≡ []
 unfolding walked walk_fault
@@ -83,7 +77,7 @@ no_fault_to l words has =
     rw (has.met, has.no_help) (no_fault_behind program_line.top (names_of program_line) (walk_from nothing_present) l.name
     [] words)
 
--- nor is there one in what stands before it
+-- what comes before it has no fault either
 no_fault_before : (l : Line) (words : List Text)
     → or_else (settle_fault program_line.top.rules program_line.top.args_override_self (at_command l words).present)
     (or_else (defaults_fault (settled program_line.top.rules (at_command l words).present).rows program_line.top.rules)
@@ -92,7 +86,6 @@ unfolding program_line command_line check_line lint_line confirm_line rebuild_li
     clap_on_literals
 no_fault_before l words = refl
 
--- `PROGRAM COMMAND WORDS..`, where the words are read, is taken
 command_is_taken : (l : Line) (program : Text) (words : List Text) (rows : List Row) → HasCommand l
     → Reads l (standing [] None idle) words rows → is_taken (program ∷ l.name ∷ words) ≡ true
 unfolding is_taken program_line at_command
@@ -112,11 +105,9 @@ command_is_entered l program words rows has reads =
 
 -- ---- plain lines
 
--- a good value of `--rsdp` begins with no hyphen
 rsdp_is_plain : (text : Option Text) (rsdp : Option ℕ) → rsdp_word text ≡ Some rsdp → IfSome text IsPlain
 rsdp_is_plain text rsdp e = value_is_plain rsdp_word text rsdp refl (λ rest. ap (option_map _) (no_number _ _ _)) e
 
--- nor do those of the options of the policy, and the words `ADDRESS=COUNT`
 policy_is_plain : (texts : PolicyTexts) (policy : PolicyValue) → policy_words texts ≡ Some policy
     → AllPlain (policy_options texts) × ArePlain texts.inputs
 policy_is_plain texts policy e =
@@ -140,7 +131,7 @@ policy_is_plain texts policy e =
 abbrev rows_of_line : Line → List Text → List Row
 rows_of_line l words = options_rows l.options ++ rows_behind l.flag words
 
--- the options of a line are distinct and its own, and their values begin with no hyphen, nor does a word
+-- the options of a line are distinct and its own, and neither their values nor the other arguments begin with a hyphen
 record IsPlainLine (l : Line) (words : List Text) : Type 0 where
   pub command : HasCommand l
   pub own : list_all (λ choice. is_option l.options choice.0) l.options ≡ true
@@ -149,7 +140,6 @@ record IsPlainLine (l : Line) (words : List Text) : Type 0 where
   pub values : AllPlain l.options
   pub inputs : ArePlain words
 
--- a plain line asks for what its command asks for with what is read
 line_is_read : (l : Line) (program : Text) (words : List Text) → IsPlainLine l words
     → asked_job (program ∷ l.name ∷ options_words l.options (flag_words l.flag ++ words))
     ≡ asked_command (Some (l.name, rows_of_line l words))
@@ -163,14 +153,13 @@ line_is_read l program words plain =
     ∙ ap (λ (rows : List Row). Some (l.name, rows)) (all_given l.options l.flag words l.no_strict) in
     rw (taken, entered) refl
 
--- an option of it is found
 option_of_line : (l : Line) (words : List Text) (id : Text) → are_distinct l.options ≡ true
     → bytes_eq (codes "inputs") id ≡ false → bytes_eq (codes "strict") id ≡ false
     → values_of (rows_of_line l words) id ≡ value_of id l.options
 option_of_line l words id distinct other another =
     option_is_found id l.options (rows_behind l.flag words) distinct (no_row_behind id l.flag words other another)
 
--- a command asks for the same where its options have the same values
+-- a command gives the same job if its options have the same values
 asks_same : {T : Type 0} (make : Option ℕ → PolicyValue → T → Asked) (id : Text) (word : Option Text → Option T)
     (value given : Text → Option Text) (words inputs : List Text)
     → ((id : Text) → bytes_eq (codes "inputs") id ≡ false → bytes_eq (codes "strict") id ≡ false → value id ≡ given id)
@@ -186,7 +175,7 @@ asks_same make id word value given words inputs same own e =
       e,
     ) refl
 
--- a plain line asks for what the values of its options say
+-- a plain line gives the job that the values of its options say
 line_is_asked : {T : Type 0} (make : Option ℕ → PolicyValue → T → Asked) (id : Text) (word : Option Text → Option T)
     (l : Line) (program : Text) (words : List Text)
     → IsPlainLine l words → ((rows : List Row)
@@ -202,7 +191,6 @@ line_is_asked make id word l program words plain asks other another =
     (ap word (option_of_line l words id plain.distinct other another))
     (words_are_found l.options l.flag words l.no_inputs)
 
--- a plain line of `check` asks for what its arguments say
 pub check_words_asked : (program : Text) (hex number : Option Text) (texts : PolicyTexts) (rsdp : Option ℕ)
     (policy : PolicyValue) (last : ℕ)
     → rsdp_word hex ≡ Some rsdp → policy_words texts ≡ Some policy → last_word number ≡ Some last
@@ -231,7 +219,6 @@ check_words_asked program hex number texts rsdp policy last a b c =
     }) (λ rows. refl) refl refl
     ∙ rw (a, b, c) refl
 
--- a plain line of `lint` asks for what its arguments say
 pub lint_words_asked : (program : Text) (hex : Option Text) (texts : PolicyTexts) (strict : Bool) (rsdp : Option ℕ)
     (policy : PolicyValue) → rsdp_word hex ≡ Some rsdp → policy_words texts ≡ Some policy
     → asked_job (lint_words program hex texts strict) ≡ Some (lint rsdp policy strict)
@@ -264,7 +251,6 @@ lint_words_asked program hex texts strict rsdp policy a b =
     refl (words_are_found l.options l.flag texts.inputs l.no_inputs)
     ∙ rw (a, b, flag_is_found l.options strict texts.inputs l.no_strict) refl
 
--- a plain line of `confirm` asks for what its arguments say
 pub confirm_words_asked : (program : Text) (w : Witness) (hex : Option Text) (texts : PolicyTexts) (rsdp : Option ℕ)
     (policy : PolicyValue)
     → NumbersFit w → rsdp_word hex ≡ Some rsdp → policy_words texts ≡ Some policy
@@ -293,7 +279,6 @@ confirm_words_asked program w hex texts rsdp policy fits a b =
     }) (λ rows. refl) refl refl
     ∙ rw (a, b, fault) refl
 
--- a plain line of `rebuild` asks for what its arguments say
 pub rebuild_words_asked : (program base : Text) (at : ℕ) (hex : Option Text) (texts : PolicyTexts) (rsdp : Option ℕ)
     (policy : PolicyValue)
     → base_word (Some base) ≡ Some at → rsdp_word hex ≡ Some rsdp → policy_words texts ≡ Some policy
@@ -322,7 +307,7 @@ rebuild_words_asked program base at hex texts rsdp policy a b c =
     }) (λ rows. refl) refl refl
     ∙ rw (a, b, c) refl
 
--- a line of `show`, where a value begins with no hyphen
+-- a line of `show`, if a value begins with no hyphen
 show_is_asked : (program : Text) (hex : Option Text) (rsdp : Option ℕ) → IfSome hex IsPlain → rsdp_word hex ≡ Some rsdp
     → asked_job (show_words program hex) ≡ Some (show rsdp)
 unfolding is_taken command_of command_line check_line lint_line confirm_line rebuild_line show_line find_line
@@ -332,12 +317,10 @@ show_is_asked program None rsdp plain e = ap (option_map show) e
 show_is_asked program (Some []) rsdp plain e = absurd (true≢false (sym plain))
 show_is_asked program (Some (c ∷ cs)) rsdp plain e = simp (not-true (c == 45) plain, e)
 
--- a plain line of `show` asks for what its argument says
 pub show_words_asked : (program : Text) (hex : Option Text) (rsdp : Option ℕ) → rsdp_word hex ≡ Some rsdp
     → asked_job (show_words program hex) ≡ Some (show rsdp)
 show_words_asked program hex rsdp e = show_is_asked program hex rsdp (rsdp_is_plain hex rsdp e) e
 
--- and one of `find` for a search
 pub find_words_asked : (program : Text) → asked_job (find_words program) ≡ Some find
 unfolding is_taken command_of command_line check_line lint_line confirm_line rebuild_line show_line find_line
     clap_on_literals

@@ -16,7 +16,6 @@ use Rattle.acpi_arguments.specs.Printable.{IsPrinted, is_printable, visible}
 
 -- ---- characters
 
--- printable ASCII
 plain_code : (c : ℕ) → 32 ≤ c → c < 127 → is_control c ≡ false
 plain_code c low high = grind (arith, nat_tests)
 
@@ -71,7 +70,6 @@ visible_printable c is = by_case (is_control c) refl where
   by_case true e = rw e (escape_printable c e)
   by_case false e = rw (e, chars_of_one c is, e) refl
 
--- at most four bytes for each byte of the character
 visible_short : (c : ℕ) → length (visible c) ≤ 4 * len_utf8 c
 visible_short c = by_case (is_control c) refl where
   by_case : (b : Bool) → is_control c ≡ b → length (visible c) ≤ 4 * len_utf8 c
@@ -84,7 +82,6 @@ printable_append : (front back : List ℕ) → IsUtf8 front → is_printable fro
     → is_printable (front ++ back) ≡ true
 printable_append front back utf8 first second = rw (chars-append front back utf8, list_all-append, first, second) refl
 
--- the first character of a text is one
 first_is_scalar : (text rest : List ℕ) (c : ℕ) → IsUtf8 text → text ≡ encode_utf8 c ++ rest → IsScalar c
 first_is_scalar text rest c utf8 parts =
     (and_parts _ _ (rw (chars_past_char text rest c utf8 parts) at (scalars-chars text utf8))).0

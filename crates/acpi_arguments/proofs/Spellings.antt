@@ -1,4 +1,4 @@
--- How an argument `ADDRESS=COUNT` is spelled.
+-- Which arguments are `ADDRESS=COUNT`.
 use Rattle.std.proofs.Common.{◌≡◌, ◌<◌, ◌∙◌, ◌++◌, ℕ, Bool, true, false, List, [], ◌∷◌, Option, Some, None, cond, zero, suc, drop, get_or, length, option_map, codes, append_assoc, refl, ap, sym, subst, true≢false, inl, inr, arith}
 use Rattle.std.specs.Prelude.{nat_eq}
 use Rattle.std.specs.Char.{is_digit}
@@ -16,25 +16,21 @@ use Rattle.acpi_arguments.specs.declared.policy_words.Inputs.{Inputs}
 
 -- ---- a hex address has no `=`
 
--- a byte that fails a test is in no text of which all bytes pass it
 pub lacks : (test : ℕ → Bool) (c : ℕ) (text : List ℕ) → test c ≡ false → list_all test text ≡ true → Lacks c text
 lacks test c text fails all i inside is =
     let not_all : list_all test text ≡ false = list_all_at test text i 0 inside (rw is fails) in
     true≢false (sym all ∙ not_all)
 
--- a number has no `=`
 number_lacks : (text : List ℕ) (a : ℕ) → number_word 16 8 text ≡ Some a → Lacks 61 text
 number_lacks text a e =
     lacks (λ c. is_digit c 16) 61 text refl
     (and_parts _ (list_all (λ c. is_digit c 16) text) (and_parts _ _ (cond_some _ _ _ e).0).1).1
 
--- nor one with `0x` before it
 prefixed_lacks : (text : List ℕ) → Lacks 61 text → Lacks 61 (48 ∷ 120 ∷ text)
 prefixed_lacks text lacks zero inside = λ e. absurd (omega arith)
 prefixed_lacks text lacks (suc zero) inside = λ e. absurd (omega arith)
 prefixed_lacks text lacks (suc (suc i)) inside = lacks i (omega arith)
 
--- nor an address
 address_lacks : (address : List ℕ) (a : ℕ) → hex_word 8 address ≡ Some a → Lacks 61 address
 address_lacks address a = go (starts_with nat_eq address (codes "0x")) refl
   where
@@ -47,14 +43,12 @@ address_lacks address a = go (starts_with nat_eq address (codes "0x")) refl
 
 -- ---- an address, a `=` and a count
 
--- a word is read by what stands before and after its first `=`
 by_parts : (word address count : List ℕ) (a n : ℕ) → before_first is_equals_sign word ≡ address
     → after_first is_equals_sign word ≡ count
     → hex_word 8 address ≡ Some a → count_word count ≡ Some n
     → inputs_word word ≡ Some (record { address = a; count = n })
 by_parts word address count a n before after is_address is_count = rw (before, after, is_address, is_count) refl
 
--- an address, a `=` and a count are read as what they spell
 pub spelled : (address count : List ℕ) (a n : ℕ) → hex_word 8 address ≡ Some a → count_word count ≡ Some n
     → inputs_word (address ++ codes "=" ++ count) ≡ Some (record { address = a; count = n })
 spelled address count a n is_address is_count =
@@ -71,7 +65,6 @@ pub record Spelling (word : List ℕ) (inputs : Inputs) : Type 0 where
   pub is_address : hex_word 8 address ≡ Some inputs.address
   pub is_count : count_word count ≡ Some inputs.count
 
--- a word with a count has a `=`
 has_equals : (word : List ℕ) (n : ℕ) → count_word (after_first is_equals_sign word) ≡ Some n
     → position_or_len is_equals_sign word < length word
 has_equals word n e = elim (cases_lt (position_or_len is_equals_sign word) (length word)) [
@@ -82,7 +75,6 @@ has_equals word n e = elim (cases_lt (position_or_len is_equals_sign word) (leng
       absurd (cc)
 ]
 
--- a word with a `=` is what stands before it, it, and what stands after it
 parts : (word : List ℕ) → position_or_len is_equals_sign word < length word
     → word ≡ before_first is_equals_sign word ++ codes "=" ++ after_first is_equals_sign word
 parts word inside =
@@ -92,13 +84,11 @@ parts word inside =
     ∙ ap (λ byte. before_first is_equals_sign word ++ byte ∷ after_first is_equals_sign word) here
     ∙ sym (append_assoc (before_first is_equals_sign word) (codes "=") (after_first is_equals_sign word))
 
--- what is made of a value is made of one that is there
 pub made_of : {A B P : Type 0} (f : A → B) (o : Option A) (y : B) → option_map f o ≡ Some y
     → ((x : A) → o ≡ Some x → f x ≡ y → P) → P
 made_of f None y e made = absurd (none-some y e)
 made_of f (Some x) y e made = made x refl (same_Some (f x) y e)
 
--- a word that is read is so spelled
 pub spelling : (word : List ℕ) (inputs : Inputs) → inputs_word word ≡ Some inputs → Spelling word inputs
 spelling word inputs e =
     option_and_then_some _ (hex_word 8 (before_first is_equals_sign word)) inputs e (λ a is_address e.

@@ -1,4 +1,4 @@
--- The command line as it is declared to `clap`, and what its arguments ask for.
+-- The command line as it is declared to `clap`, and the job that its arguments give.
 use Rattle.std.specs.Prelude.{◌≡◌, ◌==◌, ℕ, ◌&&◌, Bool, true, false, List, [], ◌∷◌, ◌++◌, Option, Some, None}
 use Rattle.std.specs.Prelude.{if◌then◌else◌, codes, find as find_first, fold, nat_le, option_and_then, option_map, unwrap_or}
 use Rattle.std.specs.Str.{bytes_eq}
@@ -19,7 +19,7 @@ use Rattle.acpi_arguments.specs.declared.words.Job.TheVariants.{Check, Confirm, 
 
 -- ---- the command line, as it is declared to `clap`
 
--- `--NAME VALUE`, at most once; error messages call the value by a name of its own
+-- `--NAME VALUE`, at most once; error messages have a name for the value
 abbrev pub option_rule : Text → Rule
 option_rule name = record (new_rule name) { long = Some name; action = Some Set; value_names = 1 }
 
@@ -40,7 +40,7 @@ with_setting_options line =
     (option_rule (codes "hotplug")))
     (option_rule (codes "processors"))
 
--- a command with two options of its own, and those of the policy
+-- a command with its own two options, and those of the policy
 abbrev pub judging_line : App → Rule → Rule → App
 judging_line line first second = with_rule (with_setting_options (with_rule (with_rule line first) second)) inputs_rule
 
@@ -96,7 +96,7 @@ is_taken words = are_none (fault_of command_line words)
 unfoldable pub command_of : List Text → Option (Text × List Row)
 command_of = subcommand_of command_line
 
--- ---- what the arguments ask for
+-- ---- the job that the arguments give
 
 pub data Asked : Type 0 where
   -- the RSDP's address, where it is given, the policy, and the number of the last stage
@@ -221,7 +221,7 @@ words_of options = unwrap_or (all_of (codes "inputs") options) []
 abbrev pub asked_policy : List Row → Option PolicyValue
 asked_policy options = policy_words (texts_of (values_of options) (words_of options))
 
--- what a command with a policy asks for: the RSDP's address, the policy, and the value of one more option
+-- the job of a command with a policy: the RSDP's address, the policy, and the value of one more option
 abbrev pub judging_asked : {T : Type 0} → (Option ℕ → PolicyValue → T → Asked) → Text → (Option Text → Option T)
     → (Text → Option Text) → List Text → Option Asked
 judging_asked make id word value words =
@@ -266,7 +266,7 @@ asked_command (Some command) =
     then asked_show command.1
     else (if bytes_eq command.0 (codes "find") then Some find else None)))))
 
--- what a whole command line asks for, if it is valid
+-- the job that a complete command line gives, if it is valid
 abbrev pub asked_job : List Text → Option Asked
 asked_job words = if is_taken words then asked_command (command_of words) else None
 
@@ -281,7 +281,7 @@ abbrev pub option_words : Text → Option Text → List Text
 option_words name None = []
 option_words name (Some value) = (codes "--" ++ name) ∷ value ∷ []
 
--- the words of several options, and those after them
+-- the arguments of several options, and those after them
 abbrev pub options_words : List (Text × Option Text) → List Text → List Text
 options_words [] words = words
 options_words (choice ∷ options) words = option_words choice.0 choice.1 ++ options_words options words
@@ -327,7 +327,7 @@ rebuild_words program base rsdp texts =
 abbrev pub show_words : Text → Option Text → List Text
 show_words program rsdp = program ∷ codes "show" ∷ option_words (codes "rsdp") rsdp
 
--- ---- the job that carries it
+-- ---- the job as a value of the program
 
 abbrev pub Does : Asked → Job → Type 0
 Does (check rsdp policy last) (Check given carried stage) =
@@ -342,7 +342,7 @@ Does (show rsdp) (Show given) = given ≡ rsdp
 Does find Find = Unit {0}
 Does _ _ = ⊥
 
--- the job does what is asked, and something is asked
+-- the job does what the arguments give, and they give something
 abbrev pub DoesAsked : Option Asked → Job → Type 0
 DoesAsked None job = ⊥
 DoesAsked (Some what) job = Does what job

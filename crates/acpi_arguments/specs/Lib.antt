@@ -1,4 +1,4 @@
--- What the contracts of the crate cite.
+-- The definitions that contracts of the crate cite.
 pub mod CommandLine
 pub mod Printable
 pub mod Words

@@ -10,7 +10,7 @@ use Rattle.std.specs.String.{string_bytes}
 abbrev pub is_printable : List ℕ → Bool
 is_printable text = list_all (λ c. not (is_control c)) (chars text)
 
--- a character in UTF-8, or its number as in `\x1b` where it is a control character
+-- a character in UTF-8, or its number as in `\x1b` if it is a control character
 abbrev pub visible : ℕ → List ℕ
 visible c = if is_control c then 92 ∷ 120 ∷ digit_char (c / 16) ∷ digit_char (c % 16) ∷ [] else encode_utf8 c
 

@@ -28,7 +28,8 @@ pub fn parse<'a>(alloc: Global, words: &'a [String]) -> Result<ArgMatches<'a>, W
     }
 }
 
-/// The whole error text of `clap` on arguments that it refuses. `None` if it accepts them, or the program is out of memory.
+/// The complete error text of `clap` on arguments that it refuses. `None` if it accepts them, or the program is out of
+/// memory.
 pub fn clap_text(alloc: Global, words: &[String]) -> Option<String> {
     let error = acpiset(alloc).ok()?.try_get_matches_from(words).err()?;
     if fault_of(&error) == WordFault::Memory {
@@ -127,7 +128,7 @@ fn rebuild<'a>(alloc: Global) -> Result<Command<'a>, AllocError>
     judging(alloc, command, base, rsdp)
 }
 
-/// The command with two options of its own, then those that `read_policy` reads.
+/// The command with its own two options, then those that `read_policy` reads.
 fn judging<'a>(
     alloc: Global,
     command: Command<'a>,

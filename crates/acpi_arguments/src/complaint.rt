@@ -1,4 +1,4 @@
-//! What is wrong with arguments that ask for no job: a message, and a tip. Both are text for people, and decide nothing.
+//! What is wrong with arguments that give no job: a message, and a tip. Both are text for people, and decide nothing.
 
 use crate::command_line::{clap_text, parse, value, values};
 use crate::number_words::hex_number;
@@ -11,7 +11,7 @@ use acpi_base::Stage;
 use clap::ArgMatches;
 use std::alloc::Global;
 
-/// The message where `confirm` has no `--witness`.
+/// The message if `confirm` has no `--witness`.
 const NO_WITNESS: &str =
     "confirm needs --witness FAULT: a fault as check prints it after no, in one argument, as in '10 Overlap 0x30 0x58 0x0'";
 
@@ -21,7 +21,8 @@ const ADDRESSES: &str = "1 to 16 hex digits, with or without 0x before them, as 
 /// What a number of inputs may be.
 const INPUTS: &str = "a number of inputs from 1 to 256, in at most 3 decimal digits";
 
-/// What is wrong with arguments, and a tip if there is one: a line each. The arguments in them are printable (`printable_text`).
+/// What is wrong with arguments, and a tip if there is one: a line each. The arguments in them are printable
+/// (`printable_text`).
 #[derive(Drop)]
 pub struct Complaint {
     pub message: String,
@@ -52,7 +53,7 @@ fn clap_complaint(alloc: Global, words: &[String]) -> Option<Complaint> {
     Some(Complaint { message, tip })
 }
 
-/// What is wrong with the options of a command: one that is missing, else the first wrong value.
+/// What is wrong with the options of a command: one that is missing, otherwise the first wrong value.
 fn command_complaint(
     alloc: Global,
     words: &[String],
@@ -131,7 +132,7 @@ fn setting_complaint(alloc: Global, options: &ArgMatches) -> Option<Complaint> {
     None
 }
 
-/// A value of the option `--NAME`, which may be what `expected` says.
+/// A value of the option `--NAME`, with what was expected.
 fn refused_value(
     alloc: Global,
     name: &str,
@@ -173,7 +174,7 @@ fn inputs_complaint(alloc: Global, words: &[String], options: &ArgMatches) -> Op
     Some(Complaint { message, tip })
 }
 
-/// A tip as a text of its own. `None` also if the program is out of memory.
+/// A tip as an owned text. `None` also if the program is out of memory.
 fn owned(alloc: Global, tip: Option<&str>) -> Option<String> {
     String::from_str(alloc, tip?).ok()
 }

@@ -1,6 +1,6 @@
-//! The arguments of the command line: what they ask for, and what is said if they ask for nothing.
+//! The arguments of the command line: the job that they give, and what is printed if they give none.
 //!
-//! `read_words` returns the job that the arguments ask for, as `clap` parses them. If they ask for none, `Reply` is what is
+//! `read_words` returns the job that the arguments give, as `clap` parses them. If they give none, `Reply` is what is
 //! printed: the help, the version, or what is wrong with them, with a tip.
 //!
 //! An example, from `crates/acpi_cli/src/program.rt`:

@@ -1,5 +1,5 @@
-//! The settings of a check among the arguments of the command line: how many inputs each I/O APIC has, which memory ranges
-//! must not overlap, and which processors count as enabled.
+//! The settings of a check among the arguments of the command line: how many inputs each I/O APIC has, which memory
+//! ranges must not overlap, and which processors count as enabled.
 
 ghost use Rattle.std.specs.Prelude.{◌≡◌, ◌++◌, ℕ, List, IfErr, IfOk, IsSome, Some, codes, map, option_map, unwrap_or};
 ghost use Rattle.clap.specs.Words.{found_of, rows_of};
@@ -24,8 +24,8 @@ pub struct Inputs {
     count: u16,
 }
 
-/// The policy that `--default-inputs`, `--hotplug`, `--processors` and the arguments `ADDRESS=COUNT` give. Its RSDP address
-/// is 0. Takes O(n log n) steps for n arguments.
+/// The policy that `--default-inputs`, `--hotplug`, `--processors` and the arguments `ADDRESS=COUNT` give. Its RSDP
+/// address is 0. Takes O(n log n) steps for n arguments.
 ///
 /// Returns `Words` if one of them is wrong; `Memory` may be returned instead of a policy or of `Words`.
 pub fn read_policy(alloc: Global, options: &ArgMatches) -> Result<Policy, WordFault>
@@ -46,8 +46,8 @@ pub fn read_policy(alloc: Global, options: &ArgMatches) -> Result<Policy, WordFa
     Ok(policy)
 }
 
-/// The policy that `--default-inputs` and the arguments `ADDRESS=COUNT` give, with the other settings of a new one. If an
-/// address is repeated, the first count wins.
+/// The policy that `--default-inputs` and the arguments `ADDRESS=COUNT` give, with the other settings of a new one. If
+/// an address is repeated, the first count wins.
 #[tactic(auto, using(crate::proofs::InputsWords::one_more, crate::proofs::InputsWords::one_wrong))]
 fn read_inputs(
     alloc: Global,
@@ -74,8 +74,8 @@ fn read_inputs(
     Ok(policy)
 }
 
-/// In this policy each I/O APIC has the first count that the arguments give for its address, otherwise the default. They
-/// change nothing else in a policy.
+/// In this policy each I/O APIC has the first count that the arguments give for its address, otherwise the default.
+/// They change nothing else in a policy.
 pub fn first_counts_stand()
     ensures inputs { (default_inputs address : ℕ) (counts : List Inputs) →
         inputs_of (with_inputs (new_policy 0 default_inputs) counts) address

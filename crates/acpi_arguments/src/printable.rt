@@ -21,8 +21,8 @@ pub fn printable_arguments(alloc: Global, words: &[String]) -> Result<Vec<String
     Ok(printed)
 }
 
-/// A text as error messages print it: each control character as its number, such as `\x1b`, and after 200 bytes `...` in place
-/// of the rest, never in the middle of a character. A short text without control characters is unchanged.
+/// A text as error messages print it: each control character as its number, such as `\x1b`, and after 200 bytes `...`
+/// in place of the rest, never in the middle of a character. A short text without control characters is unchanged.
 pub fn printable_text(alloc: Global, text: &str) -> Result<String, AllocError>
     ensures { IfOk result (λ printed. IsPrinted text.now (string_bytes printed)) }
 {

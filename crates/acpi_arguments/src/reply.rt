@@ -1,4 +1,4 @@
-//! What is printed if the arguments ask for no job.
+//! What is printed if the arguments give no job.
 
 use crate::complaint::Complaint;
 use crate::usage::Usage;
@@ -20,10 +20,10 @@ const SHORT_USAGE: &str = "usage: acpiset check [OPTION].. [ADDRESS=COUNT].. < I
        acpiset lint|confirm|rebuild|show|find [OPTION].. < IMAGE
 For more: acpiset --help, man acpiset, or docs/TROUBLESHOOTING.md#words";
 
-/// A reply to arguments that ask for no job.
+/// A reply to arguments that give no job.
 #[derive(Drop)]
 pub enum Reply {
-    /// What the program does, and its whole usage.
+    /// What the program does, and its complete usage.
     Help,
     /// Its version, and how many stages it has.
     Version,
@@ -36,7 +36,7 @@ pub enum Reply {
 }
 
 impl Reply {
-    /// The reply to the arguments `words`, which ask for no job.
+    /// The reply to the arguments `words`, which give no job.
     pub fn new(alloc: Global, words: &[String]) -> Reply {
         if asks_for_help(words) {
             return Reply::Help;

@@ -1,4 +1,4 @@
-//! Tips on arguments that are refused: the usual slips, and what to write in their place.
+//! Tips on arguments that are refused: the usual slips, and what to write instead.
 
 use crate::number_words::{decimal_number, hex_number};
 use std::alloc::Global;
@@ -22,8 +22,8 @@ const OPTIONS: [&str; 8] = [
     "--processors",
 ];
 
-/// A tip on arguments that `clap` refuses with this text: our own on the argument that it names, else `clap`'s, which is the
-/// option or command that is most like it. `None` also if the program is out of memory.
+/// A tip on arguments that `clap` refuses with this text: our own on the argument that it names, otherwise `clap`'s,
+/// which is the option or command that is most like it. `None` also if the program is out of memory.
 pub fn clap_tip(alloc: Global, words: &[String], text: &str) -> Option<String> {
     let named = text.lines().next().and_then(named_argument);
     if let Some(tip) = named.and_then(|argument| usual_tip(words, argument)) {
@@ -71,12 +71,12 @@ fn usual_tip(words: &[String], argument: &str) -> Option<&'static str> {
     }
 }
 
-/// Whether an option stands where the command belongs.
+/// Whether an option comes where the command belongs.
 fn is_option_first(words: &[String]) -> bool {
     words.get(1).is_some_and(|word| word.starts_with('-'))
 }
 
-/// A tip on a word that is no option and has no `=`.
+/// A tip on an argument that is no option and has no `=`.
 pub fn word_tip(alloc: Global, words: &[String], word: &str) -> Option<String> {
     if word == "-" {
         return String::from_str(alloc, STANDARD_INPUT).ok();
@@ -84,7 +84,7 @@ pub fn word_tip(alloc: Global, words: &[String], word: &str) -> Option<String> {
     path_tip(alloc, words)
 }
 
-/// A tip where an argument that is no option's value looks like a path.
+/// A tip if an argument that is no option's value looks like a path.
 fn path_tip(alloc: Global, words: &[String]) -> Option<String> {
     let (_, path) = words
         .iter()

@@ -4,7 +4,8 @@ use crate::number_words::{decimal_number, hex_number};
 use acpi_base::Code;
 use std::fmt;
 
-/// The most bytes of a text that is looked at. No fault's text has as many, and a longer argument is printed without its end.
+/// The most bytes of a text that are examined. No fault's text has as many, and a longer argument is printed without
+/// its end.
 const MOST_BYTES: usize = 200;
 
 /// What is wrong with a text that is no fault's.

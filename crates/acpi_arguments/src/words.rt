@@ -1,4 +1,4 @@
-//! What the arguments of the command line ask for.
+//! The job that the arguments of the command line give.
 
 ghost use Rattle.std.specs.Prelude.{◌≡◌, ◌↔◌, ℕ, Bool, List, Option, IfErr, IfOk, IsSome, Some, map, option_map};
 ghost use Rattle.std.specs.String.{string_bytes};
@@ -30,22 +30,22 @@ pub enum Job {
         policy: Policy,
         last: Stage,
     },
-    /// Report the first fault of each code and the first finding of each rule of advice, in the tables that are reached from the
-    /// RSDP (see `Check`). The policy's own RSDP address is 0. If `is_strict`, advice is a bad outcome too.
+    /// Report the first fault of each code and the first finding of each rule of advice, in the tables that are reached
+    /// from the RSDP (see `Check`). The policy's own RSDP address is 0. If `is_strict`, advice is a bad outcome too.
     Lint {
         rsdp: Option<u64>,
         policy: Policy,
         is_strict: bool,
     },
-    /// Judge whether the witness is a fault of the tables that are reached from the RSDP (see `Check`). The
+    /// Check whether the witness is a fault of the tables that are reached from the RSDP (see `Check`). The
     /// policy's own RSDP address is 0.
     Confirm {
         rsdp: Option<u64>,
         policy: Policy,
         witness: Witness,
     },
-    /// Rebuild the set of tables that are reached from the RSDP (see `Check`), from the address `base` on. The policy's own
-    /// RSDP address is 0.
+    /// Rebuild the set of tables that are reached from the RSDP (see `Check`), from the address `base` on. The policy's
+    /// own RSDP address is 0.
     Rebuild {
         rsdp: Option<u64>,
         policy: Policy,
@@ -70,21 +70,24 @@ pub enum WordFault {
     Memory,
 }
 
-/// The job that the arguments `words` ask for, of which the first is the program's name.
+/// The job that the arguments `words` give, of which the first is the program's name.
 ///
-/// The commands are `find`, `show [--rsdp HEX]`, `check [--rsdp HEX] [--through N] [--default-inputs N] [--hotplug SETTING]
-/// [--processors SETTING] [ADDRESS=COUNT]..`, and `lint`, `confirm` and `rebuild` with the same options as `check`, except that
-/// instead of `--through N` `lint` has the flag `--strict`, `confirm` has `--witness FAULT` and `rebuild` has `--base HEX`; these
-/// two are required. FAULT is a fault as `check` writes it (`parse_witness`), in one argument. HEX is an address of 1 to 16 hex
-/// digits, with or without `0x` before them. The N of `--through` is a stage from 1 to 18 in one or two decimal digits; if absent,
-/// 18. The setting of `--hotplug` is `counted` or `apart` (`HotPlug`); if absent, `counted`. That of `--processors` is `enabled` or
-/// `usable` (`Processors`); if absent, `enabled`.
+/// The commands are `find`, `show [--rsdp HEX]`, `check [--rsdp HEX] [--through N] [--default-inputs N] [--hotplug
+/// SETTING] [--processors SETTING] [ADDRESS=COUNT]..`, and `lint`, `confirm` and `rebuild` with the same options as
+/// `check`, except that instead of `--through N` `lint` has the flag `--strict`, `confirm` has `--witness FAULT` and
+/// `rebuild` has `--base HEX`; these two are required. FAULT is a fault as `check` writes it (`parse_witness`), in one
+/// argument. HEX is an address of 1 to 16 hex digits, with or without `0x` before them. The N of `--through` is a stage
+/// from 1 to 18 in one or two decimal digits; if absent,
+/// 18. The setting of `--hotplug` is `counted` or `apart` (`HotPlug`); if absent, `counted`. That of `--processors` is
+///     `enabled` or `usable` (`Processors`); if absent, `enabled`.
 ///
-/// No ACPI table says how many inputs an I/O APIC has. COUNT is the number of inputs of the I/O APIC at ADDRESS, and the N of
-/// `--default-inputs`, 24 if absent, that of each I/O APIC without a COUNT. Both are from 1 to 256, in 1 to 3 decimal digits.
-/// ADDRESS is 1 to 8 hex digits, with or without `0x` before them. If an address is repeated, the first count wins.
+/// No ACPI table says how many inputs an I/O APIC has. COUNT is the number of inputs of the I/O APIC at ADDRESS, and
+/// the N of `--default-inputs`, 24 if absent, that of each I/O APIC without a COUNT. Both are from 1 to 256, in 1 to 3
+/// decimal digits. ADDRESS is 1 to 8 hex digits, with or without `0x` before them. If an address is repeated, the first
+/// count wins.
 ///
-/// Returns `Words` if the arguments are anything else, `--help` included; `Memory` may be returned instead of a job or of `Words`.
+/// Returns `Words` if the arguments are anything else, `--help` included; `Memory` may be returned instead of a job or
+/// of `Words`.
 pub fn read_words(alloc: Global, words: &[String]) -> Result<Job, WordFault>
     ensures job { IfOk result (DoesAsked (asked_job (map string_bytes words.now))) }
     ensures refused { IfErr result (λ fault.
@@ -228,9 +231,10 @@ pub fn fault_words_are_texts()
         ↔ (NumbersFit w × (text ≡ witness_line w)) }
 {}
 
-/// Each plain command line with valid values is accepted, and asks for what one expects: `find`; `check` with each choice of its
-/// options, in this order, and then any number of arguments `ADDRESS=COUNT`; likewise `lint`, with and without its flag, `confirm`
-/// of each fault, as it is written, and `rebuild` to each address; and `show`, with and without its option.
+/// Each plain command line with valid values is accepted, and gives the expected job: `find`; `check` with each choice
+/// of its options, in this order, and then any number of arguments `ADDRESS=COUNT`; likewise `lint`, with and without
+/// its flag, `confirm` of each fault, as it is written, and `rebuild` to each address; and `show`, with and without its
+/// option.
 pub fn plain_lines_are_read()
     ensures find { (program : List ℕ) → asked_job (find_words program) ≡ Some Asked.find }
     ensures check { (program : List ℕ) (hex number : Option (List ℕ)) (texts : PolicyTexts)

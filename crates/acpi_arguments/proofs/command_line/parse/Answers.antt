@@ -7,7 +7,6 @@ use Rattle.clap.proofs.OnLiterals.{clap_on_literals}
 use Rattle.acpi_arguments.specs.CommandLine.{are_none, check_line, command_line, confirm_line, find_line, command_of, is_taken, lint_line, rebuild_line, show_line}
 use Rattle.acpi_arguments.proofs.command_line.parse.Goals as goal
 
--- the arguments of the command line decide its matches and its faults
 simple : is_simple command_line ≡ true
 unfolding command_line check_line lint_line confirm_line rebuild_line show_line find_line clap_on_literals
 simple = refl
@@ -16,7 +15,6 @@ simple_and_free : is_simple_and_free command_line ≡ true
 unfolding command_line check_line lint_line confirm_line rebuild_line show_line find_line clap_on_literals
 simple_and_free = refl
 
--- an error with no fault in the arguments is one of memory
 only_memory : (kinds : Kinds) (e : Error) → are_none kinds ≡ true → HasKind kinds e → kind_of e ≡ OutOfMemory
 only_memory [] e taken (inl memory) = memory
 only_memory [] e taken (inr other) = absurd other

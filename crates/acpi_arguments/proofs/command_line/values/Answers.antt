@@ -4,7 +4,7 @@ use Rattle.clap.specs.Words.{Text, found_of}
 use Rattle.clap.proofs.WalkLemmas.{raw_values-rows}
 use Rattle.acpi_arguments.proofs.command_line.values.Goals as goal
 
--- no values are those of an argument that was not given
+-- an argument that was not given has no values
 given_or_none : (given : Option (Bor (List (Bor Text)))) (is_default : Bor (List (Bor Text)) → Type 0)
     (returned : Bor (List (Bor Text)))
     → ((none : Bor (List (Bor Text))) → is_default none → none.now ≡ []) → UnwrapsOrElse given is_default returned

@@ -2,7 +2,6 @@ use Rattle.std.proofs.Common.{◌<◌, ◌≤◌, ◌^◌, ℕ, IfSome, Option, 
 use Rattle.std.proofs.Math.Nat.{pow-le-pow_right}
 use Rattle.acpi_arguments.proofs.number_words.number.Goals as goal
 
--- a number of fewer digits fits too
 fits_more : (r : Option ℕ) (n most : ℕ) → n ≤ most → IfSome r (λ value. value < 16 ^ n)
     → IfSome r (λ value. value < 16 ^ most)
 fits_more None n most short fits = tt

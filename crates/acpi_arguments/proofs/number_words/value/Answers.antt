@@ -2,7 +2,6 @@ use Rattle.std.proofs.Common.{ℕ, ◌≡◌, ◌<◌, ◌≤◌, ◌+◌, ◌*�
 use Rattle.std.proofs.Math.Nat.{pow-le-pow_right, pow-suc, mul-le-mul_left}
 use Rattle.acpi_arguments.proofs.number_words.value.Goals as goal
 
--- one more digit of at most 16 keeps the number below 2^64
 next_fits : (value base i digit : ℕ) → value < 16 ^ i → i < 16 → base ≤ 16 → digit < base
     → value * base + digit < 2 ^ 64
 next_fits value base i digit below inside low small =

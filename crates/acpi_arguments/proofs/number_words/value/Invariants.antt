@@ -4,7 +4,7 @@ use Rattle.std.specs.Char.{is_digit}
 use Rattle.std.specs.Str.Parse.{digits_value, digits_value_after}
 use Rattle.acpi_arguments.proofs.number_words.value.Given as goal
 
--- what is read so far is short enough, and the rest goes on from it
+-- what is read so far is short enough, and the rest continues it
 abbrev pub invariant-loop-byte : goal.invariant-loop-byte
 invariant-loop-byte l = record {
   fits : l.value < 16 ^ l.byte-index;

@@ -11,7 +11,6 @@ returns-in_err-code c =
     rw (none, word) (none_is_read c.in_ok-word.field-0.now
     (λ w fits line. let found = c.in_err-code.ensures.every w fits (text ∙ line) in absurd (cc)))
 
--- the numbers of the fault that is returned are of 64 bits
 fits : (c : goal.In_ok-code) → NumbersFit c.in_ok-code.field-0
 fits c =
     let at = c.in_ok-code.at-is in
