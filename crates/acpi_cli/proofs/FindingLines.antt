@@ -5,7 +5,6 @@ use Rattle.std.specs.List.{flat_map}
 use Rattle.acpi_base.specs.declared.witness.Witness.{Witness}
 use Rattle.acpi_cli.specs.Commands.{fault_lines, no_line}
 
--- where there is a fault, each has its line
 pub lines_of_faults : (faults : List Witness) → (length faults == 0) ≡ false
     → fault_lines faults ≡ flat_map no_line faults
 lines_of_faults [] none = absurd (true≢false none)

@@ -3,7 +3,6 @@ use Rattle.std.proofs.Common.{◌≡◌, ◌+◌, ◌-◌, ℕ, List, ◌++◌, 
 use Rattle.std.specs.Io.KnownBytes.{Appends}
 use Rattle.std.proofs.lemmas.List.{take_rest, drop-take, take-take, take-append-drop}
 
--- a prefix, and the prefix of what is left after it
 prefix_and_more : (xs : List ℕ) (w n : ℕ) → take w xs ++ take n (take (length xs - w) (drop w xs)) ≡ take (w + n) xs
 prefix_and_more xs w n =
     let rest : take n (take (length xs - w) (drop w xs)) ≡ drop w (take (w + n) xs) =
@@ -12,7 +11,6 @@ prefix_and_more xs w n =
     ap (λ (f : List ℕ). f ++ take n (take (length xs - w) (drop w xs))) prefix
     ∙ ap (λ (r : List ℕ). take w (take (w + n) xs) ++ r) rest ∙ take-append-drop w (take (w + n) xs)
 
--- after a prefix of the bytes, the next write takes the prefix of what is left
 pub sent_more : (before middle after : Option (List ℕ)) (xs : List ℕ) (w n : ℕ) → Appends before middle (take w xs)
     → Appends middle after (take n (take (length xs - w) (drop w xs))) → Appends before after (take (w + n) xs)
 sent_more None middle after xs w n first second = tt

@@ -13,7 +13,6 @@ use Rattle.acpi_arguments.specs.declared.words.Job.{Job}
 use Rattle.acpi_arguments.specs.declared.words.Job.TheVariants.{Check, Confirm, Find, Lint, Rebuild, Show}
 use Rattle.acpi_arguments.specs.declared.words.WordFault.TheVariants as fault
 
--- a job that does what is asked reports it
 reports_asked : (what : Asked) (job : Job) → Does what job → (m : Memory) (bytes : List ℕ) (returned : Outcome)
     → ReportsJob job m bytes returned → ReportsAsked what m bytes returned
 reports_asked (check rsdp policy last) (Check given present stage) does m bytes returned reports =
@@ -28,7 +27,6 @@ reports_asked (show rsdp) (Show given) does m bytes returned reports = rw (sym d
 reports_asked find Find does m bytes returned reports = reports
 reports_asked _ _ does m bytes returned reports = absurd does
 
--- so a command function that does the job does what is asked
 pub obeyed : (a : Option Asked) (job : Job) (input output : Device) (result : Result Outcome RunFault) (status : ℕ)
     → DoesAsked a job
     → Runs (ReportsJob job) input output result → status ≡ exit_status result → Obeys a input output status
@@ -40,7 +38,6 @@ obeyed (Some what) job input output result status does runs e = elim runs [
   | inr gave_up ↦ (result, inr gave_up, e)
 ]
 
--- arguments that are refused ask for nothing
 pub refused : (a : Option Asked) (input output : Device) (status : ℕ) → (IsSome a → fault.Words ≡ fault.Memory)
     → IsUntouched input → IsUntouched output
     → status ≡ 2 → Obeys a input output status
@@ -48,18 +45,16 @@ refused None input output status asks nothing_read nothing_written e = (nothing_
 refused (Some what) input output status asks nothing_read nothing_written e =
     let same = asks refl in absurd (cc)
 
--- what is not touched keeps its bytes
 pub keeps_all : (bytes : Option (List ℕ)) → Keeps bytes bytes
 keeps_all None = tt
 keeps_all (Some xs) = refl
 
--- nothing was consumed of what was not touched
 consumes_nothing : (before after : Option (List ℕ)) → Keeps before after → Consumes before after []
 consumes_nothing None after keeps = keeps
 consumes_nothing (Some xs) None keeps = absurd keeps
 consumes_nothing (Some xs) (Some ys) keeps = sym keeps
 
--- where memory runs out before anything is read, that is what a command function may do
+-- if memory runs out before anything is read, a command function may do the same
 pub starved : (a : Option Asked) (input output : Device) (status : ℕ) → IsUntouched input → IsUntouched output
     → status ≡ 4 → Obeys a input output status
 starved None input output status nothing_read nothing_written e = (nothing_read, nothing_written, inr e)

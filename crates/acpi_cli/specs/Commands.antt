@@ -30,8 +30,8 @@ use Rattle.acpi_cli.specs.declared.outcome.Outcome.TheVariants as outcome
 use Rattle.acpi_cli.specs.declared.outcome.RunFault.{RunFault}
 use Rattle.acpi_cli.specs.declared.outcome.RunFault.TheVariants as run
 
--- A reader or a writer before and after: the bytes that a reader has left, or that a writer holds, where they
--- are known, and its count of failures.
+-- A reader or a writer before and after: the bytes that a reader has left, or that a writer has, if they are known, and its
+-- count of failures.
 pub record Device : Type 0 where
   pub bytes_before : Option (List ℕ)
   pub bytes_after : Option (List ℕ)
@@ -52,7 +52,7 @@ device bytes before after =
 abbrev pub HasFailed : Device → Type 0
 HasFailed device = CountsFailure device.failures_before device.failures_after
 
--- no call of the device failed: its count is what it was
+-- no call of the device failed: its count is unchanged
 abbrev pub HasNotFailed : Device → Type 0
 HasNotFailed device = device.failures_after ≡ device.failures_before
 
@@ -93,9 +93,9 @@ pub record ReadsFailed (input : Device) : Type 0 where
   pub faultless : IsFaultlessPrefix text
   pub failed : HasFailed input
 
--- What was read, by the result: a whole text, which is the image's; a text that has this fault; where a read failed,
--- bytes in which no fault stood so far; and out of memory any bytes. It is never more than one byte beyond the longest
--- text. With any result but `Device`, and a text that gives an address twice, no read failed.
+-- What was read, by the result: a complete text, which is the image's; a text that has this fault; if a read failed, bytes
+-- without a fault so far; and if memory ran out any bytes. It is never more than one byte beyond the longest text. With any
+-- result but `Device`, and a text that gives an address twice, no read failed.
 abbrev pub ReadsInput : Device → Result Memory RunFault → Type 0
 ReadsInput input (Ok image) = ReadsImage input image
 ReadsInput input (Err (run.Image fault)) = ReadsRefused input fault
@@ -112,8 +112,7 @@ Writes output bytes = Appends output.bytes_before output.bytes_after bytes
 abbrev pub WritesNothing : Device → Type 0
 WritesNothing output = Keeps output.bytes_before output.bytes_after × HasNotFailed output
 
--- What was written: the whole output, with its outcome; or nothing, out of memory; or a prefix of it where
--- the device failed.
+-- What was written: the complete output, with its outcome; or nothing, out of memory; or a prefix of it if the device failed.
 abbrev pub WritesOutput : Device → List ℕ → Outcome → Result Outcome RunFault → Type 0
 WritesOutput output bytes wanted (Ok returned) = (returned ≡ wanted) × Writes output bytes × HasNotFailed output
 WritesOutput output bytes wanted (Err (run.Image fault)) = ⊥
@@ -122,9 +121,8 @@ WritesOutput output bytes wanted (Err run.Device) = HasFailed output × ((n : �
 
 -- ---- command functions
 
--- What a command function does that reports on an image. It reads a text of an image and writes its report, as far as
--- memory and the writer go; or it writes nothing, where the text is refused, a read failed or the program is
--- out of memory.
+-- What a command does that reports on an image. It reads a text of an image and writes its report, unless memory runs out or
+-- the writer fails; or it writes nothing, if the text is refused, a read failed or the program is out of memory.
 abbrev pub Runs : (Memory → List ℕ → Outcome → Type 0) → Device → Device → Result Outcome RunFault → Type 0
 Runs Reports input output result =
     ((m : Memory) × (bytes : List ℕ) × (returned : Outcome) × ReadsImage input m × Reports m bytes returned × WritesOutput output bytes returned result)
@@ -140,12 +138,12 @@ abbrev pub HasNoRsdp : Option ℕ → Memory → Type 0
 HasNoRsdp (Some given) m = ⊥
 HasNoRsdp None m = IsNowhere m
 
--- the outcome that goes with a verdict
+-- the outcome for a verdict
 abbrev pub outcome_of : Verdict → Outcome
 outcome_of verdict.Yes = outcome.Yes
 outcome_of (verdict.No w) = outcome.No
 
--- a check reports the line of the verdict over the stages up to `last`, with its outcome
+-- a check reports the line of the verdict on the stages up to `last`, with its outcome
 pub record ReportsVerdict (given : Option ℕ) (q : PolicyValue) (last : Stage) (m : Memory) (bytes : List ℕ) (returned : Outcome) : Type 0 where
   pub address : ℕ
   pub rsdp : IsRsdpAddress given m address
@@ -168,23 +166,22 @@ ReportsCheck given q last m bytes returned = ReportsVerdict given q last m bytes
 abbrev pub no_line : Witness → List ℕ
 no_line w = verdict_line (verdict.No w)
 
--- the lines of the faults that are reported: `yes` where there is none
+-- the lines of the faults that are reported: `yes` if there is none
 abbrev pub fault_lines : List Witness → List ℕ
 fault_lines [] = verdict_line verdict.Yes
 fault_lines (w ∷ ws) = flat_map no_line (w ∷ ws)
 
--- and behind them those of the advice
+-- and after them those of the advice
 abbrev pub finding_lines : List Witness → List Advice → List ℕ
 finding_lines faults advice = fault_lines faults ++ flat_map advice_line advice
 
--- the outcome of a search for all findings: a bad one where there is a fault, and where the search is strict also where there
--- is advice
+-- the outcome of a search for all findings: a bad one if there is a fault, and if the search is strict also if there is advice
 abbrev pub outcome_of_findings : Bool → List Witness → List Advice → Outcome
 outcome_of_findings strict [] [] = outcome.Yes
 outcome_of_findings strict [] (a ∷ advice) = if strict then outcome.No else outcome.Yes
 outcome_of_findings strict (w ∷ faults) advice = outcome.No
 
--- a search for all that is wrong reports the first fault of each code, and the first finding of each rule of advice
+-- a search for everything that is wrong reports the first fault of each code, and the first finding of each rule of advice
 pub record ReportsFindings (given : Option ℕ) (q : PolicyValue) (strict : Bool) (m : Memory) (bytes : List ℕ) (returned : Outcome) : Type 0 where
   pub address : ℕ
   pub rsdp : IsRsdpAddress given m address
@@ -198,13 +195,13 @@ pub record ReportsFindings (given : Option ℕ) (q : PolicyValue) (strict : Bool
 abbrev pub ReportsLint : Option ℕ → PolicyValue → Bool → Memory → List ℕ → Outcome → Type 0
 ReportsLint given q strict m bytes returned = ReportsFindings given q strict m bytes returned ⊎ ReportsNoRsdp given m bytes returned
 
--- `true` is reported of a fault of the image, and `false` of everything else, with the outcome that goes with it
+-- `true` is reported for a fault of the image, and `false` for everything else, with the outcome
 abbrev pub TellsFault : Memory → PolicyValue → Witness → List ℕ → Outcome → Type 0
 TellsFault m q w bytes returned =
     (Fault m q w × (bytes ≡ codes "true\n") × (returned ≡ outcome.Yes))
     ⊎ ((¬ Fault m q w) × (bytes ≡ codes "false\n") × (returned ≡ outcome.No))
 
--- a witness is judged, with the RSDP at an address
+-- a witness is checked, with the RSDP at an address
 pub record ReportsFault (given : Option ℕ) (q : PolicyValue) (w : Witness) (m : Memory) (bytes : List ℕ) (returned : Outcome) : Type 0 where
   pub address : ℕ
   pub rsdp : IsRsdpAddress given m address
@@ -214,8 +211,8 @@ pub record ReportsFault (given : Option ℕ) (q : PolicyValue) (w : Witness) (m 
 abbrev pub ReportsConfirm : Option ℕ → PolicyValue → Witness → Memory → List ℕ → Outcome → Type 0
 ReportsConfirm given q w m bytes returned = ReportsFault given q w m bytes returned ⊎ ReportsNoRsdp given m bytes returned
 
--- the line of a refusal to rebuild a set: the verdict's where the set is not clean, else the refusal's name. Out of memory
--- there is none.
+-- the line of a refusal to rebuild a set: the verdict's if the set is not clean, otherwise the refusal's name; none if memory
+-- ran out
 abbrev pub IsRefusalLine : RebuildFault → List ℕ → Type 0
 IsRefusalLine refusal.Unaligned bytes = bytes ≡ codes "refused Unaligned\n"
 IsRefusalLine (refusal.NotClean w) bytes = bytes ≡ verdict_line (verdict.No w)
@@ -224,7 +221,7 @@ IsRefusalLine refusal.PastEnd bytes = bytes ≡ codes "refused PastEnd\n"
 IsRefusalLine refusal.NeedsLow bytes = bytes ≡ codes "refused NeedsLow\n"
 IsRefusalLine refusal.Memory bytes = ⊥
 
--- the written form of the rebuilt image is reported, or the line of a refusal, with the outcome that goes with it
+-- the written form of the rebuilt image is reported, or the line of a refusal, with the outcome
 abbrev pub TellsRebuilt : Memory → PolicyValue → ℕ → List ℕ → Outcome → Type 0
 TellsRebuilt m q base bytes returned =
     ((new : Memory) × IsRebuilt m q base new × IsWritten bytes new × (returned ≡ outcome.Yes))
@@ -240,18 +237,18 @@ pub record ReportsRebuilt (given : Option ℕ) (q : PolicyValue) (base : ℕ) (m
 abbrev pub ReportsRebuild : Option ℕ → PolicyValue → ℕ → Memory → List ℕ → Outcome → Type 0
 ReportsRebuild given q base m bytes returned = ReportsRebuilt given q base m bytes returned ⊎ ReportsNoRsdp given m bytes returned
 
--- the policy that a set is shown by: any serves, as the stages up to the listed tables ask for the RSDP's address alone
+-- the policy under which a set is shown: any will do, as the stages up to the listed tables depend only on the RSDP's address
 abbrev pub shown_policy : PolicyValue
 shown_policy = new_policy 0 24
 
--- What is shown of an image: where the stages up to the listed tables hold, lines, of which nothing more is said; else
--- what a check of those stages reports.
+-- What is shown for an image: if the stages up to the listed tables hold, lines, which are not defined here; otherwise what a
+-- check of those stages reports.
 abbrev pub ReportsShow : Option ℕ → Memory → List ℕ → Outcome → Type 0
 ReportsShow given m bytes returned =
     ((returned ≡ outcome.Yes) × ((p : ℕ) × IsRsdpAddress given m p × CleanTo stage.Tables m (with_rsdp shown_policy p)))
     ⊎ ((returned ≡ outcome.No) × ReportsCheck given shown_policy stage.Tables m bytes returned)
 
--- what a search reports on an image: where it finds the RSDP, or that it finds none
+-- what a search reports on an image: the RSDP's address, or that none is found
 abbrev pub ReportsFound : Memory → List ℕ → Outcome → Type 0
 ReportsFound m bytes returned =
     ((p : ℕ) × IsFound m p × (bytes ≡ codes "rsdp " ++ hex_text p ++ codes "\n") × (returned ≡ outcome.Yes))

@@ -1,3 +1,3 @@
--- What the contracts of the program cite.
+-- The definitions that contracts of the program cite.
 pub mod Commands
 pub mod Program

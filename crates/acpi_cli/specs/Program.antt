@@ -11,7 +11,7 @@ use Rattle.acpi_base.specs.declared.stage.Stage.{Stage}
 use Rattle.acpi_arguments.specs.CommandLine.{Asked, check, confirm, find, lint, rebuild, show}
 use Rattle.acpi_cli.specs.Commands.{Device, HasNotFailed, ReportsCheck, ReportsConfirm, ReportsFound, ReportsLint, ReportsRebuild, ReportsShow, Runs}
 
--- ---- the exit status that goes with what a command function returns
+-- ---- the exit status for what a command function returns
 
 abbrev pub exit_status : Result Outcome RunFault → ℕ
 exit_status (Ok outcome.Yes) = 0
@@ -22,7 +22,7 @@ exit_status (Err run.Device) = 4
 
 -- ---- what the program does with its arguments
 
--- what is reported on an image by a command function that does what is asked
+-- what is reported on an image by a command function that does what the arguments give
 abbrev pub ReportsAsked : Asked → Memory → List ℕ → Outcome → Type 0
 ReportsAsked (check given policy last) m bytes returned =
     (stage : Stage) × (stage_number stage ≡ last) × ReportsCheck given policy stage m bytes returned
@@ -36,8 +36,8 @@ ReportsAsked find m bytes returned = ReportsFound m bytes returned
 abbrev pub IsUntouched : Device → Type 0
 IsUntouched device = Keeps device.bytes_before device.bytes_after × HasNotFailed device
 
--- What the program does. If its arguments ask for something, a command function does it, and the exit status is that of the
--- command function's result. If they ask for nothing, it reads and writes nothing, and the exit status is 2, or 4 if memory ran out.
+-- What the program does. If its arguments give a job, a command function does it, and the exit status is that of the command
+-- function's result. If they give none, it reads and writes nothing, and the exit status is 2, or 4 if memory ran out.
 abbrev pub Obeys : Option Asked → Device → Device → ℕ → Type 0
 Obeys (Some what) input output status =
     (result : Result Outcome RunFault) × Runs (ReportsAsked what) input output result × (status ≡ exit_status result)

@@ -10,7 +10,7 @@ use acpi_check::check_to;
 use std::alloc::{AllocError, Global};
 use std::io::{Read, Write};
 
-/// The outcome that goes with a verdict.
+/// The outcome for a verdict.
 fn outcome_of(verdict: &Verdict) -> Outcome
     ensures { result ≡ outcome_of verdict.now }
 {
@@ -67,7 +67,7 @@ fn check_output(
 ///
 /// Writes the verdict's line: `yes`, and returns `Yes`, or `no` with the first fault, and returns `No`. If
 /// no address is given and none is found, it writes `no rsdp` and returns `No`. Nothing is written before
-/// the image is read and judged. Returns `Image` if the input is not image text, `Memory`, or `Device` if a
+/// the image is read and checked. Returns `Image` if the input is not image text, `Memory`, or `Device` if a
 /// read or a write failed; what was written then is a prefix of the line.
 pub fn run_check<R: Read, W: Write>(
     alloc: Global,

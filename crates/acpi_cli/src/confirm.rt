@@ -11,7 +11,7 @@ use acpi_confirm::confirm;
 use std::alloc::{AllocError, Global};
 use std::io::{Read, Write};
 
-/// What is reported of a fault of the image.
+/// What is reported about a fault of the image.
 fn confirm_output(
     alloc: Global,
     image: &Image,
@@ -36,13 +36,14 @@ fn confirm_output(
     Ok(Output { bytes, outcome })
 }
 
-/// Judges whether the witness is a fault of the image whose text is on `reader`, with the RSDP at the address `rsdp`, or
-/// if that is `None` at the one that is found. The policy's own address is ignored. No stage needs to hold, and the witness
-/// need not be the first fault.
+/// Checks whether the witness is a fault of the image whose text is on `reader`, with the RSDP at the address `rsdp`,
+/// or if that is `None` at the one that is found. The policy's own address is ignored. No stage needs to hold, and the
+/// witness need not be the first fault.
 ///
-/// Writes `true` and returns `Yes`, or writes `false` and returns `No`. If no address is given and none is found, it writes
-/// `no rsdp` and returns `No`. Nothing is written before the image is read and the fault is judged. Returns `Image` if the
-/// input is not image text, `Memory`, or `Device` if a read or a write failed; what was written then is a prefix of the line.
+/// Writes `true` and returns `Yes`, or writes `false` and returns `No`. If no address is given and none is found, it
+/// writes `no rsdp` and returns `No`. Nothing is written before the image is read and the fault is checked. Returns
+/// `Image` if the input is not image text, `Memory`, or `Device` if a read or a write failed; what was written then is
+/// a prefix of the line.
 pub fn run_confirm<R: Read, W: Write>(
     alloc: Global,
     reader: &mut Tally<R>,

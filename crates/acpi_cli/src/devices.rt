@@ -30,8 +30,8 @@ pub fn read_input<R: Read>(alloc: Global, reader: &mut Tally<R>) -> Result<Image
     }
 }
 
-/// Writes the output's bytes, and returns its outcome, or `Device` if a write failed. If the output was not made, nothing is
-/// written: `Memory`.
+/// Writes the output's bytes, and returns its outcome, or `Device` if a write failed. If the output was not made,
+/// nothing is written: `Memory`.
 pub fn write_output<W: Write>(
     writer: &mut Tally<W>,
     output: Result<Output, AllocError>,

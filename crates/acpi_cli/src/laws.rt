@@ -1,4 +1,4 @@
-//! The whole headline on the two calls `check` and `confirm`, which judge an image independently of each other.
+//! The law on the two calls `check` and `confirm`, which check an image independently of each other.
 
 ghost use Rattle.std.specs.Prelude.{◌≡◌, ◌↔◌, IfOk, IsTrue, OnErr, false, true};
 ghost use Rattle.acpi_base.specs.Faults.{Fault, IsFirstFault};
@@ -12,7 +12,7 @@ use acpi_check::check;
 use acpi_confirm::confirm;
 use std::alloc::{AllocError, Global};
 
-/// What `check` and `confirm` say of one image under one policy.
+/// What `check` and `confirm` say about one image under one policy.
 #[derive(Clone, Copy, Debug, PartialEq, Eq)]
 pub struct Judgement {
     /// The verdict of `check`.
@@ -23,9 +23,9 @@ pub struct Judgement {
 
 /// Calls both: the checker for its verdict, and `confirm` on any witness.
 ///
-/// The checker says yes exactly if all statements hold, otherwise no with the first fault. `confirm` accepts exactly the
-/// faults. So it accepts the fault that the checker reports, and no fault of a set that the checker finds clean. If the
-/// checker runs out of memory, the first six statements hold.
+/// The checker says yes exactly if all statements hold, otherwise no with the first fault. `confirm` accepts exactly
+/// the faults. So it accepts the fault that the checker reports, and no fault of a set that the checker finds clean. If
+/// the checker runs out of memory, the first six statements hold.
 pub fn check_and_confirm_agree(
     alloc: Global,
     image: &Image,

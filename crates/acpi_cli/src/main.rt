@@ -1,5 +1,6 @@
-//! The program: reads its arguments, and checks the image on standard input, lists everything that is wrong with it, confirms
-//! one of its faults, rebuilds its set of tables at another address, shows what its tables say, or searches it for the RSDP.
+//! The program: reads its arguments, and checks the image on standard input, lists everything that is wrong with it,
+//! confirms one of its faults, rebuilds its set of tables at another address, shows what its tables say, or searches it
+//! for the RSDP.
 #![tactic(auto)]
 
 mod check;
@@ -32,7 +33,7 @@ fn arguments(rt: &HostRuntime) -> Result<Vec<String>, WordFault> {
     }
 }
 
-/// Hands the arguments and the standard streams to `obey`.
+/// Passes the arguments and the standard streams to `obey`.
 fn main(rt: HostRuntime) -> std::io::Result<ExitCode> {
     let mut reader = Tally::new(Uninterrupted::new(rt.stdin()));
     let mut writer = Tally::new(Uninterrupted::new(rt.stdout()));

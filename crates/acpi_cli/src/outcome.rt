@@ -1,4 +1,4 @@
-//! What a command function returns, and the exit status that goes with it.
+//! What a command function returns, and the exit status for it.
 
 ghost use Rattle.std.specs.Prelude.{◌≡◌};
 ghost use Rattle.acpi_cli.specs.Program.{exit_status};
@@ -9,9 +9,9 @@ use thiserror::Error;
 /// What a command function returns if nothing failed.
 #[derive(Clone, Copy, Debug, PartialEq, Eq)]
 pub enum Outcome {
-    /// What was asked holds.
+    /// The answer is yes.
     Yes,
-    /// It does not; what was written says why.
+    /// The answer is no; the output says why.
     No,
 }
 

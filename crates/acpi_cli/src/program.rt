@@ -24,12 +24,12 @@ const REFUSED: u8 = 2;
 /// The exit status if the program is out of memory.
 const OUT_OF_MEMORY: u8 = 4;
 
-/// Does what the arguments `words` ask for, of which the first is the program's name, and returns the exit status.
+/// Does the job that the arguments `words` give, of which the first is the program's name, and returns the exit status.
 ///
-/// If they ask for a job, its command function runs on `reader` and `writer`, and the status is that of its result: 0, 1, 3 or 4. If
-/// they ask for none, or for help, nothing is read or written, and the status is 2; if memory runs out while they are parsed,
-/// nothing is read or written either, and the status is 4. Errors are reported on `errors`; a failed write there changes
-/// nothing else.
+/// If they give a job, its command function runs on `reader` and `writer`, and the status is that of its result: 0, 1,
+/// 3 or 4. If they give none, as `--help` does, nothing is read or written, and the status is 2; if memory runs out
+/// while they are parsed, nothing is read or written either, and the status is 4. Errors are reported on `errors`; a
+/// failed write there changes nothing else.
 #[tactic(auto, using(crate::proofs::Statuses::refused))]
 pub fn obey<R: Read, W: Write, E: Write>(
     alloc: Global,
@@ -91,7 +91,7 @@ fn report<E: Write>(errors: &mut E, ended: &Result<Outcome, RunFault>) {
     }
 }
 
-/// Replies to arguments that ask for no job.
+/// Replies to arguments that give no job.
 pub fn refuse<E: Write>(errors: &mut E, reply: &Reply) -> u8
     ensures { result ≡ 2 }
 {

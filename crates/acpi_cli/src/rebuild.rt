@@ -12,7 +12,7 @@ use acpi_write::{RebuildFault, rebuild};
 use std::alloc::{AllocError, Global};
 use std::io::{Read, Write};
 
-/// What is reported of a set that is not rebuilt.
+/// What is reported about a set that is not rebuilt.
 fn refused(alloc: Global, fault: RebuildFault) -> Result<Output, AllocError>
     ensures { IfOk result (λ output. IsRefusalLine fault output.bytes.items
         × (output.outcome ≡ Outcome.No)) }
@@ -29,8 +29,8 @@ fn refused(alloc: Global, fault: RebuildFault) -> Result<Output, AllocError>
     Ok(Output { bytes, outcome })
 }
 
-/// What is reported of the image's set under the policy, rebuilt from the address `base` on. The image is dropped before the
-/// text of the new one is made: that text takes three times the memory of the new image.
+/// What is reported about the image's set under the policy, rebuilt from the address `base` on. The image is dropped
+/// before the text of the new one is made: that text takes three times the memory of the new image.
 fn rebuilt_output(
     alloc: Global,
     image: Image,
@@ -70,17 +70,17 @@ fn rebuild_output(
     rebuilt_output(alloc, image, &policy, base)
 }
 
-/// Rebuilds the set of tables of the image whose text is on `reader`, from the address `base` on. The set is the one that is
-/// reached from the RSDP at the address `rsdp`, or if that is `None` from the one that is found. The policy's own address is
-/// ignored.
+/// Rebuilds the set of tables of the image whose text is on `reader`, from the address `base` on. The set is the one
+/// that is reached from the RSDP at the address `rsdp`, or if that is `None` from the one that is found. The policy's
+/// own address is ignored.
 ///
-/// Writes the text of the new image, which has the rebuilt set and nothing else (`image_text`), and returns `Yes`. Otherwise
-/// it returns `No`, and writes the first of these that applies: `no rsdp`, if no address is given and none is found; `refused
-/// Unaligned`, if `base` is not a multiple of 64; the verdict's line, if the set is not clean; `refused TableTooLong`, `refused
-/// PastEnd` or `refused NeedsLow`, if it cannot be placed at that address (`RebuildFault`).
+/// Writes the text of the new image, which has the rebuilt set and nothing else (`image_text`), and returns `Yes`.
+/// Otherwise it returns `No`, and writes the first of these that applies: `no rsdp`, if no address is given and none is
+/// found; `refused Unaligned`, if `base` is not a multiple of 64; the verdict's line, if the set is not clean; `refused
+/// TableTooLong`, `refused PastEnd` or `refused NeedsLow`, if it cannot be placed at that address (`RebuildFault`).
 ///
-/// Nothing is written before the image is read, judged and rebuilt. Returns `Image` if the input is not image text, `Memory`, or
-/// `Device` if a read or a write failed; what was written then is a prefix of the whole output.
+/// Nothing is written before the image is read, checked and rebuilt. Returns `Image` if the input is not image text,
+/// `Memory`, or `Device` if a read or a write failed; what was written then is a prefix of the output.
 pub fn run_rebuild<R: Read, W: Write>(
     alloc: Global,
     reader: &mut Tally<R>,

@@ -23,7 +23,7 @@ use acpi_check::read_set;
 use std::alloc::{AllocError, Global};
 use std::io::{Read, Write};
 
-/// What is shown of the image.
+/// What is shown for the image.
 fn show_output(alloc: Global, image: &Image, given: Option<u64>) -> Result<Output, AllocError>
     ensures { IfOk result (λ output. ReportsShow given image.now output.bytes.items
         output.outcome) }
@@ -45,13 +45,13 @@ fn show_output(alloc: Global, image: &Image, given: Option<u64>) -> Result<Outpu
 }
 
 /// Shows the set of tables of the image whose text is on `reader`, from the RSDP at the address `rsdp`, or if that is
-/// `None` from the one that is found: a line for the RSDP, for the root, for each of its slots, and for each structure of
-/// the FADT, the FACS, the MADT, the SRAT, the SLIT and the PPTT.
+/// `None` from the one that is found: a line for the RSDP, for the root, for each of its slots, and for each structure
+/// of the FADT, the FACS, the MADT, the SRAT, the SLIT and the PPTT.
 ///
-/// Returns `Yes` if the stages up to the listed tables hold. If they do not, it writes the verdict's line and returns `No`;
-/// if no address is given and none is found, it writes `no rsdp` and returns `No`. Nothing is written before the image is
-/// read and judged and all lines are made. Returns `Image` if the input is not image text, `Memory`, or `Device` if a read
-/// or a write failed; what was written then is a prefix of the lines.
+/// Returns `Yes` if the stages up to the listed tables hold. If they do not, it writes the verdict's line and returns
+/// `No`; if no address is given and none is found, it writes `no rsdp` and returns `No`. Nothing is written before the
+/// image is read and checked and all lines are made. Returns `Image` if the input is not image text, `Memory`, or
+/// `Device` if a read or a write failed; what was written then is a prefix of the lines.
 pub fn run_show<R: Read, W: Write>(
     alloc: Global,
     reader: &mut Tally<R>,

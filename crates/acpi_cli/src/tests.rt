@@ -130,8 +130,8 @@ fn a_check_writes_the_verdict_of_the_stages_that_are_asked_for(
     Ok(())
 }
 
-/// The clean set, whose slot 1 lists the FADT once more. The RSDT's checksum is lower by 0x24: its Length grows by 4, and the
-/// slot adds 0x20.
+/// The clean set, whose slot 1 lists the FADT once more. The RSDT's checksum is lower by 0x24: its Length grows by 4,
+/// and the slot adds 0x20.
 const LISTS_TWICE: &[u8] = b"@e0000
 52 53 44 20 50 54 52 20 4b 41 41 41 41 41 41 00
 00 10 00 00
@@ -348,7 +348,7 @@ impl Read for Cut {
     }
 }
 
-// The whole text was read when the read fails.
+// The complete text was read when the read fails.
 #[test]
 fn each_command_tells_of_a_failed_read_and_writes_nothing(rt: HostRuntime) -> Result<(), Fail> {
     let alloc = rt.alloc();

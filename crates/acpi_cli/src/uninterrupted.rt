@@ -9,10 +9,12 @@ ghost use Rattle.std.specs.Io.KnownBytes.{ReadConsumes, WriteAppends};
 
 use std::io::{ErrorKind, Read, Result, Write};
 
-/// How often one call is made at most: a device that interrupts every call has failed, and must not stop the program from ending.
+/// How often one call is made at most: a device that interrupts every call has failed, and must not stop the program
+/// from ending.
 const TRIES: u32 = 1_000;
 
-/// A reader or a writer that repeats a call which a signal interrupted. Its bytes are those of the inner one. No call allocates.
+/// A reader or a writer that repeats a call which a signal interrupted. Its bytes are those of the inner one. No call
+/// allocates.
 #[derive(Drop)]
 pub struct Uninterrupted<T> {
     inner: T,

@@ -8,7 +8,7 @@ use acpi_read::{Entries, Entry};
 use std::alloc::AllocError;
 use std::fmt::Write;
 
-/// The tables that are cut into entries.
+/// The tables of entries.
 #[derive(Clone, Copy)]
 pub enum Owner {
     Madt,

@@ -36,8 +36,8 @@ pub fn add_fadt(text: &mut String, image: &Image, listed: &Listed<'_>) -> Result
     add_facs(text, image, &fadt)
 }
 
-/// Adds the line of the FADT itself, `fadt ADDRESS length N profile N sci N flags FLAGS reduced yes`, or `reduced no`, and
-/// `dsdt ADDRESS`, of the DSDT that it names; 0 for none.
+/// Adds the line of the FADT itself, `fadt ADDRESS length N profile N sci N flags FLAGS reduced yes`, or `reduced no`,
+/// and `dsdt ADDRESS`, of the DSDT that it names; 0 for none.
 fn add_fields(text: &mut String, address: u64, fadt: &Fadt<'_>) -> Result<(), AllocError> {
     let bytes = fadt.bytes();
     let profile = u8_at(bytes, PREFERRED_PM_PROFILE);
@@ -73,7 +73,7 @@ fn add_gas(text: &mut String, name: &str, gas: Gas) -> Result<(), AllocError> {
     writeln!(text, " 0x{:x}", gas.address)
 }
 
-/// Adds the line of the FACS, where the FADT names one: `facs ADDRESS length N version N`.
+/// Adds the line of the FACS, if the FADT names one: `facs ADDRESS length N version N`.
 fn add_facs(text: &mut String, image: &Image, fadt: &Fadt<'_>) -> Result<(), AllocError> {
     let address = fadt.facs_address();
     if address == 0 {

@@ -1,10 +1,10 @@
-//! The fields of a line: words, each with a number. They are added to the text without `write!`, which takes twice as long, as
-//! there may be millions of lines.
+//! The fields of a line: labels, each with a number. They are added to the text without `write!`, which takes twice as
+//! long, as there may be millions of lines.
 
 use itoa::Buffer;
 use std::alloc::AllocError;
 
-/// Adds words and a number in decimal.
+/// Adds a label and a number in decimal.
 pub fn add_decimal<N: Into<u64>>(
     text: &mut String,
     words: &str,
@@ -15,7 +15,7 @@ pub fn add_decimal<N: Into<u64>>(
     text.push_str(Buffer::new().format(number))
 }
 
-/// Adds words, `0x`, and a number in hex: in lower case, without leading zeros.
+/// Adds a label, `0x`, and a number in hex: in lower case, without leading zeros.
 pub fn add_hex<N: Into<u64>>(text: &mut String, words: &str, number: N) -> Result<(), AllocError> {
     let number: u64 = number.into();
     text.push_str(words)?;

@@ -11,8 +11,8 @@ use acpi_read::{
 use std::alloc::AllocError;
 use std::fmt::Write;
 
-/// Adds the lines of the MADT: `madt ADDRESS lapic ADDRESS flags FLAGS`, with the address of the local APICs, and those of
-/// its entries.
+/// Adds the lines of the MADT: `madt ADDRESS lapic ADDRESS flags FLAGS`, with the address of the local APICs, and those
+/// of its entries.
 pub fn add_madt(text: &mut String, listed: &Listed<'_>) -> Result<(), AllocError> {
     let address = listed.address;
     let Ok(entries) = Entries::madt(listed.table.copied()) else {

@@ -15,7 +15,8 @@ pub fn add_rsdp(text: &mut String, rsdp: &Rsdp) -> Result<(), AllocError> {
     writeln!(text, "rsdp 0x{address:x} revision {revision}")
 }
 
-/// Adds the line of the root, `root ADDRESS RSDT length N slots N`, or the same of an XSDT, and those of its slots.
+/// Adds the line of the root table, `root ADDRESS RSDT length N slots N`, or the same for an XSDT, and those of its
+/// slots.
 pub fn add_root(text: &mut String, set: &ListedSet<'_>) -> Result<(), AllocError>
     requires { IsListedSet set.now }
 {

@@ -12,7 +12,8 @@ use acpi_base::TableKind;
 use acpi_check::ListedSet;
 use std::alloc::{AllocError, Global};
 
-/// All lines of a set: those of the RSDP, of the root and its slots, and of the tables that are shown line by line.
+/// All lines of a set: those of the RSDP, of the root table and its slots, and of the tables that are shown line by
+/// line.
 pub fn set_text(alloc: Global, set: &ListedSet<'_>) -> Result<String, AllocError>
     requires { IsListedSet set.now }
 {

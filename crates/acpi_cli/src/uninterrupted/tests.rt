@@ -46,7 +46,8 @@ impl Write for Scripted {
     }
 }
 
-/// Two calls are interrupted before one gives three bytes, another kind of failure comes at once, and the end is no failure.
+/// Two calls are interrupted before one gives three bytes, another kind of failure comes at once, and the end is no
+/// failure.
 const ANSWERS: [Result<usize, ErrorKind>; 6] = [
     Err(ErrorKind::Interrupted),
     Err(ErrorKind::Interrupted),
@@ -56,7 +57,7 @@ const ANSWERS: [Result<usize, ErrorKind>; 6] = [
     Ok(0),
 ];
 
-/// What a call returns, and how many calls were made of what is inside from the first one on.
+/// What a call returns, and how many calls of the inner one were made from the first one on.
 const RETURNED: [(Result<usize, ErrorKind>, usize); 4] = [
     (Ok(3), 3),
     (Err(ErrorKind::Other), 4),

@@ -1,7 +1,6 @@
 use Rattle.std.proofs.Common.{inl}
 use Rattle.acpi_cli.proofs.check.run_check.Goals as goal
 
--- the image that was read, and what was reported on it
 pub returns : goal.returns
 returns g c =
     inl (

@@ -4,7 +4,6 @@ use Rattle.acpi_base.specs.Policy.{PolicyValue}
 use Rattle.acpi_cli.specs.Commands.{TellsRebuilt}
 use Rattle.acpi_cli.proofs.rebuild.rebuild_output.Goals as goal
 
--- under the policy with the RSDP's address
 pub returns : goal.returns
 returns c =
     IfOk-weaker c.rebuilt_output.result _ _

@@ -1,7 +1,6 @@
 use Rattle.std.proofs.Common.{inl}
 use Rattle.acpi_cli.proofs.rebuild.run_rebuild.Goals as goal
 
--- the image that was read, and what was reported on it
 pub returns : goal.returns
 returns g c =
     inl (

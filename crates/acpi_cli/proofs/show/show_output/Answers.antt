@@ -8,7 +8,6 @@ use Rattle.acpi_cli.proofs.show.show_output.Goals as goal
 pub set_text-requires : goal.set_text-requires
 set_text-requires c = listed_itself c.in-Ok.set (c.in-Ok.ensures (with_rsdp shown_policy c.in-Some.address) refl).1
 
--- the fault of the stages up to the listed tables
 pub returns-in-Err : goal.returns-in-Err
 returns-in-Err c =
     let found = c.in-Err.ensures (with_rsdp shown_policy c.in-Some.address) refl in
@@ -24,7 +23,6 @@ returns-in-Err c =
       }),
     )
 
--- these stages hold
 pub returns : goal.returns
 returns c = inl (
   refl,
