@@ -1,3 +1,4 @@
+-- Chains of parents: where they lead, and whether they end.
 use Rattle.std.proofs.Common.{◌≡◌, ℕ, ◌+◌, ◌-◌, ◌<◌, ◌≤◌, ◌⊎◌, zero, suc, List, length, get_or, Option, None, Some, inl, inr, arith, refl, sym, ◌∙◌, ap, subst, add-zero}
 use Rattle.std.specs.Prelude.{option_and_then, IfSome}
 use Rattle.std.proofs.Math.Nat.{add-suc}
@@ -5,26 +6,22 @@ use Rattle.std.proofs.lemmas.Bool.{cases_lt}
 use Rattle.std.proofs.lemmas.Option.{slice_get_cases}
 use Rattle.acpi_graph.specs.Parents.{AreNodes, parent_of, node_after, Ends}
 
--- steps on from the node that stands after the first ones
 pub node_after-add : (parents : List (Option ℕ)) (node steps there : ℕ) → node_after parents node steps ≡ Some there
     → (more : ℕ) → node_after parents node (steps + more) ≡ node_after parents there more
 node_after-add parents node steps there stands zero = rw add-zero stands
 node_after-add parents node steps there stands (suc more) =
     rw add-suc (ap (option_and_then (parent_of parents)) (node_after-add parents node steps there stands more))
 
--- a chain that is over stays over
 pub stays_over : (parents : List (Option ℕ)) (node steps : ℕ) → node_after parents node steps ≡ None
     → (more : ℕ) → node_after parents node (steps + more) ≡ None
 stays_over parents node steps over zero = rw add-zero over
 stays_over parents node steps over (suc more) =
     rw add-suc (ap (option_and_then (parent_of parents)) (stays_over parents node steps over more))
 
--- a chain is over by some step, or a node stands there
 pub over_or_there : (o : Option ℕ) → (o ≡ None) ⊎ ((there : ℕ) × (o ≡ Some there))
 over_or_there None = inl refl
 over_or_there (Some there) = inr (there, refl)
 
--- where a chain goes on, it went on before
 pub went_on : (parents : List (Option ℕ)) (node steps later there : ℕ) → steps ≤ later
     → node_after parents node later ≡ Some there
     → (before : ℕ) × (node_after parents node steps ≡ Some before)
@@ -38,13 +35,11 @@ went_on parents node steps later there earlier stands = elim (over_or_there (nod
   | inr found ↦ found
 ]
 
--- where a node on a chain has a chain that ends, the chain ends
 pub ends_before : (parents : List (Option ℕ)) (node steps there : ℕ) → node_after parents node steps ≡ Some there
     → Ends parents there → Ends parents node
 ends_before parents node steps there stands (more, over) =
     (steps + more, node_after-add parents node steps there stands more ∙ over)
 
--- where a chain ends, so does that of each node on it
 pub ends_later : (parents : List (Option ℕ)) (node steps there : ℕ) → node_after parents node steps ≡ Some there
     → Ends parents node → Ends parents there
 ends_later parents node steps there stands (last, over) = elim (cases_lt steps last) [
@@ -62,7 +57,6 @@ ends_later parents node steps there stands (last, over) = elim (cases_lt steps l
       absurd cc
 ]
 
--- the parent of a node is a node
 pub parent_is_node : (parents : List (Option ℕ)) → AreNodes parents → (node parent : ℕ)
     → parent_of parents node ≡ Some parent → parent < length parents
 parent_is_node parents nodes node parent up = elim (slice_get_cases parents node).1 [

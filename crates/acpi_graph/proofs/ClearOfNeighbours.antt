@@ -2,8 +2,7 @@ use Rattle.std.proofs.Common.{ℕ, ◌<◌, ◌≤◌, zero, suc, List, length, 
 use Rattle.std.specs.List.{All, AllAdjacentBelow}
 use Rattle.std.proofs.Math.Nat.{eq-or-lt_of_le}
 
--- Where each thing of a list begins by its own end, and ends by the beginning of the next, it ends by
--- the beginning of all that follow.
+-- If each element of a list ends by the beginning of the next one, it ends by the beginning of all that follow.
 pub ends_before_later : {X : Type 0} (from to : X → ℕ) (xs : List X) (high : ℕ) → high ≤ length xs
     → All (λ x. from x ≤ to x) xs
     → AllAdjacentBelow (λ x y. to x ≤ from y) xs high

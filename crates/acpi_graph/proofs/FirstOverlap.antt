@@ -1,3 +1,4 @@
+-- The first overlap of spans in order: it is that of a span and the next one.
 use Rattle.std.proofs.Common.{◌≡◌, ◌≢◌, ℕ, ◌<◌, ◌≤◌, ◌⊎◌, suc, List, length, get_or, inl, inr, arith, refl, sym, ◌∙◌, ap, subst}
 use Rattle.std.specs.List.{AllPairs, AllAdjacentBelow, Contains}
 use Rattle.std.proofs.lemmas.List.{get_or_default}
@@ -11,7 +12,7 @@ use Rattle.acpi_graph.proofs.ClearOfNeighbours.{ends_before_later}
 abbrev pub EndsBy : Span → Span → Type 0
 EndsBy a b = a.end ≤ b.start
 
--- the span stands at this place of the list
+-- the span is at this index of the list
 pub record StandsAt (xs : List Span) (k : ℕ) (s : Span) : Type 0 where
   pub within : k < length xs
   pub is : get_or xs k s ≡ s
@@ -25,14 +26,12 @@ same_place xs k a b at_a at_b = sym (read_at xs k a a at_a) ∙ read_at xs k b a
 listed : (xs : List Span) (k : ℕ) (s : Span) → StandsAt xs k s → Contains xs s
 listed xs k s at = (k, at.within, at.is)
 
--- i and j are two places, so one comes first
 apart : (i j : ℕ) → i ≢ j → (i < j) ⊎ (j < i)
 apart i j differ = elim (cases_lt i j) [
   | inl before ↦ inl before
   | inr not_before ↦ inr (omega arith)
 ]
 
--- below high each span ends by the start of all that follow
 ends_by : (xs : List Span) (high : ℕ) → high ≤ length xs → AllAdjacentBelow EndsBy xs high
     → (i j : ℕ) (a b : Span) → StandsAt xs i a → StandsAt xs j b → i < j → j < high → a.end ≤ b.start
 ends_by xs high within next i j a b at_a at_b before below =
@@ -53,11 +52,10 @@ none_shared xs high within next i j a b at_a at_b before below number in_a in_b 
     let reached : b.start ≤ number = in_b.from_start in
     omega arith
 
--- a span of the list, with its place
 pub stands : (xs : List Span) (s : Span) → Contains xs s → (k : ℕ) × StandsAt xs k s
 stands xs s found = (found.0, record { within = found.1; is = found.2 })
 
--- two spans that share a number stand at two places
+-- two spans that share a number are at two indices
 record TwoPlaces (xs : List Span) (one other : Span) : Type 0 where
   pub i : ℕ
   pub j : ℕ
@@ -78,7 +76,6 @@ two_places xs number shared =
           (subst (λ k. StandsAt xs k shared.one) same at_one.1) at_other.1));
     }
 
--- where each span ends by the start of the next, no number lies in two
 pub is_clear : (xs : List Span) → AllAdjacentBelow EndsBy xs (length xs) → IsClear xs
 is_clear xs next number shared =
     let places = two_places xs number shared in
@@ -110,14 +107,13 @@ starts_rise xs ordered i j a b at_a at_b upto = elim (eq-or-lt_of_le upto) [
   | inr before ↦ starts_by a b (comes_before xs ordered i j a b at_a at_b before)
 ]
 
--- The first span that runs into the next, with the next: a stands at k, b after it.
+-- The first span that overlaps the next, with the next: a is at k, b after it.
 pub record Overlaps (xs : List Span) (k : ℕ) (a b : Span) : Type 0 where
   pub at_a : StandsAt xs k a
   pub at_b : StandsAt xs (suc k) b
   pub before : AllAdjacentBelow EndsBy xs (suc k)
   pub into : b.start < a.end
 
--- no number below the overlap lies in two spans
 no_lower : (xs : List Span) → AllPairs ComesBefore xs → (k : ℕ) (a b : Span) → Overlaps xs k a b
     → (i j : ℕ) (one other : Span) → StandsAt xs i one → StandsAt xs j other → i < j
     → (number : ℕ) → HasNumber one number → HasNumber other number → b.start ≤ number
@@ -144,7 +140,6 @@ least_shared xs ordered k a b overlaps number shared =
           places.at_one after number shared.other_holds shared.one_holds
     ]
 
--- a span that holds the point of the overlap is one of the two that overlap, or comes after them
 later_holder : (xs : List Span) → AllPairs ComesBefore xs → (k : ℕ) (a b : Span) → Overlaps xs k a b
     → (s : Span) → Contains xs s → HasNumber s b.start → s.name ≢ a.name → s.name ≢ b.name → ComesBefore b s
 later_holder xs ordered k a b overlaps s found holds not_a not_b =
@@ -172,7 +167,6 @@ later_holder xs ordered k a b overlaps s found holds not_a not_b =
       ]
     ]
 
--- the first span that overlaps the next does so at the least number that lies in two spans
 pub is_first_clash : (xs : List Span) → NamesDiffer xs → AllPairs ComesBefore xs → (k : ℕ) (a b : Span)
     → Overlaps xs k a b
     → IsFirstClash xs a.name b.name b.start

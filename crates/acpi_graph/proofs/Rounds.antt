@@ -1,3 +1,4 @@
+-- Cycles of chains of parents: a chain that returns to a node never ends.
 use Rattle.std.proofs.Common.{◌≡◌, ◌≢◌, ℕ, ◌+◌, ◌-◌, ◌<◌, ◌≤◌, zero, suc, List, Option, Some, inl, inr, arith, refl, sym, ◌∙◌, ap, subst, add-zero}
 use Rattle.std.specs.Prelude.{option_and_then}
 use Rattle.std.proofs.Math.Nat.{add-suc}
@@ -5,7 +6,7 @@ use Rattle.std.proofs.lemmas.Bool.{cases_lt}
 use Rattle.acpi_graph.specs.Parents.{parent_of, node_after, Ends, Returns, IsRound}
 use Rattle.acpi_graph.proofs.Chains.{went_on}
 
--- from the lead on each place of a chain has the node of a place before the end of the first pass of the cycle
+-- from the lead on each index of a chain has the node of an index before the end of the first pass of the cycle
 pub record FoldsBack (parents : List (Option ℕ)) (node lead round steps : ℕ) : Type 0 where
   pub place : ℕ
   pub from_lead : lead ≤ place
@@ -36,7 +37,6 @@ fold_back parents node lead round returns (suc steps) =
           }
     ]
 
--- a chain that comes back to a node goes on for good
 pub never_ends : (parents : List (Option ℕ)) (node lead round : ℕ) → Returns parents node lead round
     → ¬ Ends parents node
 never_ends parents node lead round returns (steps, over) = elim (cases_lt steps lead) [
@@ -56,7 +56,7 @@ never_ends parents node lead round returns (steps, over) = elim (cases_lt steps 
       cc
 ]
 
--- the node that a chain has come back to for the first time: until then no node stood twice
+-- the node that a chain returns to for the first time: until then no node occurs twice
 pub is_round : (parents : List (Option ℕ)) (node lead round : ℕ) → Returns parents node lead round
     → ((i j : ℕ) → i < j → j < lead + round → node_after parents node i ≢ node_after parents node j)
     → IsRound parents node lead round

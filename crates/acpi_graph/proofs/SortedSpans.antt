@@ -1,3 +1,4 @@
+-- Sorting spans changes neither whether they overlap nor their first overlap.
 use Rattle.std.proofs.Common.{◌≡◌, ◌≢◌, ℕ, ◌<◌, ◌⊎◌, List, length, get_or, arith, sym, ◌∙◌, map, false, nat_eq, Ordering, [], ◌∷◌}
 use Rattle.std.specs.Ordering.{nat_cmp, ordering_then, is_lt}
 use Rattle.std.specs.Cmp.{IsTotalOrder}
@@ -21,12 +22,10 @@ span_cmp_total : IsTotalOrder span_cmp
 span_cmp_total = then_total (on_total (λ s. s.start) nat_cmp_total)
     (then_total (on_total (λ s. s.name) nat_cmp_total) (on_total (λ s. s.end) nat_cmp_total))
 
--- a span that is not above another of another name comes before it
 not_above : (m n p q u v : ℕ) → is_lt (ordering_then (nat_cmp n m) (ordering_then (nat_cmp q p) (nat_cmp v u))) ≡ false
     → p ≢ q → (m < n) ⊎ ((m ≡ n) × (p < q))
 not_above m n p q u v upto differ = grind (arith, nat_tests)
 
--- sorted spans whose names differ stand in order
 pub in_order : (xs : List Span) → NamesDiffer xs → IsSorted span_cmp xs → AllPairs ComesBefore xs
 in_order xs names sorted i j d before within =
     not_above (get_or xs i d).start (get_or xs j d).start (get_or xs i d).name (get_or xs j d).name (get_or xs i d).end
@@ -50,7 +49,6 @@ from_names xs names i j d before within =
     λ same. names i j d.name before inside
     (get_or-map_at (λ (s : Span). s.name) xs i d ∙ same ∙ sym (get_or-map_at (λ (s : Span). s.name) xs j d))
 
--- in another order the names differ still
 pub names_permuted : (xs ys : List Span) → IsPermutation xs ys → NamesDiffer xs → NamesDiffer ys
 names_permuted xs ys moved names = from_names ys (AllPairs-from_IsDistinct Decides-eqb (map (λ s. s.name) ys)
     (IsDistinct-IsPermutation nat_eq nat_eq_equiv.symm (map (λ s. s.name) xs) (map (λ s. s.name) ys)
@@ -60,7 +58,6 @@ names_permuted xs ys moved names = from_names ys (AllPairs-from_IsDistinct Decid
 contained_back : (xs ys : List Span) (s : Span) → IsPermutation xs ys → Contains ys s → Contains xs s
 contained_back xs ys s moved found = Contains-permutation ys xs s (IsPermutation-sym xs ys moved) found
 
--- what lies in two spans lies in two of them in another order
 shared_permuted : (xs ys : List Span) (number : ℕ) → IsPermutation xs ys → LiesInTwo xs number → LiesInTwo ys number
 shared_permuted xs ys number moved shared = record {
   one = shared.one;
@@ -72,11 +69,9 @@ shared_permuted xs ys number moved shared = record {
   other_holds = shared.other_holds;
 }
 
--- spans that are clear of each other in one order are so in another
 pub clear_permuted : (xs ys : List Span) → IsPermutation xs ys → IsClear ys → IsClear xs
 clear_permuted xs ys moved clear number shared = clear number (shared_permuted xs ys number moved shared)
 
--- the first clash is the same in another order
 pub first_clash_permuted : (xs ys : List Span) (first second point : ℕ) → IsPermutation xs ys
     → IsFirstClash ys first second point → IsFirstClash xs first second point
 first_clash_permuted xs ys first second point moved found = record {
@@ -96,7 +91,6 @@ first_clash_permuted xs ys first second point moved found = record {
   least = λ number shared. found.least number (shared_permuted xs ys number moved shared);
 }
 
--- the point of a first clash lies in two spans
 pub point_shared : (xs : List Span) (first second point : ℕ) → IsFirstClash xs first second point → LiesInTwo xs point
 point_shared xs first second point found = record {
   one = found.two.earlier;

@@ -1,3 +1,4 @@
+-- The walks from each node in turn, and the marks that they leave.
 use Rattle.std.proofs.Common.{◌≡◌, ◌≢◌, ℕ, ◌+◌, ◌-◌, ◌<◌, ◌≤◌, suc, List, length, get_or, set, Option, None, Some, inl, inr, arith, sym, ◌∙◌, ap, subst, replicate}
 use Rattle.std.specs.Prelude.{count_by, nat_lt, cond, option_and_then}
 use Rattle.std.proofs.lemmas.Bool.{cases_lt, cases_eq, lt-ltb}
@@ -29,12 +30,11 @@ pub record Trail (parents : List (Option ℕ)) (marks : List ℕ) (start base st
       → node_after parents start (get_or marks node 0 - suc base) ≡ Some node
   pub left : (taken : ℕ) → base + taken < steps → Left parents marks start base taken
 
--- the walk stands at a node
+-- the walk is at a node
 pub record StandsAt (parents : List (Option ℕ)) (start base steps node : ℕ) : Type 0 where
   pub is_node : node < length parents
   pub stands : node_after parents start (steps - base) ≡ Some node
 
--- a walk begins
 pub begin : (parents : List (Option ℕ)) (marks : List ℕ) (start steps : ℕ) → AreMarksOfEnded parents marks steps
     → Trail parents marks start steps steps
 begin parents marks start steps s = record {
@@ -125,7 +125,6 @@ leaves parents marks start base steps node next t at blank counted =
     (subst (λ n. Trail parents (set marks node (suc steps)) start base n) same
     (mark_more parents marks start base steps node t at blank))
 
--- while a node has no mark, fewer steps were taken than there are nodes
 pub room_left : (parents : List (Option ℕ)) (marks : List ℕ) (start base steps node : ℕ)
     → Trail parents marks start base steps
     → StandsAt parents start base steps node → get_or marks node 0 ≡ 0 → steps < length parents
@@ -138,7 +137,6 @@ room_left parents marks start base steps node t at blank =
     count_by-le-length (λ mark. nat_lt 0 mark) (set marks node (suc steps)) in
     omega arith
 
--- no more steps were taken than there are nodes
 pub steps_within : (parents : List (Option ℕ)) (marks : List ℕ) (start base steps : ℕ)
     → Trail parents marks start base steps → steps ≤ length parents
 steps_within parents marks start base steps t =
@@ -148,7 +146,6 @@ steps_within parents marks start base steps t =
     count_by-le-length (λ mark. nat_lt 0 mark) marks in
     omega arith
 
--- the walk goes on to the parent
 pub stands_on : (parents : List (Option ℕ)) (start base steps node next parent : ℕ) → AreNodes parents → base ≤ steps
     → StandsAt parents start base steps node → next ≡ steps + 1 → parent_of parents node ≡ Some parent
     → StandsAt parents start base next parent
@@ -159,7 +156,6 @@ stands_on parents start base steps node next parent nodes low at counted up =
       stands = ap (node_after parents start) one_more ∙ ap (option_and_then (parent_of parents)) at.stands ∙ up;
     }
 
--- the walk has come to a root
 pub root_ends : (parents : List (Option ℕ)) (start base steps node : ℕ) → StandsAt parents start base steps node
     → parent_of parents node ≡ None → Ends parents start
 root_ends parents start base steps node at root =
@@ -172,7 +168,6 @@ pub settled_ends : (parents : List (Option ℕ)) (marks : List ℕ) (start base 
 settled_ends parents marks start base steps node t at marked old =
     ends_before parents start (steps - base) node at.stands (t.settled node marked old)
 
--- a walk whose chain ends leaves all settled
 pub settle : (parents : List (Option ℕ)) (marks : List ℕ) (start base steps : ℕ) → Trail parents marks start base steps
     → Ends parents start → AreMarksOfEnded parents marks steps
 settle parents marks start base steps t ends = record {
@@ -185,7 +180,6 @@ settle parents marks start base steps t ends = record {
   ];
 }
 
--- in one walk no node is left twice
 left_once : (parents : List (Option ℕ)) (marks : List ℕ) (start base steps : ℕ) → Trail parents marks start base steps
     → (i j : ℕ) → i < j → base + j < steps → node_after parents start i ≢ node_after parents start j
 left_once parents marks start base steps t i j before below same =
@@ -218,7 +212,7 @@ round_found parents marks start base steps node lead round t at lead_is round_is
     })
     (λ i j before below. left_once parents marks start base steps t i j before (omega arith))
 
--- a cycle of this walk is the first, where the chains of all nodes before it end
+-- if the chains of all nodes before it end, a cycle of this walk is the first
 pub first_stray_found : (parents : List (Option ℕ)) (start : ℕ) (found : Stray) → start < length parents
     → ((node : ℕ) → node < start → Ends parents node)
     → IfRound found (λ node lead round. (node ≡ start) × IsRound parents start lead round
@@ -234,7 +228,6 @@ first_stray_found parents start (stray.Round node lead round) is_node earlier fo
       is_round = found.1;
     })
 
--- before the first walk no node has a mark
 no_mark : (parents : List (Option ℕ)) (marks : List ℕ) → marks ≡ replicate (length parents) 0 → (node : ℕ)
     → get_or marks node 0 ≡ 0
 no_mark parents marks blank node = elim (cases_lt node (length parents)) [

@@ -1,3 +1,4 @@
+-- Spans of numbers, and the first overlap of a list of them.
 use Rattle.std.specs.Prelude.{◌≡◌, ◌≢◌, ℕ, ◌<◌, ◌≤◌, ◌⊎◌, List, AllPairs, Contains}
 use Rattle.acpi_graph.specs.declared.span.Span.{Span}
 use Rattle.acpi_graph.specs.declared.clash.Clash.{Clash}

@@ -1,5 +1,5 @@
-//! Two searches that a checker of tables needs. Each returns the first case in a fixed order, so that the result does not
-//! depend on how the tables list their entries.
+//! Two searches that a checker of tables needs. Each returns the first case in a fixed order, so that the result does
+//! not depend on how the tables list their entries.
 //!
 //! - `first_clash`: for spans of numbers, such as memory ranges, the first overlap: the lowest number that is in two,
 //!   and the first two spans that contain it.

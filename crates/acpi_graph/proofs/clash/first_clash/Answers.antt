@@ -6,7 +6,6 @@ use Rattle.acpi_graph.specs.Spans.{NamesDiffer, ComesBefore, IsClear, IfAt, IsFi
 use Rattle.acpi_graph.proofs.SortedSpans.{in_order, names_permuted, clear_permuted, first_clash_permuted, point_shared}
 use Rattle.acpi_graph.proofs.clash.first_clash.Goals as goal
 
--- from the sorted spans back to the spans as they came
 found_permuted : (xs ys : List Span) (found : Clash) → IsPermutation xs ys → IfAt found (IsFirstClash ys)
     → IfAt found (IsFirstClash xs)
 found_permuted xs ys clash.None moved first = tt

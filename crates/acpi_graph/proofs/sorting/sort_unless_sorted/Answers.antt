@@ -11,7 +11,6 @@ not_above Greater below = refl
 
 module _ {X : Type 0} (cmp : X → X → Ordering) (partial_cmp : X → X → Option Ordering) (total : IsTotalOrder cmp)
     (agree : Agrees partial_cmp cmp) where
-  -- an item that the next is not below is not above it
   upto_next : (x y : X) → is_lt (cmp y x) ≡ false → partial_le partial_cmp x y ≡ true
   upto_next x y below =
       ap (is_some_and is_le) (agree x y) ∙ ap is_le (total.antisymm x y) ∙ not_above (cmp y x) below
