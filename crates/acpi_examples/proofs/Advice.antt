@@ -1,4 +1,4 @@
--- What the examples of advice share: entries that stand alone or two together, and the numbers that they say.
+-- What the examples of advice share: one entry or two entries, and the numbers that they say.
 use Rattle.std.proofs.Common.{◌≡◌, ℕ, ◌<◌, [], ◌∷◌, refl, inl, inr, arith}
 use Rattle.std.specs.Prelude.{◌≢◌, ◌⊎◌, Option, Some, List}
 use Rattle.std.specs.List.{AllByRecursion}
@@ -11,18 +11,16 @@ use Rattle.acpi_examples.specs.Tables.{placed_entry}
 use Rattle.acpi_examples.specs.Advice.{IsKept}
 use Rattle.acpi_examples.proofs.NamedEntries.{each_entry, none_stands}
 
--- two entries, one behind the other
+-- two entries, one after the other
 abbrev pub both : {E : Type 0} → ℕ → E → ℕ → E → List (PlacedEntry E)
 both o d p e = placed_entry o d ∷ placed_entry p e ∷ []
 
--- the first of them stands, and the second
 pub first_stands : {E : Type 0} (o : ℕ) (d : E) (p : ℕ) (e : E) → Stands (both o d p e) o d
 first_stands o d p e = (0, omega arith, refl)
 
 pub second_stands : {E : Type 0} (o : ℕ) (d : E) (p : ℕ) (e : E) → Stands (both o d p e) p e
 second_stands o d p e = (1, omega arith, refl)
 
--- a number that one of two entries says is that of the first or of the second
 of_both : {E : Type 0} (read : E → Option ℕ) (o : ℕ) (d : E) (p : ℕ) (e : E) (q n : ℕ) → NamesAt read (both o d p e) q n
     → ((q ≡ o) × (read d ≡ Some n)) ⊎ ((q ≡ p) × (read e ≡ Some n))
 of_both read o d p e q n (x, stands, is) =
@@ -30,7 +28,6 @@ of_both read o d p e q n (x, stands, is) =
     (λ r y. read y ≡ Some n → ((r ≡ o) × (read d ≡ Some n)) ⊎ ((r ≡ p) × (read e ≡ Some n)))
     ((λ is. inl (refl, is)), ((λ is. inr (refl, is)), tt)) q x stands is
 
--- where they say these numbers, it is one of these
 pub of_numbers : {E : Type 0} (read : E → Option ℕ) (o : ℕ) (d : E) (p : ℕ) (e : E) (x y q n : ℕ) → read d ≡ Some x
     → read e ≡ Some y → NamesAt read (both o d p e) q n → ((q ≡ o) × (x ≡ n)) ⊎ ((q ≡ p) × (y ≡ n))
 of_numbers read o d p e x y q n one two names =
@@ -39,7 +36,7 @@ of_numbers read o d p e x y q n one two names =
       | inr (same, is) ↦ inr (same, cc)
     ]
 
--- where both say one number, it stands at the second and before it at the first
+-- if both say one number, it is at the second and before it at the first
 pub both_say : {E : Type 0} (read : E → Option ℕ) (o : ℕ) (d : E) (p : ℕ) (e : E) (n : ℕ) → read d ≡ Some n
     → read e ≡ Some n → o < p → IsLater (NamesAt read (both o d p e)) p o n
 both_say read o d p e n one two less = record {
@@ -52,7 +49,7 @@ both_say read o d p e n one two less = record {
   ];
 }
 
--- where they say no number both, none stands at a later place too
+-- if they do not both say one number, none is at a later place too
 pub two_differ : {E : Type 0} (read : E → Option ℕ) (o : ℕ) (d : E) (p : ℕ) (e : E)
     → ((n : ℕ) → read d ≡ Some n → ¬ (read e ≡ Some n)) → IsKept (IsLater (NamesAt read (both o d p e)))
 two_differ read o d p e differ at other n it =
@@ -69,15 +66,12 @@ two_differ read o d p e differ at other n it =
           ]
     ]
 
--- no entry says the number
 pub unnamed : {E : Type 0} (read : E → Option ℕ) (entries : List (PlacedEntry E)) (n : ℕ)
     → AllByRecursion (λ s. ¬ (read s.entry ≡ Some n)) entries → ¬ IsNamed read entries n
 unnamed read entries n none (o, names) = none_stands entries o (λ o e. read e ≡ Some n) none names
 
--- two numbers are not one
 pub other_number : (m n : ℕ) → m ≢ n → ¬ (Some m ≡ Some n)
 other_number m n differ is = differ (same_Some m n is)
 
--- no entry of the MADT is of a processor that no rule reads
 pub all_read : (c : MadtContents) → AllByRecursion (λ s. ¬ IsOtherProcessor s.entry) c.entries → AreProcessorsRead c
 all_read c none o = none_stands c.entries o (λ o e. IsOtherProcessor e) none

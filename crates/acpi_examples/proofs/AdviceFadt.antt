@@ -32,7 +32,7 @@ of_revision = record {
 
 -- ---- two fields of one address
 
--- both are there and differ
+-- both are present and differ
 abbrev differ : {whole : List ℕ} (narrow wide : ℕ) → narrow + 4 ≤ length whole → wide + 8 ≤ length whole
     → field whole narrow 4 ≢ 0 → field whole wide 8 ≢ 0 → field whole narrow 4 ≢ field whole wide 8
     → DoFieldsDiffer whole narrow wide (field whole narrow 4) (field whole wide 8)
@@ -46,7 +46,6 @@ differ narrow wide narrow_there wide_there narrow_used wide_used differs = recor
   differ = differs;
 }
 
--- they say the same, or one is 0
 same_fields : (whole : List ℕ) (narrow wide other point : ℕ) → field whole narrow 4 ≡ field whole wide 8
     → ¬ DoFieldsDiffer whole narrow wide other point
 same_fields whole narrow wide other point same it = it.differ (it.narrow_is ∙ (same ∙ sym it.wide_is))
@@ -84,7 +83,6 @@ addresses_odd = record {
 
 -- ---- register blocks
 
--- of a FADT that ends before the second X_ structure does, only the first block differs
 first_block : (whole : List ℕ) (at other point : ℕ) → length whole < 172 → IsBlockDiffers whole at other point
     → DoFieldsDiffer whole 56 152 other point × ((gas_at whole 148).space ≡ 1)
 first_block whole at other point short it =
@@ -133,7 +131,6 @@ blocks_odd = record {
 
 -- ---- SCI_INT
 
--- the number 24 is not served with 24 inputs, and is with 25
 not_served : (q : PolicyValue) (bus : ℕ) → inputs_of q 0xfec00000 ≡ 24 → ¬ IsServed q (overridden bus) 24
 not_served q bus inputs (o, start, here) =
     none_stands (overridden bus).entries o (λ o e. ServesFrom q start 24 e)
@@ -144,25 +141,21 @@ is_served q n inputs is =
     subst (IsServed q (overridden 0)) is
     (44, 0, (_, (0, omega arith, refl), (refl, omega arith, omega (arith, inputs))))
 
--- 9 is, with 24
 nine_served : (q : PolicyValue) (c : MadtContents) (n : ℕ) → inputs_of q 0xfec00000 ≡ 24 → 9 ≡ n
     → Stands c.entries 44 io_apic_entry → IsServed q c n
 nine_served q c n inputs is stands =
     subst (IsServed q c) is (44, 0, (io_apic_entry, stands, (refl, omega arith, omega (arith, inputs))))
 
--- no override is of ISA interrupt 24
 not_overridden : (o : ℕ) → ¬ StandsWith (overridden 0).entries o (IsOverrideOf 24)
 not_overridden o =
     none_stands (overridden 0).entries o (λ o e. IsOverrideOf 24 e) (never, ((λ h. omega (arith, h.1)), tt))
 
--- ISA interrupt 9 has the number 24
 overridden_gsi : (g : ℕ) → IsGsiOf (overridden 0) 9 g → 24 ≡ g
 overridden_gsi g (inl it) =
     each_entry (overridden 0).entries (λ o e. e ≡ Override it.v → 24 ≡ it.v.gsi)
     ((λ is. absurd cc), ((λ is. cc), tt)) it.at (Override it.v) it.stands refl ∙ it.is
 overridden_gsi g (inr (none, _)) = absurd (none 56 (_, (1, omega arith, refl), (refl, refl)))
 
--- its own where no override of its is of bus 0
 own_gsi : (c : MadtContents) (g : ℕ) → AllByRecursion (λ s. ¬ IsOverrideOf 9 s.entry) c.entries → IsGsiOf c 9 g → 9 ≡ g
 own_gsi c g none (inl it) =
     absurd (none_stands c.entries it.at (λ o e. IsOverrideOf 9 e) none (Override it.v, it.stands, it.of))

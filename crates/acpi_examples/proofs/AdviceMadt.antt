@@ -108,7 +108,6 @@ controllers = record {
     alone : (o n : ℕ) → NamesAt gicd (one_entry 24 distributor).entries o n → o ≡ 44
     alone o n (e, stands, is) = each_entry (one_entry 24 distributor).entries (λ o e. o ≡ 44) (refl, tt) o e stands
 
--- what is said of entries that are not read does not hold of these bytes
 read_bytes : (bytes : List ℕ) (other point : ℕ) → ¬ IsUnreadEntry bytes → ¬ IsMadtUnread (Opaque bytes) other point
 read_bytes bytes other point read ((e, is, unread, _), _) = read (subst IsUnreadEntry same unread)
   where

@@ -17,13 +17,11 @@ use Rattle.acpi_examples.proofs.Advice.{both_say, two_differ, unnamed, other_num
 
 -- ---- leaves
 
--- at Revision 1 the two nodes are leaves that no node names, or the second names the first
 unparented : (o : ℕ) → o ≢ 0 → ¬ IsParent (two_nodes 1 2 0) o
 unparented o some (p, names) =
     none_stands (two_nodes 1 2 0).entries p (λ p e. parent_of e ≡ Some o)
     ((λ is. some (sym (same_Some 0 o is))), ((λ is. some (sym (same_Some 0 o is))), tt)) names
 
--- where a node's flags do not say that it is a leaf, there is no leaf but the first
 first_alone : (o n : ℕ) → IsLeafAt (two_nodes 2 2 36) o n → o ≡ 36
 unfolding has_bit
 first_alone o n (e, stands, (v, is, same, valid, new, old)) =
@@ -35,7 +33,6 @@ first_alone o n (e, stands, (v, is, same, valid, new, old)) =
         let flags : v.flags ≡ 2 = cc in
         both_ways _ refl (subst (λ (x : ℕ). has_bit x 3 ≡ true) flags (new (omega arith)))
 
--- where it names the first as its Parent, at Revision 1, there is no leaf but it
 second_alone : (o n : ℕ) → IsLeafAt (two_nodes 1 2 36) o n → o ≡ 56
 second_alone o n (e, stands, (v, is, same, valid, new, old)) =
     each_entry (two_nodes 1 2 36).entries (λ o e. ¬ IsParent (two_nodes 1 2 36) o → o ≡ 56)
@@ -82,7 +79,6 @@ same_leaves = record {
 
 -- ---- caches
 
--- 48 and 0 are no powers of two
 not_48 : ¬ IsPowerOfTwo 48
 not_48 (k, is) =
     elim (cases_lt k 6) [
@@ -93,7 +89,6 @@ not_48 (k, is) =
 not_0 : ¬ IsPowerOfTwo 0
 not_0 (k, is) = omega (arith, pow_pos k)
 
--- a cache whose shape is not odd is none that has an odd one
 not_odd : (v : CacheValue) (other point : ℕ) → ¬ HasOddShape v → ¬ IsCacheShape (Cache v) other point
 not_odd v other point none ((w, is, odd), _) = none (subst HasOddShape same odd)
   where
@@ -127,12 +122,10 @@ same_cache_ids = record {
 
 -- ---- processors and leaves
 
--- the node of this ID is a leaf
 leaf : (id : ℕ) → IsLeafAt (one_node 10 id) 36 id
 unfolding has_bit
 leaf id = (_, (0, omega arith, refl), (_, refl, refl, refl, (λ _. refl), (λ old. absurd (omega arith))))
 
--- and no leaf has another
 leaf_id : (flags id n : ℕ) → IsLeafId (one_node flags id) n → id ≡ n
 leaf_id flags id n (o, (e, stands, (v, is, same, _, _, _))) =
     each_entry (one_node flags id).entries (λ o e. e ≡ Node v → id ≡ n) ((λ is. of is), tt) o e stands is
@@ -141,7 +134,6 @@ leaf_id flags id n (o, (e, stands, (v, is, same, _, _, _))) =
     of is =
         let own : id ≡ v.id = cc in own ∙ same
 
--- where its ID is not valid, there is none
 no_leaf : (id n : ℕ) → ¬ IsLeafId (one_node 8 id) n
 unfolding has_bit
 no_leaf id n (o, (e, stands, (v, is, _, valid, _, _))) =

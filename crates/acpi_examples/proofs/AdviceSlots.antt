@@ -51,13 +51,11 @@ twice_table = record {
   signed = refl;
 }
 
--- the last two slots list the address
 twice_slot : (k : ℕ) → 36 + 4 * (k + 1) ≤ 48 → field twice_bytes (36 + 4 * k) 4 ≡ 0x2000
     → IsSlot twice_set rsdp_at k 0x2000
 twice_slot k inside address =
     root_slot twice_root twice_table (record { inside = inside; address = address; listed = λ same. omega arith })
 
--- and the first one does not
 not_first : (k : ℕ) → IsSlot twice_set rsdp_at k 0x2000 → 1 ≤ k
 unfolding field
 not_first zero slot =
@@ -67,7 +65,6 @@ not_first (suc k) slot = omega arith
 
 -- ---- the slots of two tables
 
--- a slot of a set of a MADT and a PPTT is one of two
 leaf_slot : (k a : ℕ) → IsSlot leaf_set rsdp_at k a → ((k ≡ 0) × (a ≡ 0x2000)) ⊎ ((k ≡ 1) × (a ≡ 0x3000))
 leaf_slot k a slot =
     of k (slot_of_root leaf_set rsdp_at 0x1000 4 k a rsdt_bytes (root uid_bytes new_leaf_bytes)
@@ -78,7 +75,6 @@ leaf_slot k a slot =
     of (suc zero) slot = inr (refl, one_slot rsdt_bytes 4 1 a 0x3000 slot slot_1)
     of (suc (suc k)) slot = absurd (omega (arith, slot.inside))
 
--- the signatures of its headers
 signed_as : {m : Memory} {signature : List ℕ} (a : ℕ) (header : List ℕ) → bytes_at m a 36 ≡ Some header
     → IsSigned m a signature → has_signature header signature ≡ true
 signed_as {signature = signature} a header present it =
@@ -96,7 +92,6 @@ second_signed signature a is it =
     signed_as 0x3000 (take 36 new_leaf_bytes) (leaf_tables 2 197).second.header_present
     (subst (λ (x : ℕ). IsSigned leaf_set x signature) is it)
 
--- they are of no one kind
 two_kinds : (kind : TableKind) → has_signature (take 36 uid_bytes) (signature_of kind) ≡ true
     → ¬ (has_signature (take 36 new_leaf_bytes) (signature_of kind) ≡ true)
 unfolding has_signature
@@ -116,7 +111,6 @@ no_second at other point it =
           ]
     ]
 
--- no slot lists a signature that neither header has
 none_signed : (signature : List ℕ) → has_signature (take 36 uid_bytes) signature ≡ false
     → has_signature (take 36 new_leaf_bytes) signature ≡ false
     → (k a : ℕ) → ¬ ListsSigned leaf_set rsdp_at signature k a

@@ -18,7 +18,6 @@ use Rattle.acpi_examples.proofs.Advice.{of_numbers, unnamed, other_number, all_r
 
 -- ---- UIDs in two domains
 
--- affinities of one domain place no UID in two
 one_domain : (c : SratContents) (domain : ℕ)
     → AllByRecursion (λ s. (x : ℕ) → processor_domain s.entry ≡ Some x → domain ≡ x) c.entries
     → IsKept (IsTwoUidDomains c)
@@ -55,7 +54,7 @@ two_uid_domains = record {
 
 -- ---- affinities of no processor
 
--- where the numbers of an affinity are those of processors, none is nowhere
+-- if the numbers of an affinity are those of processors, the rule is kept
 affinity_known : (madt : MadtContents) (size : ℕ) (e : SratEntry)
     → ((n : ℕ) → placed_apic_id e ≡ Some n → IsNamed apic_id_of madt.entries n)
     → ((n : ℕ) → placed_uid e ≡ Some n → IsNamed uid_of madt.entries n)
@@ -70,7 +69,6 @@ affinity_known madt size e ids uids at other point it =
           ((λ is. none (uids point is)), tt) here
     ]
 
--- the processor's APIC ID and its UID are named
 id_named : (flags n : ℕ) → 5 ≡ n → IsNamed apic_id_of (one_entry 8 (processor flags)).entries n
 id_named flags n is =
     subst (IsNamed apic_id_of (one_entry 8 (processor flags)).entries) is (44, (_, (0, omega arith, refl), refl))
@@ -115,7 +113,7 @@ affinities_nowhere = record {
 
 -- ---- processors of no affinity
 
--- where the numbers of a processor are those of affinities, none is without a domain
+-- if the numbers of a processor are those of affinities, the rule is kept
 processor_placed : (size : ℕ) (e : MadtEntry) (srat : SratContents)
     → ((n : ℕ) → apic_id_on e ≡ Some n → IsNamed placed_apic_id srat.entries n)
     → ((n : ℕ) → gicc_uid_on e ≡ Some n → IsNamed placed_uid srat.entries n)
@@ -187,7 +185,6 @@ domains_past = record {
 
 -- ---- entries that are not read
 
--- what is said of them does not hold of these bytes
 read_bytes : (bytes : List ℕ) (other point : ℕ) → ¬ IsUnreadEntry bytes → ¬ IsSratUnread (Opaque bytes) other point
 read_bytes bytes other point read ((e, is, unread, _), _) = read (subst IsUnreadEntry same unread)
   where
@@ -213,7 +210,6 @@ unread = record {
 
 -- ---- the SLIT
 
--- where the diagonal alone is wrong, the distances are the same both ways
 same_ways : (i j : ℕ) → i < j → j < 2 → distance low_diagonal i j ≡ distance low_diagonal j i
 same_ways zero zero upper column = omega arith
 same_ways zero (suc zero) upper column = refl

@@ -30,7 +30,7 @@ use Rattle.acpi_base.proofs.Images.ByteRuns.{run_of-agree}
 
 -- ---- the bytes of an altered set
 
--- those of the whole set's runs, but for one
+-- the bytes of the clean set's runs, except for one
 abbrev with_one : ℕ → Option ℕ → ℕ → Option ℕ
 with_one a byte x = cond (x == a) byte (lookup whole_runs x)
 
@@ -42,7 +42,6 @@ bytes_at_altered : (a : ℕ) (byte : Option ℕ) (p n : ℕ)
     → bytes_at (altered_set a byte) p n ≡ run_of (with_one a byte) p n
 bytes_at_altered a byte p n = λ i. run_of (λ x. byte_of_altered a byte x i) p n
 
--- away from that one they are the whole set's
 byte_kept : (a : ℕ) (byte : Option ℕ) (x : ℕ) → x ≢ a → byte_of (altered_set a byte) x ≡ byte_of example_set x
 byte_kept a byte x other = altered_is byte ∙ rw differs refl
   where
@@ -62,7 +61,6 @@ kept a byte p n away =
     other : (k : ℕ) → k < n → p + k ≢ a
     other k less = elim away [ inl below ↦ λ same. omega arith | inr above ↦ λ same. omega arith ]
 
--- a fault of a stage is one of the set
 of_stage : {m : Memory} {fault : Code} {at other : ℕ} {s : Stage} → stage_of fault ≡ s
     → FaultCondition s m example_policy (witness fault at other 0) → HasFault m example_policy fault at other 0
 of_stage {m} {fault} {at} {other} own holds =
@@ -71,12 +69,10 @@ of_stage {m} {fault} {at} {other} own holds =
 
 -- ---- the RSDP
 
--- the bytes there
 present_rsdp : (a : ℕ) (byte : Option ℕ) (n : ℕ)
     → bytes_at (altered_set a byte) rsdp_at n ≡ run_of (with_one a byte) rsdp_at n
 present_rsdp a byte n = bytes_at_altered a byte rsdp_at n
 
--- it is of the extended form
 extended : (a : ℕ) (byte : Option ℕ) {head : List ℕ} → run_of (with_one a byte) rsdp_at 20 ≡ Some head
     → 2 ≤ revision_of head → IsExtended (altered_set a byte) rsdp_at
 extended a byte head revision = (_, present_rsdp a byte 20 ∙ head, revision)
@@ -116,18 +112,16 @@ rsdp_faults = record {
 
 -- ---- the root
 
--- with another byte in the XSDT the RSDP names it as before
 names_root : (a : ℕ) (byte : Option ℕ) → 0x1000 ≤ a → a < 0x104c → IsRoot (altered_set a byte) rsdp_at 0x1000 8
 names_root a byte from to =
     root_of (kept a byte rsdp_at 20 (inl (omega arith)) ∙ example_has_root.head_present)
     (kept a byte rsdp_at 36 (inl (omega arith)) ∙ example_has_root.rsdp_present)
 
--- so that a fault of the XSDT is one of the set
+-- a fault of the XSDT is one of the set
 of_root : (a : ℕ) (byte : Option ℕ) (fault : Code) → 0x1000 ≤ a → a < 0x104c → stage_of fault ≡ stage.Root
     → RootTableFault (altered_set a byte) 0x1000 8 fault → HasFaultWith a byte fault 0x1000 0
 of_root a byte fault from to own wrong = of_stage own (inr (8, names_root a byte from to, wrong), refl, refl)
 
--- with 0 for the XSDT's address the RSDP names no root
 no_root : HasNoRoot (altered_set 0xe0019 (Some 0)) rsdp_at
 unfolding run_of cons_both addresses_at chosen_root field
 no_root = record {
@@ -163,7 +157,6 @@ root_faults = record {
 
 -- ---- the first table
 
--- with another byte behind the XSDT the root is the whole set's
 keeps_root : (a : ℕ) (byte : Option ℕ) → 0x2000 ≤ a → a < 0xe0000 → HasRoot (altered_set a byte)
 keeps_root a byte from to = record {
   head_present = kept a byte rsdp_at 20 (inl (omega arith)) ∙ example_has_root.head_present;
@@ -172,12 +165,11 @@ keeps_root a byte from to = record {
   xsdt_present = kept a byte 0x1000 76 (inr (omega arith)) ∙ example_has_root.xsdt_present;
 }
 
--- the bytes at 2000h
 present_first : (a : ℕ) (byte : Option ℕ) (n : ℕ)
     → bytes_at (altered_set a byte) 0x2000 n ≡ run_of (with_one a byte) 0x2000 n
 present_first a byte n = bytes_at_altered a byte 0x2000 n
 
--- the table there, with one byte of it changed and with this Length
+-- the table at 0x2000, with one byte of it changed and with this Length
 changed : (a byte size : ℕ) {header whole : List ℕ} → run_of (with_one a (Some byte)) 0x2000 36 ≡ Some header
     → length_of header ≡ size → 36 ≤ size → run_of (with_one a (Some byte)) 0x2000 size ≡ Some whole
     → IsTable (altered_set a (Some byte)) 0x2000 header whole
@@ -207,7 +199,6 @@ table_faults = record {
 
 -- ---- the FADT
 
--- it is the first table, where this has the signature
 is_fadt : (a : ℕ) (byte : Option ℕ) {header whole : List ℕ} → 0x2000 ≤ a → a < 0xe0000
     → IsTable (altered_set a byte) 0x2000 header whole → has_signature header fadt_signature ≡ true
     → IsFadt (altered_set a byte) rsdp_at whole
@@ -219,7 +210,6 @@ is_fadt a byte {header} from to table signed =
     (record { k = 0; slot = first_slot; signed = found; none_before = λ j b less. absurd (omega arith) })
     table
 
--- with another signature there is none
 no_fadt : ListsNone (altered_set 0x2000 (Some 0x47)) rsdp_at fadt_signature
 unfolding run_of cons_both has_signature
 no_fadt =
@@ -272,7 +262,6 @@ fadt_faults = record {
 
 -- ---- the FACS
 
--- a fault of the FACS that the FADT names is one of the set
 of_facs : (a : ℕ) (byte : Option ℕ) (fault : Code) (at : ℕ) {header whole : List ℕ} → 0x2000 ≤ a → a < 0xe0000
     → stage_of fault ≡ stage.Facs → IsTable (altered_set a byte) 0x2000 header whole
     → has_signature header fadt_signature ≡ true
@@ -280,7 +269,6 @@ of_facs : (a : ℕ) (byte : Option ℕ) (fault : Code) (at : ℕ) {header whole 
 of_facs a byte fault at {whole = whole} from to own table signed long wrong =
     of_stage own ((whole, is_fadt a byte from to table signed, long, wrong), refl, refl)
 
--- with another byte behind it the FADT is the whole set's
 keeps_fadt : (a : ℕ) (byte : Option ℕ) → 0x2081 ≤ a
     → IsTable (altered_set a byte) 0x2000 (take 36 fadt_bytes) fadt_bytes
 unfolding field

@@ -1,4 +1,4 @@
--- The whole set is an image, and each stage holds of it.
+-- The clean set is an image, and each stage holds for it.
 use Rattle.std.proofs.Common.{◌≡◌, ℕ, ◌+◌, ◌^◌, ◌<◌, ◌≤◌, true, List, [], length, take, Some, None, refl, sym, ◌∙◌, ap, subst, inl, inr, arith}
 use Rattle.std.specs.Prelude.{◌⊎◌, ◌≢◌, nat_lt}
 use Rattle.std.specs.List.{list_all}
@@ -134,7 +134,6 @@ valid_fadt = record {
   };
 }
 
--- the FADT names a FACS at 3000h, and there it stands
 pub names_facs : facs_address fadt_bytes ≢ 0
 unfolding wide_address field
 names_facs none = omega (arith, none)
@@ -180,7 +179,6 @@ for_pptt P = for_listed pptt_contents P listed.pptt said.pptt
 
 -- ---- the MADT
 
--- its I/O APIC has 24 inputs
 inputs : inputs_of example_policy 0xfec00000 ≡ 24
 inputs = inputs_are 24
 
@@ -227,7 +225,6 @@ ranges_apart o p x it = it.two (only o it.s it.one_holds ∙ sym (only p it.t it
 valid_entries : IsCutPptt leaf
 valid_entries = record { filled = refl; lengths = each_entry leaf.entries (λ o e. ¬ HasOtherPpttLength e) (never, tt) }
 
--- what names nothing names no p
 names_none : {A : Type 0} (p : ℕ) → None ≡ Some p → A
 names_none p is = absurd (none-some p is)
 
@@ -261,7 +258,6 @@ one_domain i enabled o r d f one other = sym (only o d one) ∙ only r f other
     only o d here = each_entry srat.entries (λ o e. PutsIn i d e → 0 ≡ d)
         ((λ puts. puts.1), (never, tt)) o here.0 here.1 here.2
 
--- the I/O APIC serves 2
 served : IsServed example_policy madt 2
 served = (52, 0, (_, (1, omega arith, refl), (refl, omega arith, omega (arith, inputs))))
 
@@ -270,7 +266,6 @@ named_served has o g (e, stands, names) =
     each_entry madt.entries (λ o e. NamesGsi g e → IsServed example_policy madt g)
     (never, (never, ((λ is. subst (IsServed example_policy madt) is served), tt))) o e stands names
 
--- the processor's UID is 7
 uid : IsUid madt 7
 uid = (44, (_, (0, omega arith, refl), refl))
 

@@ -1,4 +1,4 @@
--- The whole set, by computing.
+-- The clean set, by computing.
 use Rattle.std.proofs.Common.{◌≡◌, ℕ, zero, suc, ◌<◌, List, [], ◌∷◌, take, Some, true, false, refl, ◌∙◌, subst, arith}
 use Rattle.std.specs.Prelude.{◌==◌}
 use Rattle.std.proofs.lemmas.Bool.{both_ways}
@@ -27,7 +27,6 @@ use Rattle.acpi_base.proofs.Images.PresentBytes.{same_value}
 use Rattle.acpi_base.proofs.Images.RunBytes.{byte_of_memory_of}
 use Rattle.acpi_base.proofs.Tables.Listed.{listed_in_root}
 
--- its bytes are those of its runs
 pub byte_of_example_set : (a : ℕ) → byte_of example_set a ≡ lookup whole_runs a
 unfolding example_set
 byte_of_example_set a = byte_of_memory_of whole_runs a
@@ -37,20 +36,18 @@ bytes_at_example_set a n = λ i. run_of (λ x. byte_of_example_set x i) a n
 
 -- ---- the root
 
--- an RSDP with these bytes names the XSDT
 pub root_of : {m : Memory} → bytes_at m rsdp_at 20 ≡ Some (take 20 rsdp_bytes) → bytes_at m rsdp_at 36 ≡ Some rsdp_bytes
     → IsRoot m rsdp_at 0x1000 8
 unfolding addresses_at chosen_root field
 root_of head rsdp = record { named = record { rsdt = 0; xsdt = 0x1000 }; read = rw head (rw rsdp refl); chosen = refl }
 
--- the image holds the whole set's RSDP and its XSDT
+-- the image has the clean set's RSDP and its XSDT
 pub record HasRoot (m : Memory) : Type 0 where
   pub head_present : bytes_at m rsdp_at 20 ≡ Some (take 20 rsdp_bytes)
   pub rsdp_present : bytes_at m rsdp_at 36 ≡ Some rsdp_bytes
   pub header_present : bytes_at m 0x1000 36 ≡ Some (take 36 xsdt_bytes)
   pub xsdt_present : bytes_at m 0x1000 76 ≡ Some xsdt_bytes
 
--- then this is its root
 pub root_of_present : {m : Memory} → HasRoot m → IsRoot m rsdp_at 0x1000 8
 root_of_present has = root_of has.head_present has.rsdp_present
 
@@ -62,7 +59,6 @@ root_table_of has = record {
   signed = refl;
 }
 
--- so it is of the whole set
 pub example_has_root : HasRoot example_set
 unfolding run_of cons_both
 example_has_root = record {
@@ -72,12 +68,10 @@ example_has_root = record {
   xsdt_present = bytes_at_example_set 0x1000 76;
 }
 
--- its first slot
 pub first_slot : HasSlot xsdt_bytes 8 0 0x2000
 unfolding field
 first_slot = record { inside = omega arith; address = refl; listed = λ same. omega arith }
 
--- what holds of the address in each of the XSDT's slots holds of each slot
 pub each_slot : (P : ℕ → ℕ → Type 0) → P 0 0x2000 → P 1 0x4000 → P 2 0x5000 → P 3 0x6000 → P 4 0x7000
     → (k a : ℕ) → HasSlot xsdt_bytes 8 k a → P k a
 unfolding field
@@ -94,7 +88,7 @@ each_slot P first second third fourth fifth (suc (suc (suc (suc (suc k))))) a sl
 abbrev pub IsAt : ℕ → List ℕ → Type 0
 IsAt a whole = IsTable example_set a (take 36 whole) whole
 
--- each stands in the whole set
+-- each is in the clean set
 pub record AreTables : Type 0 where
   pub fadt : IsAt 0x2000 fadt_bytes
   pub madt : IsAt 0x4000 madt_bytes
@@ -132,7 +126,6 @@ tables = record {
   };
 }
 
--- a header without the signature is none that has it
 pub not_signed : {m : Memory} {a : ℕ} (header signature : List ℕ) → bytes_at m a 36 ≡ Some header
     → has_signature header signature ≡ false → ¬ IsSigned m a signature
 not_signed header signature present differs found =
@@ -140,7 +133,7 @@ not_signed header signature present differs found =
     both_ways (has_signature header signature) differs
     (subst (λ (h : List ℕ). has_signature h signature ≡ true) same found.signed)
 
--- A slot of the root lists the first table with a signature where each of the five has it exactly in that slot.
+-- A slot of the root table lists the first table with a signature if exactly this one of the five slots has it.
 listed_at : (k a : ℕ) (whole signature : List ℕ) → HasSlot xsdt_bytes 8 k a → IsAt a whole
     → has_signature (take 36 whole) signature ≡ true
     → has_signature (take 36 fadt_bytes) signature ≡ (0 == k)
@@ -171,7 +164,7 @@ listed_at k a whole signature slot stands signed fadt madt srat slit pptt =
         (at 0 fadt_bytes tables.fadt fadt) (at 1 madt_bytes tables.madt madt) (at 2 srat_bytes tables.srat srat)
         (at 3 one_locality_bytes tables.slit slit) (at 4 new_leaf_bytes tables.pptt pptt)
 
--- so the whole set lists each of the five
+-- the clean set lists each of the five
 pub record AreListed : Type 0 where
   pub fadt : IsListedTable example_set rsdp_at fadt_signature fadt_bytes
   pub madt : IsListedTable example_set rsdp_at madt_signature madt_bytes

@@ -1,4 +1,4 @@
--- Why the examples hold.
+-- Proofs of the examples.
 pub mod Advice
 pub mod AdviceFadt
 pub mod AdviceMadt

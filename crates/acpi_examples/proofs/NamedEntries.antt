@@ -1,4 +1,4 @@
--- What holds of each entry of an example, and what of none.
+-- What holds for each entry of an example, and what for none.
 use Rattle.std.specs.Prelude.{nat_lt}
 use Rattle.std.specs.List.{list_all, AllByRecursion}
 use Rattle.std.proofs.Common.{◌≡◌, ℕ, ◌<◌, List, [], ◌∷◌, true, refl}
@@ -6,29 +6,24 @@ use Rattle.std.proofs.lemmas.Bool.{and_parts, ltb-true}
 use Rattle.std.proofs.lemmas.List.Elements.{All-from_recursion, All-contains}
 use Rattle.acpi_base.specs.Entries.{PlacedEntry, Stands, StandsWith}
 
--- what holds of each entry of a list holds of one that stands there
 pub each_entry : {E : Type 0} (entries : List (PlacedEntry E)) (Q : ℕ → E → Type 0)
     → AllByRecursion (λ s. Q s.offset s.entry) entries → (o : ℕ) (e : E) → Stands entries o e → Q o e
 each_entry {E} entries Q each o e stands =
     All-contains (λ (s : PlacedEntry E). Q s.offset s.entry) entries (record { offset = o; entry = e })
     (All-from_recursion (λ (s : PlacedEntry E). Q s.offset s.entry) entries each) stands
 
--- where P holds of no entry, none stands of which it holds
 pub none_stands : {E : Type 0} (entries : List (PlacedEntry E)) (o : ℕ) (P : ℕ → E → Type 0)
     → AllByRecursion (λ s. ¬ P s.offset s.entry) entries → ¬ StandsWith entries o (P o)
 none_stands entries o P none (e, stands, holds) = each_entry entries (λ o e. ¬ P o e) none o e stands holds
 
--- where none at the offset has P, none stands there that has it
 pub none_at : {E : Type 0} (entries : List (PlacedEntry E)) (o : ℕ) (P : E → Type 0)
     → AllByRecursion (λ s. ¬ ((s.offset ≡ o) × P s.entry)) entries → ¬ StandsWith entries o P
 none_at entries o P none (e, stands, holds) =
     each_entry entries (λ p e. ¬ ((p ≡ o) × P e)) none o e stands (refl, holds)
 
--- from a contradiction anything follows
 pub never : {A : Type 0} → ⊥ → A
 never h = absurd h
 
--- each of these is below 256 where the test of all says so
 pub all_below : (bytes : List ℕ) → list_all (λ b. nat_lt b 256) bytes ≡ true → AllByRecursion (λ b. b < 256) bytes
 all_below [] is = tt
 all_below (b ∷ rest) is =

@@ -46,7 +46,6 @@ pptt_said = record {
 
 -- ---- entries, and what they name
 
--- the node names 58, where no entry stands
 hidden : ReferenceFault hidden_node code.DanglingParent 0x24 0x3a 0
 hidden = (record { names = (_, (0, omega arith, refl), refl); some = λ same. omega arith; nowhere = nowhere }, refl)
   where
@@ -55,7 +54,6 @@ hidden = (record { names = (_, (0, omega arith, refl), refl); some = λ same. om
         none_at hidden_node.entries 58 (λ e. (p : ℕ) × (parent_of e ≡ Some p))
         (λ h. omega (arith, h.0), (λ h. omega (arith, h.0), tt)) (e, stands, (p, is))
 
--- the cache names 37, where no entry stands
 no_next_level : ReferenceFault (with_next_level 37) code.DanglingCache 0x24 0x25 0
 no_next_level =
     (record { names = (_, (0, omega arith, refl), refl); some = λ same. omega arith; nowhere = nowhere }, refl)
@@ -65,7 +63,6 @@ no_next_level =
         none_at (with_next_level 37).entries 37 (λ e. (p : ℕ) × (next_level_of e ≡ Some p))
         (λ h. omega (arith, h.0), tt) (e, stands, (p, is))
 
--- the node names itself, which is no resource
 own_resource : ReferenceFault (with_resource 36) code.DanglingResource 0x24 0 0x24
 own_resource = ((_, (0, omega arith, refl), refl), nowhere)
   where
@@ -73,7 +70,6 @@ own_resource = ((_, (0, omega arith, refl), refl), nowhere)
     nowhere = none_at (with_resource 36).entries 36 (λ e. pptt_type e ≢ 0)
         (λ h. h.1 refl, (λ h. omega (arith, h.0), tt))
 
--- it names 0, where no entry stands
 no_resource : ReferenceFault (with_resource 0) code.DanglingResource 0x24 0 0
 no_resource = ((_, (0, omega arith, refl), refl), nowhere)
   where
@@ -109,7 +105,6 @@ pptt_faults = record {
 
 -- ---- chains
 
--- a step from o to p, where q is named
 step : (Names : ℕ → ℕ → Type 0) (o p q : ℕ) → Names o p → p ≢ 0 → Names p q → IsStep Names o p
 step Names o p q names some there = record { names = names; some = some; there = (q, there) }
 
@@ -229,18 +224,15 @@ entries_valid =
           (never, (never, (never, (never, ((λ is. omega arith), tt)))));
     }
 
--- what names nothing names no p
 names_none : {A : Type 0} (p : ℕ) → None ≡ Some p → A
 names_none p is = absurd (none-some p is)
 
--- the first node and the last cache name nothing
 first_node : NamesParent all_kinds 36 0
 first_node = (_, (0, omega arith, refl), refl)
 
 last_cache : NamesNextLevel all_kinds 112 0
 last_cache = (_, (3, omega arith, refl), refl)
 
--- the private resources of the two nodes stand there
 of_first_node : (j r : ℕ) → slice_get (140 ∷ []) j ≡ Some r → IsResourceAt all_kinds r
 of_first_node zero r is =
     subst (IsResourceAt all_kinds) (same_Some 140 r is) (_, (4, omega arith, refl), λ same. omega arith)

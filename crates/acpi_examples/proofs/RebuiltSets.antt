@@ -34,19 +34,16 @@ use Rattle.acpi_write.specs.SetValues.{table_value_behind, values_behind, values
 abbrev table_list : List (List ℕ)
 table_list = fadt_bytes ∷ madt_bytes ∷ srat_bytes ∷ one_locality_bytes ∷ new_leaf_bytes ∷ []
 
--- its root lists them
 each_whole : AllZip (IsCompleteAt example_set) (listed_addresses xsdt_bytes 8) table_list
 unfolding listed_addresses field
 each_whole = ((_, tables.fadt), ((_, tables.madt), ((_, tables.srat), ((_, tables.slit), ((_, tables.pptt), tt)))))
 
--- they say this
 values_said : complete_tables ≡ values_of table_list
 unfolding table_value_behind values_behind has_signature header_of field number_bytes put_over with_facs first_entry
     entries_from entries_of end_of_entries cut_of has_form madt_entry madt_contents srat_entry srat_contents
     slit_contents has_node_form has_cache_form pptt_entry pptt_contents
 values_said = refl
 
--- and the FADT names the FACS
 facs_said : (fadt : List ℕ) → IsFadt example_set rsdp_at fadt → IsFacsOf example_set fadt (Some facs_bytes)
 facs_said fadt is =
     subst (λ (f : List ℕ). IsFacsOf example_set f (Some facs_bytes))

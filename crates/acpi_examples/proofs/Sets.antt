@@ -1,4 +1,4 @@
--- The examples of whole sets, by computing.
+-- The examples of complete sets, by computing.
 use Rattle.std.proofs.Common.{◌≡◌, ℕ, zero, suc, ◌<◌, ◌≤◌, true, false, List, [], ◌∷◌, take, length, Some, refl, sym, ◌∙◌, subst, ap, arith}
 use Rattle.std.proofs.lemmas.List.Elements.{All-from_recursion}
 use Rattle.std.specs.Prelude.{◌≢◌, nat_lt}
@@ -42,12 +42,10 @@ use Rattle.acpi_base.proofs.Root.Slots.{root_slot}
 abbrev pub runs : List ℕ → List ℕ → List Run
 runs one other = run_at rsdp_at rsdp_bytes ∷ run_at 0x1000 rsdt_bytes ∷ run_at 0x2000 one ∷ run_at 0x3000 other ∷ []
 
--- its bytes are those of its runs
 pub bytes_of_runs : (one other : List ℕ) (a n : ℕ)
     → bytes_at (set_of one other) a n ≡ run_of (lookup (runs one other)) a n
 bytes_of_runs one other a n = λ i. run_of (λ x. byte_of_memory_of (runs one other) x i) a n
 
--- it is an image where the two tables are bytes, fewer than 1000h each
 is_image : (one other : List ℕ) → (0 < length one) × (length one < 0x1000)
     → (0 < length other) × (length other < 0x1000)
     → list_all (λ b. nat_lt b 256) one ≡ true → list_all (λ b. nat_lt b 256) other ≡ true → IsImage (set_of one other)
@@ -65,7 +63,6 @@ is_image one other size other_size bytes other_bytes = image_of (runs one other)
       ),
     )
 
--- the RSDP names the RSDT
 pub root : (one other : List ℕ) → IsRoot (set_of one other) rsdp_at 0x1000 4
 unfolding run_of cons_both addresses_at chosen_root field
 root one other = record { named = record { rsdt = 0x1000; xsdt = 0 }; read = rw present refl; chosen = refl }
@@ -73,7 +70,6 @@ root one other = record { named = record { rsdt = 0x1000; xsdt = 0 }; read = rw 
     present : bytes_at (set_of one other) rsdp_at 20 ≡ Some rsdp_bytes
     present = bytes_of_runs one other rsdp_at 20
 
--- and the RSDT stands there
 pub root_table : (one other : List ℕ) → IsRootTable (set_of one other) 0x1000 4 rsdt_bytes
 unfolding run_of cons_both has_signature field
 root_table one other = record {
@@ -86,7 +82,6 @@ root_table one other = record {
   signed = refl;
 }
 
--- its slots hold the addresses of the two tables
 pub slot_0 : HasSlot rsdt_bytes 4 0 0x2000
 unfolding field
 slot_0 = record { inside = omega arith; address = refl; listed = λ same. omega arith }
@@ -95,12 +90,12 @@ pub slot_1 : HasSlot rsdt_bytes 4 1 0x3000
 unfolding field
 slot_1 = record { inside = omega arith; address = refl; listed = λ same. omega arith }
 
--- the two tables stand whole
+-- the two tables are complete
 pub record AreTables (one other : List ℕ) : Type 0 where
   pub first : IsTable (set_of one other) 0x2000 (take 36 one) one
   pub second : IsTable (set_of one other) 0x3000 (take 36 other) other
 
--- they do where the runs have their bytes
+-- for that the runs must have their bytes
 tables_of : (one other : List ℕ) → run_of (lookup (runs one other)) 0x2000 36 ≡ Some (take 36 one)
     → run_of (lookup (runs one other)) 0x2000 (length_of (take 36 one)) ≡ Some one
     → run_of (lookup (runs one other)) 0x3000 36 ≡ Some (take 36 other)
@@ -119,7 +114,6 @@ tables_of one other header whole other_header other_whole least other_least = re
   };
 }
 
--- the table at 2000h is listed with its signature
 first_is_listed : (one other signature header : List ℕ) → IsTable (set_of one other) 0x2000 header one
     → has_signature header signature ≡ true → IsListedTable (set_of one other) rsdp_at signature one
 first_is_listed one other signature header table signed =
@@ -133,7 +127,7 @@ first_is_listed one other signature header table signed =
     })
     table
 
--- that at 3000h is listed with its own, where the first has another
+-- the table at 0x3000 is listed with its signature, if the first has another
 second_listed : (one other signature header header' : List ℕ) → IsTable (set_of one other) 0x2000 header one
     → has_signature header signature ≡ false
     → IsTable (set_of one other) 0x3000 header' other → has_signature header' signature ≡ true
@@ -156,7 +150,7 @@ second_listed one other signature header header' first differs second signed =
         grind (arith, same_value header found.header first.header_present present, differs, found.signed)
     none_before (suc j) b less slot found = omega arith
 
--- so both are listed where their signatures differ
+-- so both are listed if their signatures differ
 both_listed : (one other signature signature' : List ℕ) → AreTables one other
     → has_signature (take 36 one) signature ≡ true → has_signature (take 36 one) signature' ≡ false
     → has_signature (take 36 other) signature' ≡ true
@@ -166,7 +160,6 @@ both_listed one other signature signature' tables is differs other_is = (
   second_listed one other signature' (take 36 one) (take 36 other) tables.first differs tables.second other_is,
 )
 
--- the tables of each set
 processor_tables : (checksum flags : ℕ) → AreTables (processor_bytes checksum flags) two_processors_bytes
 unfolding run_of cons_both field
 processor_tables checksum flags =
@@ -181,7 +174,6 @@ unfolding run_of cons_both field
 leaf_tables revision checksum =
     tables_of uid_bytes (leaf_bytes revision checksum) refl refl refl refl (omega arith) (omega arith)
 
--- the first of two MADTs is listed
 named_listed : IsListedTable two_madts rsdp_at madt_signature named_bytes
 unfolding has_signature
 named_listed =
@@ -277,18 +269,15 @@ said = record { enabled = refl; capable = refl; disabled = refl; named = refl; u
 
 -- ---- faults of two listed tables
 
--- what is true of two tables is true of those that a set lists, where these are the two
 in_both : {m : Memory} {s t one other : List ℕ} (P : List ℕ → List ℕ → Type 0) → ListsBoth m s one t other → P one other
     → HasListed m rsdp_at s (λ x. HasListed m rsdp_at t (P x))
 in_both {one = one} {other = other} P lists holds = (one, lists.0, (other, lists.1, holds))
 
--- and the other way round
 of_both : {m : Memory} {s t one other : List ℕ} (P : List ℕ → List ℕ → Type 0) → ListsBoth m s one t other
     → HasListed m rsdp_at s (λ x. HasListed m rsdp_at t (P x)) → P one other
 of_both {m} {s} {t} {one} {other} P lists (x, first, (y, second, holds)) =
     rw (one_listed m rsdp_at s one x lists.0 first, one_listed m rsdp_at t other y lists.1 second) holds
 
--- the entries of the SRAT at 40h and, before it, at 30h put the processor with the number 5 in two domains
 two_domains : (p : Processors) (madt : MadtContents) → IsEnabled p madt 5
     → DomainFault p madt two_processors code.TwoDomains 0x40 0x30 5
 unfolding has_bit
@@ -302,11 +291,9 @@ two_domains p madt enabled = (
   λ same. omega arith,
 )
 
--- the processor is enabled where its flags count as that
 counts : (p : Processors) (flags : ℕ) → counts_as_enabled p flags ≡ true → IsEnabled p (processor flags) 5
 counts p flags is = (44, (_, (0, omega arith, refl), (refl, is)))
 
--- whether flags count as enabled
 counted : (p : Processors) → counts_as_enabled p 1 ≡ true
 unfolding counts_as_enabled has_bit
 counted Enabled = refl
@@ -325,12 +312,10 @@ only_capable : ¬ (counts_as_enabled Enabled 2 ≡ true)
 unfolding counts_as_enabled has_bit
 only_capable is = both_ways _ refl is
 
--- where they do not, no processor with the number 5 is enabled
 not_enabled : (p : Processors) (flags : ℕ) → ¬ (counts_as_enabled p flags ≡ true) → ¬ IsEnabled p (processor flags) 5
 not_enabled p flags none (o, here) =
     none_stands (processor flags).entries o (λ o e. IsEnabledProcessor p 5 e) ((λ h. none h.1), tt) here
 
--- an override names 24, which the I/O APIC does not serve with 24 inputs
 nowhere : (q : PolicyValue) → inputs_of q 0xfec00000 ≡ 24 → ServedFault q named code.GsiNowhere 0x38 0 0x18
 nowhere q inputs = ((44, (_, (0, omega arith, refl), tt)), (_, (1, omega arith, refl), refl), none, refl)
   where
@@ -339,11 +324,9 @@ nowhere q inputs = ((44, (_, (0, omega arith, refl), tt)), (_, (1, omega arith, 
         none_stands named.entries o (λ o e. ServesFrom q start 24 e)
         ((λ h. omega (arith, h.0, h.2, inputs)), (never, tt)) here
 
--- it serves 24 with 25 inputs
 served : (q : PolicyValue) → inputs_of q 0xfec00000 ≡ 25 → ¬ ServedFault q named code.GsiNowhere 0x38 0 0x18
 served q inputs fault = fault.2 (44, 0, (_, (0, omega arith, refl), (refl, omega arith, omega (arith, inputs))))
 
--- the MADT is wholly typed, and has the UID 5 alone
 unknown : LeafFault uid leaf code.LeafUnknown 0x24 0 7
 unfolding has_bit
 unknown = (
@@ -367,12 +350,10 @@ Domains p at other madt srat = DomainFault p (madt_contents madt) (srat_contents
 abbrev Leaves : List ℕ → List ℕ → Type 0
 Leaves madt pptt = LeafFault (madt_contents madt) (pptt_contents pptt) code.LeafUnknown 0x24 0 7
 
--- a PPTT of revision 1 has none
 of_revision_1 : ¬ Leaves uid_bytes old_leaf_bytes
 unfolding pptt_contents field
 of_revision_1 fault = omega (arith, fault.0)
 
--- an I/O APIC has as many inputs as the policy says of all
 pub inputs_are : (n : ℕ) → inputs_of (policy n Enabled) 0xfec00000 ≡ n
 unfolding inputs_of
 inputs_are n = rw (get-empty {X = ℕ} nat_cmp 0xfec00000) refl

@@ -31,7 +31,6 @@ slit_said = record {
 
 -- ---- faults
 
--- the only cell at 0x2c has no distance below 10
 first_cell : (i j : ℕ) → IsCell high_diagonal i j 0x2c → ¬ (distance high_diagonal i j < 10)
 first_cell zero zero cell low = omega arith
 first_cell zero (suc j) cell low = omega (arith, cell.place)
@@ -68,7 +67,6 @@ slit_faults = record {
 
 -- ---- SLITs without a fault
 
--- a valid SLIT has none
 without_fault : (bytes : List ℕ) (c : SlitContents) → slit_contents bytes ≡ c → IsValidSlit c → HasNoSlitFault bytes
 without_fault bytes c says valid fault at other point wrong = excludes c fault at other point (rw says at wrong) valid
 

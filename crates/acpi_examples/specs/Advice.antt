@@ -1,10 +1,10 @@
--- What is stated of the examples of advice, and the MADTs that several of them have.
+-- What the examples of advice state, and the MADTs that several of them have (ACPI 6.5, 5.2.12).
 use Rattle.std.specs.Prelude.{ℕ, ◌+◌, [], ◌∷◌, ◌++◌, replicate}
 use Rattle.acpi_base.specs.Madt.{MadtEntry, LocalApic, Opaque, MadtContents}
 use Rattle.acpi_examples.specs.Tables.{placed_entry}
 use Rattle.acpi_examples.specs.Madts.{said_madt}
 
--- a rule that is broken at the numbers of which P holds is kept
+-- a rule that is broken at numbers with P is kept
 abbrev pub IsKept : (ℕ → ℕ → ℕ → Type 0) → Type 0
 IsKept P = (at other point : ℕ) → ¬ P at other point
 

@@ -1,4 +1,4 @@
--- Examples of advice on the FADT: each rule broken, and kept (ACPI 6.5, 5.2.9). Checksums are 0, whatever the sums: no rule asks.
+-- Examples of advice on the FADT: each rule broken, and kept (ACPI 6.5, 5.2.9). Checksums are 0, since no rule checks them.
 use Rattle.std.specs.Prelude.{◌≡◌, ℕ, ◌-◌, ◌/◌, ◌%◌, List, [], ◌∷◌, ◌++◌, replicate}
 use Rattle.acpi_base.specs.Listed.{fadt_signature}
 use Rattle.acpi_base.specs.Policy.{PolicyValue, inputs_of}
@@ -10,7 +10,7 @@ use Rattle.acpi_examples.specs.Advice.{IsKept, one_entry, two_entries, processor
 
 -- ---- the FADTs
 
--- a FADT of this Revision with so many bytes, 0 behind its header
+-- a FADT of this Revision with so many bytes, 0 after its header
 abbrev pub plain_fadt : ℕ → ℕ → List ℕ
 plain_fadt revision size =
     fadt_signature ++ size % 256 ∷ size / 256 ∷ 0 ∷ 0 ∷ revision ∷ replicate (size - 9) 0
@@ -68,7 +68,7 @@ override bus gsi = Override (record { bus = bus; source = 9; gsi = gsi; flags = 
 abbrev pub overridden : ℕ → MadtContents
 overridden bus = two_entries 12 io_apic_entry 10 (override bus 24)
 
--- it, and two overrides, first to 24 and then to 10
+-- the same, and two overrides, first to 24 and then to 10
 abbrev pub twice_overridden : MadtContents
 twice_overridden =
     said_madt 76
@@ -77,7 +77,7 @@ twice_overridden =
     ∷ placed_entry 66 (override 0 10)
     ∷ [])
 
--- ---- what is stated of them
+-- ---- what they state
 
 -- the table has a byte less than its Revision's fields; not so with all of them, or at Revision 2
 pub record AreOfRevision : Type 0 where
@@ -91,7 +91,7 @@ pub record AreOfRevision : Type 0 where
   pub six_whole : IsKept (IsFadtOfRevision (plain_fadt 6 276))
   pub two : IsKept (IsFadtOfRevision (plain_fadt 2 116))
 
--- two addresses of the FACS, and of the DSDT; not so where they are the same, one is 0, or the wide one's last byte is missing
+-- two addresses of the FACS, and of the DSDT; not so if they are the same, one is 0, or the wide one's last byte is missing
 pub record AreAddressesOdd : Type 0 where
   pub facs : IsFacsDiffers (facs_fadt 0x30 0x40) 0x24 0x3000 0x4000
   pub facs_same : IsKept (IsFacsDiffers (facs_fadt 0x30 0x30))
@@ -104,8 +104,8 @@ pub record AreAddressesOdd : Type 0 where
   pub no_wide_dsdt : IsKept (IsDsdtDiffers (dsdt_fadt 0x30 0))
   pub dsdt_cut : IsKept (IsDsdtDiffers cut_dsdt_fadt)
 
--- two ports of a block, the first or the last; not so where they are the same, where one is 0, where the hardware is
--- reduced, or where the structure is of system memory
+-- two ports of a block, the first or the last; not so if they are the same, if one is 0, if the hardware is
+-- reduced, or if the structure is in system memory
 pub record AreBlocksOdd : Type 0 where
   pub first : IsBlockDiffers (block_fadt 0 4 1 5) 0x38 0x400 0x500
   pub last : IsBlockDiffers last_block_fadt 0x54 0x500 0x600
@@ -116,7 +116,7 @@ pub record AreBlocksOdd : Type 0 where
   pub in_memory : IsKept (IsBlockDiffers (block_fadt 0 4 0 5))
 
 -- SCI_INT 9 has the number 24 by its first override, and SCI_INT 24 by none, which an I/O APIC with 24 inputs does not serve;
--- not so with 25, without the override, where that is of another bus, on reduced hardware, or without an I/O APIC
+-- not so with 25, without the override, if that is of another bus, on reduced hardware, or without an I/O APIC
 pub record AreScisNowhere (q : PolicyValue) : Type 0 where
   pub nowhere : inputs_of q 0xfec00000 ≡ 24 → IsSciNowhere q (sci_fadt 9 0) (overridden 0) 0x2e 0 24
   pub first : inputs_of q 0xfec00000 ≡ 24 → IsSciNowhere q (sci_fadt 9 0) twice_overridden 0x2e 0 24

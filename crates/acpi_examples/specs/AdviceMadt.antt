@@ -30,7 +30,7 @@ local_nmi uid = LocalNmi (record { uid = uid; flags = 0; lint = 1 })
 abbrev pub x2apic_nmi : ℕ → MadtEntry
 x2apic_nmi uid = X2apicNmi (record { flags = 0; uid = uid; lint = 1 })
 
--- the processor of UID 3, which is not on, and an NMI
+-- the processor of UID 3, which is not usable, and an NMI
 abbrev pub with_nmi : ℕ → MadtEntry → MadtContents
 with_nmi size nmi = two_entries 8 (processor 0) size nmi
 
@@ -48,7 +48,7 @@ distributor = Opaque (12 ∷ 24 ∷ replicate 22 0)
 abbrev pub small_entry : ℕ → MadtEntry
 small_entry type = Opaque (type ∷ 4 ∷ 0 ∷ 0 ∷ [])
 
--- entries that the rules read, and such with another length than their type's, which is a fault
+-- entries that the rules read, and entries with another length than their type's, which is a fault
 abbrev pub read_entries : MadtContents
 read_entries =
     said_madt 132
@@ -61,10 +61,10 @@ read_entries =
     ∷ placed_entry 128 (small_entry 12)
     ∷ [])
 
--- ---- what is stated of them
+-- ---- what they state
 
--- UIDs and APIC IDs: two that are on have one, where bit 1 is Online Capable, save of a GIC CPU interface; not so where
--- the second is off, or has another. Of three the first is named, not the second.
+-- UIDs and APIC IDs: two usable processors have one; bit 1 is Online Capable, except for a GIC CPU interface; not so if the
+-- second is not usable, or has another. Of three the first is named, not the second.
 pub record AreSameProcessors : Type 0 where
   pub uid : Repeats uid_on (two_processors 3 6 2).entries 0x34 0x2c 3
   pub third : Repeats uid_on three_processors.entries 0x44 0x2c 3
@@ -77,7 +77,7 @@ pub record AreSameProcessors : Type 0 where
   pub ids_differ : IsKept (Repeats apic_id_on (two_processors 3 6 2).entries)
   pub id_off : IsKept (Repeats apic_id_on (two_processors 3 5 0).entries)
 
--- no processor is on, or there is none; not so where one is Online Capable, or where a local SAPIC is not read
+-- no processor is usable, or there is none; not so if one is Online Capable, or if a local SAPIC is not read
 pub record AreNoProcessors : Type 0 where
   pub off : IsNoProcessor (one_entry 8 (processor 0)) 0 0 0
   pub empty : IsNoProcessor (said_madt 44 []) 0 0 0
@@ -85,8 +85,8 @@ pub record AreNoProcessors : Type 0 where
   pub gicc_on : IsKept (IsNoProcessor (one_entry 40 (gicc 3 1)))
   pub not_read : IsKept (IsNoProcessor (one_entry 16 sapic))
 
--- NMIs of the UID of no processor; not so where a processor that is off has it, where it means all processors, or where a
--- local SAPIC is not read. FFh means all processors in a local APIC NMI alone.
+-- NMIs of the UID of no processor; not so if a processor that is not usable has it, if it means all processors, or if a local
+-- SAPIC is not read. 0xFF means all processors only in a local APIC NMI.
 pub record AreNmisNowhere : Type 0 where
   pub local : IsNmiNowhere (with_nmi 6 (local_nmi 4)) 0x34 0 4
   pub local_known : IsKept (IsNmiNowhere (with_nmi 6 (local_nmi 3)))
@@ -95,7 +95,7 @@ pub record AreNmisNowhere : Type 0 where
   pub wide_all : IsKept (IsNmiNowhere (with_nmi 12 (x2apic_nmi (2 ^ 32 - 1))))
   pub not_read : IsKept (IsNmiNowhere (two_entries 16 sapic 6 (local_nmi 4)))
 
--- interrupt controllers: one at 0; two of an ID or an address, save that two at 0 have none; a second distributor
+-- interrupt controllers: one at 0; two of an ID or an address, except for two at 0; a second distributor
 pub record AreControllers : Type 0 where
   pub at_zero : OnEntry IsIoApicAtZero (io_apics 0xfec00000 2 0).entries 0x38 0 0
   pub not_at_zero : IsKept (OnEntry IsIoApicAtZero (io_apics 0xfec00000 2 0xfec01000).entries)
@@ -107,7 +107,7 @@ pub record AreControllers : Type 0 where
   pub second : Repeats gicd (two_entries 24 distributor 24 distributor).entries 0x44 0x2c 0
   pub one : IsKept (Repeats gicd (one_entry 24 distributor).entries)
 
--- entries that are not read, from type 6 on; not so those of a type that is read, whatever their length, but for a GIC CPU
+-- entries that are not read, from type 6 on; not so entries of a type that is read, whatever their length, except for a GIC CPU
 -- interface that is too short
 pub record AreMadtUnread : Type 0 where
   pub six : OnEntry IsMadtUnread (one_entry 4 (small_entry 6)).entries 0x2c 6 0

@@ -48,9 +48,9 @@ abbrev pub two_caches : ℕ → ℕ → ℕ → Option ℕ → PpttContents
 two_caches revision size flags id =
     pptt_of revision size (placed_entry 36 (cache 0x80 1 64 (Some 3)) ∷ placed_entry 64 (cache flags 1 64 id) ∷ [])
 
--- ---- what is stated of them
+-- ---- what they state
 
--- two leaves of one ID; not so where the second is no leaf. From Revision 2 on the flags say so, below it that a node names
+-- two leaves of one ID; not so if the second is no leaf. From Revision 2 on the flags say so, below it that a node names
 -- it as its Parent.
 pub record AreSameLeaves : Type 0 where
   pub same : IsSameLeaf (two_nodes 2 10 36) 0x38 0x24 7
@@ -58,7 +58,7 @@ pub record AreSameLeaves : Type 0 where
   pub old : IsSameLeaf (two_nodes 1 2 0) 0x38 0x24 7
   pub old_parent : IsKept (IsSameLeaf (two_nodes 1 2 36))
 
--- no sets, and Line Sizes that are no powers of two; not so 1 set and a Line Size of 1, nor where neither is valid
+-- no sets, and Line Sizes that are no powers of two; not so 1 set and a Line Size of 1, nor if neither is valid
 pub record AreCacheShapes : Type 0 where
   pub no_sets : OnEntry IsCacheShape (one_cache 2 0 64).entries 0x24 0 0
   pub odd_line : OnEntry IsCacheShape (one_cache 0x40 1 48).entries 0x24 0 0
@@ -66,7 +66,7 @@ pub record AreCacheShapes : Type 0 where
   pub least : IsKept (OnEntry IsCacheShape (one_cache 0x42 1 1).entries)
   pub not_valid : IsKept (OnEntry IsCacheShape (one_cache 0xbd 0 48).entries)
 
--- two caches of one Cache ID; not so at Revision 2, or where the second's is not valid, is another one, or is not there
+-- two caches of one Cache ID; not so at Revision 2, or if the second's is not valid, is another one, or is absent
 pub record AreSameCacheIds : Type 0 where
   pub same : IsSameCacheId (two_caches 3 92 0x80 (Some 3)) 0x40 0x24 3
   pub old : IsKept (IsSameCacheId (two_caches 2 92 0x80 (Some 3)))
@@ -74,8 +74,7 @@ pub record AreSameCacheIds : Type 0 where
   pub differ : IsKept (IsSameCacheId (two_caches 3 92 0x80 (Some 4)))
   pub no_id : IsKept (IsSameCacheId (two_caches 3 88 0x80 None))
 
--- a processor that is on and has no leaf; not so where it has one, is off, where there is no leaf, or a local SAPIC is not
--- read
+-- a usable processor without a leaf; not so if it has one, is not usable, if there is no leaf, or a local SAPIC is not read
 pub record AreNoLeaves : Type 0 where
   pub none : IsNoLeaf (one_entry 8 (processor 2)) (one_node 10 7) 0x2c 0 3
   pub has : IsKept (IsNoLeaf (one_entry 8 (processor 2)) (one_node 10 3))
@@ -83,8 +82,8 @@ pub record AreNoLeaves : Type 0 where
   pub no_leaf : IsKept (IsNoLeaf (one_entry 8 (processor 2)) (one_node 8 7))
   pub not_read : IsKept (IsNoLeaf (two_entries 8 (processor 2) 16 sapic) (one_node 10 7))
 
--- a leaf of no processor beside a GIC CPU interface; not so where one that is off has the ID, where there is no such
--- interface, or a second one is too short to be read
+-- a leaf of no processor, with a GIC CPU interface; not so if a processor that is not usable has the ID, if there is no such
+-- interface, or if a second one is too short to be read
 pub record AreLeavesNowhere : Type 0 where
   pub nowhere : IsLeafNowhere (one_entry 40 (gicc 3 0)) (one_node 10 7) 0x24 0 7
   pub known : IsKept (IsLeafNowhere (one_entry 40 (gicc 3 0)) (one_node 10 3))

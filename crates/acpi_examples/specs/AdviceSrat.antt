@@ -47,16 +47,16 @@ read_affinities =
     ∷ placed_entry 82 (Opaque (2 ∷ 4 ∷ 0 ∷ 0 ∷ []))
     ∷ [])
 
--- ---- what is stated of them
+-- ---- what they state
 
--- a UID in two domains; not so where the second affinity is not enabled, is of the same domain, or of another UID
+-- a UID in two domains; not so if the second affinity is not enabled, is of the same domain, or of another UID
 pub record AreTwoUidDomains : Type 0 where
   pub two : IsTwoUidDomains (two_giccs 3 1 1) 0x30 0x42 3
   pub disabled : IsKept (IsTwoUidDomains (two_giccs 3 1 0))
   pub same_domain : IsKept (IsTwoUidDomains (two_giccs 3 0 1))
   pub other_uid : IsKept (IsTwoUidDomains (two_giccs 4 1 1))
 
--- an affinity of no processor; not so where the processor is off, the affinity not enabled, or a local SAPIC not read.
+-- an affinity of no processor; not so if the processor is not usable, the affinity not enabled, or a local SAPIC not read.
 -- APIC IDs and x2APIC IDs are one number space, and UIDs another.
 pub record AreAffinitiesNowhere : Type 0 where
   pub nowhere : IsAffinityNowhere (one_entry 8 (processor 0)) (one_affinity 16 (apic_affinity 6 0 1)) 0x30 0 6
@@ -67,8 +67,8 @@ pub record AreAffinitiesNowhere : Type 0 where
   pub uid : IsKept (IsAffinityNowhere (one_entry 8 (processor 0)) (one_affinity 18 (gicc_affinity 3 0 1)))
   pub not_read : IsKept (IsAffinityNowhere (two_entries 8 (processor 0) 16 sapic) (one_affinity 16 (apic_affinity 6 0 1)))
 
--- a processor that is on and has no affinity; not so where it has one, is off, where no affinity is enabled, or a local
--- SAPIC is not read
+-- a usable processor without an affinity; not so if it has one, is not usable, if no affinity is enabled, or a local SAPIC is
+-- not read
 pub record AreNoDomains : Type 0 where
   pub none : IsNoDomain (one_entry 8 (processor 2)) (one_affinity 16 (apic_affinity 6 0 1)) 0x2c 0 5
   pub placed : IsKept (IsNoDomain (one_entry 8 (processor 2)) (one_affinity 16 (apic_affinity 5 0 1)))
@@ -78,21 +78,21 @@ pub record AreNoDomains : Type 0 where
   pub gicc_placed : IsKept (IsNoDomain (one_entry 40 (gicc 3 1)) (one_affinity 18 (gicc_affinity 3 0 1)))
   pub not_read : IsKept (IsNoDomain (two_entries 8 (processor 2) 16 sapic) (one_affinity 16 (apic_affinity 6 0 1)))
 
--- domain 2 beside two localities; not so beside three, or where the range is not enabled
+-- domain 2 with two localities; not so with three, or if the range is not enabled
 pub record AreDomainsPastSlit : Type 0 where
   pub past : OnEntry (IsDomainPastSlit 2) (one_affinity 16 (apic_affinity 5 2 1)).entries 0x30 2 2
   pub within : IsKept (OnEntry (IsDomainPastSlit 3) (one_affinity 16 (apic_affinity 5 2 1)).entries)
   pub range_past : OnEntry (IsDomainPastSlit 2) (one_affinity 40 (empty_range 1)).entries 0x30 2 2
   pub range_disabled : IsKept (OnEntry (IsDomainPastSlit 2) (one_affinity 40 (empty_range 0)).entries)
 
--- entries that are not read, from type 4 on; not so those of a type that is read, whatever their length, but for a GICC
+-- entries that are not read, from type 4 on; not so entries of a type that is read, whatever their length, except for a GICC
 -- affinity of other than 18 bytes
 pub record AreSratUnread : Type 0 where
   pub four : OnEntry IsSratUnread (one_affinity 4 (Opaque (4 ∷ 4 ∷ 0 ∷ 0 ∷ []))).entries 0x30 4 0
   pub short : OnEntry IsSratUnread (one_affinity 17 (Opaque (3 ∷ 17 ∷ replicate 15 0))).entries 0x30 3 0
   pub all_read : IsKept (OnEntry IsSratUnread read_affinities.entries)
 
--- 21 from locality 0 to 1 and 20 back; not so where both are 20, whatever the diagonal says
+-- 21 from locality 0 to 1 and 20 back; not so if both are 20, whatever the diagonal
 pub record AreSlitsAdvised : Type 0 where
   pub differ : IsSlitDiffers two_localities 0x2d 0x2e 0
   pub agree : IsKept (IsSlitDiffers low_diagonal)

@@ -1,5 +1,5 @@
--- A clean set with each table that is looked into, worked out by hand from the rules: an image with an RSDP, an XSDT, a FADT
--- with its FACS, a MADT, an SRAT, a SLIT and a PPTT. `acpi_base::laws::clean_set_example` states that it is clean.
+-- A clean set with each table whose contents are read, worked out by hand from the rules: an image with an RSDP, an XSDT, a
+-- FADT with its FACS, a MADT, an SRAT, a SLIT and a PPTT. `acpi_base::laws::clean_set_example` states that it is clean.
 use Rattle.std.specs.Prelude.{ℕ, List, [], ◌∷◌, ◌++◌, replicate}
 use Rattle.acpi_base.specs.Memory.{Memory}
 use Rattle.acpi_base.specs.Policy.{PolicyValue, new_policy}
@@ -15,14 +15,14 @@ use Rattle.acpi_examples.specs.Sets.{rsdp_at, new_leaf_bytes}
 
 -- ---- its parts
 
--- an RSDP of revision 2 that names no RSDT, and whose XSDT is at 1000h
+-- an RSDP of revision 2 that names no RSDT, and whose XSDT is at 0x1000
 abbrev pub rsdp_bytes : List ℕ
 rsdp_bytes =
     rsdp_signature ++ 89 ∷ replicate 6 0x41 ++ 2 ∷ 0 ∷ 0 ∷ 0 ∷ 0
     ∷ 36 ∷ 0 ∷ 0 ∷ 0 ∷ 0 ∷ 0x10 ∷ 0 ∷ 0 ∷ 0 ∷ 0 ∷ 0 ∷ 0 ∷ 204 ∷ 0 ∷ 0 ∷ 0
     ∷ []
 
--- an XSDT that lists 2000h, 4000h, 5000h, 6000h and 7000h
+-- an XSDT that lists 0x2000, 0x4000, 0x5000, 0x6000 and 0x7000
 abbrev pub xsdt_bytes : List ℕ
 xsdt_bytes =
     table xsdt_signature 76 1 92
@@ -33,8 +33,8 @@ xsdt_bytes =
     ∷ 0 ∷ 0x70 ∷ 0 ∷ 0 ∷ 0 ∷ 0 ∷ 0 ∷ 0
     ∷ [])
 
--- a FADT's bytes from 36 on, where these 4 are FIRMWARE_CTRL: PM1 event and control blocks of 4 and 2 bytes, a timer of 4, no
--- other block, and a reset register of 8 bits at the port CF9h
+-- a FADT's bytes from 36 on, with these 4 as FIRMWARE_CTRL: PM1 event and control blocks of 4 and 2 bytes, a timer of 4, no
+-- other block, and a reset register of 8 bits at the port 0xCF9
 abbrev pub fadt_body : List ℕ → List ℕ
 fadt_body firmware_ctrl =
     firmware_ctrl
@@ -46,7 +46,7 @@ fadt_body firmware_ctrl =
     ∷ 6
     ∷ []
 
--- a FADT with a FACS at 3000h
+-- a FADT with a FACS at 0x3000
 abbrev pub fadt_bytes : List ℕ
 fadt_bytes = table fadt_signature 129 2 124 (fadt_body (0 ∷ 0x30 ∷ 0 ∷ 0 ∷ []))
 
@@ -64,7 +64,7 @@ madt_bytes =
     ∷ 2 ∷ 10 ∷ 0 ∷ 0 ∷ 2 ∷ 0 ∷ 0 ∷ 0 ∷ 0 ∷ 0
     ∷ [])
 
--- an SRAT that puts the processor of APIC ID 5 and the first 100000h bytes in domain 0
+-- an SRAT that puts the processor of APIC ID 5 and the first 0x100000 bytes in domain 0
 abbrev pub srat_bytes : List ℕ
 srat_bytes =
     srat_table 104 120
@@ -75,7 +75,7 @@ srat_bytes =
 
 -- ---- the set
 
--- where its parts stand
+-- the addresses of its parts
 abbrev pub whole_runs : List Run
 whole_runs =
     run_at rsdp_at rsdp_bytes

@@ -1,4 +1,4 @@
--- What the examples say.
+-- The examples of each table, and of sets of tables.
 pub mod Advice
 pub mod AdviceFadt
 pub mod AdviceMadt

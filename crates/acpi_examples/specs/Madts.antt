@@ -8,7 +8,7 @@ use Rattle.acpi_examples.specs.Tables.{table, placed_entry, IsValidExample}
 use Rattle.acpi_base.specs.declared.code.Code.{Code}
 use Rattle.acpi_base.specs.declared.code.Code.TheVariants as code
 
--- a MADT with the local APICs at FEE00000h and flags 1
+-- a MADT with the local APICs at 0xFEE00000 and flags 1
 abbrev pub madt_table : ℕ → ℕ → List ℕ → List ℕ
 madt_table size checksum entries =
     table madt_signature size 1 checksum (0 ∷ 0 ∷ 0xe0 ∷ 0xfe ∷ 1 ∷ 0 ∷ 0 ∷ 0 ∷ entries)
@@ -116,7 +116,7 @@ faulty_madt =
     ∷ placed_entry 90 (IoApic (record { id = 0; address = 0; gsi_base = 0xfffffff0 }))
     ∷ [])
 
--- ---- what is stated of them
+-- ---- what they state
 
 -- these MADTs
 abbrev pub example_madts : List (List ℕ)
@@ -147,6 +147,6 @@ pub record AreMadtFaults (q : PolicyValue) : Type 0 where
 abbrev pub HasNoMadtFault : PolicyValue → Type 0
 HasNoMadtFault q = inputs_of q 0xfec00000 ≤ 256 → (fault : Code) (at other point : ℕ) → ¬ MadtFault q (madt_contents all_kinds_bytes) fault at other point
 
--- the interrupt number that is reported of the two I/O APICs
+-- the interrupt number that is reported for the two I/O APICs
 abbrev pub IsFirstInterrupt : PolicyValue → Type 0
 IsFirstInterrupt q = inputs_of q 0xfec00000 ≡ 32 → inputs_of q 0xfec01000 ≡ 24 → IsFirstGsiClash q two_io_apics 0x2c 0x38 0x18

@@ -19,7 +19,7 @@ said_pptt size entries = record { size = size; revision = 2; entries = entries; 
 abbrev pub plain_node : ℕ → List ℕ → PpttEntry
 plain_node parent resources = Node (record { flags = 0; parent = parent; id = 0; resources = resources })
 
--- a cache with this Next Level and, where it has 28 bytes, this Cache ID, its other fields 0
+-- a cache with this Next Level and, if it has 28 bytes, this Cache ID, its other fields 0
 abbrev pub plain_cache : ℕ → Option ℕ → PpttEntry
 plain_cache next_level id =
     Cache (record {
@@ -33,7 +33,7 @@ plain_cache next_level id =
       id = id;
     })
 
--- ---- a PPTT with a package, a leaf in it, the leaf's two caches, one behind the other, and an entry of type 2, which is
+-- ---- a PPTT with a package, a leaf in it, the leaf's two caches, one after the other, and an entry of type 2, which is
 -- the package's private resource
 
 abbrev pub all_kinds_bytes : List ℕ
@@ -108,7 +108,7 @@ cache_resource_bytes = resource_bytes 96 60
 abbrev pub own_resource_bytes : List ℕ
 own_resource_bytes = resource_bytes 120 36
 
--- it is at 0, where nothing stands
+-- it is at 0, where there is nothing
 abbrev pub no_resource_bytes : List ℕ
 no_resource_bytes = resource_bytes 156 0
 
@@ -164,7 +164,7 @@ no_next_level_bytes = next_level_bytes 160 37
 abbrev pub with_next_level : ℕ → PpttContents
 with_next_level next_level = said_pptt 64 (placed_entry 36 (plain_cache next_level (Some 0)) ∷ [])
 
--- ---- what is stated of them
+-- ---- what they state
 
 -- these PPTTs
 abbrev pub example_pptts : List (List ℕ)
@@ -190,7 +190,7 @@ pub record ArePpttContents : Type 0 where
   pub own_next_level_says : pptt_contents own_next_level_bytes ≡ with_next_level 36
   pub no_next_level_says : pptt_contents no_next_level_bytes ≡ with_next_level 37
 
--- the faults of their entries and of what they name
+-- the faults of their entries and of their references
 pub record ArePpttFaults : Type 0 where
   pub cut : PpttFault (pptt_contents faulty_bytes) code.PpttEntryCut 0x6a 0 0
   pub node_size : PpttFault (pptt_contents faulty_bytes) code.PpttEntryLength 0x24 0 0

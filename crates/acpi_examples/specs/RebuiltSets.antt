@@ -65,7 +65,7 @@ example_value = record { oemid = replicate 6 0x41; root = head_with 1; tables = 
 
 -- ---- its new image
 
--- where it is rebuilt
+-- the base address
 abbrev pub new_base : ℕ
 new_base = 0xf0000
 

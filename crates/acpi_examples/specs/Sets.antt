@@ -1,4 +1,4 @@
--- Examples of whole sets: an image with an RSDP, an RSDT and two tables, and a fault of each stage across tables, worked out
+-- Examples of complete sets: an image with an RSDP, an RSDT and two tables, and a fault of each stage across tables, worked out
 -- by hand from the rules. The sets have no FADT: a check would report that first.
 use Rattle.std.specs.Prelude.{◌≡◌, ℕ, List, [], ◌∷◌, ◌++◌, replicate, All}
 use Rattle.std.specs.FinMap.{empty}
@@ -21,19 +21,19 @@ use Rattle.acpi_base.specs.declared.code.Code.TheVariants as code
 
 -- ---- the image of two tables
 
--- an RSDP of revision 0 whose RSDT is at 1000h
+-- an RSDP of revision 0 whose RSDT is at 0x1000
 abbrev pub rsdp_bytes : List ℕ
 rsdp_bytes = rsdp_signature ++ 0x4b ∷ replicate 6 0x41 ++ 0 ∷ 0 ∷ 0x10 ∷ 0 ∷ 0 ∷ []
 
--- an RSDT that lists 2000h and 3000h
+-- an RSDT that lists 0x2000 and 0x3000
 abbrev pub rsdt_bytes : List ℕ
 rsdt_bytes = table rsdt_signature 44 1 178 (0 ∷ 0x20 ∷ 0 ∷ 0 ∷ 0 ∷ 0x30 ∷ 0 ∷ 0 ∷ [])
 
--- where the RSDP stands
+-- the address of the RSDP
 abbrev pub rsdp_at : ℕ
 rsdp_at = 0xe0000
 
--- the image of these two, and of a table at 2000h and another at 3000h
+-- the image of these two, and of a table at 0x2000 and another at 0x3000
 abbrev pub set_of : List ℕ → List ℕ → Memory
 set_of one other =
     with_bytes (with_bytes (with_bytes (with_bytes empty 0x3000 other) 0x2000 one) 0x1000 rsdt_bytes) rsdp_at rsdp_bytes
@@ -103,15 +103,15 @@ leaf_set = set_of uid_bytes new_leaf_bytes
 abbrev pub old_leaf_set : Memory
 old_leaf_set = set_of uid_bytes old_leaf_bytes
 
--- ---- what is stated of them
+-- ---- what they state
 
 -- the set's first listed tables with these signatures have these bytes
 abbrev pub ListsBoth : Memory → List ℕ → List ℕ → List ℕ → List ℕ → Type 0
 ListsBoth m signature one other_signature other =
     IsListedTable m rsdp_at signature one × IsListedTable m rsdp_at other_signature other
 
--- the sets are images, and their roots list these tables; of two MADTs the first is listed, though the second stands
--- whole in the next slot
+-- the sets are images, and their root tables list these tables; of two MADTs the first is listed, though the second is
+-- complete in the next slot
 pub record AreListedTables : Type 0 where
   pub images : All IsImage (enabled_set ∷ capable_set ∷ disabled_set ∷ two_madts ∷ leaf_set ∷ old_leaf_set ∷ [])
   pub rsdp_sum : byte_sum rsdp_bytes ≡ 0

@@ -56,7 +56,7 @@ low_diagonal_bytes = slit_table 48 194 (2 ∷ 0 ∷ 0 ∷ 0 ∷ 0 ∷ 0 ∷ 0 �
 abbrev pub low_diagonal : SlitContents
 low_diagonal = said_slit 48 2 (10 ∷ 20 ∷ 20 ∷ 9 ∷ [])
 
--- ---- what is stated of them
+-- ---- what they state
 
 -- these SLITs
 abbrev pub example_slits : List (List ℕ)
@@ -65,7 +65,7 @@ example_slits =
     ∷ low_diagonal_bytes
     ∷ []
 
--- what the SLITs say; cells stand row after row
+-- what the SLITs say; the cells are row after row
 pub record AreSlitContents : Type 0 where
   pub valid : All IsValidExample example_slits
   pub empty_says : slit_contents empty_bytes ≡ said_slit 44 0 []

@@ -112,7 +112,7 @@ faulty_srat =
       cut = Some 104;
     }
 
--- ---- what is stated of them
+-- ---- what they state
 
 -- these SRATs
 abbrev pub example_srats : List (List ℕ)
@@ -140,7 +140,7 @@ pub record AreSratFaults : Type 0 where
   pub apart : RangeFault Apart (srat_contents hot_ranges_bytes) code.Overlap 0x80 0xa8 0
   pub not_mixed : ¬ RangeFault Apart (srat_contents hot_ranges_bytes) code.Overlap 0x30 0x80 0
 
--- which overlap is reported
+-- the overlap that is reported
 pub record AreFirstOverlaps : Type 0 where
   pub addresses : IsFirstOverlap Counted overlapping_ranges 0x58 0x30 0x1000
   pub counted : IsFirstOverlap Counted hot_ranges 0x30 0x58 0

@@ -11,7 +11,7 @@ table signature size revision checksum body =
     ++ 1 ∷ 0 ∷ 0 ∷ 0 ∷ 0x41 ∷ 0x41 ∷ 0x41 ∷ 0x41 ∷ 1 ∷ 0 ∷ 0 ∷ 0
     ∷ body
 
--- an entry that says this stands at the offset
+-- an entry at an offset
 abbrev pub placed_entry : {E : Type 0} → ℕ → E → PlacedEntry E
 placed_entry offset entry = record { offset = offset; entry = entry }
 

@@ -1,4 +1,4 @@
-//! Examples of what the definitions say, proved by computing: the contract of each function is a group of them, and its body is
+//! Examples of the definitions, proved by computing: the contract of each function is a group of them, and its body is
 //! empty.
 
 ghost use Rattle.acpi_base.specs.Memory.{IsImage};

@@ -80,8 +80,8 @@ pub(crate) fn rsdp(names: &Names, rsdt: u32) -> [u8; 20] {
     bytes
 }
 
-/// An RSDP of revision 2, with names that are all `A`, that names this RSDT and this XSDT. Its first 20 bytes have their
-/// own checksum.
+/// An RSDP of revision 2, with names that are all `A`, that names this RSDT and this XSDT. Its first 20 bytes have
+/// their own checksum.
 pub(crate) fn extended_rsdp(rsdt: u32, xsdt: u64) -> [u8; 36] {
     let mut bytes = *b"RSD PTR \0AAAAAA\x02\0\0\0\0\x24\0\0\0\0\0\0\0\0\0\0\0\0\0\0\0";
     put_u32(&mut bytes, 16, rsdt);

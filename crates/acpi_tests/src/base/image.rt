@@ -36,7 +36,7 @@ type Case<'a> = (&'a [Added<'a>], &'a [Window<'a>], (u64, Option<u8>));
 
 /// Images, and what is found in them.
 const IMAGES: [Case; 5] = [
-    // Pieces that touch are one.
+    // Pieces that touch are joined.
     (
         &[
             (0x1000, &[1, 2], Ok(())),
@@ -75,7 +75,7 @@ const IMAGES: [Case; 5] = [
         ],
         (0x40, Some(7)),
     ),
-    // The least address that would be present twice, and a hole between pieces.
+    // The lowest address that would be present twice, and a gap between pieces.
     (
         &[
             (0x30, &[1], Ok(())),
@@ -86,7 +86,7 @@ const IMAGES: [Case; 5] = [
         &[(0x20, 2, Some(&[2, 3])), (0x20, 17, None)],
         (0x10, None),
     ),
-    // No bytes are always added.
+    // Adding no bytes always succeeds.
     (
         &[
             (u64::MAX, &[], Ok(())),

@@ -6,7 +6,7 @@ mod written_text;
 use acpi_base::{DeviceFailed, ImageFault, TextFault};
 use std::alloc::AllocError;
 
-/// Faults of each kind, and how each is told.
+/// Faults of each kind, and the message of each.
 const FAULTS: [(TextFault, &str); 9] = [
     (TextFault::BadLine { line: 1 }, "line 1: bad line"),
     (TextFault::NoAddress { line: 10 }, "line 10: no address"),
@@ -41,7 +41,7 @@ fn texts_of_text_faults(rt: HostRuntime) -> Result<(), AllocError> {
     Ok(())
 }
 
-/// Why bytes cannot be added, and how each is told.
+/// Why bytes cannot be added, and the message of each.
 const IMAGE_FAULTS: [(ImageFault, &str); 3] = [
     (ImageFault::PastEnd, "past the end"),
     (

@@ -163,7 +163,7 @@ const ORDERS: [(u32, u32, u32); 6] = [
     (3, 2, 1),
 ];
 
-/// Judges the two ranges with each range as a third one, under each order of three ids.
+/// Compares the results for the two ranges with each range as a third one, under each order of three ids.
 fn judge_thirds(
     rt: &impl Abort,
     alloc: Global,

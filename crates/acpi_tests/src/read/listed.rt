@@ -10,7 +10,7 @@ fn first_of(image: &Image, signature: [u8; 4]) -> Result<Option<u64>, Code> {
     Ok(first(image, &root, signature))
 }
 
-// Of the first table that the RSDT lists the image has no byte.
+// The image has no byte of the first table that the RSDT lists.
 #[test]
 fn first_is_listed_and_present(rt: HostRuntime) -> Result<(), Fail> {
     let waet = table(rt.alloc(), &Q35, *b"WAET", &[2, 0, 0, 0])?;

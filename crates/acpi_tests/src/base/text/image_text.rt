@@ -50,7 +50,7 @@ impl Read for FailsOnce {
     }
 }
 
-// Gives lines of comments for ever.
+// Gives lines of comments without end.
 #[derive(Drop)]
 struct Endless;
 
@@ -64,7 +64,7 @@ impl Read for Endless {
     }
 }
 
-/// The image of a text that is there at once.
+/// The image of a text that is passed at once.
 fn image_of(alloc: Global, text: &[u8]) -> Result<Image, TextFault> {
     read_image(alloc, &mut Tally::new(text))
 }
@@ -80,7 +80,7 @@ fn read_in_pieces(alloc: Global, text: &[u8], size: usize) -> Result<Image, Text
     reading.finish()
 }
 
-/// The image of a line that stands at the address 0. Whatever it says, nothing is refused before the text ends.
+/// The image of a line after the address 0. Whatever it says, nothing is refused before the text ends.
 fn image_of_line(rt: &impl Abort, alloc: Global, line: &[u8; 47]) -> Result<Image, TextFault> {
     let mut reading = ImageText::new(alloc);
     let fed = [reading.feed(b"@0\n"), reading.feed(line)];
@@ -94,7 +94,7 @@ fn has_just(image: Image, address: u64, bytes: &[u8]) -> bool {
     image.window(address, count) == Some(bytes) && image.window(address, count + 1).is_none()
 }
 
-/// Bytes of the image of `TABLES`, and addresses around them that it does not hold.
+/// Bytes of the image of `TABLES`, and addresses around them that it does not have.
 const BYTES: [(u64, Option<u8>); 11] = [
     (0xdffff, None),
     (0xe0000, Some(0x52)),
@@ -134,13 +134,13 @@ fn reads_each_byte(rt: HostRuntime) -> Result<(), TextFault> {
 fn a_whole_text_is_parsed(rt: HostRuntime) -> Result<(), TextFault> {
     let wrong = first_wrong(&parse_image(rt.alloc(), TABLES)?);
     assert!(rt; wrong.is_none(), "{wrong:?}");
-    // The address that comes twice precedes the bad line behind it.
+    // The address that comes twice precedes the bad line.
     let fault = parse_image(rt.alloc(), b"@0\n01 02\n@1\n03\n?\n").err();
     assert!(rt; fault == Some(TextFault::Twice { address: 1 }), "{fault:?}");
     Ok(())
 }
 
-/// Texts, and where the only bytes stand that each says.
+/// Texts, and the only bytes of each with their address.
 const TEXTS: [(&[u8], u64, &[u8]); 7] = [
     (b"", 0, &[]),
     (b"\n\r\n \t\n# @0 x\n", 0, &[]),
@@ -195,7 +195,7 @@ fn reports_the_first_fault(rt: HostRuntime) {
     }
 }
 
-/// What the texts are refused with that are as long as they may be, one byte longer, and endless.
+/// The faults of the texts that are as long as they may be, one byte longer, and endless.
 fn faults_of_long_texts(alloc: Global) -> Result<[Option<TextFault>; 3], AllocError> {
     let mut line = vec![in alloc; b' '; 65_535]?;
     line.extend_from_slice(b"\r\n")?;
@@ -214,7 +214,7 @@ fn limits_lines_and_texts(rt: HostRuntime) -> Result<(), AllocError> {
     Ok(())
 }
 
-/// What a text is refused with that holds an address twice at its head, and how many of its 100,000 bytes are unread then.
+/// The fault of a text that has an address twice at its beginning, and how many of its 100,000 bytes are unread then.
 fn refused_at_its_head(alloc: Global) -> Result<(Option<TextFault>, usize), AllocError> {
     let mut text = vec![in alloc; b'\n'; 100_000]?;
     text[..12].copy_from_slice(b"@0\n01\n@0\n02\n");
@@ -231,14 +231,14 @@ fn reads_on_behind_an_address_twice(rt: HostRuntime) -> Result<(), AllocError> {
     Ok(())
 }
 
-/// Texts after which a read fails, and what each is refused with. The failure is always counted.
+/// Texts after which a read fails, and the fault of each. The failure is always counted.
 const CUT: [(&[u8], TextFault); 3] = [
     (b"@0\n01\n", TextFault::Read),
     (b"@0\n01\n@0\n02", TextFault::Read),
     (b"@0\n01\n@0\n02\n", TextFault::Twice { address: 0 }),
 ];
 
-/// What a text is refused with after which a read fails, and how many reads have failed then.
+/// The fault of a text after which a read fails, and how many reads have failed then.
 fn judged(alloc: Global, bytes: &'static [u8]) -> (Option<TextFault>, u64) {
     let mut reader = Tally::new(FailsOnce {
         bytes,
@@ -293,7 +293,7 @@ fn takes_lines_of_47_bytes(rt: HostRuntime) -> Result<(), TextFault> {
     Ok(())
 }
 
-// How many bytes a row says in which this byte stands at this place in place of another; none where the line is bad.
+// How many bytes a row says in which this byte replaces the one at this index; none if the line is bad.
 fn count_said(place: usize, byte: u8) -> Option<usize>
     requires { place < 47 }
     ensures { IfSome result (λ count. count ≤ 16) }
@@ -317,7 +317,7 @@ fn has_count(image: &Image, count: Option<usize>) -> bool {
     }
 }
 
-/// Whether a line says so many bytes, or is refused as a bad one where there is no count.
+/// Whether a line says so many bytes, or is refused as a bad one if there is no count.
 fn is_read(
     rt: &impl Abort,
     alloc: Global,
