@@ -78,7 +78,7 @@ finds_inputs (choice ∷ options) flag none =
     let others = or_parts (bytes_eq choice.0 (codes "inputs")) (has_option (codes "inputs") options) none in
     rw others.0 (finds_inputs options flag others.1)
 
--- and `--strict` by its name, if the command has it
+-- `--strict` is found by its name, if the command has it
 finds_flag : (test : Rule → Bool) (options : List (Text × Option Text)) (is_given : Bool)
     → ((other : Text) → test (built_option other) ≡ bytes_eq other (codes "strict")) → test built_flag ≡ true
     → has_option (codes "strict") options ≡ false → find test (rules options (Some is_given)) ≡ Some built_flag

@@ -94,7 +94,7 @@ command_is_taken l program words rows has reads =
     (no_fault_to l words has)
     ∙ rw (has.is, taken l words rows reads) (no_fault_before l words))
 
--- and the command comes with these rows
+-- the command is entered with these rows
 command_is_entered : (l : Line) (program : Text) (words : List Text) (rows : List Row) → HasCommand l
     → Reads l (standing [] None idle) words rows
     → command_of (program ∷ l.name ∷ words) ≡ Some (l.name, flagged l.flag rows)

@@ -99,15 +99,15 @@ command_of = subcommand_of command_line
 -- ---- the job that the arguments give
 
 pub data Asked : Type 0 where
-  -- the RSDP's address, where it is given, the policy, and the number of the last stage
+  -- the RSDP's address, if it is given, the policy, and the number of the last stage
   check : Option ℕ → PolicyValue → ℕ → Asked
-  -- the RSDP's address, where it is given, the policy, and whether advice is a bad outcome too
+  -- the RSDP's address, if it is given, the policy, and whether advice is a bad outcome too
   lint : Option ℕ → PolicyValue → Bool → Asked
-  -- the RSDP's address, where it is given, the policy, and the fault
+  -- the RSDP's address, if it is given, the policy, and the fault
   confirm : Option ℕ → PolicyValue → Witness → Asked
-  -- the RSDP's address, where it is given, the policy, and the base address
+  -- the RSDP's address, if it is given, the policy, and the base address
   rebuild : Option ℕ → PolicyValue → ℕ → Asked
-  -- the RSDP's address, where it is given
+  -- the RSDP's address, if it is given
   show : Option ℕ → Asked
   find : Asked
 

@@ -21,7 +21,7 @@ one_row n i j a b column other same =
           ]
     ]
 
--- and of one column
+-- two cells have the same row and the same column
 record IsOne (i j a b : ℕ) : Type 0 where
   row : i ≡ a
   column : j ≡ b

@@ -150,7 +150,7 @@ second_listed one other signature header header' first differs second signed =
         grind (arith, same_value header found.header first.header_present present, differs, found.signed)
     none_before (suc j) b less slot found = omega arith
 
--- so both are listed if their signatures differ
+-- both are listed if their signatures differ
 both_listed : (one other signature signature' : List ℕ) → AreTables one other
     → has_signature (take 36 one) signature ≡ true → has_signature (take 36 one) signature' ≡ false
     → has_signature (take 36 other) signature' ≡ true

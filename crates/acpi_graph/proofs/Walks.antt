@@ -113,7 +113,7 @@ mark_more parents marks start base steps node t at blank = record {
         ap (λ b. cond {A = ℕ} b 1 0) (lt-ltb 0 (suc steps) (omega arith)) in
         omega (arith, more)
 
--- the same, of the step as the code counts it
+-- the same for the step as the code counts it
 pub leaves : (parents : List (Option ℕ)) (marks : List ℕ) (start base steps node next : ℕ)
     → Trail parents marks start base steps
     → StandsAt parents start base steps node → get_or marks node 0 ≡ 0 → next ≡ steps + 1

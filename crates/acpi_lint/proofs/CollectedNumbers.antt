@@ -77,7 +77,7 @@ as_named {E} read entries at n = (
   λ (e, stands, number). (record { offset = at; entry = e }, stands, refl, number),
 )
 
--- they are the numbers of the entries, if each call returns the number of its entry
+-- the collected numbers are those of the entries, if each call returns the number of its entry
 pub gathered_numbers : {E Said X : Type 0} (value : E → Said) {Answers : Bor (EntryAt E) → Option Numbered → Type 0}
     (read : PlacedEntry Said → Option ℕ) (StandsAt : ℕ → ℕ → Type 0) (low : ℕ)
     {said entries : List (PlacedEntry Said)} (r : Result (Vec Numbered Global) X) → AreRising low entries

@@ -27,7 +27,7 @@ pub of_no_table : {m : Memory} {p : ℕ} {signature : List ℕ} (P : List ℕ �
     → FindsLeast (λ at other point. HasListed m p signature (λ bytes. P bytes at other point)) None
 of_no_table P none = λ at other point (whole, listed, holds). none whole listed
 
--- the same for what was looked for and found, or not
+-- what is found in the table that was looked for, if there is one, is found in the set
 pub of_found : (m : Memory) (p : ℕ) (signature : List ℕ) {whole : List ℕ} {found : Option (List ℕ)}
     (P : List ℕ → ℕ → ℕ → ℕ → Type 0) (place : Option Place) → IsFound m p signature found → found ≡ Some whole
     → FindsLeast (P whole) place

@@ -41,7 +41,7 @@ any_picked Gives Is (s ∷ left) (Some value) (inr (none, more)) each = (
   λ any. refl,
 )
 
--- the same for what a call returns for each entry of a table
+-- whether anything is picked from the entries of a table, by what a call returns for each
 pub any_of_entries : {E Said T : Type 0} (value : E → Said) {Answers : Bor (EntryAt E) → Option T → Type 0}
     (Is : Said → Type 0) {said entries : List (PlacedEntry Said)} (found : Option T)
     → PicksFirst (Picks value Answers) said found → said ≡ entries

@@ -124,7 +124,7 @@ pub processor_has_one : (e : madt.MadtEntry) (uid : ℕ) → gicc_uid_on e ≡ S
 processor_has_one (madt.Opaque e) uid is = none_of_gicc (is_gicc e) (has_bit (field e 12 4) 0) (field e 8 4)
 processor_has_one e uid is = cc
 
--- such an entry is at `at`
+-- the entry at `at` has one of two numbers, which is unknown
 abbrev pub IsUnknownNamedOfTwo : {E : Type 0} → (E → Option ℕ) → (ℕ → Type 0) → (E → Option ℕ) → (ℕ → Type 0)
     → List (PlacedEntry E) → ℕ → ℕ → ℕ → Type 0
 IsUnknownNamedOfTwo first IsId second IsUid entries at other point =
@@ -167,7 +167,7 @@ pub is_found : (known : List ℕ) (n : ℕ) (found : Option ℕ) → IsSearch kn
 is_found known n None none is = cc
 is_found known n (Some k) (within, here) is = (k, within, get_or_default known k n 0 within ∙ here)
 
--- the same for numbers at places
+-- what is found about numbers at places is what the rule says
 pub unknown_placed : (IsKnown : ℕ → Type 0) (StandsAt : ℕ → ℕ → Type 0) (known : List ℕ) (given : List Numbered)
     (found : Option Place) → AreKnown IsKnown known → AreNumbersAt StandsAt given
     → FindsLeast (IsUnknownAt known given) found

@@ -198,7 +198,7 @@ found_like order sorted i h f least now like found =
     ])
     found
 
--- and if it has another value, its place is one more
+-- if the one at i has another value than the first of its number, its place is one more
 pub found_unlike : (order : Order) (sorted : List Numbered) (i : ℕ) (h f : Numbered) (least : Option Place) (r : Place)
     → IsCurrent sorted i h f → h.value ≢ f.value → FindsLeast (IsUnlikeSoFar order sorted i) least
     → (r ≡ unlike_place order h f) ⊎ (least ≡ Some r)

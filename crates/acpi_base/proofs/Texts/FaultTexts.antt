@@ -161,7 +161,7 @@ unfolding behind_at
 at_has_blank_behind text w line none =
     has_blank (hex_text w.other) (hex_text w.point) (subst (λ (t : List ℕ). list_all is_no_blank t ≡ true) line none)
 
--- its words are these
+-- the words of a fault's text
 pub record WordsOf (w : Witness) (stage name at other point : List ℕ) : Type 0 where
   pub stage_is : stage ≡ stage_word w
   pub name_is : name ≡ code_name w.code

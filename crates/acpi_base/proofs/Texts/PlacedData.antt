@@ -60,7 +60,7 @@ row_has next line bytes (Ok x) spells has = tt
 row_has next line bytes (Err fault) spells has = λ memory.
     record { bytes = bytes; spells = spells; room = has memory }
 
--- the same of a line whose form was found
+-- the same for a line whose form was found
 pub form_has : {A : Type 0} (next : Option ℕ) (line bytes : List ℕ) (found : Form) (result : Result A TextFault)
     → line_with found bytes ≡ line_of line
     → IfErr result (λ fault. fault ≡ refusal.Memory → (found ≡ form.Data) × HasRoom next (length bytes))

@@ -33,7 +33,7 @@ ends whole long filled here =
           λ o e stands. true≢false (sym (all_passed here o (Opaque e) stands));
     }
 
--- and if there is a cut, not all are known
+-- if there is a cut, not all are known
 pub filled_or_not : (whole : List ℕ) (cut : Option ℕ) (b : Bool) → 44 ≤ length whole → IsAt (madt_contents whole) []
     → cut ≡ (madt_contents whole).cut → is_some cut ≡ not b
     → MatchBool b (IsWhollyTyped (madt_contents whole)) (¬ IsWhollyTyped (madt_contents whole))

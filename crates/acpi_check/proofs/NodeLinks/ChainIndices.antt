@@ -101,7 +101,7 @@ returns {Names} {offsets} {parents} are most i lead round within c =
           node_after-add parents i lead j stands round ∙ again ∙ ap Some one;
     }
 
--- and conversely
+-- a return of indices is a cycle of offsets
 cycle : {Names : ℕ → ℕ → Type 0} {offsets : List ℕ} {parents : List (Option ℕ)} → AreIndexed Names offsets parents
     → (most i lead round : ℕ) → i < length offsets → lead + round ≤ most → Returns parents i lead round
     → IsCycle Names most (at offsets i) lead round

@@ -74,7 +74,7 @@ parent_first places v at some nowhere =
     least code.DanglingCache place other point here wrong = inr (here, inl (omega arith))
     least _ place other point here wrong = absurd wrong
 
--- otherwise the first of its private resources that dangles
+-- if its Parent does not dangle, the first of its private resources that does is the first fault
 pub resource_first : (places : Places) (v : NodeValue) (references : List ℕ) (count at j r : ℕ)
     → v.resources ≡ numbers_in references count → (v.parent ≡ 0) ⊎ IsIn places.nodes v.parent
     → j < count → r ≡ field references (4 * j) 4 → ¬ IsIn places.resources r

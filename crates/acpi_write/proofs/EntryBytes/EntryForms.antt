@@ -78,7 +78,7 @@ length_by write (k ∷ kinds) opaque keep kept e =
       | inr not ↦ ap (λ v. length (write v)) (passed k kinds opaque e not) ∙ length_by write kinds opaque keep.1 kept e
     ]
 
--- and the bytes say it again
+-- the bytes that are written for what an entry says say it again
 pub again_by : {E : Type 0} (write : E → List ℕ) (kinds : List (EntryType E)) (opaque : List ℕ → E) → KeepKinds write kinds
     → ((e : List ℕ) → write (opaque e) ≡ e) → (e : List ℕ)
     → AreByteValues e → IsEntry e → IsAgain (value_of_kind kinds opaque) e (write (value_of_kind kinds opaque e))

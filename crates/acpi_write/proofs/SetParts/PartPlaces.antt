@@ -33,7 +33,7 @@ laid_at_places a (b ∷ bs) = ap (λ (xs : List ℕ). a ∷ xs) (laid_at_places 
 
 -- ---- tables
 
--- the same for tables after others
+-- the lengths of tables after others
 lengths_behind : (facs : ℕ) (before ts : List (List ℕ)) → All (λ t. 36 ≤ length t) ts
     → ((k : ℕ) (none : List ℕ) → k < length ts → (kind : Option TableKind)
     → IsKindBehind (before ++ take k ts) (get_or ts k none) kind → IsReadableAs kind (get_or ts k none))

@@ -10,7 +10,7 @@ use Rattle.acpi_write.specs.Values.{Fadt}
 use Rattle.acpi_write.proofs.Tables.Facts.{IsWrittenFor, KindFacts}
 use Rattle.acpi_write.proofs.TablesWritten.FadtBodies.{length-with_facs, with_facs-with_facs}
 
--- there is room for the address
+-- the body has room for the address
 room : (whole : List ℕ) → 40 ≤ length whole → 4 ≤ length (drop 36 whole)
 room whole long = omega (arith, length-drop 36 whole, long)
 
