@@ -1,3 +1,4 @@
+-- Proofs about the arguments of the command line.
 pub mod CheckRows
 pub mod Declared
 pub mod FaultWords

@@ -1,3 +1,4 @@
+-- Proofs about images: drafts, segments, runs and running sums.
 pub mod Adopted
 pub mod ByteRuns
 pub mod Drafts

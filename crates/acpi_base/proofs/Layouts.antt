@@ -1,3 +1,4 @@
+-- Proofs about structures of a fixed layout.
 pub mod Headers
 pub mod Kinds
 pub mod RoundTrip

@@ -1,3 +1,4 @@
+-- Proofs about the definitions, which other crates cite.
 pub mod Across
 pub mod Chains
 pub mod Elements

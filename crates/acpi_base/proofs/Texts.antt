@@ -1,3 +1,4 @@
+-- Proofs about image text, and about the texts of faults.
 pub mod ByteMachine
 pub mod DataImages
 pub mod DataLines

@@ -1,3 +1,4 @@
+-- Definitions of images: how bytes are added to one, and how it is stored.
 pub mod Adding
 pub mod Draft
 pub mod Pieces

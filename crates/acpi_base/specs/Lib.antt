@@ -1,3 +1,4 @@
+-- The definitions that contracts of all crates cite.
 pub mod Across
 pub mod Chains
 pub mod Codes

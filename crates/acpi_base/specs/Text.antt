@@ -1,3 +1,4 @@
+-- Definitions of image text, and of the texts of faults.
 pub mod ImageText
 pub mod LineBuffers
 pub mod Lines

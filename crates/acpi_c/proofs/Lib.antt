@@ -1,3 +1,4 @@
+-- Proofs about pieces, settings and answers.
 mod AddedPieces
 mod Answers
 mod FindingsFit

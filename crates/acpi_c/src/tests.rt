@@ -1,3 +1,5 @@
+//! Tests of the exported functions on settings, overlapping pieces and one fault.
+
 use crate::answer::{Answer, Finding};
 use crate::check::{acpiset_check, acpiset_check_text};
 use crate::confirm::acpiset_confirm;

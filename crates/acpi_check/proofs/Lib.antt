@@ -1,3 +1,4 @@
+-- Proofs about the stages.
 pub mod EntryPasses
 pub mod ListedSets
 pub mod NodeLinks

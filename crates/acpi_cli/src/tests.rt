@@ -1,3 +1,5 @@
+//! Tests of the command functions on small sets, and on readers and writers that fail.
+
 use crate::outcome::{Outcome, RunFault};
 use crate::program::do_job;
 use acpi_arguments::Job;

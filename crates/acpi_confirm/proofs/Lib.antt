@@ -1,3 +1,4 @@
+-- Proofs about the confirmation of a fault.
 pub mod Across
 pub mod Cells
 pub mod Chains

@@ -1,3 +1,4 @@
+-- The definitions that contracts of this crate cite.
 pub mod Cells
 pub mod Conditions
 pub mod Links

@@ -1,3 +1,4 @@
+-- Elements that do not run into their neighbours run into none.
 use Rattle.std.proofs.Common.{ℕ, ◌<◌, ◌≤◌, zero, suc, List, length, get_or, inl, inr, arith, add-one, sym, subst}
 use Rattle.std.specs.List.{All, AllAdjacentBelow}
 use Rattle.std.proofs.Math.Nat.{eq-or-lt_of_le}

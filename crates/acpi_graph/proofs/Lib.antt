@@ -1,3 +1,4 @@
+-- Proofs about spans and chains of parents.
 pub mod ClearOfNeighbours
 pub mod Chains
 pub mod Rounds

@@ -1,7 +1,6 @@
+-- The marks that walks leave on the nodes of chains of parents. No public contract cites this file.
 use Rattle.std.specs.Prelude.{◌≡◌, ℕ, ◌<◌, ◌≤◌, nat_lt, List, length, Option, count_by, slice_index}
 use Rattle.acpi_graph.specs.Parents.{Ends}
-
--- What is kept from one walk to the next. No public contract cites this file.
 
 -- The mark of a node that no walk has left is 0; any other mark is the number of the step that left it. The chain of
 -- each node with such a mark ends.

@@ -1,3 +1,4 @@
+-- Proofs about the finders.
 mod CollectedNumbers
 mod EntryFaults
 mod FacsSets

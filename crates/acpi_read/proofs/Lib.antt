@@ -1,3 +1,4 @@
+-- Proofs about views and entries.
 pub mod EntriesLeft
 pub mod FirstsKept
 mod ListedTables

@@ -1,3 +1,4 @@
+-- The definitions that contracts of views cite.
 pub mod Entries
 pub mod EntryFaults
 pub mod EntryTables

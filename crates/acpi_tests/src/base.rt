@@ -1,3 +1,5 @@
+//! Tests of `acpi_base`.
+
 mod field;
 mod image;
 mod policy;

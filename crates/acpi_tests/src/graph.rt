@@ -1,3 +1,5 @@
+//! Tests of `acpi_graph`.
+
 mod clash;
 mod example;
 mod stray;

@@ -1,3 +1,5 @@
+//! Tests of `acpi_lint`.
+
 use acpi_base::{Advice, Code, Image, Policy, Rule, Witness};
 use acpi_lint::lint;
 use std::test::*;

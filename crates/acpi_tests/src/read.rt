@@ -1,3 +1,5 @@
+//! Tests of `acpi_read`.
+
 mod entries;
 mod example;
 mod facs;

@@ -1,3 +1,4 @@
+-- Proofs about values, written tables and rebuilt sets.
 pub mod EntryBytes
 pub mod NewSets
 pub mod OldSets

@@ -1,3 +1,4 @@
+-- The definitions that contracts on values and rebuilt sets cite.
 pub mod Bodies
 pub mod Encoded
 pub mod FadtBody

@@ -1,3 +1,4 @@
+-- Proofs about the written form of an image.
 pub mod Lines
 pub mod OneWritten
 pub mod Pairs

@@ -1,3 +1,5 @@
+//! Tests of readers and writers whose calls are interrupted.
+
 ghost use Rattle.std.specs.Prelude.{◌≤◌, IfOk};
 
 use super::Uninterrupted;

@@ -1,3 +1,5 @@
+//! Tests of numbers and bytes at an offset.
+
 use acpi_base::field::*;
 use std::test::*;
 

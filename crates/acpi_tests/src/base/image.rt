@@ -1,3 +1,5 @@
+//! Tests of images and drafts of images.
+
 use acpi_base::{DraftImage, Image, ImageFault};
 use std::alloc::Global;
 use std::process::Abort;

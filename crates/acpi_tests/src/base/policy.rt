@@ -1,3 +1,5 @@
+//! Tests of the settings of a check.
+
 use acpi_base::{HotPlug, Policy, PolicyFault, Processors};
 
 /// Addresses and counts that are added one after another, what `add_input` returns, and the count of the address from

@@ -1,3 +1,5 @@
+//! Tests of the kinds of tables.
+
 use acpi_base::TableKind;
 use std::test::*;
 

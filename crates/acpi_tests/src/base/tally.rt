@@ -1,3 +1,5 @@
+//! Tests of counted readers and writers.
+
 ghost use Rattle.std.specs.Prelude.{◌≤◌, IfOk};
 
 use acpi_base::{DeviceFailed, Tally};

@@ -1,3 +1,5 @@
+//! Tests of the texts of errors, and of the modules on texts.
+
 mod fault_parsing;
 mod fault_text;
 mod image_text;

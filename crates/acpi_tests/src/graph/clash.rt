@@ -1,3 +1,5 @@
+//! Tests of the first overlap of spans, against a search by each number.
+
 ghost use Rattle.std.specs.Prelude.{IsTrue};
 ghost use Rattle.acpi_graph.specs.Spans.{NamesDiffer};
 

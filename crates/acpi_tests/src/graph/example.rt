@@ -1,3 +1,5 @@
+//! The example at the head of `acpi_graph`.
+
 use acpi_graph::{Clash, Span, Stray, first_clash, first_stray};
 use std::test::*;
 

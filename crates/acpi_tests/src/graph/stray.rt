@@ -1,3 +1,5 @@
+//! Tests of the first chain that does not end, against a walk from each node.
+
 ghost use Rattle.std.specs.Prelude.{IsTrue};
 ghost use Rattle.acpi_graph.specs.Parents.{AreNodes};
 

@@ -1,3 +1,5 @@
+//! Tests of the entries of tables, and of the cut.
+
 use crate::samples::{Q35, image_of_table};
 use acpi_base::{Code, Image, TableKind};
 use acpi_read::{Entries, Table};

@@ -1,3 +1,5 @@
+//! The example at the head of `acpi_read`.
+
 use crate::samples::{Q35, facs, fadt_body, set, table};
 use acpi_base::{Code, Image};
 use acpi_read::{Entries, Facs, Fadt, MadtEntry, Root, Rsdp, Table, first};

@@ -1,3 +1,5 @@
+//! Tests of the FACS.
+
 use crate::samples::{Q35, facs, fadt_body, image_of_table};
 use acpi_base::{Code, Image};
 use acpi_read::{Facs, Fadt, Table};

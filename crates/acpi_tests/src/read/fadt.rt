@@ -1,3 +1,5 @@
+//! Tests of the fields of the FADT.
+
 use crate::samples::{Q35, image_of_table};
 use acpi_base::{Code, Image};
 use acpi_read::{Fadt, Table};

@@ -1,3 +1,5 @@
+//! Tests of generic addresses.
+
 use crate::samples::expect_layout;
 use acpi_read::{Gas, Layout};
 use std::test::*;

@@ -1,3 +1,5 @@
+//! Tests of the header of a table.
+
 use crate::samples::expect_layout;
 use acpi_read::{Header, Layout};
 use std::test::*;

@@ -1,3 +1,5 @@
+//! Tests of structures of a fixed layout.
+
 ghost use Rattle.std.proofs.Common.{rules};
 ghost use Rattle.std.specs.Prelude.{ℕ, List, [], ◌∷◌, refl};
 ghost use Rattle.acpi_base.specs.Layouts.{Part, NumberOf, Fixed, Reserved, PartValue, Number};

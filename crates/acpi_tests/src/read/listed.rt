@@ -1,3 +1,5 @@
+//! Tests of the first listed table with a signature.
+
 use crate::samples::{Q35, set, table};
 use acpi_base::{Code, Image};
 use acpi_read::{Root, Rsdp, first};

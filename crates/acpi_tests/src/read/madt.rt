@@ -1,3 +1,5 @@
+//! Tests of the entries of the MADT.
+
 use crate::samples::{expect_layout, is_entry};
 use acpi_base::Code;
 use acpi_read::{

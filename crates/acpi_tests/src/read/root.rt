@@ -1,3 +1,5 @@
+//! Tests of the XSDT and the RSDT.
+
 use crate::samples::{Q35, extended_rsdp, image_of, set, table};
 use acpi_base::{Code, Image};
 use acpi_read::{Root, Rsdp};

@@ -1,3 +1,5 @@
+//! Tests of the RSDP.
+
 use crate::samples::{Q35, extended_rsdp, image_of, rsdp};
 use acpi_base::{Code, Image};
 use acpi_read::Rsdp;

@@ -1,3 +1,5 @@
+//! Tests of the SLIT.
+
 use crate::samples::{Q35, image_of_table};
 use acpi_base::{Code, Image, Witness};
 use acpi_read::{Slit, Table};

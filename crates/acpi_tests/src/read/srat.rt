@@ -1,3 +1,5 @@
+//! Tests of the entries of the SRAT.
+
 use crate::samples::{expect_layout, is_entry};
 use acpi_base::Code;
 use acpi_read::{ApicDomain, Layout, MemoryRange, SratEntry, X2apicDomain};

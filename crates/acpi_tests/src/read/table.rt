@@ -1,3 +1,5 @@
+//! Tests of system description tables.
+
 use crate::samples::{Q35, image_of, table};
 use acpi_base::{Code, Image};
 use acpi_read::Table;

@@ -1,3 +1,5 @@
+//! Tests of tables written as bytes.
+
 ghost use Rattle.std.specs.Prelude.{◌+◌, ◌^◌, ◌<◌, length};
 
 use crate::samples::{PLAIN, header_before};

@@ -1,3 +1,5 @@
+//! Tests of rebuilt sets.
+
 ghost use Rattle.std.specs.Prelude.{◌+◌, ◌^◌, ◌<◌, length};
 
 use crate::samples::{

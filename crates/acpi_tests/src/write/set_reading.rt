@@ -1,3 +1,5 @@
+//! Tests of the contents of a set.
+
 use crate::samples::{policy, reduced_body, set_of_fadt};
 use acpi_base::{Code, Image, PolicyFault, Witness};
 use acpi_write::{SetValue, TableValue, ValuesFault, values};

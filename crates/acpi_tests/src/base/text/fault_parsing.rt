@@ -1,3 +1,5 @@
+//! Tests of faults read from their text.
+
 use acpi_base::{Code, Witness, parse_witness};
 
 /// Texts, and the fault of each by its code's number.

@@ -1,3 +1,5 @@
+//! Tests of the texts of faults, verdicts and advice.
+
 use acpi_base::{Advice, Code, Rule, Verdict, Witness, advice_text, verdict_text, witness_text};
 use std::alloc::AllocError;
 use std::process::Abort;

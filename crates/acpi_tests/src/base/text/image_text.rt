@@ -1,3 +1,5 @@
+//! Tests of image text, read at once and in pieces.
+
 ghost use Rattle.std.specs.Prelude.{◌<◌, ◌≤◌, IfSome};
 
 use acpi_base::{Image, ImageText, Tally, TextFault, parse_image, read_image};

@@ -1,3 +1,5 @@
+//! Tests of the written form of an image.
+
 use acpi_base::written_text::image_text;
 use acpi_base::{Image, ImageFault};
 use std::alloc::Global;
