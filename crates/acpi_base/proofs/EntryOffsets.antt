@@ -1,5 +1,5 @@
--- The entries of a table follow one another within it, so at most one is at an offset, and whether one with a property is
--- there can be decided.
+-- The entries of a table follow one another within it, so at most one is at an offset, and whether one with a property
+-- is there can be decided.
 use Rattle.std.proofs.Common.{◌≡◌, ℕ, zero, suc, ◌+◌, ◌<◌, ◌≤◌, List, [], ◌∷◌, length, take, drop, Some, refl, sym, ◌∙◌, ap, subst, inl, inr, arith, length-drop}
 use Rattle.std.specs.Prelude.{◌⊎◌, ◌&&◌, Contains, slice_index, nat_le, sum_by}
 use Rattle.std.proofs.lemmas.Bool.{and_parts, leb-true, ltb-true, cases_lt}

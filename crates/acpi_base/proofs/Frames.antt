@@ -1,5 +1,5 @@
--- The faults of a structure whose header has its length: each can be decided; without one the structure is present, and one
--- that is present can only have a wrong checksum.
+-- The faults of a structure whose header has its length: each can be decided; without one the structure is present, and
+-- one that is present can only have a wrong checksum.
 use Rattle.std.proofs.Common.{◌≡◌, ◌≤◌, ◌+◌, ℕ, List, length, take, sym, ◌∙◌, arith}
 use Rattle.std.specs.Prelude.{◌≢◌, false}
 use Rattle.acpi_base.specs.Frames.{frame_length, IsFrame, IsValidFrame, FrameFault}

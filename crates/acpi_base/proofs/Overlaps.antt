@@ -9,8 +9,8 @@ use Rattle.acpi_base.proofs.Faults.Least.{NoneOrFirst, ByNumber, first_by, first
 use Rattle.acpi_base.proofs.Elements.{bounded}
 use Rattle.acpi_base.proofs.EntryOffsets.{AreOnes, stands_with_decided}
 
--- finitely many ranges: those at one offset that contain one number have one start; a range contains no number before its
--- start; whether it contains a number can be decided; and offsets and numbers are bounded
+-- finitely many ranges: those at one offset that contain one number have one start; a range contains no number before
+-- its start; whether it contains a number can be decided; and offsets and numbers are bounded
 pub record AreFiniteRanges (HoldsAt : ℕ → ℕ → ℕ → Type 0) : Type 0 where
   pub one_start : (o s t x : ℕ) → HoldsAt o s x → HoldsAt o t x → s ≡ t
   pub from_start : (o s x : ℕ) → HoldsAt o s x → s ≤ x
@@ -156,8 +156,8 @@ one_first {HoldsAt} {a} {b} {c} {d} {x} {y} ranges f g =
 
 -- ---- the ranges of entries
 
--- the ranges of entries are finitely many, if at most one entry is at an offset; `Says s x` of an entry says that it has
--- a range from s on that contains x, and `start` and `end` are where its range begins and ends
+-- the ranges of entries are finitely many, if at most one entry is at an offset; `Says s x` of an entry says that it
+-- has a range from s on that contains x, and `start` and `end` are where its range begins and ends
 pub ranges_of_entries : {E : Type 0} (entries : List (PlacedEntry E)) (Says : ℕ → ℕ → E → Type 0) (start end : E → ℕ)
     → AreOnes entries
     → ((s x : ℕ) (e : E) → Says s x e → (start e ≡ s) × (s ≤ x) × (x < end e))

@@ -99,7 +99,8 @@ at_first {E} IsFault low s left rises p (place, wrong, least) =
           ];
     }
 
--- the lowest place is what is picked first from entries at rising offsets, if each pick is the lowest place of its entry
+-- the lowest place is what is picked first from entries at rising offsets, if each pick is the lowest place of its
+-- entry
 pub least_picked : {E : Type 0} (IsFault : ℕ → E → ℕ → ℕ → Type 0) (low : ℕ) (entries : List (PlacedEntry E))
     → AreRising low entries → (Gives : PlacedEntry E → Option Place → Type 0)
     → ((s : PlacedEntry E) (picked : Option Place) → Contains entries s → Gives s picked → FindsOwn IsFault s picked)

@@ -1,4 +1,5 @@
--- Numbers whose value is their place: a number that occurs again is one whose value differs from that at its first place.
+-- Numbers whose value is their place: a number that occurs again is one whose value differs from that at its first
+-- place.
 use Rattle.std.proofs.Common.{◌≡◌, ℕ, ◌<◌, ◌≤◌, List, Option, sym, ◌∙◌, ap, subst, refl, inl, inr, arith}
 use Rattle.std.specs.Prelude.{Contains}
 use Rattle.std.proofs.Math.Nat.{eq-or-lt_of_le}

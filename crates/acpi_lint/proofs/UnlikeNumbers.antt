@@ -1,5 +1,5 @@
--- A loop over sorted numbers that are given at places: which of them is the first of its number, and the lowest place of
--- those that were passed with another value than that one.
+-- A loop over sorted numbers that are given at places: which of them is the first of its number, and the lowest place
+-- of those that were passed with another value than that one.
 use Rattle.std.proofs.Common.{◌≡◌, ◌≢◌, ℕ, ◌+◌, ◌<◌, ◌≤◌, List, length, get_or, Option, Some, None, refl, sym, ◌∙◌, ap, inl, inr, ◌⊎◌, arith}
 use Rattle.std.specs.Prelude.{AllPairs, Contains, IfSome}
 use Rattle.std.proofs.lemmas.Bool.{cases_order, cases_lt}

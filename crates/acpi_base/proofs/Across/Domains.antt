@@ -1,5 +1,5 @@
--- The fault of processors in two domains: it can be decided, and there is none exactly if each has one domain; the bounds of
--- its numbers.
+-- The fault of processors in two domains: it can be decided, and there is none exactly if each has one domain; the
+-- bounds of its numbers.
 use Rattle.std.proofs.Common.{◌≡◌, ◌≢◌, ℕ, ◌^◌, ◌<◌, List, length, refl, sym, subst, inl, inr, arith}
 use Rattle.std.specs.Prelude.{slice_index}
 use Rattle.std.proofs.lemmas.Bool.{cases_order}

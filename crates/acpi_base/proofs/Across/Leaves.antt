@@ -1,5 +1,5 @@
--- The fault of leaves of the PPTT that no processor of the MADT has as its UID: it can be decided, and there is none exactly
--- if all leaves are known; the bounds of its numbers.
+-- The fault of leaves of the PPTT that no processor of the MADT has as its UID: it can be decided, and there is none
+-- exactly if all leaves are known; the bounds of its numbers.
 use Rattle.std.proofs.Common.{◌≡◌, ℕ, ◌^◌, ◌<◌, List, length, refl, subst, inl, inr, arith}
 use Rattle.std.specs.Prelude.{slice_index}
 use Rattle.acpi_base.specs.Number.{has_bit}

@@ -1,5 +1,5 @@
--- The fault of interrupt numbers that no I/O APIC serves: it can be decided, and there is none exactly if all are served; the
--- bounds of its numbers.
+-- The fault of interrupt numbers that no I/O APIC serves: it can be decided, and there is none exactly if all are
+-- served; the bounds of its numbers.
 use Rattle.std.proofs.Common.{◌≡◌, ℕ, ◌+◌, ◌^◌, ◌<◌, List, length, refl, inl, inr, arith}
 use Rattle.std.specs.Prelude.{slice_index}
 use Rattle.acpi_base.specs.Entries.{Stands}

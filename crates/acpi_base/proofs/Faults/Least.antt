@@ -1,5 +1,5 @@
--- Least elements: what can be decided holds of nothing, or of a first one, in the order of one number, of several, or of
--- witnesses.
+-- Least elements: what can be decided holds of nothing, or of a first one, in the order of one number, of several, or
+-- of witnesses.
 use Rattle.std.proofs.Common.{◌≡◌, ℕ, zero, suc, ◌+◌, ◌<◌, ◌≤◌, length, refl, sym, ◌∙◌, subst, inl, inr, arith}
 use Rattle.std.specs.Prelude.{◌⊎◌}
 use Rattle.std.proofs.lemmas.Bool.{cases_lt, cases_order}

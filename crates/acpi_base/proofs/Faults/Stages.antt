@@ -1,4 +1,5 @@
--- All stages: each holds or has a first fault, with a fault it does not hold, and the numbers of its faults have 64 bits.
+-- All stages: each holds or has a first fault, with a fault it does not hold, and the numbers of its faults have 64
+-- bits.
 use Rattle.std.proofs.Common.{◌≡◌, ℕ, zero, suc, ◌+◌, ◌<◌, ◌≤◌, sym, ◌∙◌, ap, subst, inl, inr, arith}
 use Rattle.std.specs.Prelude.{◌⊎◌}
 use Rattle.std.proofs.lemmas.Bool.{cases_lt}

@@ -1,4 +1,5 @@
--- The interrupt numbers that I/O APICs serve: no two I/O APICs serve the same, or there is a first number and two that do.
+-- The interrupt numbers that I/O APICs serve: no two I/O APICs serve the same, or there is a first number and two that
+-- do.
 use Rattle.std.proofs.Common.{◌≡◌, ◌⊎◌, ℕ, ◌+◌, ◌^◌, ◌<◌, ◌≤◌, List, length, refl, inr, arith}
 use Rattle.std.specs.Prelude.{slice_index}
 use Rattle.std.specs.FinMap.{get}

@@ -1,5 +1,5 @@
--- The faults of a PPTT's chains of parents and of next levels: each can be decided, and there is none exactly if all chains
--- end.
+-- The faults of a PPTT's chains of parents and of next levels: each can be decided, and there is none exactly if all
+-- chains end.
 use Rattle.std.proofs.Common.{◌≡◌, ℕ, ◌≤◌, List, length, refl, inr, arith}
 use Rattle.acpi_base.specs.Codes.{stage_of}
 use Rattle.acpi_base.specs.Pptt.{parent_of, next_level_of, pptt_contents, NamesParent, NamesNextLevel, AreReferencesValid, DoParentsEnd, DoCachesEnd, ParentFault, CacheFault, most_nodes, most_caches, ParentsEndOrGoRound, CachesEndOrGoRound}

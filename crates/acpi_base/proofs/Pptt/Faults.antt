@@ -1,4 +1,5 @@
--- The faults of a PPTT's entries and of their references: each can be decided, and there is none exactly if they are valid.
+-- The faults of a PPTT's entries and of their references: each can be decided, and there is none exactly if they are
+-- valid.
 use Rattle.std.proofs.Common.{◌≡◌, ℕ, ◌+◌, ◌<◌, ◌≤◌, List, [], ◌∷◌, zero, suc, length, Some, refl, inl, inr, arith}
 use Rattle.std.specs.Prelude.{slice_index, slice_get}
 use Rattle.std.proofs.lemmas.Bool.{cases_eq}

@@ -1,5 +1,5 @@
--- The ranges of addresses of an SRAT: no two that are compared contain one address, or there is a first address and two that
--- do.
+-- The ranges of addresses of an SRAT: no two that are compared contain one address, or there is a first address and two
+-- that do.
 use Rattle.std.proofs.Common.{◌≡◌, ◌⊎◌, ℕ, ◌+◌, ◌^◌, ◌<◌, ◌≤◌, List, length, refl, inl, inr, arith}
 use Rattle.std.proofs.lemmas.Bool.{cases_lt}
 use Rattle.acpi_base.specs.Overlaps.{IsIntervalOverlap, AreApart, IsFirstIntervalOverlap}

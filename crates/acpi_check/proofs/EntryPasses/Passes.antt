@@ -98,8 +98,8 @@ pub all_passed : {E : Type 0} {entries : List (PlacedEntry E)} {P : ℕ → E �
 all_passed pass o e stands =
     elim (pass.passed o e stands) [ inl left ↦ absurd (no_element _ left) | inr (earlier, holds) ↦ holds ]
 
--- if the entries that were passed have no fault by themselves, a fault of an entry by itself is at the lowest fault of the
--- next entry or after it
+-- if the entries that were passed have no fault by themselves, a fault of an entry by itself is at the lowest fault of
+-- the next entry or after it
 pub own_fault_after : {E : Type 0} {entries : List (PlacedEntry E)} {s : PlacedEntry E} {left : List (PlacedEntry E)}
     {P : ℕ → E → Type 0} → HasPassed entries (s ∷ left) P
     → (IsFault : Code → E → Type 0) → ((c : Code) (o : ℕ) (e : E) → P o e → ¬ IsFault c e) → (w : Witness)

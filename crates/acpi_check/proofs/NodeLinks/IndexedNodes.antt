@@ -1,4 +1,5 @@
--- Nodes that are collected from the entries of a table, with the index of the node that each names, are chains of offsets.
+-- Nodes that are collected from the entries of a table, with the index of the node that each names, are chains of
+-- offsets.
 use Rattle.std.proofs.Common.{◌≡◌, ℕ, ◌<◌, List, length, get_or, Option, Some, None, refl, sym, ◌∙◌, ap, subst, inl, inr, arith}
 use Rattle.std.specs.Prelude.{AllPairs, Contains, slice_index, option_map}
 use Rattle.std.proofs.lemmas.Bool.{cases_order}

@@ -1,4 +1,5 @@
--- A pass over the references of a PPTT's entries: it stops at the first fault, and finds none if there is one at each offset.
+-- A pass over the references of a PPTT's entries: it stops at the first fault, and finds none if all that they name is
+-- present.
 use Rattle.std.proofs.Common.{◌≡◌, ℕ, List, [], ◌∷◌, subst, inl, inr, arith}
 use Rattle.acpi_base.specs.Entries.{PlacedEntry, Stands}
 use Rattle.acpi_base.specs.Faults.{NotAfter}

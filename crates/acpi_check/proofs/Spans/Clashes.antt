@@ -61,8 +61,8 @@ first_clash {HoldsAt} spans are first second point found =
         (are.covers span.name span.start point).1
         (record { span = span; listed = listed; name = refl; start = refl; holds = inside })
 
--- two spans that share a number share the start of the later one: so the lowest number that two share has 64 bits if spans
--- begin at such numbers
+-- two spans that share a number share the start of the later one: so the lowest number that two share has 64 bits if
+-- spans begin at such numbers
 pub low_point : (spans : List Span) → BeginLow spans → (found : Clash) → IfAt found (graph.IsFirstClash spans)
     → HasLowPoint found
 low_point spans low overlap.None first = tt

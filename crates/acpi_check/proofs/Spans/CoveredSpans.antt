@@ -1,5 +1,5 @@
--- The spans that are collected from the entries of an SRAT are the addresses of its enabled ranges, and their first overlaps,
--- by kinds of ranges, give the one that is reported.
+-- The spans that are collected from the entries of an SRAT are the addresses of its enabled ranges, and their first
+-- overlaps, by kinds of ranges, give the one that is reported.
 use Rattle.std.proofs.Common.{◌≡◌, ℕ, ◌+◌, ◌<◌, ◌≤◌, Bool, true, false, not, cond, nat_lt, List, map, Option, Some, None, refl, inl, inr, arith}
 use Rattle.std.specs.Prelude.{◌↔◌, ◌&&◌}
 use Rattle.std.proofs.lemmas.Bool.{and_parts, cases_lt, lt-ltb, le-ltb}

@@ -41,8 +41,8 @@ pub of_none : {m : Memory} {p : ℕ} {signature : List ℕ} (P : List ℕ → Ty
     → ForListed m p signature P
 of_none P none whole is = absurd (none_and_listed none is)
 
--- what is found about the table that the set lists first holds for the set, if the stage states it about the table, and the
--- first fault of the table is the set's
+-- what is found about the table that the set lists first holds for the set, if the stage states it about the table, and
+-- the first fault of the table is the set's
 pub of_one : (s : Stage) {m : Memory} {q : PolicyValue} {signature : List ℕ} (Valid : List ℕ → Type 0)
     (IsFirst : List ℕ → Witness → Type 0)
     → (ForListed m q.rsdp signature Valid → Holds s m q)

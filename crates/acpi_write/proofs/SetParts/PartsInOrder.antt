@@ -148,8 +148,8 @@ behind_roots v places k j facs bytes named index is =
 
 -- ---- the parts so far
 
--- the image has the first k parts; those to come have their addresses after everything that it has, and none passes the last
--- address
+-- the image has the first k parts; those to come have their addresses after everything that it has, and none passes the
+-- last address
 pub record IsPartialSet (m : Memory) (found : List ℕ) (v : value.SetValue) (base k : ℕ) : Type 0 where
   pub a : ℕ
   pub behind : EndsBelow m a
