@@ -1,3 +1,4 @@
 pub mod FindingLines
+pub mod Reporting
 pub mod Statuses
 mod Sent
