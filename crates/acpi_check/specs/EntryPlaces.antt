@@ -1,7 +1,6 @@
 -- The offsets of the entries of a PPTT (ACPI 6.5, 5.2.30), as sets of bits, by what may refer to them.
 use Rattle.std.specs.Prelude.{◌≡◌, ◌⊎◌, ◌↔◌, ℕ, ◌/◌, ◌%◌, Bool, true, false, List, slice_index, ◌≢◌, Some, None, if◌then◌else◌}
 use Rattle.std.specs.Int.{bit_at}
-use Rattle.acpi_check.specs.declared.offset_set.OffsetSet.{OffsetSet}
 use Rattle.std.specs.List.{filter_map}
 use Rattle.acpi_base.specs.Codes.{stage_of}
 use Rattle.acpi_base.specs.Entries.{PlacedEntry}
@@ -11,6 +10,7 @@ use Rattle.acpi_base.specs.declared.code.Code.{Code}
 use Rattle.acpi_base.specs.declared.code.Code.TheVariants as code
 use Rattle.acpi_base.specs.declared.stage.Stage.TheVariants as stage
 use Rattle.acpi_base.specs.declared.witness.Witness.{Witness}
+use Rattle.acpi_check.specs.declared.offset_set.OffsetSet.{OffsetSet}
 use Rattle.acpi_check.specs.declared.places.PlaceKind.{PlaceKind}
 use Rattle.acpi_check.specs.declared.places.PlaceKind.TheVariants as kind
 use Rattle.acpi_check.specs.declared.places.Places.{Places}

@@ -4,13 +4,13 @@ use Rattle.std.specs.List.{filter_map}
 use Rattle.acpi_base.specs.Entries.{PlacedEntry}
 use Rattle.acpi_base.specs.Madt.{MadtEntry, LocalApic, X2apic, MadtContents, Opaque}
 use Rattle.acpi_base.specs.Policy.{counts_as_enabled}
+use Rattle.acpi_base.specs.Srat.{SratEntry, ApicDomain, X2apicDomain, PutsIn, is_enabled}
+use Rattle.acpi_base.specs.Number.{has_bit}
+use Rattle.acpi_base.specs.Pptt.{PpttEntry, Node}
 use Rattle.acpi_check.specs.NamedNumbers.{NamesAt}
 use Rattle.acpi_check.specs.declared.processors.Key.{Key}
 use Rattle.acpi_check.specs.declared.processors.Key.TheVariants as key
-use Rattle.acpi_base.specs.Srat.{SratEntry, ApicDomain, X2apicDomain, PutsIn, is_enabled}
 use Rattle.acpi_check.specs.declared.domains.Placement.{Placement}
-use Rattle.acpi_base.specs.Number.{has_bit}
-use Rattle.acpi_base.specs.Pptt.{PpttEntry, Node}
 
 -- ---- numbers of processors that are collected from the entries of a MADT
 

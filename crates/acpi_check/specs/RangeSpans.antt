@@ -1,9 +1,7 @@
 -- Ranges of one kind as spans, and their first overlap.
 use Rattle.std.specs.Prelude.{Bool, true, not, ◌≡◌, ℕ, ◌+◌, ◌^◌, ◌<◌, ◌&&◌, ◌↔◌, List, All, Contains, Option, Some, None, nat_lt, if◌then◌else◌}
-use Rattle.acpi_base.specs.Srat.{MemoryValue, is_hot_pluggable, IsAny, IsHotPluggable, IsNotHotPluggable, SratEntry, MemoryRange, SratContents, is_enabled, AreRangesApart, IsFirstOverlap}
-use Rattle.acpi_check.specs.declared.range_kind.RangeKind.{RangeKind}
-use Rattle.acpi_check.specs.declared.range_kind.RangeKind.TheVariants as kind
 use Rattle.std.specs.List.{filter_map}
+use Rattle.acpi_base.specs.Srat.{MemoryValue, is_hot_pluggable, IsAny, IsHotPluggable, IsNotHotPluggable, SratEntry, MemoryRange, SratContents, is_enabled, AreRangesApart, IsFirstOverlap}
 use Rattle.acpi_base.specs.Overlaps.{AreApart, IsFirstIntervalOverlap}
 use Rattle.acpi_base.specs.Entries.{PlacedEntry}
 use Rattle.acpi_base.specs.Madt.{MadtEntry, IoApic}
@@ -13,6 +11,8 @@ use Rattle.acpi_graph.specs.Spans.{NamesDiffer, HasNumber, IfAt}
 use Rattle.acpi_graph.specs.declared.clash.Clash.{Clash}
 use Rattle.acpi_graph.specs.declared.clash.Clash.TheVariants as clash
 use Rattle.acpi_graph.specs.declared.span.Span.{Span}
+use Rattle.acpi_check.specs.declared.range_kind.RangeKind.{RangeKind}
+use Rattle.acpi_check.specs.declared.range_kind.RangeKind.TheVariants as kind
 
 -- ---- the ranges of each kind
 

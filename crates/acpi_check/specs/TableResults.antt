@@ -5,14 +5,14 @@ use Rattle.acpi_base.specs.Root.{IsRoot, IsValidRootTable}
 use Rattle.acpi_base.specs.Listed.{IsListed}
 use Rattle.acpi_base.specs.TableKinds.{signature_of}
 use Rattle.acpi_base.specs.declared.table_kind.TableKind.{TableKind}
-use Rattle.acpi_read.specs.FirstTables.{first_table}
-use Rattle.acpi_read.specs.Roots.{RootValue}
-use Rattle.acpi_read.specs.declared.first_tables.FirstTables.{FirstTables}
 use Rattle.acpi_base.specs.Codes.{stage_number, stage_of}
 use Rattle.acpi_base.specs.Faults.{NotAfter}
 use Rattle.acpi_base.specs.declared.code.Code.{Code}
 use Rattle.acpi_base.specs.declared.stage.Stage.{Stage}
 use Rattle.acpi_base.specs.declared.witness.Witness.{Witness}
+use Rattle.acpi_read.specs.FirstTables.{first_table}
+use Rattle.acpi_read.specs.Roots.{RootValue}
+use Rattle.acpi_read.specs.declared.first_tables.FirstTables.{FirstTables}
 use Rattle.acpi_check.specs.declared.refusal.Refusal.{Refusal}
 use Rattle.acpi_check.specs.declared.refusal.Refusal.TheVariants.{Fault, OutOfMemory}
 

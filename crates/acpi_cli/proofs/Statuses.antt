@@ -4,14 +4,14 @@ use Rattle.std.specs.Prelude.{IsSome, Result}
 use Rattle.std.specs.Io.KnownBytes.{Consumes, Keeps}
 use Rattle.acpi_base.specs.Memory.{Memory}
 use Rattle.acpi_arguments.specs.CommandLine.{Asked, Does, DoesAsked, check, confirm, find, lint, rebuild, show}
+use Rattle.acpi_arguments.specs.declared.words.Job.{Job}
+use Rattle.acpi_arguments.specs.declared.words.Job.TheVariants.{Check, Confirm, Find, Lint, Rebuild, Show}
+use Rattle.acpi_arguments.specs.declared.words.WordFault.TheVariants as fault
 use Rattle.acpi_cli.specs.Commands.{Device, Reads, ReportsJob, Runs}
 use Rattle.acpi_cli.specs.Program.{exit_status, IsUntouched, Obeys, ReportsAsked}
 use Rattle.acpi_cli.specs.declared.outcome.Outcome.{Outcome}
 use Rattle.acpi_cli.specs.declared.outcome.RunFault.{RunFault}
 use Rattle.acpi_cli.specs.declared.outcome.RunFault.TheVariants as run
-use Rattle.acpi_arguments.specs.declared.words.Job.{Job}
-use Rattle.acpi_arguments.specs.declared.words.Job.TheVariants.{Check, Confirm, Find, Lint, Rebuild, Show}
-use Rattle.acpi_arguments.specs.declared.words.WordFault.TheVariants as fault
 
 reports_asked : (what : Asked) (job : Job) → Does what job → (m : Memory) (bytes : List ℕ) (returned : Outcome)
     → ReportsJob job m bytes returned → ReportsAsked what m bytes returned

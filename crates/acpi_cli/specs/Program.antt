@@ -1,14 +1,14 @@
 -- What the program does with its arguments, and its exit status.
 use Rattle.std.specs.Prelude.{ℕ, Result, Ok, Err, ◌≡◌, ◌⊎◌, List, Option, Some, None}
-use Rattle.acpi_cli.specs.declared.outcome.Outcome.{Outcome}
-use Rattle.acpi_cli.specs.declared.outcome.Outcome.TheVariants as outcome
-use Rattle.acpi_cli.specs.declared.outcome.RunFault.{RunFault}
-use Rattle.acpi_cli.specs.declared.outcome.RunFault.TheVariants as run
 use Rattle.std.specs.Io.KnownBytes.{Keeps}
 use Rattle.acpi_base.specs.Memory.{Memory}
 use Rattle.acpi_base.specs.Codes.{stage_number}
 use Rattle.acpi_base.specs.declared.stage.Stage.{Stage}
 use Rattle.acpi_arguments.specs.CommandLine.{Asked, check, confirm, find, lint, rebuild, show}
+use Rattle.acpi_cli.specs.declared.outcome.Outcome.{Outcome}
+use Rattle.acpi_cli.specs.declared.outcome.Outcome.TheVariants as outcome
+use Rattle.acpi_cli.specs.declared.outcome.RunFault.{RunFault}
+use Rattle.acpi_cli.specs.declared.outcome.RunFault.TheVariants as run
 use Rattle.acpi_cli.specs.Commands.{Device, HasNotFailed, ReportsCheck, ReportsConfirm, ReportsFound, ReportsLint, ReportsRebuild, ReportsShow, Runs}
 
 -- ---- the exit status for what a command function returns

@@ -95,7 +95,7 @@ cell_there slit at n size from below is =
     record {
       size = size;
       place = record { row = omega arith; column = omega arith; place = where_is };
-      says = slit_distance slit (place / n) (place % n) ∙ ap (slice_index slit) (sym where_is);
+      says = slit_distance slit (place / n) (place % n) ∙ ap (slice_index slit) (omega (arith, where_is));
     }
 
 pub ruleset cells = (none_before, none_behind, some_rows, cell_there)

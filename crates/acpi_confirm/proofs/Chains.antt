@@ -7,10 +7,9 @@ use Rattle.acpi_base.specs.Entries.{PlacedEntry, Stands, first_entry, entries_of
 use Rattle.acpi_base.proofs.Elements.{first_or_later, no_element}
 use Rattle.acpi_base.proofs.Images.PresentBytes.{cases_Option, none_and_some}
 use Rattle.acpi_base.proofs.EntryOffsets.{entry_within}
-use Rattle.acpi_base.proofs.EntrySteps.{is_next, is_end}
 use Rattle.acpi_confirm.specs.Links.{IsStepTo}
 use Rattle.acpi_confirm.specs.Walks.{IsOnWay, IsOnly}
-use Rattle.acpi_confirm.proofs.Walks.{at_first, at_next}
+use Rattle.acpi_confirm.proofs.Walks.{is_end, is_next, at_first, at_next}
 
 -- ---- a walk that goes on
 

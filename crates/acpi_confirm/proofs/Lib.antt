@@ -8,4 +8,5 @@ pub mod MadtFaults
 pub mod PpttEntries
 pub mod Roots
 pub mod SratFaults
+pub mod Starts
 pub mod Walks

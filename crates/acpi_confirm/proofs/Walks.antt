@@ -1,4 +1,4 @@
--- A walk over the entries of a table, and notes of where they begin.
+-- A walk over the entries of a table.
 use Rattle.std.proofs.Common.{◌≡◌, ℕ, ◌+◌, ◌<◌, ◌≤◌, List, [], ◌∷◌, length, drop, Option, Some, None, refl, ap, ◌∙◌, sym, subst, inl, inr, arith, length-drop}
 use Rattle.std.specs.Prelude.{◌⊎◌}
 use Rattle.std.proofs.lemmas.List.{nil_from_length}
@@ -10,19 +10,34 @@ use Rattle.acpi_base.proofs.Elements.{first_element, later_element, first_or_lat
 use Rattle.acpi_base.proofs.Images.PresentBytes.{none_and_some}
 use Rattle.acpi_base.proofs.EntryOffsets.{entry_within}
 use Rattle.acpi_base.proofs.EntrySteps as step
-use Rattle.acpi_confirm.specs.Walks.{IsThere, IsEnd, IsNext, IsOnWay, HasEntryAt, AreStarts, AreNotedWith}
-use Rattle.acpi_base.proofs.EntrySteps.{is_next, is_end}
-use Rattle.acpi_base.proofs.Entries.{nothing_at_end}
-use Rattle.acpi_confirm.proofs.Chains.{ahead}
+use Rattle.acpi_confirm.specs.Walks.{IsThere, IsEnd, IsNext, IsOnWay}
 
 -- ---- a step of the walk
 
+pub is_end : (start : ℕ) (whole : List ℕ) → first_entry (drop start whole) ≡ None → IsEnd start whole
+is_end start whole none = (let end = step.is_end start whole none in record { none = end.none; end = end.end })
+
+pub is_next : (start : ℕ) (whole e : List ℕ) → first_entry (drop start whole) ≡ Some e → IsNext start whole e
+is_next start whole e is =
+    let next = step.is_next start whole e is in
+    let least = next.entry.least in
+    record {
+      entry = next.entry;
+      fits = omega (arith, next.fits, length-drop start whole);
+      first = next.first;
+      end = next.end;
+    }
+
 -- ---- the walk
+
+nothing_behind : first_entry [] ≡ None
+unfolding first_entry
+nothing_behind = refl
 
 pub is_past : (start : ℕ) (whole : List ℕ) → length whole ≤ start → IsEnd start whole
 is_past start whole past =
     is_end start whole (ap first_entry (nil_from_length (drop start whole) (omega (arith, length-drop start whole)))
-    ∙ nothing_at_end)
+    ∙ nothing_behind)
 
 pub end_or_next : (start : ℕ) (whole : List ℕ) (found : Option (Bor (List ℕ)))
     → option_map (λ entry. entry.now) found ≡ first_entry (drop start whole)
@@ -116,30 +131,3 @@ pub over_all : (No : List ℕ → Type 0) (first start : ℕ) (whole : List ℕ)
     → IsEnd start whole → (o : ℕ) (e : List ℕ) → Stands (entries_of first whole) o e → No e
 over_all No first start whole over end o e stands =
     elim (over.passed o e stands) [ inl left ↦ absurd (no_element _ (rw end.none at left)) | inr passed ↦ passed ]
-
--- ---- what is noted
-
-pub noted_with : (size start : ℕ) (old new whole : List ℕ) → AreStarts size old whole → HasEntryAt whole start
-    → AreNotedWith size start old new → AreStarts size new whole
-noted_with size start old new whole starts here with =
-    record {
-      some = starts.some;
-      stand = λ o noted. elim (with.either o noted) [
-        | inl before ↦ starts.stand o before
-        | inr is ↦ subst (HasEntryAt whole) (sym is) here
-      ];
-    }
-
--- ---- the walk over all entries
-
-pub has_entry : (No : List ℕ → Type 0) (start : ℕ) (whole e : List ℕ) → IsOver No 36 start whole → IsNext start whole e
-    → HasEntryAt whole start
-has_entry No start whole e over next = (e, over.listed start e (rw next.first (first_element _ _)))
-
--- ---- a look-up
-
-pub there_ahead : (pptt : List ℕ) (start at : ℕ) (there : Option (List ℕ)) → HasEntryAt pptt start → start ≤ at
-    → IsThere (entries_of start pptt) at there → IsThere (entries_of 36 pptt) at there
-there_ahead pptt start at there (e, stands) behind is =
-    let way = ahead (length pptt) 36 start pptt at e (omega arith) stands behind in
-    record { is = λ x. (λ h. (is.is x).0 ((way.same x).0 h), λ h. (way.same x).1 ((is.is x).1 h)) }

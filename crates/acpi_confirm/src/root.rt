@@ -149,7 +149,7 @@ pub(crate) struct Root<'a> {
 }
 
 /// The root table that the RSDP at an address names, if it is complete and has its kind's signature.
-#[tactic(auto, using(acpi_base::proofs::Tables::Whole::signed_table))]
+#[tactic(auto, using(acpi_base::proofs::Tables::Faults::signed_table))]
 pub(crate) fn complete_root(image: &Image, address: u64) -> Option<Root<'_>>
     ensures found { MatchOption result ((d : ℕ) (bytes : List ℕ)
         → ¬ IsCompleteRoot image.now address d bytes)

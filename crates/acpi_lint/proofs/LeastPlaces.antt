@@ -2,11 +2,11 @@
 use Rattle.std.proofs.Common.{◌≡◌, ℕ, refl, sym, inr, arith, ◌<◌, ◌≤◌, List, Option, Some, None, subst, inl}
 use Rattle.std.specs.Prelude.{◌↔◌, IsTrue, Bool, true, false, ◌⊎◌, IfSome}
 use Rattle.std.specs.Bool.{then_some}
-use Rattle.acpi_lint.specs.Places.{IsNotAfter, FindsLeast, IsLeast}
-use Rattle.acpi_lint.specs.declared.place.Place.{Place}
 use Rattle.std.proofs.lemmas.Option.{same_Some}
 use Rattle.std.proofs.lemmas.Bool.{cases_lt}
 use Rattle.acpi_base.specs.Entries.{PlacedEntry, StandsWith, AreUnused}
+use Rattle.acpi_lint.specs.Places.{IsNotAfter, FindsLeast, IsLeast}
+use Rattle.acpi_lint.specs.declared.place.Place.{Place}
 
 -- ---- what holds at one place at most
 

@@ -9,13 +9,13 @@ use Rattle.acpi_base.specs.Entries.{PlacedEntry, Stands, StandsWith}
 use Rattle.acpi_base.specs.Number.{field}
 use Rattle.acpi_base.specs.Pptt.{PpttEntry, Node, NodeValue, PpttContents, pptt_contents, Says, IsResourceAt, ReferenceFault}
 use Rattle.acpi_base.specs.declared.code.Code.TheVariants as code
-use Rattle.acpi_check.proofs.EntryPasses.Kept.{kept_has, kept_from}
-use Rattle.acpi_check.proofs.NodeLinks.NamedPlaces.{numbers_in, number_is, is_number}
 use Rattle.acpi_base.proofs.Images.PresentBytes.{cases_Option}
 use Rattle.acpi_check.specs.Chains.{named_offset}
 use Rattle.acpi_check.specs.EntryPlaces.{IsIn}
 use Rattle.acpi_check.specs.declared.nodes.Chain.{Chain}
 use Rattle.acpi_check.specs.declared.offset_set.OffsetSet.{OffsetSet}
+use Rattle.acpi_check.proofs.EntryPasses.Kept.{kept_has, kept_from}
+use Rattle.acpi_check.proofs.NodeLinks.NamedPlaces.{numbers_in, number_is, is_number}
 use Rattle.acpi_lint.specs.Places.{FindsOwn, FindsLeast}
 use Rattle.acpi_lint.specs.References.{offset_where, is_linked, is_resource, AreOffsets, IsDanglingLink, NamesNoLink, NamesNoResource}
 use Rattle.acpi_lint.specs.declared.place.Place.{Place}

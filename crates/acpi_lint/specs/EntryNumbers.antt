@@ -4,6 +4,9 @@ use Rattle.std.specs.Option.{option_and_then}
 use Rattle.acpi_base.specs.Lint.Processors as said
 use Rattle.acpi_base.specs.Lint.Processors.{placed_uid, processor_domain, apic_id_on, gicc_uid_on, placed_apic_id, AreProcessorsRead}
 use Rattle.acpi_base.specs.Srat.{SratEntry}
+use Rattle.acpi_base.specs.Entries.{PlacedEntry}
+use Rattle.acpi_base.specs.Lint.Numbered.{IsNamed}
+use Rattle.acpi_base.specs.Madt.{MadtEntry, MadtContents}
 use Rattle.acpi_check.specs.PassResults.{Collects}
 use Rattle.acpi_lint.specs.Numbered.{IsUnlikeAt}
 use Rattle.acpi_lint.specs.Places.{FindsLeast}
@@ -11,9 +14,6 @@ use Rattle.acpi_lint.specs.declared.numbered.Numbered.{Numbered}
 use Rattle.acpi_lint.specs.declared.numbered.Order.TheVariants.{Later}
 use Rattle.acpi_lint.specs.declared.place.Place.{Place}
 use Rattle.acpi_lint.specs.declared.processors.Processor.{Processor}
-use Rattle.acpi_base.specs.Entries.{PlacedEntry}
-use Rattle.acpi_base.specs.Lint.Numbered.{IsNamed}
-use Rattle.acpi_base.specs.Madt.{MadtEntry, MadtContents}
 
 -- ---- numbers that are read from entries
 

@@ -1,11 +1,7 @@
 -- Places of findings: the lowest, the first of a table's entries, and those of the FADT, the FACS and the SLIT.
 use Rattle.std.specs.Prelude.{◌≡◌, ℕ, List, [], ◌∷◌, Option, Some, None, ◌<◌, ◌≤◌, ◌⊎◌, ◌+◌, ◌*◌, length}
 use Rattle.acpi_base.specs.Order.{AreNotAfter}
-use Rattle.acpi_lint.specs.declared.place.Place.{Place}
 use Rattle.acpi_base.specs.Entries.{PlacedEntry, AreUnused}
-use Rattle.acpi_read.specs.EntryTables.{EntryTable}
-use Rattle.acpi_lint.specs.declared.passes.SoughtEntry.{SoughtEntry}
-use Rattle.acpi_lint.specs.declared.passes.SoughtEntry.TheVariants as sought
 use Rattle.acpi_base.specs.Fadt.{gas_at, FadtTableFault}
 use Rattle.acpi_base.specs.Lint.FadtAdvice.{DoFieldsDiffer}
 use Rattle.acpi_base.specs.declared.code.Code.{Code}
@@ -13,6 +9,10 @@ use Rattle.acpi_base.specs.Facs.{NamedFacsFault}
 use Rattle.acpi_base.specs.Memory.{Memory}
 use Rattle.acpi_base.specs.Slit.{SlitContents, HasSlitSize}
 use Rattle.acpi_base.specs.Lint.SlitAdvice.{IsSlitDiffers}
+use Rattle.acpi_read.specs.EntryTables.{EntryTable}
+use Rattle.acpi_lint.specs.declared.place.Place.{Place}
+use Rattle.acpi_lint.specs.declared.passes.SoughtEntry.{SoughtEntry}
+use Rattle.acpi_lint.specs.declared.passes.SoughtEntry.TheVariants as sought
 
 -- ---- places of findings, and the lowest of them
 

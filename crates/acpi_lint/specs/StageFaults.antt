@@ -1,8 +1,5 @@
 -- Places of faults with a code, and what is found for a code and for a rule.
 use Rattle.std.specs.Prelude.{◌≡◌, ⊤, Option, Some, None, Result, Ok, Err, ℕ, option_map}
-use Rattle.acpi_check.specs.declared.refusal.Refusal.{Refusal}
-use Rattle.acpi_check.specs.declared.refusal.Refusal.TheVariants.{Fault}
-use Rattle.acpi_lint.specs.declared.place.Place.{Place}
 use Rattle.acpi_base.specs.Memory.{Memory}
 use Rattle.acpi_base.specs.Policy.{PolicyValue}
 use Rattle.acpi_base.specs.Faults.{FaultCondition}
@@ -13,6 +10,9 @@ use Rattle.acpi_base.specs.declared.rule.Rule.{Rule}
 use Rattle.acpi_base.specs.declared.code.Code.{Code}
 use Rattle.acpi_base.specs.declared.stage.Stage.{Stage}
 use Rattle.acpi_base.specs.declared.witness.Witness.{Witness}
+use Rattle.acpi_check.specs.declared.refusal.Refusal.{Refusal}
+use Rattle.acpi_check.specs.declared.refusal.Refusal.TheVariants.{Fault}
+use Rattle.acpi_lint.specs.declared.place.Place.{Place}
 
 -- the place is that of the verdict's fault, or there is none if the stage holds
 abbrev pub IsPlaceOf : Result ⊤ Refusal → Option Place → Type 0

@@ -1,8 +1,8 @@
 -- The offsets of a FADT's fields, and what the views of a FADT and a FACS return (ACPI 6.5, 5.2.9, 5.2.10).
-use Rattle.acpi_base.specs.Fadt as fadt
-use Rattle.acpi_read.specs.declared.fadt.FieldPlace.{FieldPlace}
 use Rattle.std.specs.Prelude.{ℕ, List}
+use Rattle.acpi_base.specs.Fadt as fadt
 use Rattle.acpi_base.specs.Fadt.{BlockValue, NoBlock, GasBlock, PortBlock}
+use Rattle.acpi_read.specs.declared.fadt.FieldPlace.{FieldPlace}
 use Rattle.acpi_read.specs.Structures.{gas_value}
 use Rattle.acpi_read.specs.declared.fadt.Block.{Block}
 use Rattle.acpi_read.specs.declared.fadt.Block.TheVariants as block

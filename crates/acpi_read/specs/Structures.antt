@@ -1,11 +1,11 @@
 -- Headers (ACPI 6.5, 5.2.6), generic addresses (5.2.3.2) and the heads of nodes (5.2.30.1) as the plain values of the
 -- definitions.
-use Rattle.acpi_base.specs.Header.{HeaderValue}
-use Rattle.acpi_read.specs.declared.header.Header.{Header}
-use Rattle.acpi_base.specs.Fadt.{GasValue}
-use Rattle.acpi_read.specs.declared.gas.Gas.{Gas}
 use Rattle.std.proofs.Common.{◌≡◌, ◌≤◌, ℕ, ap, sym, subst, ◌∙◌}
 use Rattle.std.specs.Coded.{le_prop}
+use Rattle.acpi_base.specs.Header.{HeaderValue}
+use Rattle.acpi_base.specs.Fadt.{GasValue}
+use Rattle.acpi_read.specs.declared.header.Header.{Header}
+use Rattle.acpi_read.specs.declared.gas.Gas.{Gas}
 use Rattle.acpi_read.specs.Pptts.{node_head_values}
 use Rattle.acpi_read.specs.declared.pptt.node_head.NodeHead.{NodeHead}
 

@@ -4,12 +4,12 @@ use Rattle.std.proofs.lemmas.List.{take-take}
 use Rattle.acpi_base.specs.Memory.{Memory}
 use Rattle.acpi_base.specs.Signature.{has_signature}
 use Rattle.acpi_base.specs.Tables.{IsTable, table_frame, IsValidTable, TableFault}
-use Rattle.acpi_base.proofs.Frames.{header_is, stands_wrong}
 use Rattle.acpi_base.specs.Codes.{stage_of}
 use Rattle.acpi_base.specs.declared.code.Code.{Code}
 use Rattle.acpi_base.specs.declared.code.Code.TheVariants as code
 use Rattle.acpi_base.specs.declared.frame.Question.TheVariants as question
 use Rattle.acpi_base.specs.declared.stage.Stage.TheVariants as stage
+use Rattle.acpi_base.proofs.Frames.{header_is, stands_wrong}
 use Rattle.acpi_base.proofs.Faults.Deciding.{Decided}
 use Rattle.acpi_base.proofs.Frames as frame
 

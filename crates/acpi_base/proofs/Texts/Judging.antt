@@ -1,21 +1,21 @@
 -- What `read_image` returns.
 use Rattle.std.proofs.Common.{◌≡◌, ℕ, List, [], ◌∷◌, true, arith, ◌⊎◌, inl, inr, ◌+◌, ◌≤◌, ◌++◌, length, take, refl, sym, subst, ap, ◌∙◌, length-append}
 use Rattle.std.specs.Prelude.{Err, Option, Result, Ok, IfOk, IfErr, MatchResult}
-use Rattle.acpi_base.specs.Text.ImageText.{Line, Reading, take_line, read_line, read_lines, IsRefused, max_text, read_text, IsText, IsRefusedPrefix}
-use Rattle.acpi_base.specs.Text.TextReading.{is_of_text, IsRefusal, CountsRead}
-use Rattle.acpi_base.specs.declared.text.TextFault.{TextFault}
 use Rattle.std.specs.Io.KnownBytes.{Consumes, IsAtEnd, Keeps}
 use Rattle.std.proofs.KnownBytes.{Consumes-trans, Consumes-kept}
 use Rattle.std.proofs.lemmas.List.{take-append-le}
+use Rattle.acpi_base.specs.Text.ImageText.{Line, Reading, take_line, read_line, read_lines, IsRefused, max_text, read_text, IsText, IsRefusedPrefix}
+use Rattle.acpi_base.specs.Text.TextReading.{is_of_text, IsRefusal, CountsRead}
+use Rattle.acpi_base.specs.declared.text.TextFault.{TextFault}
 use Rattle.acpi_base.specs.Memory.{Memory}
 use Rattle.acpi_base.specs.Text.TextMachine.{ReaderState, Stopped, EndsAs, initial_state, run, text_result, prefix_result}
 use Rattle.acpi_base.specs.Tally.{CountsFailure}
 use Rattle.acpi_base.specs.Text.LineBuffers.{HasRead, IsLineBuffer, byte_count, state_with}
 use Rattle.acpi_base.specs.declared.text.image_text.line_buffer.LineBuffer.{LineBuffer}
-use Rattle.acpi_base.proofs.Texts.LineBuffers.{short_bounds}
 use Rattle.acpi_base.specs.Text.Lines.{Refuses, reading_with, judged_by, told}
 use Rattle.acpi_base.specs.declared.text.image_text.line_parser.LineParser.{LineParser}
 use Rattle.acpi_base.specs.declared.text.TextFault.TheVariants as text
+use Rattle.acpi_base.proofs.Texts.LineBuffers.{short_bounds}
 use Rattle.acpi_base.proofs.Texts.ByteMachine.{run_append, run_reads_text, run_reads_prefix, refused_where_stopped, prefix_is_decided}
 
 -- ---- what a text is refused with is a fault of the text: neither a failed read nor out of memory

@@ -1,10 +1,10 @@
 -- The bytes of an image: as runs, from an address on, and with running sums.
 use Rattle.std.specs.Prelude.{◌≡◌, ℕ, List, length, take, Some, None, nat_lt, if◌then◌else◌, ◌+◌, ◌*◌, ◌/◌, ◌<◌, slice_index, ◌-◌, ◌^◌, ◌≤◌, [], ◌∷◌, slice_get, Option}
-use Rattle.acpi_base.specs.Memory.{Memory, bytes_at, with_bytes}
-use Rattle.acpi_base.specs.Number.{byte_sum}
 use Rattle.std.specs.Option.{option_or}
 use Rattle.std.specs.List.{AllByRecursion}
 use Rattle.std.specs.FinMap.{empty}
+use Rattle.acpi_base.specs.Memory.{Memory, bytes_at, with_bytes}
+use Rattle.acpi_base.specs.Number.{byte_sum}
 
 -- ---- the bytes of an image from an address on
 

@@ -6,11 +6,11 @@ use Rattle.std.proofs.lemmas.List.{get_or_default}
 use Rattle.std.proofs.lemmas.List.Elements.{Contains-get_or}
 use Rattle.std.proofs.lemmas.Option.{same_Some, slice_get-get_or}
 use Rattle.acpi_base.specs.Chains.{IsAt, IsStep, LeadsTo, IsCycle}
+use Rattle.acpi_base.specs.Faults.{NotAfter}
+use Rattle.acpi_base.specs.declared.code.Code.{Code}
 use Rattle.acpi_base.proofs.Chains.{IsNumbered, pigeonhole, cycle_begins}
 use Rattle.acpi_base.proofs.Faults.Least.{witness}
 use Rattle.acpi_base.proofs.Images.PresentBytes.{cases_Option}
-use Rattle.acpi_base.specs.Faults.{NotAfter}
-use Rattle.acpi_base.specs.declared.code.Code.{Code}
 use Rattle.acpi_graph.specs.Parents as graph
 use Rattle.acpi_graph.specs.Parents.{AreNodes, parent_of, node_after, Returns, IsFirstStray, IfRound}
 use Rattle.acpi_graph.specs.declared.stray.Stray.{Stray}

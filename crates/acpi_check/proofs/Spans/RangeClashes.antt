@@ -10,11 +10,11 @@ use Rattle.acpi_base.specs.Faults.{IsFirstFault}
 use Rattle.acpi_base.specs.declared.code.Code.TheVariants as code
 use Rattle.acpi_base.specs.declared.stage.Stage.TheVariants as stage
 use Rattle.acpi_base.specs.declared.witness.Witness.{Witness}
-use Rattle.acpi_base.proofs.Faults.HoldsOrFault.{first_of_set}
-use Rattle.acpi_check.specs.TableResults.{IsOverlap}
 use Rattle.acpi_base.specs.Srat.{srat_contents, Covers, IsFirstOverlap, RangeFault}
+use Rattle.acpi_base.proofs.Faults.HoldsOrFault.{first_of_set}
 use Rattle.acpi_base.proofs.Srat.Ranges.{is_fault}
 use Rattle.acpi_graph.specs.declared.span.Span.{Span}
+use Rattle.acpi_check.specs.TableResults.{IsOverlap}
 use Rattle.acpi_check.specs.RangeSpans.{AreSpansOf, span_value, covered_span, spans_of, counts, IsOfKind}
 use Rattle.acpi_check.specs.declared.range_kind.RangeKind.{RangeKind}
 use Rattle.acpi_check.specs.declared.range_kind.RangeKind.TheVariants as kind

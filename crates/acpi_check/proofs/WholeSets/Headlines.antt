@@ -9,8 +9,8 @@ use Rattle.acpi_base.specs.declared.stage.Stage.{Stage}
 use Rattle.acpi_base.specs.declared.stage.Stage.TheVariants as stage
 use Rattle.acpi_base.specs.declared.verdict.Verdict.{Verdict}
 use Rattle.acpi_base.specs.declared.verdict.Verdict.TheVariants.{Yes, No}
-use Rattle.acpi_base.proofs.Faults.Stages.{excludes}
 use Rattle.acpi_base.specs.Statements.{IsClean}
+use Rattle.acpi_base.proofs.Faults.Stages.{excludes}
 use Rattle.acpi_check.specs.StageResults.{IfNo}
 
 to_18 : (s : Stage) → stage_number s ≤ 18

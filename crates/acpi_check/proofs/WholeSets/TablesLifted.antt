@@ -11,12 +11,12 @@ use Rattle.acpi_base.specs.declared.code.Code.{Code}
 use Rattle.acpi_base.specs.declared.stage.Stage.{Stage}
 use Rattle.acpi_base.specs.TableKinds.{signature_of}
 use Rattle.acpi_base.specs.declared.table_kind.TableKind.{TableKind}
-use Rattle.acpi_read.specs.FirstTables.{first_table}
-use Rattle.acpi_read.specs.declared.first_tables.FirstTables.{FirstTables}
 use Rattle.acpi_base.specs.declared.witness.Witness.{Witness}
 use Rattle.acpi_base.proofs.Faults.ListedTables.{of_listed, for_listed}
 use Rattle.acpi_base.proofs.Faults.HoldsOrFault.{first_of_set}
 use Rattle.acpi_base.proofs.Tables.Listed.{none_and_listed}
+use Rattle.acpi_read.specs.FirstTables.{first_table}
+use Rattle.acpi_read.specs.declared.first_tables.FirstTables.{FirstTables}
 use Rattle.acpi_check.specs.TableResults.{IsFirstOfTable, Finds, FindsFirst, AreFirstTables}
 use Rattle.acpi_check.specs.StageResults.{IsStageResult}
 use Rattle.acpi_check.specs.Set.{IsReady, IsSetResult}

@@ -1,13 +1,7 @@
-use Rattle.std.proofs.Common.{inl}
+use Rattle.acpi_cli.proofs.Reporting.{ran}
 use Rattle.acpi_cli.proofs.check.run_check.Goals as goal
 
 pub returns : goal.returns
 returns g c =
-    inl (
-      c.in_ok-image.image,
-      c.in-Ok.output.bytes.items,
-      c.in-Ok.output.outcome,
-      c.in_ok-image.ensures,
-      c.in-Ok.ensures,
-      c.write_output.ensures,
-    )
+    ran _ _ _ _ _ c.check_output-output.result c.in_ok-image.ensures c.check_output-output.ensures
+    c.write_output.ensures.made c.write_output.ensures.memory

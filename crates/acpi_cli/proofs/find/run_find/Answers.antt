@@ -1,13 +1,7 @@
-use Rattle.std.proofs.Common.{inl}
+use Rattle.acpi_cli.proofs.Reporting.{ran}
 use Rattle.acpi_cli.proofs.find.run_find.Goals as goal
 
 pub returns : goal.returns
 returns g c =
-    inl (
-      c.in_ok-image.image,
-      c.in-Ok.output.bytes.items,
-      c.in-Ok.output.outcome,
-      c.in_ok-image.ensures,
-      c.in-Ok.ensures,
-      c.write_output.ensures,
-    )
+    ran _ _ _ _ _ c.find_output-output.result c.in_ok-image.ensures c.find_output-output.ensures
+    c.write_output.ensures.made c.write_output.ensures.memory

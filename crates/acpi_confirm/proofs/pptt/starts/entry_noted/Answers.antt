@@ -1,4 +1,4 @@
-use Rattle.acpi_confirm.proofs.Walks.{there_ahead}
+use Rattle.acpi_confirm.proofs.Starts.{there_ahead}
 use Rattle.acpi_confirm.proofs.pptt.starts.entry_noted.Goals as goal
 
 pub returns-in-Some-clause-there : goal.returns-in-Some-clause-there

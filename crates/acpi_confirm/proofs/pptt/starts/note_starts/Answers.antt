@@ -1,4 +1,5 @@
-use Rattle.acpi_confirm.proofs.Walks.{has_entry, noted_with, over_next}
+use Rattle.acpi_confirm.proofs.Starts.{has_entry, noted_with}
+use Rattle.acpi_confirm.proofs.Walks.{over_next}
 use Rattle.acpi_confirm.proofs.pptt.starts.note_starts.Goals as goal
 
 pub loop-entry-preserved : goal.loop-entry-preserved
