@@ -274,8 +274,8 @@ numbered! {
         ///
         /// Numbers: `at` is the structure's offset.
         PpttEntryLength = 51,
-        /// Parent of a node is not 0, and no node begins at it. A structure of type 0 whose Length is not that of a
-        /// node is no node.
+        /// Parent of a node is not 0, and no node begins at it. A structure of type 0 with another Length than a node's
+        /// is not a node.
         ///
         /// Numbers: `at` is the node's offset, `other` is the Parent.
         DanglingParent = 52,
