@@ -25,7 +25,7 @@ use std::marker::Model;
 /// of all other tables.
 ///
 /// A root table returned by `read` sums to 0 and has a whole number of slots; neither is known of one returned by
-/// `whole`. Whether there are tables at the addresses in its slots is not checked. Contracts see its address, the
+/// `complete`. Whether there are tables at the addresses in its slots is not checked. Contracts see its address, the
 /// width of its slots in bytes and its bytes.
 #[derive(Debug, Drop)]
 pub struct Root<'a> {
@@ -216,7 +216,7 @@ impl<'a> Root<'a> {
     /// The root table that the RSDP at an address names, if it is a complete table with its kind's signature,
     /// whatever its bytes and those of the RSDP sum to, and even if its Length ends within a slot. None if the RSDP
     /// cannot be read or names none, and if no such table is there.
-    pub fn whole(image: &'a Image, rsdp: u64) -> Option<Root<'a>>
+    pub fn complete(image: &'a Image, rsdp: u64) -> Option<Root<'a>>
         ensures { MatchOption result ((root : RootValue) → ¬ IsCompleteRoot image.now rsdp root)
             (IsCompleteRoot image.now rsdp) }
     {

@@ -16,7 +16,7 @@ use acpi_base::{Code, Frame, Image, Question, sum};
 use std::marker::Model;
 
 /// A system description table of any kind (ACPI 6.5, 5.2.6): as many bytes as its Length says, from 36 to 2^32 - 1. A
-/// table that was read by `read`, or that is known to be valid (`valid`), sums to 0; one that was read by `whole` may
+/// table that was read by `read`, or that is known to be valid (`valid`), sums to 0; one that was read by `complete` may
 /// not. Contracts see the bytes.
 ///
 /// The signature, the revision and the bytes after the header are not checked.
@@ -93,7 +93,7 @@ impl<'a> Table<'a> {
 
     /// The table at an address, whatever its bytes sum to. None if there is no complete one: if its header's 36 bytes
     /// are not all present, its Length is below 36, or its Length bytes are not all present.
-    pub fn whole(image: &'a Image, address: u64) -> Option<Table<'a>>
+    pub fn complete(image: &'a Image, address: u64) -> Option<Table<'a>>
         ensures { MatchOption result
             ((header bytes : List ℕ) → ¬ IsTable image.now address header bytes)
             (λ bytes. (header : List ℕ) × IsTable image.now address header bytes) }
