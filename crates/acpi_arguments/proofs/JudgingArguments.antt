@@ -109,7 +109,8 @@ standing rows pending waiting =
 -- from here on the arguments have no fault, and give these rows
 pub record Reads (l : Line) (start : Walk) (words : List Text) (rows : List Row) : Type 0 where
   pub no_fault : walk_fault (shape l) [] start words ≡ []
-  pub settles : settle_fault (rules l.options l.flag) false (fold (walked (rules l.options l.flag) []) start words).present
+  pub settles : settle_fault (rules l.options l.flag) false
+      (fold (walked (rules l.options l.flag) []) start words).present
       ≡ []
   pub gives : (settled (rules l.options l.flag) (fold (walked (rules l.options l.flag) []) start words).present).rows
       ≡ rows

@@ -74,7 +74,8 @@ no_fault_to : (l : Line) (words : List Text) → HasCommand l
     → walk_fault program_line.top (names_of program_line) (walk_from nothing_present) (l.name ∷ words) ≡ []
 unfolding walked walk_fault
 no_fault_to l words has =
-    rw (has.met, has.no_help) (no_fault_behind program_line.top (names_of program_line) (walk_from nothing_present) l.name
+    rw (has.met, has.no_help)
+    (no_fault_behind program_line.top (names_of program_line) (walk_from nothing_present) l.name
     [] words)
 
 -- what comes before it has no fault either

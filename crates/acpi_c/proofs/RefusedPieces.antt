@@ -251,7 +251,8 @@ shared_first m p earlier a made own taken least =
         go None e = refl
         go (Some c) e =
             let mine = a_value (byte_at p (p.address + j))
-            (present_some (run_at p.address p.bytes.now) (p.address + j) (omega arith) (omega (arith, inside, below))) in
+            (present_some (run_at p.address p.bytes.now) (p.address + j) (omega arith)
+            (omega (arith, inside, below))) in
             let theirs = (pieces_mean earlier m made (p.address + j) c).0 e in
             let above = least (p.address + j) mine.0 c (byte_at_has p (p.address + j) mine.0 mine.1) theirs in
             absurd (omega (arith, above, below))

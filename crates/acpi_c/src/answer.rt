@@ -98,7 +98,11 @@ impl From<Refusal> for Answer {
             }
             Refusal::BadLine { line } => Answer::with_at(AnswerKind::BadLine, line),
             Refusal::NoAddress { line } => Answer::with_at(AnswerKind::NoAddress, line),
-            Refusal::TextOverlap { address } => Answer::with_two(AnswerKind::TextOverlap, 0, address),
+            Refusal::TextOverlap { address } => Answer::with_two(
+                AnswerKind::TextOverlap,
+                0,
+                address,
+            ),
             Refusal::TextPastEnd { line } => Answer::with_at(AnswerKind::TextPastEnd, line),
             Refusal::TextTooLong => Answer::plain(AnswerKind::TextTooLong),
         }
@@ -127,7 +131,11 @@ impl From<Verdict> for Answer {
 pub fn yes_or_no(is_so: bool) -> Answer
     ensures { result ≡ confirm_answer (Ok is_so) }
 {
-    Answer::plain(if is_so { AnswerKind::Yes } else { AnswerKind::No })
+    Answer::plain(if is_so {
+        AnswerKind::Yes
+    } else {
+        AnswerKind::No
+    })
 }
 
 /// The answer of a search for the RSDP.

@@ -78,7 +78,8 @@ leaf_slot k a slot =
 signed_as : {m : Memory} {signature : List ℕ} (a : ℕ) (header : List ℕ) → bytes_at m a 36 ≡ Some header
     → IsSigned m a signature → has_signature header signature ≡ true
 signed_as {signature = signature} a header present it =
-    subst (λ (h : List ℕ). has_signature h signature ≡ true) (same_value it.header header it.header_present present) it.signed
+    subst (λ (h : List ℕ). has_signature h signature ≡ true) (same_value it.header header it.header_present present)
+    it.signed
 
 first_signed : (signature : List ℕ) (a : ℕ) → a ≡ 0x2000 → IsSigned leaf_set a signature
     → has_signature (take 36 uid_bytes) signature ≡ true

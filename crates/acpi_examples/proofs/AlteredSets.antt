@@ -286,7 +286,8 @@ facs_faults = record {
   align = of_facs 0x2024 (Some 0x20) code.FacsAlign 0x3020 (omega arith) (omega arith) refl
       (changed 0x2024 0x20 129 refl refl (omega arith) refl) refl (omega arith)
       ((λ same. omega arith), refl, λ same. omega arith);
-  header_out = named 0x3007 None code.FacsHeaderOut (omega arith) (omega arith) refl (there, refl, present 0x3007 None 8);
+  header_out =
+      named 0x3007 None code.FacsHeaderOut (omega arith) (omega arith) refl (there, refl, present 0x3007 None 8);
   signature = named 0x3000 (Some 0x66) code.FacsSignature (omega arith) (omega arith) refl
       (there, refl, (_, present 0x3000 (Some 0x66) 8, refl));
   size = named 0x3004 (Some 63) code.FacsLength (omega arith) (omega arith) refl

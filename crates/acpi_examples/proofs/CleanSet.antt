@@ -116,7 +116,8 @@ valid_tables k a slot =
     each_slot (λ k a. IsValidTable example_set a)
     (valid fadt_bytes tables.fadt refl) (valid madt_bytes tables.madt refl) (valid srat_bytes tables.srat refl)
     (valid one_locality_bytes tables.slit refl) (valid new_leaf_bytes tables.pptt refl) k a
-    (slot_of_root example_set rsdp_at 0x1000 8 k a xsdt_bytes (root_of_present example_has_root) (root_table_of example_has_root)
+    (slot_of_root example_set rsdp_at 0x1000 8 k a xsdt_bytes (root_of_present example_has_root)
+    (root_table_of example_has_root)
     slot)
   where
     valid : {a : ℕ} (whole : List ℕ) → set.IsAt a whole → byte_sum whole ≡ 0 → IsValidTable example_set a

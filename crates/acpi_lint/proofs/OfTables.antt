@@ -157,7 +157,8 @@ own_of {Said = Said} Of read list low rises value {Answers = Answers} Is found s
 
 pub own_madt : (m : Memory) (q : PolicyValue) {E T : Type 0} (value : E → MadtEntry)
     {Answers : Bor (EntryAt E) → Option Place → Type 0} (Is : MadtEntry → ℕ → ℕ → Type 0) (found : Option Place)
-    (said : T → List (PlacedEntry MadtEntry)) (entries : Option T) {tables : CompleteTables} → AreCompleteTables m q.rsdp
+    (said : T → List (PlacedEntry MadtEntry)) (entries : Option T) {tables : CompleteTables}
+    → AreCompleteTables m q.rsdp
     tables
     → AreEntries 44 (λ whole. (madt_contents whole).entries) tables.madt (option_map said entries)
     → MatchOption entries (found ≡ None) (λ e. PicksFirst (Picks value Answers) (said e) found)
@@ -170,7 +171,8 @@ own_madt m q value Is found said entries are (view, long, same) is each =
 
 pub own_srat : (m : Memory) (q : PolicyValue) {E T : Type 0} (value : E → SratEntry)
     {Answers : Bor (EntryAt E) → Option Place → Type 0} (Is : SratEntry → ℕ → ℕ → Type 0) (found : Option Place)
-    (said : T → List (PlacedEntry SratEntry)) (entries : Option T) {tables : CompleteTables} → AreCompleteTables m q.rsdp
+    (said : T → List (PlacedEntry SratEntry)) (entries : Option T) {tables : CompleteTables}
+    → AreCompleteTables m q.rsdp
     tables
     → AreEntries 48 (λ whole. (srat_contents whole).entries) tables.srat (option_map said entries)
     → MatchOption entries (found ≡ None) (λ e. PicksFirst (Picks value Answers) (said e) found)
@@ -183,7 +185,8 @@ own_srat m q value Is found said entries are (view, long, same) is each =
 
 pub own_pptt : (m : Memory) (q : PolicyValue) {E T : Type 0} (value : E → PpttEntry)
     {Answers : Bor (EntryAt E) → Option Place → Type 0} (Is : PpttEntry → ℕ → ℕ → Type 0) (found : Option Place)
-    (said : T → List (PlacedEntry PpttEntry)) (entries : Option T) {tables : CompleteTables} → AreCompleteTables m q.rsdp
+    (said : T → List (PlacedEntry PpttEntry)) (entries : Option T) {tables : CompleteTables}
+    → AreCompleteTables m q.rsdp
     tables
     → option_map said entries ≡ option_map (λ whole. (pptt_contents whole).entries) tables.pptt
     → MatchOption entries (found ≡ None) (λ e. PicksFirst (Picks value Answers) (said e) found)
@@ -197,7 +200,8 @@ own_pptt m q value Is found said entries {tables = tables} are same is each =
 -- a number that repeats
 pub repeated_madt : (m : Memory) (q : PolicyValue) {E T X : Type 0} (value : E → MadtEntry)
     {Answers : Bor (EntryAt E) → Option Numbered → Type 0} (read : MadtEntry → Option ℕ) (r : Result (Option Place) X)
-    (said : T → List (PlacedEntry MadtEntry)) (entries : Option T) {tables : CompleteTables} → AreCompleteTables m q.rsdp
+    (said : T → List (PlacedEntry MadtEntry)) (entries : Option T) {tables : CompleteTables}
+    → AreCompleteTables m q.rsdp
     tables
     → AreEntries 44 (λ whole. (madt_contents whole).entries) tables.madt (option_map said entries)
     → IfOk r (λ found. MatchOption entries (found ≡ None) (λ e. FindsRepeated (Picks value Answers) (said e) found))

@@ -10,6 +10,7 @@ ghost use Rattle.acpi_lint.specs.Places.{FindsLeast};
 ghost use Rattle.acpi_lint.specs.StageFaults.{FindsFirstAdvice};
 ghost use Rattle.acpi_lint.specs.CompleteTables.{AreCompleteTables};
 
+use crate::complete_tables::CompleteTables;
 use crate::fadt_advice::{block_differs, dsdt_differs, facs_differs, fadt_of_revision};
 use crate::nowhere::{
     affinity_nowhere, leaf_nowhere, nmi_nowhere, no_domain, no_leaf, no_processor,
@@ -24,7 +25,6 @@ use crate::repeated::{repeated, same_cache_id, same_leaf, two_uid_domains};
 use crate::sci::sci_nowhere;
 use crate::slit::{rows, slit_differs};
 use crate::slot_advice::{listed_apart, listed_twice, second_table};
-use crate::complete_tables::CompleteTables;
 use acpi_base::{Advice, Image, Policy, Rule, TableKind};
 use std::alloc::{AllocError, Global};
 

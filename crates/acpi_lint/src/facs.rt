@@ -9,8 +9,8 @@ ghost use Rattle.acpi_lint.specs.Places.{IsFacsFault, IsFacsFaultOf, FindsLeast}
 ghost use Rattle.acpi_lint.specs.StageFaults.{IsFaultOfStage};
 ghost use Rattle.acpi_lint.specs.CompleteTables.{AreCompleteTables};
 
-use crate::place::Place;
 use crate::complete_tables::CompleteTables;
+use crate::place::Place;
 use acpi_base::{Code, Frame, Image, Question, TableKind};
 use acpi_read::{Fadt, Table, fails};
 

@@ -9,8 +9,8 @@ ghost use Rattle.acpi_lint.specs.Places.{IsFadtFault, FindsLeast};
 ghost use Rattle.acpi_lint.specs.StageFaults.{IsFaultOfStage};
 ghost use Rattle.acpi_lint.specs.CompleteTables.{AreCompleteTables};
 
-use crate::place::Place;
 use crate::complete_tables::CompleteTables;
+use crate::place::Place;
 use acpi_base::field::u8_at;
 use acpi_base::{Code, TableKind};
 use acpi_read::{Fadt, RESET_REG_SUP, Table, has_flag};

@@ -6,6 +6,7 @@ ghost use Rattle.acpi_base.specs.Lint.FirstOfCode.{FindsFirstOfCode};
 ghost use Rattle.acpi_lint.specs.StageFaults.{FindsFirstAt};
 ghost use Rattle.acpi_lint.specs.CompleteTables.{AreCompleteTables};
 
+use crate::complete_tables::CompleteTables;
 use crate::facs::facs_fault;
 use crate::fadt::fadt_fault;
 use crate::one_code::{
@@ -18,7 +19,6 @@ use crate::root::root_fault;
 use crate::rsdp::rsdp_fault;
 use crate::slit::slit_fault;
 use crate::slots::slot_fault;
-use crate::complete_tables::CompleteTables;
 use acpi_base::{Code, Image, Policy, Stage, TableKind, Witness};
 use acpi_check::Chain;
 use acpi_read::{MadtEntry, PpttEntry, SratEntry};

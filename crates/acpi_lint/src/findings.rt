@@ -4,8 +4,8 @@ ghost use Rattle.std.specs.Prelude.{IfOk};
 ghost use Rattle.acpi_base.specs.Lint.Findings.{AreFindings};
 
 use crate::advice::first_advice;
-use crate::faults::first_faults;
 use crate::complete_tables::CompleteTables;
+use crate::faults::first_faults;
 use acpi_base::{Advice, Image, Policy, Witness};
 use std::alloc::{AllocError, Global};
 

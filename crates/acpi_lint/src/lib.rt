@@ -33,6 +33,7 @@
 #![tactic(auto)]
 
 mod advice;
+mod complete_tables;
 mod facs;
 mod fadt;
 mod fadt_advice;
@@ -59,6 +60,5 @@ mod slot_advice;
 mod slots;
 mod table_at;
 mod verdicts;
-mod complete_tables;
 
 pub use findings::{Findings, lint};

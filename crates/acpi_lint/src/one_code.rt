@@ -12,13 +12,13 @@ ghost use Rattle.acpi_lint.specs.Places.{FindsLeast};
 ghost use Rattle.acpi_lint.specs.StageFaults.{IsFaultOfStage, FindsFirstAt};
 ghost use Rattle.acpi_lint.specs.CompleteTables.{AreCompleteTables};
 
+use crate::complete_tables::CompleteTables;
 use crate::place::Place;
 use crate::verdicts::place_of;
-use crate::complete_tables::CompleteTables;
 use acpi_base::{Policy, TableKind};
 use acpi_check::{
-    Chain, check_overrides, check_interrupts, check_ranges, first_cycle, check_leaves,
-    check_served, check_domains,
+    Chain, check_domains, check_interrupts, check_leaves, check_overrides, check_ranges,
+    check_served, first_cycle,
 };
 use acpi_read::Table;
 use std::alloc::{AllocError, Global};

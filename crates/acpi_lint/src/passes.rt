@@ -14,8 +14,8 @@ ghost use Rattle.acpi_read.specs.EntryTables.{entry_table, IsAbout};
 ghost use Rattle.acpi_read.specs.Entries.{entry_at_value};
 ghost use Rattle.acpi_read.specs.declared.entry_codes.Subject.{Subject};
 
-use crate::place::Place;
 use crate::complete_tables::CompleteTables;
+use crate::place::Place;
 use acpi_base::{Code, Policy, TableKind};
 use acpi_read::{EntryAt, Subject, Table, TableEntry, TypedEntries};
 

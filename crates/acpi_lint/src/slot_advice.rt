@@ -8,12 +8,12 @@ ghost use Rattle.acpi_lint.specs.Places.{FindsLeast};
 ghost use Rattle.acpi_lint.specs.Slots.{numbered_slot, second_place};
 ghost use Rattle.acpi_lint.specs.CompleteTables.{AreCompleteTables};
 
+use crate::complete_tables::CompleteTables;
 use crate::first_slots::FirstSlots;
 use crate::listed_slots::{Slot, first_slot};
 use crate::numbered::{Numbered, first_repeated};
 use crate::place::Place;
 use crate::table_at::Sought;
-use crate::complete_tables::CompleteTables;
 use std::alloc::{AllocError, Global};
 
 /// The addresses that slots list, each at its slot's number.

@@ -7,10 +7,10 @@ ghost use Rattle.acpi_lint.specs.Places.{FindsLeast};
 ghost use Rattle.acpi_lint.specs.StageFaults.{IsFaultOfStage};
 ghost use Rattle.acpi_lint.specs.CompleteTables.{AreCompleteTables};
 
+use crate::complete_tables::CompleteTables;
 use crate::listed_slots::first_slot;
 use crate::place::Place;
 use crate::table_at::Sought;
-use crate::complete_tables::CompleteTables;
 use acpi_base::Code;
 
 /// The first slot whose table has the fault with this code, and the table's address. The tables are those of the set.

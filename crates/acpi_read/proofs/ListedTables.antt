@@ -11,7 +11,8 @@ use Rattle.acpi_base.specs.Listed.{IsFirstListed, IsListedTable}
 use Rattle.acpi_base.proofs.Tables.Listed.{one_first_listed, listed_of_root, listed_in_root}
 use Rattle.acpi_read.specs.Roots.{RootValue, IsCompleteRoot}
 
-pub listed_of_set : {m : Memory} {p a : ℕ} {root : RootValue} {signature header whole : List ℕ} → IsCompleteRoot m p root
+pub listed_of_set : {m : Memory} {p a : ℕ} {root : RootValue} {signature header whole : List ℕ}
+    → IsCompleteRoot m p root
     → IsFirstListed m root.bytes root.width signature a → IsTable m a header whole → IsListedTable m p signature whole
 listed_of_set root first table = listed_in_root root.named root.table first table
 

@@ -43,7 +43,8 @@ pub bytes_at_present_by : (store : List ℕ) (ps : List Piece) (base begin a n :
 bytes_at_present_by store ps base begin a n = λ i. run_of (λ x. byte_of_present_by store ps base begin x i) a n
 
 pub first_present_by : (store : List ℕ) (ps : List Piece) (base begin a n : ℕ)
-    → first_present (memory_in_store store ps base begin) a n ≡ least_defined (lookup (all_runs store ps base begin)) a n
+    → first_present (memory_in_store store ps base begin) a n ≡ least_defined (lookup (all_runs store ps base begin)) a
+    n
 first_present_by store ps base begin a n = λ i. least_defined (λ x. byte_of_present_by store ps base begin x i) a n
 
 pub image_with : (m : Memory) (a : ℕ) (bs : List ℕ) → IsImage m → a + length bs ≤ 2 ^ 64

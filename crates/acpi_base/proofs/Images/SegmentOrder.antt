@@ -166,7 +166,8 @@ nothing_laid store ps e f = rw (e, f) (record {
           bytes = λ a b e. absurd (grind (arith, byte_of_memory_of [] a));
         }
 
-pub nothing_present_by : (store : List ℕ) (ps : List Piece) → store ≡ [] → ps ≡ [] → memory_in_store store ps 0 0 ≡ empty
+pub nothing_present_by : (store : List ℕ) (ps : List Piece) → store ≡ [] → ps ≡ []
+    → memory_in_store store ps 0 0 ≡ empty
 nothing_present_by store ps e f = rw (e, f) (sym (no_bytes empty 0 [] refl))
 
 -- ---- piece by piece

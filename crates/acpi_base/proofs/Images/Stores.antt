@@ -45,7 +45,8 @@ runs_in_more store more n (p ∷ ps) l lies =
       runs_in_more store more n ps l lies.1,
     ) refl
 
-pub none_present : (store : List ℕ) (n : ℕ) (ps : List Piece) (x : ℕ) → n ≤ length store → AllByRecursion (LiesBefore n) ps
+pub none_present : (store : List ℕ) (n : ℕ) (ps : List Piece) (x : ℕ) → n ≤ length store
+    → AllByRecursion (LiesBefore n) ps
     → AllByRecursion (λ p. (end_at p ≤ x) ⊎ (x < p.0)) ps → lookup (runs_in store ps) x ≡ None
 none_present store n [] x l lies clear = refl
 none_present store n (p ∷ ps) x l lies clear =
@@ -63,4 +64,5 @@ pub base_present : (store : List ℕ) (n : ℕ) (ps : List Piece) (k : ℕ) (d :
 base_present store n [] k d l lies h some = absurd (omega arith)
 base_present store n (p ∷ ps) zero d l lies h some =
     grind (arith, run_ends store p n l lies.0, present_some (run_in store p) p.0)
-base_present store n (p ∷ ps) (suc k) d l lies h some = grind (arith, base_present store n ps k d l lies.1 (omega arith) some)
+base_present store n (p ∷ ps) (suc k) d l lies h some =
+    grind (arith, base_present store n ps k d l lies.1 (omega arith) some)

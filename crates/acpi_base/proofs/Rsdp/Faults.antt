@@ -62,8 +62,10 @@ extended_part valid (head, present, more) =
 
 pub excludes : (m : Memory) (p : ℕ) (c : Code) → RsdpFault m p c → ¬ IsValidRsdp m p
 excludes m p code.RsdpOut out valid = none_and_some out valid.head_present
-excludes m p code.RsdpSignature (head, present, unsigned) valid = grind (arith, same_value, valid.head_present, valid.signed)
-excludes m p code.RsdpSum (head, present, sum) valid = grind (arith, same_value, sum, valid.head_present, valid.zero_sum)
+excludes m p code.RsdpSignature (head, present, unsigned) valid =
+    grind (arith, same_value, valid.head_present, valid.signed)
+excludes m p code.RsdpSum (head, present, sum) valid =
+    grind (arith, same_value, sum, valid.head_present, valid.zero_sum)
 excludes m p code.RsdpTailOut (is, fault) valid = stands_wrong question.Header fault (extended_part valid is).frame
 excludes m p code.RsdpLength (is, fault) valid = stands_wrong question.Length fault (extended_part valid is).frame
 excludes m p code.RsdpLongOut (is, fault) valid = stands_wrong question.Bytes fault (extended_part valid is).frame

@@ -36,7 +36,8 @@ stand kinds entries o =
 -- ---- in the loop over the entries
 
 -- the offsets so far, with those of the entries left, are those of all entries of the kinds
-pub record IsGathering (kinds : PlaceKind → Bool) (all left : List (PlacedEntry PpttEntry)) (offsets : OffsetSet) : Type 0
+pub record IsGathering (kinds : PlaceKind → Bool) (all left : List (PlacedEntry PpttEntry)) (offsets : OffsetSet) :
+    Type 0
   where
     pub each : (o : ℕ) → (IsIn offsets o ⊎ Contains (kind_offsets kinds left) o) ↔ Contains (kind_offsets kinds all) o
 

@@ -64,7 +64,8 @@ below_more m bytes d k a header whole signature None four slot table none =
     unsigned not_signed signed =
         both_ways (has_signature whole signature) not_signed
         (signed_table m a header whole signature table four
-        ∙ ap (λ h. has_signature h signature) (same_value header signed.header table.header_present signed.header_present)
+        ∙ ap (λ h. has_signature h signature)
+        (same_value header signed.header table.header_present signed.header_present)
         ∙ signed.signed)
 
     earlier : has_signature whole signature ≡ false → (j b : ℕ) → j < k + 1 → HasSlot bytes d j b

@@ -67,7 +67,8 @@ passed : {E : Type 0} (k : EntryType E) (kinds : List (EntryType E)) (opaque : L
     → has_form e k.type k.size ≡ false → value_of_kind (k ∷ kinds) opaque e ≡ value_of_kind kinds opaque e
 passed k kinds opaque e not = rw not refl
 
-pub length_by : {E : Type 0} (write : E → List ℕ) (kinds : List (EntryType E)) (opaque : List ℕ → E) → KeepKinds write kinds
+pub length_by : {E : Type 0} (write : E → List ℕ) (kinds : List (EntryType E)) (opaque : List ℕ → E)
+    → KeepKinds write kinds
     → ((e : List ℕ) → write (opaque e) ≡ e) → (e : List ℕ)
     → length (write (value_of_kind kinds opaque e)) ≡ length e
 length_by write [] opaque keep kept e = ap length (kept e)
@@ -79,7 +80,8 @@ length_by write (k ∷ kinds) opaque keep kept e =
     ]
 
 -- the bytes that are written for what an entry says say it again
-pub again_by : {E : Type 0} (write : E → List ℕ) (kinds : List (EntryType E)) (opaque : List ℕ → E) → KeepKinds write kinds
+pub again_by : {E : Type 0} (write : E → List ℕ) (kinds : List (EntryType E)) (opaque : List ℕ → E)
+    → KeepKinds write kinds
     → ((e : List ℕ) → write (opaque e) ≡ e) → (e : List ℕ)
     → AreByteValues e → IsEntry e → IsAgain (value_of_kind kinds opaque) e (write (value_of_kind kinds opaque e))
 again_by write [] opaque keep kept e low entry =

@@ -173,7 +173,8 @@ frame_present f {m} {a} {bytes} fits inside present least count =
       present = ap (λ (k : ℕ). bytes_at m a k) size ∙ present;
     }
 
-xsdt_present : (m : Memory) (a : ℕ) (head : HeadValue) (xs bytes : List ℕ) → Holds m a bytes → IsWrittenXsdt head xs bytes
+xsdt_present : (m : Memory) (a : ℕ) (head : HeadValue) (xs bytes : List ℕ) → Holds m a bytes
+    → IsWrittenXsdt head xs bytes
     → IsValidRootTable m a 8 bytes
 xsdt_present m a head xs bytes present xsdt =
     let count = xsdt.count in
@@ -200,7 +201,8 @@ rsdp_present m a xsdt oemid bytes present rsdp =
       extended = λ _. record {
         header = take 36 bytes;
         whole = bytes;
-        frame = frame_present extended_frame (omega arith) (omega arith) present (omega (arith, count)) (size ∙ sym count);
+        frame = frame_present extended_frame (omega arith) (omega arith) present (omega (arith, count))
+            (size ∙ sym count);
         zero_sum = rsdp.zero_sum;
       };
     }

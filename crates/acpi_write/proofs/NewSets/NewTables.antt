@@ -88,7 +88,8 @@ whole_behind facs before [] clean = tt
 whole_behind facs before (t ∷ ts) clean =
     ((rewritten facs before t clean.0).table, whole_behind facs (before ++ t ∷ []) ts clean.1)
 
-pub new_whole : (facs : ℕ) (ts : List (List ℕ)) → AreCleanTables ts → AllByRecursion IsCompleteTable (new_tables facs ts)
+pub new_whole : (facs : ℕ) (ts : List (List ℕ)) → AreCleanTables ts
+    → AllByRecursion IsCompleteTable (new_tables facs ts)
 new_whole facs ts clean = whole_behind facs [] ts (of_clean ts clean)
 
 -- ---- the first with a signature

@@ -168,7 +168,8 @@ pub valid_slots : (m : Memory) (q : PolicyValue) (r d : ℕ) (root : List ℕ) �
 valid_slots m q r d root clean named table k a slot = clean stage.Tables k a (root_slot named table slot)
 
 pub clean_readable : (m : Memory) (q : PolicyValue) (r d : ℕ) (root : List ℕ) (ts : List (List ℕ)) → IsClean m q
-    → IsRoot m q.rsdp r d → IsRootTable m r d root → AllZip (IsCompleteAt m) (listed_addresses root d) ts → AreReadable ts
+    → IsRoot m q.rsdp r d → IsRootTable m r d root → AllZip (IsCompleteAt m) (listed_addresses root d) ts
+    → AreReadable ts
 clean_readable m q r d root ts clean named table zip k none below = record { readable = readable; zero_sum = sum }
   where
     whole : List ℕ

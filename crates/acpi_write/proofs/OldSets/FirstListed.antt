@@ -69,7 +69,8 @@ slot_from m P root d j (suc n) ts i a zip all from below slot =
           elim (cases_eq i j) [
             | inl same ↦ absurd (slot.listed (sym slot.address ∙ ap (λ (h : ℕ). field root (36 + d * h) d) same ∙ nil))
             | inr other ↦ slot_from m P root d (j + 1) n ts i a
-                (subst (λ (xs : List ℕ). AllZip (IsCompleteAt m) xs ts) (listed_skip root d j n nil) zip) all (omega arith)
+                (subst (λ (xs : List ℕ). AllZip (IsCompleteAt m) xs ts) (listed_skip root d j n nil) zip) all
+                (omega arith)
                 (omega arith) slot
           ]
       | inr some ↦
@@ -137,7 +138,8 @@ first_of_listed m p ts signature t are four listed_addresses =
           listed_of_root are.root are.table listed_addresses.first in
           let its = slot_table m (λ x. has_signature x signature ≡ false) are.root_bytes are.d ts first.k
           listed_addresses.a (root_width are.root) are.each (none_with ts signature none) first.slot in
-          let same = same_value its.stands.0 first.signed.header its.stands.1.header_present first.signed.header_present in
+          let same =
+          same_value its.stands.0 first.signed.header its.stands.1.header_present first.signed.header_present in
           let has : has_signature its.t signature ≡ true = signed_table m listed_addresses.a its.stands.0 its.t
           signature its.stands.1 four ∙ ap (λ (x : List ℕ). has_signature x signature) same ∙ first.signed.signed in
           absurd (both_ways (has_signature its.t signature) its.holds has)

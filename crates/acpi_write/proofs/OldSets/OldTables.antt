@@ -147,7 +147,8 @@ facs_some m q v clean said =
     let fadt = clean stage.Fadt in
     facs_of m fadt.whole v.facs (said.facs fadt.whole fadt.fadt)
 
-one_list : (m : Memory) (xs : List ℕ) (ts us : List (List ℕ)) → AllZip (IsCompleteAt m) xs ts → AllZip (IsCompleteAt m) xs us
+one_list : (m : Memory) (xs : List ℕ) (ts us : List (List ℕ)) → AllZip (IsCompleteAt m) xs ts
+    → AllZip (IsCompleteAt m) xs us
     → ts ≡ us
 one_list m [] [] [] a b = refl
 one_list m [] [] (u ∷ us) a b = absurd b

@@ -47,7 +47,8 @@ known : (head : HeadValue) (v : BodyValue) → FitsHead head → 36 + length (bo
     → ((whole : List ℕ) → 36 ≤ length whole → drop 36 whole ≡ body_bytes v → SpellsBody v whole)
     → IsWritten (Known head v)
 known head v fits short body =
-    let is = complete_table (signature_of (kind_of v)) head (body_bytes v) (length-signature_of (kind_of v)) fits short in
+    let is = complete_table (signature_of (kind_of v)) head (body_bytes v) (length-signature_of (kind_of v)) fits
+    short in
     ((is.0, body _ is.0.least is.1), length_of_parts _ (body_bytes v) is.0.least is.1)
 
 pub is_written : (v : written.TableValue) → IsShaped v → IsShort v → DoPartsSay v → IsWritten (table_value v)

@@ -18,7 +18,8 @@ pub loop-word-preserved : goal.loop-word-preserved
 loop-word-preserved c =
     let first = sym c.inputs_of_word.ensures ∙ c.ok_or-in-loop-word.ensures.ok_part
     ∙ ap result_ok c.in_ok-inputs.was in
-    let added = present c.add_input.result _ (sym c.is_err.ensures.value ∙ c.if-is_err.false) c.add_input.ensures.value in
+    let added =
+    present c.add_input.result _ (sym c.is_err.ensures.value ∙ c.if-is_err.false) c.add_input.ensures.value in
     record {
       goes_on = read_more (λ text. text.now) c.args.words.now _ _ _ c.loop-word-test.true first _ _ _
           added c.loop-word.invariant.goes_on;

@@ -88,7 +88,8 @@ returns-clause-value c =
       root_table = root.valid.table;
       root_head = c.head_in-root.ensures set.listed.root.bytes c.header.ensures.fields;
       tables = map table_of found;
-      each = subst (λ (n : Memory). AllZip (IsCompleteAt n) (listed_addresses set.listed.root.bytes set.listed.root.width)
+      each = subst
+          (λ (n : Memory). AllZip (IsCompleteAt n) (listed_addresses set.listed.root.bytes set.listed.root.width)
           (map table_of found)) clean.listed.image c.in_ok-listed.ensures;
       values = c.in_ok-tables.ensures.values ∙ ap (λ l. values_of (map table_of l)) c.deref.ensures.value;
       facs = λ fadt is.
