@@ -4,3 +4,4 @@ pub mod Draft
 pub mod Pieces
 pub mod Runs
 pub mod Segments
+pub mod Sums

@@ -1,6 +1,5 @@
--- The offsets of the entries of a PPTT (ACPI 6.5, 5.2.30), as sets of bits, by what may refer to them.
-use Rattle.std.specs.Prelude.{◌≡◌, ◌⊎◌, ◌↔◌, ℕ, ◌/◌, ◌%◌, Bool, true, false, List, slice_index, ◌≢◌, Some, None, if◌then◌else◌}
-use Rattle.std.specs.Int.{bit_at}
+-- The offsets of the entries of a PPTT (ACPI 6.5, 5.2.30), by what may refer to them, and the references among these.
+use Rattle.std.specs.Prelude.{◌≡◌, ◌⊎◌, ◌↔◌, ℕ, Bool, true, false, List, ◌≢◌, Some, None, if◌then◌else◌}
 use Rattle.std.specs.List.{filter_map}
 use Rattle.acpi_base.specs.Codes.{stage_of}
 use Rattle.acpi_base.specs.Entries.{PlacedEntry}
@@ -10,27 +9,10 @@ use Rattle.acpi_base.specs.declared.code.Code.{Code}
 use Rattle.acpi_base.specs.declared.code.Code.TheVariants as code
 use Rattle.acpi_base.specs.declared.stage.Stage.TheVariants as stage
 use Rattle.acpi_base.specs.declared.witness.Witness.{Witness}
-use Rattle.acpi_check.specs.declared.offset_set.OffsetSet.{OffsetSet}
 use Rattle.acpi_check.specs.declared.places.PlaceKind.{PlaceKind}
 use Rattle.acpi_check.specs.declared.places.PlaceKind.TheVariants as kind
 use Rattle.acpi_check.specs.declared.places.Places.{Places}
-
--- ---- sets of offsets, as bits of words
-
--- the bit of an offset is set
-abbrev pub HasBit : List ℕ → ℕ → Type 0
-HasBit words o = bit_at (slice_index words (o / 64)) (o % 64) ≡ 1
-
--- the offset is in the set
-unfoldable pub IsIn : OffsetSet → ℕ → Type 0
-IsIn set o = HasBit set.words.items o
-
--- if it is to be added, the offset is added to those that are in the set; otherwise they stay the same
-abbrev pub Adds : Bool → ℕ → OffsetSet → OffsetSet → Type 0
-Adds true offset old new = (o : ℕ) → IsIn new o ↔ ((o ≡ offset) ⊎ IsIn old o)
-Adds false offset old new = (o : ℕ) → IsIn new o ↔ IsIn old o
-
--- ---- the offsets of the entries of a PPTT, by what may refer to them, and the references of an entry among these offsets
+use Rattle.acpi_check.specs.OffsetSets.{IsIn}
 
 -- ---- offsets
 

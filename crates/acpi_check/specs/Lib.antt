@@ -1,10 +1,14 @@
 -- The definitions that contracts of the checker cite.
+pub mod ChainIndices
 pub mod Chains
+pub mod CollectedValues
 pub mod EntryPlaces
 pub mod FirstBelow
 pub mod FirstSeen
 pub mod HandedOn
+pub mod Headline
 pub mod NamedNumbers
+pub mod OffsetSets
 pub mod PassResults
 pub mod Processors
 pub mod RangeSpans

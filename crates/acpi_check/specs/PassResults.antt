@@ -1,10 +1,6 @@
--- What a pass over the entries of a table collects and returns.
-use Rattle.std.specs.Prelude.{◌≡◌, List, [], ◌∷◌, Option, ℕ, ◌≤◌, ◌⊎◌, Some, None, Result, Ok, Err}
-use Rattle.std.specs.List.{cons_option}
-use denote.Ref.{Bor}
-use Rattle.acpi_base.specs.Entries.{PlacedEntry, AreUnused}
-use Rattle.acpi_read.specs.Entries.{entry_at_value}
-use Rattle.acpi_read.specs.declared.typed_entries.EntryAt.{EntryAt}
+-- What a pass over the entries of a table returns.
+use Rattle.std.specs.Prelude.{◌≡◌, Option, ℕ, ◌≤◌, ◌⊎◌, Some, None, Result, Ok, Err}
+use Rattle.acpi_base.specs.Entries.{AreUnused}
 use Rattle.acpi_base.specs.Codes.{code_number}
 use Rattle.acpi_base.specs.declared.code.Code.{Code}
 use Rattle.acpi_base.specs.declared.stage.Stage.{Stage}
@@ -13,17 +9,6 @@ use Rattle.acpi_read.specs.EntryTables.{EntryTable, subject_of}
 use Rattle.acpi_read.specs.declared.entry_codes.EntryCodes.{EntryCodes}
 use Rattle.acpi_read.specs.declared.entry_codes.Subject.TheVariants as subject
 use Rattle.acpi_check.specs.TableResults.{IsFirstOfTable}
-
--- ---- what is collected from the entries of a table
-
--- what a call returns for an entry, by the entry's contents
-abbrev pub Picks : {E Said T : Type 0} → (E → Said) → (Bor (EntryAt E) → Option T → Type 0) → PlacedEntry Said → Option T → Type 0
-Picks {E} value Answers s picked = (at : Bor (EntryAt E)) × (entry_at_value value at.now ≡ s) × Answers at picked
-
--- the values that `Gives` gives for each of these, in their order; entries for which it gives nothing are skipped
-abbrev pub Collects : {S T : Type 0} → (S → Option T → Type 0) → List S → List T → Type 0
-Collects Gives [] values = values ≡ []
-Collects {S} {T} Gives (s ∷ left) values = (picked : Option T) × (others : List T) × Gives s picked × (values ≡ cons_option picked others) × Collects Gives left others
 
 -- ---- what a pass over the entries of a table returns
 

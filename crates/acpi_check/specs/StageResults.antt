@@ -1,7 +1,5 @@
--- What the results of one stage and of all stages mean.
+-- What the result of a stage means.
 use Rattle.std.specs.Prelude.{◌≡◌, ◌<◌, ◌≤◌, Result, Ok, Err}
-use Rattle.acpi_base.specs.declared.verdict.Verdict.{Verdict}
-use Rattle.acpi_base.specs.declared.verdict.Verdict.TheVariants.{Yes, No}
 use Rattle.acpi_base.specs.declared.witness.Witness.{Witness}
 use Rattle.acpi_base.specs.Memory.{Memory}
 use Rattle.acpi_base.specs.Policy.{PolicyValue}
@@ -12,13 +10,6 @@ use Rattle.acpi_base.specs.declared.stage.Stage.{Stage}
 use Rattle.acpi_base.specs.declared.stage.Stage.TheVariants as stage
 use Rattle.acpi_check.specs.declared.refusal.Refusal.{Refusal}
 use Rattle.acpi_check.specs.declared.refusal.Refusal.TheVariants.{Fault, OutOfMemory}
-
--- ---- what the verdict over all stages means
-
--- if the verdict is No, P holds for its fault
-abbrev pub IfNo : (Witness → Type 0) → Verdict → Type 0
-IfNo P Yes = Unit {0}
-IfNo P (No w) = P w
 
 -- ---- what the result of a stage means
 

@@ -4,7 +4,8 @@ ghost use Rattle.std.specs.Prelude.{◌≡◌, AllPairs, IfOk, ◌<◌};
 ghost use Rattle.acpi_base.specs.Pptt.{pptt_contents, AreReferencesValid, DoParentsEnd, DoCachesEnd, ParentFault, CacheFault};
 ghost use Rattle.acpi_base.specs.declared.stage.Stage.{Stage};
 ghost use Rattle.acpi_read.specs.Pptts.{pptt_value};
-ghost use Rattle.acpi_check.specs.Chains.{IsIndexOf, AreNodesOf, AreIndices, named_offset, code_of, FindsCycle};
+ghost use Rattle.acpi_check.specs.Chains.{named_offset, code_of, FindsCycle};
+ghost use Rattle.acpi_check.specs.ChainIndices.{IsIndexOf, AreNodesOf, AreIndices};
 ghost use Rattle.acpi_check.specs.TableResults.{FindsFirst};
 
 use crate::nodes::{Chain, Nodes};

@@ -4,7 +4,7 @@ ghost use Rattle.std.specs.Prelude.{IfOk, Contains};
 ghost use denote.Ref.{Bor};
 ghost use Rattle.acpi_base.specs.Entries.{entries_read_by};
 ghost use Rattle.acpi_read.specs.Entries.{entry_at_value};
-ghost use Rattle.acpi_check.specs.PassResults.{Collects, Picks};
+ghost use Rattle.acpi_check.specs.CollectedValues.{Collects, Picks};
 
 use acpi_read::{EntryAt, TableEntry, TypedEntries};
 use std::alloc::{AllocError, Global};

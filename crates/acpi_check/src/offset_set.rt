@@ -1,7 +1,7 @@
 //! Sets of offsets of a table, as bits.
 
 ghost use Rattle.std.specs.Prelude.{◌≡◌, ◌<◌, ◌↔◌, ℕ, Contains, IfOk, OnOk, MatchBool, vec_len, slice_index, true};
-ghost use Rattle.acpi_check.specs.EntryPlaces.{IsIn, Adds};
+ghost use Rattle.acpi_check.specs.OffsetSets.{IsIn, Adds};
 
 use std::alloc::{AllocError, Global};
 

@@ -6,7 +6,8 @@ ghost use Rattle.acpi_base.specs.Pptt.{pptt_contents, IsCutPptt, AreReferencesVa
 ghost use Rattle.acpi_base.specs.declared.stage.Stage.{Stage};
 ghost use Rattle.acpi_read.specs.Pptts.{pptt_value, HasReferences};
 ghost use Rattle.acpi_check.specs.TableResults.{FindsFirst};
-ghost use Rattle.acpi_check.specs.EntryPlaces.{IsIn, Adds, kind_of, is_node, is_cache, is_resource, ArePlaces, NamesPlaces, IsFirstReference};
+ghost use Rattle.acpi_check.specs.EntryPlaces.{kind_of, is_node, is_cache, is_resource, ArePlaces, NamesPlaces, IsFirstReference};
+ghost use Rattle.acpi_check.specs.OffsetSets.{IsIn, Adds};
 
 use crate::offset_set::OffsetSet;
 use crate::places::{PlaceKind, Places};

@@ -7,7 +7,8 @@ ghost use Rattle.acpi_base.specs.Faults.{IsFirstFault, IsVerdict};
 ghost use Rattle.acpi_base.specs.Policy.{PolicyValue};
 ghost use Rattle.acpi_base.specs.declared.stage.Stage.{Stage};
 ghost use Rattle.acpi_base.specs.declared.verdict.Verdict.{Verdict};
-ghost use Rattle.acpi_check.specs.StageResults.{IfNo, ReadsTo, IsResultTo};
+ghost use Rattle.acpi_check.specs.StageResults.{ReadsTo, IsResultTo};
+ghost use Rattle.acpi_check.specs.Headline.{IfNo};
 ghost use Rattle.acpi_check.specs.HandedOn.{IsListedSetOf, IsCleanSetOf};
 ghost use Rattle.acpi_check.specs.Set.{IsSetOf, IsSet};
 

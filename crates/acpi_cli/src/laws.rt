@@ -4,7 +4,7 @@ ghost use Rattle.std.specs.Prelude.{◌≡◌, ◌↔◌, IfOk, IsTrue, OnErr, f
 ghost use Rattle.acpi_base.specs.Faults.{Fault, IsFirstFault};
 ghost use Rattle.acpi_base.specs.Statements.{CleanTo, IsClean};
 ghost use Rattle.acpi_base.specs.declared.stage.Stage.{Stage};
-ghost use Rattle.acpi_check.specs.StageResults.{IfNo};
+ghost use Rattle.acpi_check.specs.Headline.{IfNo};
 
 use acpi_base::laws::fault_excludes_clean;
 use acpi_base::{Image, Policy, Verdict, Witness};

@@ -9,7 +9,7 @@ use Rattle.acpi_base.specs.Entries.{PlacedEntry}
 use Rattle.acpi_base.specs.Lint.Numbered.{NamesAt, IsNamed, IsLater, Repeats}
 use Rattle.acpi_read.specs.Entries.{entry_at_value}
 use Rattle.acpi_read.specs.declared.typed_entries.EntryAt.{EntryAt}
-use Rattle.acpi_check.specs.PassResults.{Picks, Collects}
+use Rattle.acpi_check.specs.CollectedValues.{Picks, Collects}
 use Rattle.acpi_check.proofs.EntryPasses.Collecting.{are_collected, gathered_same, itself}
 use Rattle.acpi_check.proofs.EntryPasses.Kept.{AreRising, kept_has, kept_from, keys_rise}
 use Rattle.acpi_lint.specs.EntryNumbers.{FindsRepeated, AreGathered, AreKnown}

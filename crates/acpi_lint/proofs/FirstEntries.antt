@@ -7,7 +7,7 @@ use denote.Ref.{Bor}
 use Rattle.acpi_base.specs.Entries.{PlacedEntry, Stands, StandsWith}
 use Rattle.acpi_read.specs.Entries.{entry_at_value}
 use Rattle.acpi_read.specs.declared.typed_entries.EntryAt.{EntryAt}
-use Rattle.acpi_check.specs.PassResults.{Picks}
+use Rattle.acpi_check.specs.CollectedValues.{Picks}
 use Rattle.acpi_check.proofs.EntryPasses.Kept.{AreRising}
 use Rattle.acpi_check.proofs.EntryPasses.Passes.{none_passed, left_behind}
 use Rattle.acpi_lint.specs.declared.place.Place.{Place}

@@ -11,7 +11,7 @@ use Rattle.acpi_base.specs.Pptt.{PpttEntry, Node, NodeValue, PpttContents, pptt_
 use Rattle.acpi_base.specs.declared.code.Code.TheVariants as code
 use Rattle.acpi_base.proofs.Images.PresentBytes.{cases_Option}
 use Rattle.acpi_check.specs.Chains.{named_offset}
-use Rattle.acpi_check.specs.EntryPlaces.{IsIn}
+use Rattle.acpi_check.specs.OffsetSets.{IsIn}
 use Rattle.acpi_check.specs.declared.nodes.Chain.{Chain}
 use Rattle.acpi_check.specs.declared.offset_set.OffsetSet.{OffsetSet}
 use Rattle.acpi_check.proofs.EntryPasses.Kept.{kept_has, kept_from}

@@ -21,7 +21,7 @@ use Rattle.acpi_base.proofs.Faults.ListedTables.{of_listed}
 use Rattle.acpi_read.specs.Slits.{HasRows}
 use Rattle.acpi_read.specs.Entries.{entry_at_value}
 use Rattle.acpi_read.specs.declared.typed_entries.EntryAt.{EntryAt}
-use Rattle.acpi_check.specs.PassResults.{Picks}
+use Rattle.acpi_check.specs.CollectedValues.{Picks}
 use Rattle.acpi_check.proofs.EntryPasses.Kept.{AreRising, madt_rising, srat_rising, pptt_rising}
 use Rattle.acpi_lint.specs.EntryNumbers.{FindsRepeated}
 use Rattle.acpi_lint.specs.Places.{PicksFirst, FindsOwn, FindsLeast}

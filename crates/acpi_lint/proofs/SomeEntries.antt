@@ -6,7 +6,7 @@ use denote.Ref.{Bor}
 use Rattle.acpi_base.specs.Entries.{PlacedEntry, StandsWith}
 use Rattle.acpi_base.proofs.Elements.{first_element, later_element, first_or_later, no_element}
 use Rattle.acpi_read.specs.declared.typed_entries.EntryAt.{EntryAt}
-use Rattle.acpi_check.specs.PassResults.{Picks}
+use Rattle.acpi_check.specs.CollectedValues.{Picks}
 use Rattle.acpi_lint.specs.Places.{PicksFirst}
 use Rattle.acpi_lint.specs.EntryNumbers.{IsAnyNamed}
 

@@ -7,7 +7,7 @@ use Rattle.acpi_base.specs.Srat.{SratEntry}
 use Rattle.acpi_base.specs.Entries.{PlacedEntry}
 use Rattle.acpi_base.specs.Lint.Numbered.{IsNamed}
 use Rattle.acpi_base.specs.Madt.{MadtEntry, MadtContents}
-use Rattle.acpi_check.specs.PassResults.{Collects}
+use Rattle.acpi_check.specs.CollectedValues.{Collects}
 use Rattle.acpi_lint.specs.Numbered.{IsUnlikeAt}
 use Rattle.acpi_lint.specs.Places.{FindsLeast}
 use Rattle.acpi_lint.specs.declared.numbered.Numbered.{Numbered}

@@ -4,7 +4,7 @@ use Rattle.acpi_base.specs.Chains.{Dangles}
 use Rattle.acpi_base.specs.Entries.{PlacedEntry}
 use Rattle.acpi_base.specs.Pptt.{PpttEntry, PpttContents, resource_of, pptt_type, Says}
 use Rattle.acpi_check.specs.Chains.{named_offset}
-use Rattle.acpi_check.specs.EntryPlaces.{IsIn}
+use Rattle.acpi_check.specs.OffsetSets.{IsIn}
 use Rattle.acpi_check.specs.declared.nodes.Chain.{Chain}
 use Rattle.acpi_check.specs.declared.offset_set.OffsetSet.{OffsetSet}
 

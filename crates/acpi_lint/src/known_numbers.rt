@@ -10,7 +10,7 @@ ghost use Rattle.acpi_base.specs.Madt as madts;
 ghost use Rattle.acpi_base.specs.Pptt.{pptt_contents};
 ghost use Rattle.acpi_base.specs.Srat.{srat_contents};
 ghost use Rattle.acpi_read.specs.Madts.{madt_value, IsCompleteEntry};
-ghost use Rattle.acpi_check.specs.PassResults.{Picks};
+ghost use Rattle.acpi_check.specs.CollectedValues.{Picks};
 ghost use Rattle.acpi_lint.specs.EntryNumbers.{AreGathered, AreKnown, IsAnyNamed};
 
 use crate::leaves::leaves_of;

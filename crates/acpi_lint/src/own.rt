@@ -16,7 +16,7 @@ ghost use Rattle.acpi_read.specs.Pptts.{pptt_value, cache_value};
 ghost use Rattle.acpi_read.specs.Srats as srats;
 ghost use Rattle.acpi_read.specs.Srats.{srat_value};
 ghost use Rattle.acpi_read.specs.Entries.{entry_at_value};
-ghost use Rattle.acpi_check.specs.PassResults.{Picks};
+ghost use Rattle.acpi_check.specs.CollectedValues.{Picks};
 ghost use Rattle.acpi_lint.specs.Places.{PicksFirst, FindsOwn};
 
 use crate::passes::first_picked;

@@ -7,7 +7,7 @@ ghost use Rattle.acpi_base.specs.Entries.{entries_of, entries_read_by};
 ghost use Rattle.acpi_base.specs.Listed.{HasListed};
 ghost use Rattle.acpi_base.specs.Memory.{Memory};
 ghost use Rattle.acpi_base.specs.TableKinds.{signature_of};
-ghost use Rattle.acpi_check.specs.PassResults.{Picks};
+ghost use Rattle.acpi_check.specs.CollectedValues.{Picks};
 ghost use Rattle.acpi_lint.specs.Places.{IsSoughtEntry, FindsOwn, PicksFirst, FindsLeast};
 ghost use Rattle.acpi_lint.specs.CompleteTables.{AreCompleteTables};
 ghost use Rattle.acpi_read.specs.EntryTables.{entry_table, IsAbout};

@@ -8,7 +8,7 @@ ghost use Rattle.acpi_base.specs.Lint.SratAdvice.{IsTwoUidDomains};
 ghost use Rattle.acpi_base.specs.Pptt.{pptt_contents};
 ghost use Rattle.acpi_base.specs.Srat.{srat_contents};
 ghost use Rattle.acpi_read.specs.Srats.{srat_value};
-ghost use Rattle.acpi_check.specs.PassResults.{Picks};
+ghost use Rattle.acpi_check.specs.CollectedValues.{Picks};
 ghost use Rattle.acpi_lint.specs.EntryNumbers.{domain_of_uid, FindsRepeated};
 ghost use Rattle.acpi_lint.specs.Places.{FindsLeast};
 

@@ -1,17 +1,9 @@
--- The offsets of a FADT's fields, and what the views of a FADT and a FACS return (ACPI 6.5, 5.2.9, 5.2.10).
+-- What the views of a FADT and a FACS return (ACPI 6.5, 5.2.9, 5.2.10), as the plain values of the definitions.
 use Rattle.std.specs.Prelude.{ℕ, List}
-use Rattle.acpi_base.specs.Fadt as fadt
 use Rattle.acpi_base.specs.Fadt.{BlockValue, NoBlock, GasBlock, PortBlock}
-use Rattle.acpi_read.specs.declared.fadt.FieldPlace.{FieldPlace}
 use Rattle.acpi_read.specs.Structures.{gas_value}
 use Rattle.acpi_read.specs.declared.fadt.Block.{Block}
 use Rattle.acpi_read.specs.declared.fadt.Block.TheVariants as block
-
--- ---- the offsets of a FADT's fields, as the plain values of the definitions
-
--- where a field begins, and how many bytes it has
-abbrev pub place_value : FieldPlace → fadt.FieldPlace
-place_value p = record { offset = p.0; width = p.1 }
 
 -- ---- what the views of a FADT and a FACS return, as the plain values of the definitions
 

@@ -6,6 +6,7 @@ pub mod Fadts
 pub mod FirstTables
 pub mod Frames
 pub mod Madts
+pub mod Places
 pub mod Pptts
 pub mod Roots
 pub mod Slits

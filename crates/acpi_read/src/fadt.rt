@@ -9,7 +9,8 @@ ghost use Rattle.acpi_base.specs.Header.{header_of};
 ghost use Rattle.acpi_base.specs.Fadt.{fadt_places, field_number, has_flag, is_reduced, wide_address, address_of, facs_address, dsdt_address, block_value, HasBlockLengths, IsResetRegister, IsValidFadtTable, FadtTableFault};
 ghost use Rattle.acpi_base.specs.Tables.{length_of};
 ghost use Rattle.acpi_base.specs.declared.code.Code.{Code};
-ghost use Rattle.acpi_read.specs.Fadts.{block_view_value, place_value};
+ghost use Rattle.acpi_read.specs.Fadts.{block_view_value};
+ghost use Rattle.acpi_read.specs.Places.{place_value};
 ghost use Rattle.acpi_read.specs.Structures.{gas_value, header_value};
 
 use crate::fadt::offsets::*;

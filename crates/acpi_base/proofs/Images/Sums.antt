@@ -4,7 +4,7 @@ use Rattle.std.proofs.lemmas.Bool.{cases_lt}
 use Rattle.std.proofs.lemmas.List.{take-take, drop-take, take-append-le, get_or-take, get_or_append_left, get_or-append_right, length-take-le}
 use Rattle.std.proofs.lemmas.List.Sums.{sum_by-take-drop}
 use Rattle.acpi_base.specs.Number.{byte_sum}
-use Rattle.acpi_base.specs.Image.Runs.{AreSums, HasAllSums}
+use Rattle.acpi_base.specs.Image.Sums.{AreSums, HasAllSums}
 
 -- ---- sums of parts
 

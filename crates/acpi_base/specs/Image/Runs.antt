@@ -1,10 +1,9 @@
--- The bytes of an image: as runs, from an address on, and with running sums.
-use Rattle.std.specs.Prelude.{◌≡◌, ℕ, List, length, take, Some, None, nat_lt, if◌then◌else◌, ◌+◌, ◌*◌, ◌/◌, ◌<◌, slice_index, ◌-◌, ◌^◌, ◌≤◌, [], ◌∷◌, slice_get, Option}
+-- The bytes of an image: as runs, and from an address on.
+use Rattle.std.specs.Prelude.{◌≡◌, ℕ, List, length, take, Some, None, nat_lt, if◌then◌else◌, ◌+◌, ◌<◌, ◌-◌, ◌^◌, ◌≤◌, [], ◌∷◌, slice_get, Option}
 use Rattle.std.specs.Option.{option_or}
 use Rattle.std.specs.List.{AllByRecursion}
 use Rattle.std.specs.FinMap.{empty}
 use Rattle.acpi_base.specs.Memory.{Memory, bytes_at, with_bytes}
-use Rattle.acpi_base.specs.Number.{byte_sum}
 
 -- ---- the bytes of an image from an address on
 
@@ -12,17 +11,6 @@ use Rattle.acpi_base.specs.Number.{byte_sum}
 -- least n, and then they are the first n of these
 abbrev pub AreBytesFrom : Memory → ℕ → List ℕ → Type 0
 AreBytesFrom m a bytes = (n : ℕ) → bytes_at m a n ≡ (if nat_lt (length bytes) n then None else Some (take n bytes))
-
--- ---- running sums of bytes
-
--- the first of the numbers is the sum, modulo 256, of the first 128 bytes, the next that of the first 256, and so on
-abbrev pub AreSums : List ℕ → List ℕ → Type 0
-AreSums sums bytes = (k : ℕ) → k < length sums → slice_index sums k ≡ byte_sum (take (128 * (k + 1)) bytes)
-
--- and there is one for each full 128 bytes
-pub record HasAllSums (sums bytes : List ℕ) : Type 0 where
-  pub count : length sums ≡ length bytes / 128
-  pub each : AreSums sums bytes
 
 -- ---- the bytes of an image as runs
 

@@ -2,7 +2,7 @@
 
 ghost use Rattle.std.specs.Prelude.{◌≡◌, ◌+◌, ◌*◌, ◌/◌, ◌≤◌, ◌++◌, ℕ, List, [], OnOk, OnErr, IfOk, length, take, drop};
 ghost use Rattle.acpi_base.specs.Number.{byte_sum};
-ghost use Rattle.acpi_base.specs.Image.Runs.{AreSums, HasAllSums};
+ghost use Rattle.acpi_base.specs.Image.Sums.{AreSums, HasAllSums};
 
 use super::span::Span;
 use crate::checksum::sum;
@@ -62,7 +62,7 @@ pub struct PrefixSums {
 
 impl Model for PrefixSums {
     ghost use Rattle.std.specs.Prelude.{ℕ, List};
-    ghost use Rattle.acpi_base.specs.Image.Runs.{HasAllSums};
+    ghost use Rattle.acpi_base.specs.Image.Sums.{HasAllSums};
 
     ghost Value = { List ℕ };
 

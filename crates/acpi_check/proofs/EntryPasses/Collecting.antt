@@ -10,7 +10,7 @@ use Rattle.acpi_base.specs.Entries.{PlacedEntry}
 use Rattle.acpi_base.proofs.Elements.{first_element, later_element}
 use Rattle.acpi_read.specs.Entries.{entry_at_value}
 use Rattle.acpi_read.specs.declared.typed_entries.EntryAt.{EntryAt}
-use Rattle.acpi_check.specs.PassResults.{Picks, Collects}
+use Rattle.acpi_check.specs.CollectedValues.{Picks, Collects}
 
 -- ---- the loop
 

@@ -17,7 +17,8 @@ use Rattle.acpi_graph.specs.declared.stray.Stray.{Stray}
 use Rattle.acpi_graph.specs.declared.stray.Stray.TheVariants as stray
 use Rattle.acpi_graph.proofs.Chains.{node_after-add, went_on}
 use Rattle.acpi_graph.proofs.Rounds.{never_ends}
-use Rattle.acpi_check.specs.Chains.{AreIndexed, IsCycleResult, IsFirstCycle}
+use Rattle.acpi_check.specs.Chains.{IsFirstCycle}
+use Rattle.acpi_check.specs.ChainIndices.{AreIndexed, IsCycleResult}
 
 -- the offset at an index
 abbrev at : List ℕ → ℕ → ℕ

@@ -10,7 +10,7 @@ use Rattle.acpi_base.specs.Entries.{PlacedEntry, Stands}
 use Rattle.acpi_base.proofs.Images.PresentBytes.{cases_Option}
 use Rattle.acpi_base.proofs.Elements.{element_of_map}
 use Rattle.acpi_graph.specs.Parents.{parent_of}
-use Rattle.acpi_check.specs.Chains.{IsIndexOf, AreIndexed, ChainNode, nodes_of, node_offsets, AreParents}
+use Rattle.acpi_check.specs.ChainIndices.{IsIndexOf, AreIndexed, ChainNode, nodes_of, node_offsets, AreParents}
 use Rattle.acpi_check.proofs.EntryPasses.Kept.{AreRising, map_has, kept_has, kept_from, keys_rise}
 
 -- an entry names an offset

@@ -6,7 +6,8 @@ use Rattle.std.proofs.lemmas.Option.{cond_some, none-some}
 use Rattle.acpi_base.specs.Entries.{PlacedEntry, Stands, StandsWith}
 use Rattle.acpi_base.specs.Pptt.{PpttEntry, Node, Cache, Opaque, pptt_type, pptt_contents, parent_of, next_level_of, HasOtherPpttLength, IsCutPptt}
 use Rattle.acpi_base.proofs.Elements.{first_element, later_element, first_or_later, no_element}
-use Rattle.acpi_check.specs.EntryPlaces.{ArePlaces, kind_of, is_node, is_cache, is_resource, kind_offsets, IsIn, Adds}
+use Rattle.acpi_check.specs.EntryPlaces.{ArePlaces, kind_of, is_node, is_cache, is_resource, kind_offsets}
+use Rattle.acpi_check.specs.OffsetSets.{IsIn, Adds}
 use Rattle.acpi_check.specs.declared.places.PlaceKind.{PlaceKind}
 use Rattle.acpi_check.specs.declared.places.Places.{Places}
 use Rattle.acpi_check.specs.declared.offset_set.OffsetSet.{OffsetSet}

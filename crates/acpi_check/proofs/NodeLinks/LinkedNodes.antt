@@ -9,7 +9,8 @@ use Rattle.acpi_graph.specs.Parents as graph
 use Rattle.acpi_graph.specs.Parents.{AreNodes, IsFirstStray, IfRound}
 use Rattle.acpi_graph.specs.declared.stray.Stray.{Stray}
 use Rattle.acpi_graph.specs.declared.stray.Stray.TheVariants as stray
-use Rattle.acpi_check.specs.Chains.{AreIndexed, IsCycleResult, IsIndexOf, ChainNode, node_offsets, nodes_in, AreNodesOf, AreIndices, Names, named_offset, most_of, code_of}
+use Rattle.acpi_check.specs.Chains.{Names, named_offset, most_of, code_of}
+use Rattle.acpi_check.specs.ChainIndices.{AreIndexed, IsCycleResult, IsIndexOf, ChainNode, node_offsets, nodes_in, AreNodesOf, AreIndices}
 use Rattle.acpi_check.specs.declared.nodes.Chain.{Chain}
 use Rattle.acpi_check.specs.declared.nodes.Chain.TheVariants as chain
 use Rattle.acpi_check.specs.declared.nodes.Nodes.{Nodes}

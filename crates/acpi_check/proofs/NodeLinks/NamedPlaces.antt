@@ -12,7 +12,8 @@ use Rattle.acpi_base.specs.declared.code.Code.{Code}
 use Rattle.acpi_base.specs.declared.code.Code.TheVariants as code
 use Rattle.acpi_base.specs.declared.witness.Witness.{Witness}
 use Rattle.acpi_base.proofs.Faults.Order.{not_after}
-use Rattle.acpi_check.specs.EntryPlaces.{IsIn, NamesPlaces, EntryReferenceFault, IsFirstReference}
+use Rattle.acpi_check.specs.EntryPlaces.{NamesPlaces, EntryReferenceFault, IsFirstReference}
+use Rattle.acpi_check.specs.OffsetSets.{IsIn}
 use Rattle.acpi_check.specs.declared.places.Places.{Places}
 
 -- ---- private resources

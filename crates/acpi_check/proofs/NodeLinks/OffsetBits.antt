@@ -6,7 +6,7 @@ use Rattle.std.proofs.lemmas.Bool.{cases_eq, cases_Bool}
 use Rattle.std.proofs.lemmas.Bool.Decides.{nat_tests}
 use Rattle.std.proofs.lemmas.List.{get_or_past, get_or-set_same, get_or-set_other}
 use Rattle.std.proofs.lemmas.Nat.Bits.{bit_at-zero, shr_and_one, bit_at_or, bit_at-lt, bit_at-pow_same, bit_at-pow_other}
-use Rattle.acpi_check.specs.EntryPlaces.{HasBit}
+use Rattle.acpi_check.specs.OffsetSets.{HasBit}
 
 pub same_bits : (old new : List ℕ) → ((i : ℕ) → slice_index new i ≡ slice_index old i) → (o : ℕ)
     → HasBit new o ↔ HasBit old o

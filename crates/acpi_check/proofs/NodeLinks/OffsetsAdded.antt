@@ -3,7 +3,7 @@ use Rattle.std.proofs.Common.{◌≡◌, ℕ, ◌+◌, ◌<◌, ◌≤◌, List,
 use Rattle.std.specs.Prelude.{◌↔◌, Contains, true}
 use Rattle.std.proofs.lemmas.Bool.{cases_order}
 use Rattle.std.proofs.lemmas.List.{get_or_default}
-use Rattle.acpi_check.specs.EntryPlaces.{IsIn, Adds}
+use Rattle.acpi_check.specs.OffsetSets.{IsIn, Adds}
 use Rattle.acpi_check.specs.declared.offset_set.OffsetSet.{OffsetSet}
 
 -- o is one of the first i offsets

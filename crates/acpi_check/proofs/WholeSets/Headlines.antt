@@ -11,7 +11,7 @@ use Rattle.acpi_base.specs.declared.verdict.Verdict.{Verdict}
 use Rattle.acpi_base.specs.declared.verdict.Verdict.TheVariants.{Yes, No}
 use Rattle.acpi_base.specs.Statements.{IsClean}
 use Rattle.acpi_base.proofs.Faults.Stages.{excludes}
-use Rattle.acpi_check.specs.StageResults.{IfNo}
+use Rattle.acpi_check.specs.Headline.{IfNo}
 
 to_18 : (s : Stage) → stage_number s ≤ 18
 to_18 stage.Rsdp = omega arith

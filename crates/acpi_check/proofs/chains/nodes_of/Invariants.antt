@@ -1,7 +1,8 @@
 use Rattle.std.proofs.Common.{◌≡◌, ◌++◌, map}
 use Rattle.acpi_base.specs.Entries.{entries_read_by}
 use Rattle.acpi_base.specs.Pptt.{pptt_entry, pptt_contents}
-use Rattle.acpi_check.specs.Chains.{nodes_of, node_offsets, nodes_in, named_offset}
+use Rattle.acpi_check.specs.Chains.{named_offset}
+use Rattle.acpi_check.specs.ChainIndices.{nodes_of, node_offsets, nodes_in}
 use Rattle.acpi_check.proofs.chains.nodes_of.Given as goal
 
 -- the nodes so far, with those of the entries left, are the table's

@@ -1,6 +1,6 @@
 use Rattle.std.proofs.Common.{◌≡◌, ℕ, ◌<◌, length, None}
 use Rattle.std.specs.Prelude.{slice_index, slice_index_or}
-use Rattle.acpi_check.specs.Chains.{IsIndexOf}
+use Rattle.acpi_check.specs.ChainIndices.{IsIndexOf}
 use Rattle.acpi_check.proofs.chains.parents_of.Given as goal
 
 -- each parent so far is the index of the node that the node with its index names

@@ -1,5 +1,5 @@
 use Rattle.acpi_base.specs.Entries.{entries_read_by}
-use Rattle.acpi_check.specs.PassResults.{Picks}
+use Rattle.acpi_check.specs.CollectedValues.{Picks}
 use Rattle.acpi_lint.proofs.FirstEntries.{IsPicking}
 use Rattle.acpi_lint.proofs.passes.first_picked.Given as goal
 

@@ -5,7 +5,7 @@ use Rattle.std.proofs.lemmas.Bool.Decides.{nat_tests}
 use Rattle.std.proofs.lemmas.List.Sums.{AllPass-from_list_all}
 use Rattle.std.proofs.lemmas.Option.{slice_get-map, slice_get-get_or}
 use Rattle.acpi_base.specs.Fadt.{fadt_places}
-use Rattle.acpi_read.specs.Fadts.{place_value}
+use Rattle.acpi_read.specs.Places.{place_value}
 use Rattle.acpi_read.specs.declared.fadt.FieldPlace.{FieldPlace}
 use Rattle.acpi_read.specs.declared.fadt.TheConstants.{PLACES}
 use Rattle.acpi_read.proofs.fadt.field_place.Goals as goal

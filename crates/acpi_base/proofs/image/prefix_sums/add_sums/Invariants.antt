@@ -1,6 +1,6 @@
 use Rattle.std.proofs.Common.{◌≡◌, ◌*◌, ◌/◌, ◌≤◌, length, take}
 use Rattle.acpi_base.specs.Number.{byte_sum}
-use Rattle.acpi_base.specs.Image.Runs.{AreSums}
+use Rattle.acpi_base.specs.Image.Sums.{AreSums}
 use Rattle.acpi_base.proofs.image.prefix_sums.add_sums.Given as goal
 
 -- the sums so far, and the last of them

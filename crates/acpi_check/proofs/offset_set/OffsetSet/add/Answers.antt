@@ -1,7 +1,7 @@
 use Rattle.std.proofs.Common.{◌/◌, ◌%◌, ◌<◌, length, ◌∙◌, inl, inr, arith}
 use Rattle.std.proofs.lemmas.List.{get_or_default}
 use Rattle.std.proofs.lemmas.Nat.{one_shl}
-use Rattle.acpi_check.specs.EntryPlaces.{IsIn}
+use Rattle.acpi_check.specs.OffsetSets.{IsIn}
 use Rattle.acpi_check.proofs.NodeLinks.OffsetBits.{same_bits, bit_added}
 use Rattle.acpi_check.proofs.offset_set.OffsetSet.add.Goals as goal
 

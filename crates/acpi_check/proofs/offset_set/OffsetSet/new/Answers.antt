@@ -1,5 +1,5 @@
 use Rattle.std.proofs.Common.{[], arith}
-use Rattle.acpi_check.specs.EntryPlaces.{IsIn}
+use Rattle.acpi_check.specs.OffsetSets.{IsIn}
 use Rattle.acpi_check.proofs.NodeLinks.OffsetBits.{none_behind}
 use Rattle.acpi_check.proofs.offset_set.OffsetSet.new.Goals as goal
 
