@@ -186,7 +186,7 @@ samples=$(sed -n '/^SAMPLED = {$/,/^}$/s/^    "\(.*\)",$/\1/p' tests/refusals.py
 named=$(sed -n '/^## By test alone$/,/^## /p' docs/PROMISES.md | grep -o '`[^`]*`' | tr -d '`')
 within 'runs of which a sample of requests is refused, and that PROMISES.md does not name' "$samples" "$named"
 
-# ---- examples at the heads of the libraries that export something: their lines also occur in code that is compiled, mostly in a
+# ---- examples at the heads of the libraries that export more than laws: their lines also occur in code that is compiled, mostly in a
 # test of acpi_tests
 
 # bare: code without indents, and without trailing comments.
@@ -194,7 +194,7 @@ bare() { sed 's/^ *//; s/ *\/\/ .*$//'; }
 
 for head in crates/*/src/lib.rt; do
   grep -qx "$(cut -d / -f 2 <<<"$head")" <<<"$for_c" && continue
-  grep -q '^pub ' "$head" || continue
+  grep '^pub ' "$head" | grep -qvx 'pub mod laws;' || continue
   example=$(sed -n '/^\/\/! ```rust$/,/^\/\/! ```$/s/^\/\/! \{0,1\}//p' "$head" | grep -v '^```' | bare)
   found=
   for file in $(grep -rlF "$(tail -n 1 <<<"$example")" crates/*/src); do
