@@ -9,7 +9,7 @@ use Rattle.std.proofs.lemmas.List.Folds.{list_any-append}
 use Rattle.std.proofs.lemmas.Slice.Eq.{bytes_eq-Decides}
 use Rattle.clap.specs.Lexer.{long_of}
 use Rattle.clap.specs.Words.{Row, Rule, Text, Shape}
-use Rattle.clap.specs.Walk.{Present, Waiting, Walk, arg_by_id, at_row, arg_by_index, arg_by_long, finished, has_long, has_row, idle, more_values, nothing_present, option, positional, rows_after, settled, settled_rows, walked, with_default, with_values}
+use Rattle.clap.specs.Walk.{Held, Waiting, Walk, arg_by_id, at_row, arg_by_index, arg_by_long, finished, has_long, has_row, idle, more_values, nothing_held, option, positional, rows_after, settled, settled_rows, walked, with_default, with_values}
 use Rattle.clap.specs.Simple.{filled, filled_from, help_rule, new_shape, with_index}
 use Rattle.clap.specs.Kinds.{Kinds, or_else}
 use Rattle.clap.specs.Faults.{defaults_fault, level_fault, settle_fault, turn_fault, walk_fault}
@@ -98,26 +98,26 @@ takes_words (choice ∷ options) flag = takes_words options flag
 -- ---- the walk over the arguments
 
 -- what is read so far, and whose values are being read
-abbrev pub present : List Row → Option (Text × List Text) → Present
-present rows pending = record { rows = rows; pending = pending; skip = 0 }
+abbrev pub held : List Row → Option (Text × List Text) → Held
+held rows pending = record { rows = rows; pending = pending; skip = 0 }
 
 -- the walk between two arguments, before any `--`
 abbrev pub standing : List Row → Option (Text × List Text) → Waiting → Walk
 standing rows pending waiting =
-    record { present = present rows pending; waiting = waiting; position = 1; is_trailing = false; stopped = None }
+    record { held = held rows pending; waiting = waiting; position = 1; is_trailing = false; stopped = None }
 
 -- from here on the arguments have no fault, and give these rows
 pub record Reads (l : Line) (start : Walk) (words : List Text) (rows : List Row) : Type 0 where
   pub no_fault : walk_fault (shape l) [] start words ≡ []
   pub settles : settle_fault (rules l.options l.flag) false
-      (fold (walked (rules l.options l.flag) []) start words).present
+      (fold (walked (rules l.options l.flag) []) start words).held
       ≡ []
-  pub gives : (settled (rules l.options l.flag) (fold (walked (rules l.options l.flag) []) start words).present).rows
+  pub gives : (settled (rules l.options l.flag) (fold (walked (rules l.options l.flag) []) start words).held).rows
       ≡ rows
 
 -- what is read so far and what is pending give these rows
 record Holds (l : Line) (before : List Row) (pending : Option (Text × List Text)) (rows : List Row) : Type 0 where
-  pub valid : settle_fault (rules l.options l.flag) false (present before pending) ≡ []
+  pub valid : settle_fault (rules l.options l.flag) false (held before pending) ≡ []
   pub come_to : settled_rows (rules l.options l.flag) pending before ≡ rows
 
 -- the argument has no fault, and leads on
@@ -142,10 +142,10 @@ reads_one l start next word words rows steps reads = record {
       ∙ ap (λ (w : Walk). walk_fault (shape l) [] w words) steps.leads
       ∙ reads.no_fault;
   settles = ap (λ (w : Walk). settle_fault (rules l.options l.flag) false
-      (fold (walked (rules l.options l.flag) []) w words).present)
+      (fold (walked (rules l.options l.flag) []) w words).held)
       steps.leads ∙ reads.settles;
   gives = ap (λ (w : Walk). (settled (rules l.options l.flag)
-      (fold (walked (rules l.options l.flag) []) w words).present).rows)
+      (fold (walked (rules l.options l.flag) []) w words).held).rows)
       steps.leads ∙ reads.gives;
 }
 
@@ -191,7 +191,7 @@ option_is options flag id is =
 -- the name of an option is read
 to_option : (l : Line) (id : Text) (rows : List Row) (pending : Option (Text × List Text))
     → IsOption l.options l.flag id
-    → settle_fault (rules l.options l.flag) false (present rows pending) ≡ []
+    → settle_fault (rules l.options l.flag) false (held rows pending) ≡ []
     → Steps l (standing rows pending idle) (codes "--" ++ id)
     (standing (settled_rows (rules l.options l.flag) pending rows) (Some (id, [])) (option id))
 unfolding shape clap_on_literals
@@ -243,7 +243,7 @@ behind false = idle
 
 -- the next argument `ADDRESS=COUNT`, which may come if what is pending has no fault
 to_word : (l : Line) (text : Text) (rows : List Row) (pending : Option (Text × List Text)) (is_more : Bool)
-    → IsPlain text → settle_fault (rules l.options l.flag) false (present rows pending) ≡ []
+    → IsPlain text → settle_fault (rules l.options l.flag) false (held rows pending) ≡ []
     → Steps l (standing rows pending (behind is_more)) text
     (standing (settled_rows (rules l.options l.flag) pending rows) (Some (codes "inputs", text ∷ [])) positional)
 unfolding shape clap_on_literals
@@ -316,7 +316,7 @@ reads_all_words l before options pending (word ∷ words) holds other plain =
 
 -- the flag is put after what is read
 flag_behind : (l : Line) (is_given : Bool) (rows : List Row) (pending : Option (Text × List Text))
-    → l.flag ≡ Some is_given → settle_fault (rules l.options l.flag) false (present rows pending) ≡ []
+    → l.flag ≡ Some is_given → settle_fault (rules l.options l.flag) false (held rows pending) ≡ []
     → has_row (codes "strict") (settled_rows (rules l.options l.flag) pending rows) ≡ false
     → Steps l (standing rows pending idle) (codes "--strict")
     (standing (settled_rows (rules l.options l.flag) pending rows ++ flag_rows (Some true)) None idle)
@@ -443,7 +443,7 @@ none_needed [] (Some is_given) rows = refl
 none_needed (choice ∷ options) flag rows = none_needed options flag rows
 
 pub taken : (l : Line) (words : List Text) (rows : List Row) → Reads l (standing [] None idle) words rows
-    → level_fault (shape l) [] nothing_present words false [] ≡ []
+    → level_fault (shape l) [] nothing_held words false [] ≡ []
 unfolding shape
 taken l words rows reads =
     rw (
@@ -451,7 +451,7 @@ taken l words rows reads =
       reads.settles,
       no_default_fault l.options l.flag _,
       none_needed l.options l.flag (finished (rules l.options l.flag)
-          (fold (walked (rules l.options l.flag) []) (standing [] None idle) words).present),
+          (fold (walked (rules l.options l.flag) []) (standing [] None idle) words).held),
     ) refl
 
 pub given : (l : Line) (words : List Text) (rows : List Row) → Reads l (standing [] None idle) words rows

@@ -7,7 +7,7 @@ use Rattle.std.proofs.lemmas.Bool.{not-true}
 use Rattle.std.proofs.lemmas.Option.{option_and_then_some}
 use Rattle.clap.specs.Words.{Row, Rule, Shape, Text}
 use Rattle.clap.specs.Simple.{App, built, entered, label_of, names_of}
-use Rattle.clap.specs.Walk.{Names, Walk, answers_to, finished, idle, nothing_present, settled, subcommand_met, walk, walk_from, walked}
+use Rattle.clap.specs.Walk.{Names, Walk, answers_to, finished, idle, nothing_held, settled, subcommand_met, walk, walk_from, walked}
 use Rattle.clap.specs.Kinds.{or_else}
 use Rattle.clap.specs.Faults.{built_fault, check_fault, defaults_fault, entered_fault, settle_fault, walk_fault}
 use Rattle.clap.proofs.OnLiterals.{clap_on_literals}
@@ -42,13 +42,13 @@ no_fault_behind s names w name before [] = refl
 no_fault_behind s names w name before (word ∷ words) = no_fault_behind s names w name (before ++ word ∷ []) words
 
 -- what is left to be checked once the walk is over
-after_walk : (a : App) (words : List Text) (w : Walk) → walk a.top.rules (names_of a) nothing_present words ≡ w
-    → walk_fault a.top (names_of a) (walk_from nothing_present) words ≡ []
-    → built_fault a nothing_present words
+after_walk : (a : App) (words : List Text) (w : Walk) → walk a.top.rules (names_of a) nothing_held words ≡ w
+    → walk_fault a.top (names_of a) (walk_from nothing_held) words ≡ []
+    → built_fault a nothing_held words
     ≡ or_else (entered_fault a w.stopped)
-    (or_else (settle_fault a.top.rules a.top.args_override_self w.present)
-    (or_else (defaults_fault (settled a.top.rules w.present).rows a.top.rules)
-    (check_fault a.top (finished a.top.rules w.present) (is_some (entered a w.stopped)))))
+    (or_else (settle_fault a.top.rules a.top.args_override_self w.held)
+    (or_else (defaults_fault (settled a.top.rules w.held).rows a.top.rules)
+    (check_fault a.top (finished a.top.rules w.held) (is_some (entered a w.stopped)))))
 after_walk a words w e fault = rw (fault, e) refl
 
 program_line : App
@@ -62,27 +62,27 @@ record HasCommand (l : Line) : Type 0 where
   pub is : find_first (λ (s : Shape). answers_to l.name (label_of s)) program_line.subs ≡ Some (shape l)
 
 at_command : Line → List Text → Walk
-at_command l words = record (walk_from nothing_present) { stopped = Some (l.name, words) }
+at_command l words = record (walk_from nothing_held) { stopped = Some (l.name, words) }
 
 walks_to : (l : Line) (words : List Text) → HasCommand l
-    → walk program_line.top.rules (names_of program_line) nothing_present (l.name ∷ words) ≡ at_command l words
+    → walk program_line.top.rules (names_of program_line) nothing_held (l.name ∷ words) ≡ at_command l words
 unfolding walked at_command
 walks_to l words has =
-    rw has.met (words_behind program_line.top.rules (names_of program_line) (walk_from nothing_present) l.name [] words)
+    rw has.met (words_behind program_line.top.rules (names_of program_line) (walk_from nothing_held) l.name [] words)
 
 no_fault_to : (l : Line) (words : List Text) → HasCommand l
-    → walk_fault program_line.top (names_of program_line) (walk_from nothing_present) (l.name ∷ words) ≡ []
+    → walk_fault program_line.top (names_of program_line) (walk_from nothing_held) (l.name ∷ words) ≡ []
 unfolding walked walk_fault
 no_fault_to l words has =
     rw (has.met, has.no_help)
-    (no_fault_behind program_line.top (names_of program_line) (walk_from nothing_present) l.name
+    (no_fault_behind program_line.top (names_of program_line) (walk_from nothing_held) l.name
     [] words)
 
 -- what comes before it has no fault either
 no_fault_before : (l : Line) (words : List Text)
-    → or_else (settle_fault program_line.top.rules program_line.top.args_override_self (at_command l words).present)
-    (or_else (defaults_fault (settled program_line.top.rules (at_command l words).present).rows program_line.top.rules)
-    (check_fault program_line.top (finished program_line.top.rules (at_command l words).present) true)) ≡ []
+    → or_else (settle_fault program_line.top.rules program_line.top.args_override_self (at_command l words).held)
+    (or_else (defaults_fault (settled program_line.top.rules (at_command l words).held).rows program_line.top.rules)
+    (check_fault program_line.top (finished program_line.top.rules (at_command l words).held) true)) ≡ []
 unfolding program_line command_line check_line lint_line confirm_line rebuild_line show_line find_line at_command
     clap_on_literals
 no_fault_before l words = refl
