@@ -216,7 +216,7 @@ impl<'a> Root<'a> {
     /// The root table that the RSDP at an address names, if it is a complete table with its kind's signature,
     /// whatever its bytes and those of the RSDP sum to, and even if its Length ends within a slot. None if the RSDP
     /// cannot be read or names none, and if no such table is there.
-    pub fn whole(image: &'a Image, rsdp: u64) -> Option<Root<'a>>
+    pub fn complete(image: &'a Image, rsdp: u64) -> Option<Root<'a>>
         ensures { MatchOption result ((root : RootValue) → ¬ IsCompleteRoot image.now rsdp root)
             (IsCompleteRoot image.now rsdp) }
     {

@@ -93,7 +93,7 @@ impl<'a> Table<'a> {
 
     /// The table at an address, whatever its bytes sum to. None if there is no complete one: if its header's 36 bytes
     /// are not all present, its Length is below 36, or its Length bytes are not all present.
-    pub fn whole(image: &'a Image, address: u64) -> Option<Table<'a>>
+    pub fn complete(image: &'a Image, address: u64) -> Option<Table<'a>>
         ensures { MatchOption result
             ((header bytes : List ℕ) → ¬ IsTable image.now address header bytes)
             (λ bytes. (header : List ℕ) × IsTable image.now address header bytes) }

@@ -14,7 +14,7 @@ ghost use Rattle.acpi_write.specs.Spells.{SaysEntry};
 ghost use Rattle.acpi_write.specs.Views.{IsShapedMadt, IsShapedSrat, IsShapedPptt};
 
 use acpi_read::{
-    AddressOverride, ApicDomain, Cache24, Cache28, EntryType, IoApic, Layout, LocalApic, LocalNmi,
+    AddressOverride, ApicDomain, Cache24, Cache28, EntryKind, IoApic, Layout, LocalApic, LocalNmi,
     MadtEntry, MemoryRange, NmiSource, NodeHead, Override, PpttEntry, SratEntry, X2apic,
     X2apicDomain, X2apicNmi,
 };
@@ -38,7 +38,7 @@ fn append_layout<L: Layout>(bytes: &mut Vec<u8>, value: &L) -> Result<(), AllocE
 }
 
 /// Adds the bytes of an entry of a kind.
-fn append_kind<K: EntryType>(bytes: &mut Vec<u8>, value: &K) -> Result<(), AllocError>
+fn append_kind<K: EntryKind>(bytes: &mut Vec<u8>, value: &K) -> Result<(), AllocError>
     requires { K.LEN ≤ 40 }
     ensures bytes { OnOk result
         (bytes.new.items ≡ bytes.old.items ++ layout_bytes K.parts (K.values value.now)) }

@@ -103,13 +103,13 @@ abbrev pub stage_word : Witness → List ℕ
 stage_word w = decimal (stage_number (stage_of w.code))
 
 -- the text after the stage, the name and the first number
-pub behind_at : Witness → List ℕ
+unfoldable pub behind_at : Witness → List ℕ
 behind_at w = hex_text w.other ++ (32 ∷ hex_text w.point)
 
-pub behind_name : Witness → List ℕ
+unfoldable pub behind_name : Witness → List ℕ
 behind_name w = hex_text w.at ++ (32 ∷ behind_at w)
 
-pub behind_stage : Witness → List ℕ
+unfoldable pub behind_stage : Witness → List ℕ
 behind_stage w = code_name w.code ++ (32 ∷ behind_name w)
 
 line_is : (w : Witness) → witness_line w ≡ stage_word w ++ (32 ∷ behind_stage w)

@@ -10,4 +10,4 @@ returns-in_err-slot c = λ p are.
 pub returns : goal.returns
 returns c = λ p are.
     let first = rw (← c.of_kind.ensures, c.in_ok-slot.was) at (are c.args.kind) in
-    table_there (signature_of c.args.kind) c.in_ok-slot.slot c.whole.result first c.whole.ensures
+    table_there (signature_of c.args.kind) c.in_ok-slot.slot c.complete.result first c.complete.ensures
