@@ -98,7 +98,7 @@ impl<'a> Piece<'a> {
 
 /// Checks the tables of the image that the pieces give: no fault, or the first one.
 ///
-/// The first fault is one of the earliest stage that does not hold, so it is the same each time, however the image is
+/// The first fault is a fault of the first stage that does not hold, so it is the same each time, however the image is
 /// split into pieces.
 ///
 /// # Errors
