@@ -10,8 +10,6 @@ use Rattle.acpi_read.specs.declared.entry_codes.EntryCodes.{EntryCodes}
 use Rattle.acpi_read.specs.declared.entry_codes.Subject.TheVariants as subject
 use Rattle.acpi_check.specs.TableResults.{IsFirstOfTable}
 
--- ---- what a pass over the entries of a table returns
-
 -- the tables are valid, or this is their first fault
 abbrev pub FindsFault : Stage → Type 0 → (Code → ℕ → ℕ → ℕ → Type 0) → Option Witness → Type 0
 FindsFault s Valid IsFault None = Valid

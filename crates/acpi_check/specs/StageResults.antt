@@ -11,8 +11,6 @@ use Rattle.acpi_base.specs.declared.stage.Stage.TheVariants as stage
 use Rattle.acpi_check.specs.declared.refusal.Refusal.{Refusal}
 use Rattle.acpi_check.specs.declared.refusal.Refusal.TheVariants.{Fault, OutOfMemory}
 
--- ---- what the result of a stage means
-
 -- If the result is Ok the stage holds, and P holds for the value; a fault is the first of the set, and one of the
 -- stage's. Stages 1 to 6 never run out of memory.
 abbrev pub IsStageResult : {T : Type 0} → Stage → Memory → PolicyValue → (T → Type 0) → Result T Refusal → Type 0

@@ -47,7 +47,7 @@ pub fn served_spans(
     )
 }
 
-/// The lowest interrupt number that two I/O APICs of a MADT serve, and the first two that do.
+/// The lowest interrupt number that two I/O APICs of a MADT serve, and the first two that serve it.
 #[tactic(auto, using(crate::proofs::Spans::Clashes::is_found, crate::proofs::Spans::Clashes::low_point))]
 fn first_gsi_clash(alloc: Global, policy: &Policy, madt: &Table<'_>) -> Result<Clash, AllocError>
     ensures found { IfOk result (IsOverlapResult (Serves policy.now (madt_contents madt.now))) }

@@ -62,7 +62,7 @@ fn covered_spans(alloc: Global, kind: RangeKind, srat: &Table<'_>) -> Result<Vec
     )
 }
 
-/// The lowest address that two enabled ranges of the kind cover, and the first two that do.
+/// The lowest address that two enabled ranges of the kind cover, and the first two that cover it.
 #[tactic(auto, using(crate::proofs::Spans::Clashes::is_found, crate::proofs::Spans::Clashes::low_point))]
 fn first_of_kind(alloc: Global, kind: RangeKind, srat: &Table<'_>) -> Result<Clash, AllocError>
     ensures found { IfOk result

@@ -1,5 +1,5 @@
--- An example of a rebuilt set, worked out by hand from the rules: the contents of the clean set of `acpi_base`, and
--- its image rebuilt from 0xF0000 on.
+-- An example of a rebuilt set, worked out by hand from the rules: the contents of the clean set of `ExampleSet`,
+-- and its image rebuilt from 0xF0000 on.
 use Rattle.std.specs.Prelude.{ℕ, List, [], ◌∷◌, ◌++◌, replicate, Some}
 use Rattle.std.specs.FinMap.{empty}
 use Rattle.acpi_base.specs.Memory.{Memory}

@@ -5,8 +5,6 @@ use Rattle.acpi_read.specs.Structures.{gas_value}
 use Rattle.acpi_read.specs.declared.fadt.Block.{Block}
 use Rattle.acpi_read.specs.declared.fadt.Block.TheVariants as block
 
--- ---- what the views of a FADT and a FACS return, as the plain values of the definitions
-
 -- the contents of a register block's fields
 abbrev pub block_view_value : Block → BlockValue
 block_view_value block.None = NoBlock
