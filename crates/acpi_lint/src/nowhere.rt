@@ -17,14 +17,15 @@ ghost use Rattle.acpi_lint.specs.Places.{FindsOwn, FindsLeast};
 ghost use Rattle.acpi_lint.specs.EntryNumbers.{IsUnknown, IsUnknownOf, IsUnknownAffinity, IsUnplaced, IsUnknownAt, IsWhereRead};
 
 use crate::known_numbers::{
-    are_processors_read, has_gicc, is_any_on, is_any_placed, known_numbers, leaf_ids,
+    are_processors_read, has_gicc, is_any_on, is_any_placed, leaf_ids, placed_apic_ids, placed_uids,
+    processor_apic_ids, processor_uids,
 };
 use crate::leaves::leaves_of;
 use crate::numbered::Numbered;
 use crate::passes::first_picked;
 use crate::place::Place;
 use crate::processors::{
-    apic_id_of, apic_id_on, gicc_uid_on, nmi_uid, placed_apic_id, placed_uid, uid_of, uid_on,
+    apic_id_on, gicc_uid_on, nmi_uid, placed_apic_id, placed_uid, uid_on,
 };
 use acpi_check::{binary_search, has};
 use acpi_read::{EntryAt, MadtEntry, SratEntry, Table};
@@ -79,11 +80,7 @@ fn unknown_nmi(uids: &[u64], at: &EntryAt<MadtEntry<'_>>) -> Option<Place>
 pub fn nmi_nowhere(alloc: Global, madt: &Table<'_>) -> Result<Option<Place>, AllocError>
     ensures { IfOk result (FindsLeast (IsNmiNowhere (madt_contents madt.now))) }
 {
-    let uids = known_numbers(
-        alloc,
-        madt.entries::<MadtEntry<'_>>(),
-        |at| uid_of(&at.entry).map(u64::from),
-    )?;
+    let uids = processor_uids(alloc, madt)?;
     let uids = uids.as_slice();
     let place = first_picked(madt.entries::<MadtEntry<'_>>(), |at| unknown_nmi(uids, at));
     Ok(where_read(madt, place))
@@ -114,16 +111,8 @@ pub fn affinity_nowhere(
     ensures { IfOk result (FindsLeast
         (IsAffinityNowhere (madt_contents madt.now) (srat_contents srat.now))) }
 {
-    let ids = known_numbers(
-        alloc,
-        madt.entries::<MadtEntry<'_>>(),
-        |at| apic_id_of(&at.entry).map(u64::from),
-    )?;
-    let uids = known_numbers(
-        alloc,
-        madt.entries::<MadtEntry<'_>>(),
-        |at| uid_of(&at.entry).map(u64::from),
-    )?;
+    let ids = processor_apic_ids(alloc, madt)?;
+    let uids = processor_uids(alloc, madt)?;
     let ids = ids.as_slice();
     let uids = uids.as_slice();
     let place = first_picked(
@@ -159,16 +148,8 @@ pub fn no_domain(
     if !is_any_placed(srat) {
         return Ok(None);
     }
-    let ids = known_numbers(
-        alloc,
-        srat.entries::<SratEntry<'_>>(),
-        |at| placed_apic_id(&at.entry).map(u64::from),
-    )?;
-    let uids = known_numbers(
-        alloc,
-        srat.entries::<SratEntry<'_>>(),
-        |at| placed_uid(&at.entry).map(u64::from),
-    )?;
+    let ids = placed_apic_ids(alloc, srat)?;
+    let uids = placed_uids(alloc, srat)?;
     let ids = ids.as_slice();
     let uids = uids.as_slice();
     let place = first_picked(
@@ -239,11 +220,7 @@ pub fn leaf_nowhere(
     if !has_gicc(madt) {
         return Ok(None);
     }
-    let uids = known_numbers(
-        alloc,
-        madt.entries::<MadtEntry<'_>>(),
-        |at| uid_of(&at.entry).map(u64::from),
-    )?;
+    let uids = processor_uids(alloc, madt)?;
     let leaves = leaves_of(alloc, pptt)?;
     Ok(where_read(madt, first_unknown(&uids, &leaves)))
 }
