@@ -18,6 +18,7 @@ mod PowersOfTwo
 mod Reported
 mod RisingLists
 mod RootPlaces
+mod RuleGroups
 mod SameNumbers
 mod SciGsis
 mod SecondTables

@@ -1,4 +1,5 @@
 -- The definitions that contracts of the linter cite.
+pub mod Advice
 pub mod EntryNumbers
 pub mod Leaves
 pub mod Numbered

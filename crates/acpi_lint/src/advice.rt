@@ -11,17 +11,13 @@ ghost use Rattle.acpi_lint.specs.StageFaults.{FindsFirstAdvice};
 ghost use Rattle.acpi_lint.specs.CompleteTables.{AreCompleteTables};
 
 use crate::complete_tables::CompleteTables;
-use crate::fadt_advice::{block_differs, dsdt_differs, facs_differs, fadt_of_revision};
-use crate::nowhere::{
-    affinity_nowhere, leaf_nowhere, nmi_nowhere, no_domain, no_leaf, no_processor,
-};
-use crate::numbered::at_place;
+use crate::fadt_advice::fadt_place;
+use crate::nowhere::{madt_place, madt_pptt_place, madt_srat_place};
 use crate::own::{
     cache_shape, domain_past_slit, first_own_place, io_apic_at_zero, madt_unread, srat_unread,
 };
 use crate::place::Place;
-use crate::processors::{apic_id_on, gicd, io_apic_id, nonzero_io_apic_address, uid_on};
-use crate::repeated::{repeated, same_cache_id, same_leaf, two_uid_domains};
+use crate::repeated::{pptt_place, repeated, two_uid_domains, unique_number_at};
 use crate::sci::sci_nowhere;
 use crate::slit::{rows, slit_differs};
 use crate::slot_advice::{listed_apart, listed_twice, second_table};
@@ -58,10 +54,9 @@ fn first_place(
         Rule::SecondTable => Ok(second_table(tables)),
         Rule::ListedApart => Ok(listed_apart(tables)),
         // Fields.
-        Rule::FadtOfRevision => Ok(fadt.and_then(|fadt| fadt_of_revision(&fadt))),
-        Rule::FacsDiffers => Ok(fadt.and_then(|fadt| facs_differs(&fadt))),
-        Rule::DsdtDiffers => Ok(fadt.and_then(|fadt| dsdt_differs(&fadt))),
-        Rule::BlockDiffers => Ok(fadt.and_then(|fadt| block_differs(&fadt))),
+        Rule::FadtOfRevision | Rule::FacsDiffers | Rule::DsdtDiffers | Rule::BlockDiffers => {
+            Ok(fadt.and_then(|fadt| fadt_place(rule, &fadt)))
+        }
         Rule::SlitDiffers => Ok(tables.table(TableKind::Slit).and_then(slit_differs)),
         // Entries by themselves.
         Rule::IoApicAtZero => Ok(first_own_place(in_madt, io_apic_at_zero)),
@@ -70,46 +65,31 @@ fn first_place(
         Rule::DomainPastSlit => Ok(past_slit(tables)),
         Rule::CacheShape => Ok(first_own_place(tables.pptt_entries(), cache_shape)),
         // Numbers that repeat.
-        Rule::SameUid => repeated(alloc, in_madt, |at| at_place(at.offset, uid_on(&at.entry))),
-        Rule::SameApicId => repeated(
-            alloc,
-            in_madt,
-            |at| at_place(at.offset, apic_id_on(&at.entry)),
-        ),
-        Rule::SameIoApicId => repeated(
-            alloc,
-            in_madt,
-            |at| at_place(at.offset, io_apic_id(&at.entry)),
-        ),
-        Rule::SameIoApicAddress => repeated(
-            alloc,
-            in_madt,
-            |at| at_place(at.offset, nonzero_io_apic_address(&at.entry)),
-        ),
-        Rule::SecondGicd => repeated(alloc, in_madt, |at| at_place(at.offset, gicd(&at.entry))),
+        Rule::SameUid
+        | Rule::SameApicId
+        | Rule::SameIoApicId
+        | Rule::SameIoApicAddress
+        | Rule::SecondGicd => repeated(alloc, in_madt, |at| unique_number_at(rule, at)),
         Rule::TwoUidDomains => srat.map_or(Ok(None), |srat| two_uid_domains(alloc, &srat)),
-        Rule::SameLeaf => pptt.map_or(Ok(None), |pptt| same_leaf(alloc, &pptt)),
-        Rule::SameCacheId => pptt.map_or(Ok(None), |pptt| same_cache_id(alloc, &pptt)),
-        // Numbers that are looked up.
+        Rule::SameLeaf | Rule::SameCacheId => {
+            pptt.map_or(Ok(None), |pptt| pptt_place(alloc, rule, &pptt))
+        }
+        // Numbers that are looked up, and what is not there.
         Rule::SciNowhere => Ok(
             fadt.zip(madt)
                 .and_then(|(fadt, madt)| sci_nowhere(policy, &fadt, &madt)),
         ),
-        Rule::NoProcessor => Ok(madt.and_then(|madt| no_processor(&madt))),
-        Rule::NmiNowhere => madt.map_or(Ok(None), |madt| nmi_nowhere(alloc, &madt)),
-        Rule::AffinityNowhere => madt.zip(srat).map_or(
+        Rule::NoProcessor | Rule::NmiNowhere => {
+            madt.map_or(Ok(None), |madt| madt_place(alloc, rule, &madt))
+        }
+        Rule::AffinityNowhere | Rule::NoDomain => madt.zip(srat).map_or(
             Ok(None),
-            |(madt, srat)| affinity_nowhere(alloc, &madt, &srat),
+            |(madt, srat)| madt_srat_place(alloc, rule, &madt, &srat),
         ),
-        Rule::NoDomain => madt
-            .zip(srat)
-            .map_or(Ok(None), |(madt, srat)| no_domain(alloc, &madt, &srat)),
-        Rule::NoLeaf => madt
-            .zip(pptt)
-            .map_or(Ok(None), |(madt, pptt)| no_leaf(alloc, &madt, &pptt)),
-        Rule::LeafNowhere => madt
-            .zip(pptt)
-            .map_or(Ok(None), |(madt, pptt)| leaf_nowhere(alloc, &madt, &pptt)),
+        Rule::NoLeaf | Rule::LeafNowhere => madt.zip(pptt).map_or(
+            Ok(None),
+            |(madt, pptt)| madt_pptt_place(alloc, rule, &madt, &pptt),
+        ),
     }
 }
 

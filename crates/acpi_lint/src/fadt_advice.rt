@@ -2,9 +2,11 @@
 
 ghost use Rattle.std.specs.Prelude.{◌≡◌, ◌≤◌, ◌<◌, ◌+◌, ◌*◌, ◌↔◌, IsTrue, length};
 ghost use Rattle.acpi_base.specs.Lint.FadtAdvice.{fields_length, IsFadtOfRevision, IsFacsDiffers, IsDsdtDiffers, IsBlockDiffers};
+ghost use Rattle.acpi_lint.specs.Advice.{IsFadtBroken};
 ghost use Rattle.acpi_lint.specs.Places.{AreTwoFields, IsBlock, FindsLeast};
 
 use crate::place::Place;
+use acpi_base::Rule;
 use acpi_base::field::{u8_at, u32_at, u64_at};
 use acpi_read::Fadt;
 
@@ -21,7 +23,7 @@ fn fields_length(revision: u8) -> u64
 }
 
 /// The place of the FADT's Length, at 4, if it is too short for the fields of its Revision; and that minimum length.
-pub fn fadt_of_revision(fadt: &Fadt<'_>) -> Option<Place>
+fn fadt_of_revision(fadt: &Fadt<'_>) -> Option<Place>
     ensures { FindsLeast (IsFadtOfRevision fadt.now) result }
 {
     let bytes = fadt.bytes();
@@ -60,14 +62,14 @@ fn two_fields(bytes: &[u8], narrow: usize, wide: usize) -> Option<Place>
 }
 
 /// FIRMWARE_CTRL, at 36, and X_FIRMWARE_CTRL, if they name two addresses.
-pub fn facs_differs(fadt: &Fadt<'_>) -> Option<Place>
+fn facs_differs(fadt: &Fadt<'_>) -> Option<Place>
     ensures { FindsLeast (IsFacsDiffers fadt.now) result }
 {
     two_fields(fadt.bytes(), 36, 132)
 }
 
 /// DSDT, at 40, and X_DSDT, if they name two addresses.
-pub fn dsdt_differs(fadt: &Fadt<'_>) -> Option<Place>
+fn dsdt_differs(fadt: &Fadt<'_>) -> Option<Place>
     ensures { FindsLeast (IsDsdtDiffers fadt.now) result }
 {
     two_fields(fadt.bytes(), 40, 140)
@@ -88,7 +90,7 @@ fn block_at(bytes: &[u8], k: usize) -> Option<Place>
 }
 
 /// The first register block with two addresses, if the hardware is not reduced.
-pub fn block_differs(fadt: &Fadt<'_>) -> Option<Place>
+fn block_differs(fadt: &Fadt<'_>) -> Option<Place>
     ensures { FindsLeast (IsBlockDiffers fadt.now) result }
 {
     if fadt.reduced() {
@@ -100,4 +102,17 @@ pub fn block_differs(fadt: &Fadt<'_>) -> Option<Place>
         }
     }
     None
+}
+
+/// The place where a rule on the fields of a FADT is broken. None for another rule.
+pub fn fadt_place(rule: Rule, fadt: &Fadt<'_>) -> Option<Place>
+    ensures { FindsLeast (IsFadtBroken rule fadt.now) result }
+{
+    match rule {
+        Rule::FadtOfRevision => fadt_of_revision(fadt),
+        Rule::FacsDiffers => facs_differs(fadt),
+        Rule::DsdtDiffers => dsdt_differs(fadt),
+        Rule::BlockDiffers => block_differs(fadt),
+        _ => None,
+    }
 }

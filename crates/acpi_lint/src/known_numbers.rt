@@ -4,7 +4,8 @@
 ghost use Rattle.std.specs.Prelude.{◌≡◌, ◌≤◌, ◌↔◌, ℕ, length, map, IfOk, IsTrue};
 ghost use denote.Ref.{Bor};
 ghost use Rattle.acpi_base.specs.Entries.{StandsWith, entries_read_by};
-ghost use Rattle.acpi_base.specs.Lint.Processors.{uid_on, processor_domain, IsGicc, IsOtherProcessor, AreProcessorsRead, IsLeafId};
+ghost use Rattle.acpi_base.specs.Lint.Numbered.{IsNamed};
+ghost use Rattle.acpi_base.specs.Lint.Processors.{apic_id_of, uid_of, uid_on, placed_apic_id, placed_uid, processor_domain, IsGicc, IsOtherProcessor, AreProcessorsRead, IsLeafId};
 ghost use Rattle.acpi_base.specs.Madt.{madt_contents};
 ghost use Rattle.acpi_base.specs.Madt as madts;
 ghost use Rattle.acpi_base.specs.Pptt.{pptt_contents};
@@ -16,7 +17,9 @@ ghost use Rattle.acpi_lint.specs.EntryNumbers.{AreGathered, AreKnown, IsAnyNamed
 use crate::leaves::leaves_of;
 use crate::numbered::Numbered;
 use crate::passes::first_picked;
-use crate::processors::{is_gicc, processor_domain, uid_on};
+use crate::processors::{
+    apic_id_of, is_gicc, placed_apic_id, placed_uid, processor_domain, uid_of, uid_on,
+};
 use acpi_check::{collected, sorted_unique};
 use acpi_read::{EntryAt, GICC, MadtEntry, SratEntry, Table, TableEntry, TypedEntries};
 use std::alloc::{AllocError, Global};
@@ -24,7 +27,7 @@ use std::alloc::{AllocError, Global};
 // ---- numbers
 
 /// The numbers that `pick` returns for the entries of a table, in rising order. Allocates for each.
-pub fn known_numbers<'a, E: TableEntry<'a> + Copy, F: Fn(&EntryAt<E>) -> Option<u64>>(
+fn known_numbers<'a, E: TableEntry<'a> + Copy, F: Fn(&EntryAt<E>) -> Option<u64>>(
     alloc: Global,
     entries: TypedEntries<'a, E>,
     pick: F,
@@ -35,6 +38,50 @@ pub fn known_numbers<'a, E: TableEntry<'a> + Copy, F: Fn(&EntryAt<E>) -> Option<
 {
     let numbers = collected(alloc, entries, pick)?;
     sorted_unique(numbers)
+}
+
+/// The UIDs of a MADT's processors, in rising order. Allocates for each.
+pub fn processor_uids(alloc: Global, madt: &Table<'_>) -> Result<Vec<u64>, AllocError>
+    ensures { IfOk result (λ known. AreKnown (IsNamed uid_of (madt_contents madt.now).entries) known.items) }
+{
+    known_numbers(
+        alloc,
+        madt.entries::<MadtEntry<'_>>(),
+        |at| uid_of(&at.entry).map(u64::from),
+    )
+}
+
+/// The APIC IDs and x2APIC IDs of a MADT's processors, in rising order. Allocates for each.
+pub fn processor_apic_ids(alloc: Global, madt: &Table<'_>) -> Result<Vec<u64>, AllocError>
+    ensures { IfOk result (λ known. AreKnown (IsNamed apic_id_of (madt_contents madt.now).entries) known.items) }
+{
+    known_numbers(
+        alloc,
+        madt.entries::<MadtEntry<'_>>(),
+        |at| apic_id_of(&at.entry).map(u64::from),
+    )
+}
+
+/// The UIDs that the enabled GICC affinities of an SRAT place, in rising order. Allocates for each.
+pub fn placed_uids(alloc: Global, srat: &Table<'_>) -> Result<Vec<u64>, AllocError>
+    ensures { IfOk result (λ known. AreKnown (IsNamed placed_uid (srat_contents srat.now).entries) known.items) }
+{
+    known_numbers(
+        alloc,
+        srat.entries::<SratEntry<'_>>(),
+        |at| placed_uid(&at.entry).map(u64::from),
+    )
+}
+
+/// The APIC IDs and x2APIC IDs that the enabled affinities of an SRAT place, in rising order. Allocates for each.
+pub fn placed_apic_ids(alloc: Global, srat: &Table<'_>) -> Result<Vec<u64>, AllocError>
+    ensures { IfOk result (λ known. AreKnown (IsNamed placed_apic_id (srat_contents srat.now).entries) known.items) }
+{
+    known_numbers(
+        alloc,
+        srat.entries::<SratEntry<'_>>(),
+        |at| placed_apic_id(&at.entry).map(u64::from),
+    )
 }
 
 /// Only the numbers.

@@ -13,19 +13,20 @@ ghost use Rattle.acpi_base.specs.Srat.{srat_contents};
 ghost use Rattle.acpi_read.specs.Madts.{madt_value};
 ghost use Rattle.acpi_read.specs.Srats.{srat_value};
 ghost use Rattle.acpi_read.specs.Entries.{entry_at_value};
+ghost use Rattle.acpi_lint.specs.Advice.{IsMadtBroken, IsMadtSratBroken, IsMadtPpttBroken};
 ghost use Rattle.acpi_lint.specs.Places.{FindsOwn, FindsLeast};
 ghost use Rattle.acpi_lint.specs.EntryNumbers.{IsUnknown, IsUnknownOf, IsUnknownAffinity, IsUnplaced, IsUnknownAt, IsWhereRead};
 
 use crate::known_numbers::{
-    are_processors_read, has_gicc, is_any_on, is_any_placed, known_numbers, leaf_ids,
+    are_processors_read, has_gicc, is_any_on, is_any_placed, leaf_ids, placed_apic_ids,
+    placed_uids, processor_apic_ids, processor_uids,
 };
 use crate::leaves::leaves_of;
 use crate::numbered::Numbered;
 use crate::passes::first_picked;
 use crate::place::Place;
-use crate::processors::{
-    apic_id_of, apic_id_on, gicc_uid_on, nmi_uid, placed_apic_id, placed_uid, uid_of, uid_on,
-};
+use crate::processors::{apic_id_on, gicc_uid_on, nmi_uid, placed_apic_id, placed_uid, uid_on};
+use acpi_base::Rule;
 use acpi_check::{binary_search, has};
 use acpi_read::{EntryAt, MadtEntry, SratEntry, Table};
 use std::alloc::{AllocError, Global};
@@ -57,7 +58,7 @@ fn where_read(madt: &Table<'_>, place: Option<Place>) -> Option<Place>
 // ---- the MADT alone
 
 /// The place of a MADT that has no usable processor, if the rules read all processors.
-pub fn no_processor(madt: &Table<'_>) -> Option<Place>
+fn no_processor(madt: &Table<'_>) -> Option<Place>
     ensures { FindsLeast (IsNoProcessor (madt_contents madt.now)) result }
 {
     if is_any_on(madt) {
@@ -76,17 +77,24 @@ fn unknown_nmi(uids: &[u64], at: &EntryAt<MadtEntry<'_>>) -> Option<Place>
 
 /// The first local NMI for a UID that no processor has, if the rules read all processors; `point` is the UID. Allocates
 /// for the UID of each processor.
-pub fn nmi_nowhere(alloc: Global, madt: &Table<'_>) -> Result<Option<Place>, AllocError>
+fn nmi_nowhere(alloc: Global, madt: &Table<'_>) -> Result<Option<Place>, AllocError>
     ensures { IfOk result (FindsLeast (IsNmiNowhere (madt_contents madt.now))) }
 {
-    let uids = known_numbers(
-        alloc,
-        madt.entries::<MadtEntry<'_>>(),
-        |at| uid_of(&at.entry).map(u64::from),
-    )?;
+    let uids = processor_uids(alloc, madt)?;
     let uids = uids.as_slice();
     let place = first_picked(madt.entries::<MadtEntry<'_>>(), |at| unknown_nmi(uids, at));
     Ok(where_read(madt, place))
+}
+
+/// The place where a rule on the processors of a MADT is broken. None for another rule.
+pub fn madt_place(alloc: Global, rule: Rule, madt: &Table<'_>) -> Result<Option<Place>, AllocError>
+    ensures { IfOk result (FindsLeast (IsMadtBroken rule (madt_contents madt.now))) }
+{
+    match rule {
+        Rule::NoProcessor => Ok(no_processor(madt)),
+        Rule::NmiNowhere => nmi_nowhere(alloc, madt),
+        _ => Ok(None),
+    }
 }
 
 // ---- the MADT and the SRAT
@@ -106,7 +114,7 @@ fn unknown_affinity(ids: &[u64], uids: &[u64], at: &EntryAt<SratEntry<'_>>) -> O
 
 /// The first affinity of an SRAT that is for no processor of a MADT, if the rules read all processors; `point` is the
 /// number that none has. Allocates for the numbers of each processor.
-pub fn affinity_nowhere(
+fn affinity_nowhere(
     alloc: Global,
     madt: &Table<'_>,
     srat: &Table<'_>,
@@ -114,16 +122,8 @@ pub fn affinity_nowhere(
     ensures { IfOk result (FindsLeast
         (IsAffinityNowhere (madt_contents madt.now) (srat_contents srat.now))) }
 {
-    let ids = known_numbers(
-        alloc,
-        madt.entries::<MadtEntry<'_>>(),
-        |at| apic_id_of(&at.entry).map(u64::from),
-    )?;
-    let uids = known_numbers(
-        alloc,
-        madt.entries::<MadtEntry<'_>>(),
-        |at| uid_of(&at.entry).map(u64::from),
-    )?;
+    let ids = processor_apic_ids(alloc, madt)?;
+    let uids = processor_uids(alloc, madt)?;
     let ids = ids.as_slice();
     let uids = uids.as_slice();
     let place = first_picked(
@@ -148,27 +148,15 @@ fn unplaced(ids: &[u64], uids: &[u64], at: &EntryAt<MadtEntry<'_>>) -> Option<Pl
 
 /// The first usable processor of a MADT for which an SRAT has no affinity, if the SRAT has some, and the
 /// rules read all processors; `point` is its number. Allocates for each affinity.
-pub fn no_domain(
-    alloc: Global,
-    madt: &Table<'_>,
-    srat: &Table<'_>,
-) -> Result<Option<Place>, AllocError>
+fn no_domain(alloc: Global, madt: &Table<'_>, srat: &Table<'_>) -> Result<Option<Place>, AllocError>
     ensures { IfOk result (FindsLeast
         (IsNoDomain (madt_contents madt.now) (srat_contents srat.now))) }
 {
     if !is_any_placed(srat) {
         return Ok(None);
     }
-    let ids = known_numbers(
-        alloc,
-        srat.entries::<SratEntry<'_>>(),
-        |at| placed_apic_id(&at.entry).map(u64::from),
-    )?;
-    let uids = known_numbers(
-        alloc,
-        srat.entries::<SratEntry<'_>>(),
-        |at| placed_uid(&at.entry).map(u64::from),
-    )?;
+    let ids = placed_apic_ids(alloc, srat)?;
+    let uids = placed_uids(alloc, srat)?;
     let ids = ids.as_slice();
     let uids = uids.as_slice();
     let place = first_picked(
@@ -176,6 +164,23 @@ pub fn no_domain(
         |at| unplaced(ids, uids, at),
     );
     Ok(where_read(madt, place))
+}
+
+/// The place where a rule on the processors of a MADT and an SRAT is broken. None for another rule.
+pub fn madt_srat_place(
+    alloc: Global,
+    rule: Rule,
+    madt: &Table<'_>,
+    srat: &Table<'_>,
+) -> Result<Option<Place>, AllocError>
+    ensures { IfOk result (FindsLeast
+        (IsMadtSratBroken rule (madt_contents madt.now) (srat_contents srat.now))) }
+{
+    match rule {
+        Rule::AffinityNowhere => affinity_nowhere(alloc, madt, srat),
+        Rule::NoDomain => no_domain(alloc, madt, srat),
+        _ => Ok(None),
+    }
 }
 
 // ---- the MADT and the PPTT
@@ -190,11 +195,7 @@ fn leafless(ids: &[u64], at: &EntryAt<MadtEntry<'_>>) -> Option<Place>
 
 /// The first usable processor of a MADT for which a PPTT has no leaf, if the PPTT has some, and the rules
 /// read all processors; `point` is its UID. Allocates for each leaf, and below Revision 2 for each node.
-pub fn no_leaf(
-    alloc: Global,
-    madt: &Table<'_>,
-    pptt: &Table<'_>,
-) -> Result<Option<Place>, AllocError>
+fn no_leaf(alloc: Global, madt: &Table<'_>, pptt: &Table<'_>) -> Result<Option<Place>, AllocError>
     ensures { IfOk result (FindsLeast
         (IsNoLeaf (madt_contents madt.now) (pptt_contents pptt.now))) }
 {
@@ -228,7 +229,7 @@ fn first_unknown(known: &[u64], given: &[Numbered]) -> Option<Place>
 /// The first leaf of a PPTT whose ID, `point`, is no processor's UID, if the MADT has a GIC CPU interface, and the
 /// rules read all processors. Allocates for the UID of each processor and for each leaf, and below Revision 2 for
 /// each node.
-pub fn leaf_nowhere(
+fn leaf_nowhere(
     alloc: Global,
     madt: &Table<'_>,
     pptt: &Table<'_>,
@@ -239,11 +240,24 @@ pub fn leaf_nowhere(
     if !has_gicc(madt) {
         return Ok(None);
     }
-    let uids = known_numbers(
-        alloc,
-        madt.entries::<MadtEntry<'_>>(),
-        |at| uid_of(&at.entry).map(u64::from),
-    )?;
+    let uids = processor_uids(alloc, madt)?;
     let leaves = leaves_of(alloc, pptt)?;
     Ok(where_read(madt, first_unknown(&uids, &leaves)))
+}
+
+/// The place where a rule on the processors of a MADT and a PPTT is broken. None for another rule.
+pub fn madt_pptt_place(
+    alloc: Global,
+    rule: Rule,
+    madt: &Table<'_>,
+    pptt: &Table<'_>,
+) -> Result<Option<Place>, AllocError>
+    ensures { IfOk result (FindsLeast
+        (IsMadtPpttBroken rule (madt_contents madt.now) (pptt_contents pptt.now))) }
+{
+    match rule {
+        Rule::NoLeaf => no_leaf(alloc, madt, pptt),
+        Rule::LeafNowhere => leaf_nowhere(alloc, madt, pptt),
+        _ => Ok(None),
+    }
 }

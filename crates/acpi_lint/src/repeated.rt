@@ -1,23 +1,30 @@
 //! Numbers that occur twice although each should be unique, and processors that are put into two domains.
 
-ghost use Rattle.std.specs.Prelude.{◌≡◌, IfOk, MatchOption};
+ghost use Rattle.std.specs.Prelude.{◌≡◌, IfOk, MatchOption, option_map};
 ghost use denote.Ref.{Bor};
 ghost use Rattle.acpi_base.specs.Entries.{entries_read_by};
 ghost use Rattle.acpi_base.specs.Lint.PpttAdvice.{IsSameCacheId, IsSameLeaf};
 ghost use Rattle.acpi_base.specs.Lint.SratAdvice.{IsTwoUidDomains};
 ghost use Rattle.acpi_base.specs.Pptt.{pptt_contents};
 ghost use Rattle.acpi_base.specs.Srat.{srat_contents};
+ghost use Rattle.acpi_read.specs.Madts.{madt_value};
 ghost use Rattle.acpi_read.specs.Srats.{srat_value};
 ghost use Rattle.acpi_check.specs.CollectedValues.{Picks};
+ghost use Rattle.acpi_lint.specs.Advice.{unique_number, IsPpttBroken};
 ghost use Rattle.acpi_lint.specs.EntryNumbers.{domain_of_uid, FindsRepeated};
+ghost use Rattle.acpi_lint.specs.Numbered.{at_place};
 ghost use Rattle.acpi_lint.specs.Places.{FindsLeast};
 
 use crate::leaves::{leaves_of, revision};
 use crate::numbered::{Numbered, Order, at_place, first_repeated, first_unlike};
 use crate::place::Place;
-use crate::processors::{cache_id, placed_uid, processor_domain};
+use crate::processors::{
+    apic_id_on, cache_id, gicd, io_apic_id, nonzero_io_apic_address, placed_uid, processor_domain,
+    uid_on,
+};
+use acpi_base::Rule;
 use acpi_check::collected;
-use acpi_read::{EntryAt, PpttEntry, SratEntry, Table, TableEntry, TypedEntries};
+use acpi_read::{EntryAt, MadtEntry, PpttEntry, SratEntry, Table, TableEntry, TypedEntries};
 use std::alloc::{AllocError, Global};
 
 /// The first entry of a table whose number an earlier one has; `other` is the first that has it, and `point` the
@@ -39,6 +46,29 @@ pub fn repeated<'a, E: TableEntry<'a> + Copy, F: Fn(&EntryAt<E>) -> Option<Numbe
     first_unlike(numbers, Order::Later)
 }
 
+// ---- the MADT
+
+/// The number of an entry of a MADT that a rule wants to be unique. None for another rule.
+fn unique_number(rule: Rule, entry: &MadtEntry<'_>) -> Option<u32>
+    ensures { result ≡ unique_number rule (madt_value entry.now) }
+{
+    match rule {
+        Rule::SameUid => uid_on(entry),
+        Rule::SameApicId => apic_id_on(entry),
+        Rule::SameIoApicId => io_apic_id(entry),
+        Rule::SameIoApicAddress => nonzero_io_apic_address(entry),
+        Rule::SecondGicd => gicd(entry),
+        _ => None,
+    }
+}
+
+/// The same at the entry's place.
+pub fn unique_number_at(rule: Rule, at: &EntryAt<MadtEntry<'_>>) -> Option<Numbered>
+    ensures { result ≡ option_map (at_place at.now.offset) (unique_number rule (madt_value at.now.entry)) }
+{
+    at_place(at.offset, unique_number(rule, &at.entry))
+}
+
 // ---- the PPTT
 
 /// The lowest Revision of the PPTT that has Cache IDs.
@@ -46,7 +76,7 @@ const HAS_CACHE_IDS: u8 = 3;
 
 /// The first cache that has the Cache ID of an earlier one, if the PPTT's Revision is 3 or later. Allocates for the
 /// Cache ID of each.
-pub fn same_cache_id(alloc: Global, pptt: &Table<'_>) -> Result<Option<Place>, AllocError>
+fn same_cache_id(alloc: Global, pptt: &Table<'_>) -> Result<Option<Place>, AllocError>
     ensures { IfOk result (FindsLeast (IsSameCacheId (pptt_contents pptt.now))) }
 {
     if revision(pptt) < HAS_CACHE_IDS {
@@ -59,11 +89,22 @@ pub fn same_cache_id(alloc: Global, pptt: &Table<'_>) -> Result<Option<Place>, A
 
 /// The first leaf that has the ACPI processor ID of an earlier one. Allocates for each leaf, and below Revision 2 for
 /// each node.
-pub fn same_leaf(alloc: Global, pptt: &Table<'_>) -> Result<Option<Place>, AllocError>
+fn same_leaf(alloc: Global, pptt: &Table<'_>) -> Result<Option<Place>, AllocError>
     ensures { IfOk result (FindsLeast (IsSameLeaf (pptt_contents pptt.now))) }
 {
     let leaves = leaves_of(alloc, pptt)?;
     first_repeated(leaves)
+}
+
+/// The place where a rule on the numbers in a PPTT is broken. None for another rule.
+pub fn pptt_place(alloc: Global, rule: Rule, pptt: &Table<'_>) -> Result<Option<Place>, AllocError>
+    ensures { IfOk result (FindsLeast (IsPpttBroken rule (pptt_contents pptt.now))) }
+{
+    match rule {
+        Rule::SameLeaf => same_leaf(alloc, pptt),
+        Rule::SameCacheId => same_cache_id(alloc, pptt),
+        _ => Ok(None),
+    }
 }
 
 // ---- the SRAT

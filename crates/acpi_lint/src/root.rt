@@ -17,10 +17,11 @@ fn is_ragged(image: &Image, root: RootPlace) -> bool
     requires { IsSlotWidth root.width }
     ensures { IsTrue result ↔ RootTableFault image.now root.address root.width Code.RootRagged }
 {
-    image.window(root.address, 36).is_some_and(|header| {
-        let length = u32_at(header, 4);
-        length >= 36 && (length - 36) % root.width != 0
-    })
+    let Some(header) = image.window(root.address, 36) else {
+        return false;
+    };
+    let length = u32_at(header, 4);
+    length >= 36 && (length - 36) % root.width != 0
 }
 
 /// Whether the root table at a place has the fault with this code. Each code is looked for, even if earlier bytes are

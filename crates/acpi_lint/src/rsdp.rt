@@ -16,19 +16,19 @@ use acpi_read::{Rsdp, fails};
 fn has_fault(image: &Image, address: u64, code: Code) -> bool
     ensures { IsTrue result ↔ RsdpFault image.now address code }
 {
-    let head = image.window(address, Rsdp::SHORT_LENGTH);
+    let Some(head) = image.window(address, Rsdp::SHORT_LENGTH) else {
+        return code == Code::RsdpOut;
+    };
     let question = match code {
-        Code::RsdpOut => return head.is_none(),
-        Code::RsdpSignature => return head.is_some_and(|head| !is_signed(head, b"RSD PTR ")),
-        Code::RsdpSum => return head.is_some_and(|head| sum(head) != 0),
+        Code::RsdpSignature => return !is_signed(head, b"RSD PTR "),
+        Code::RsdpSum => return sum(head) != 0,
         Code::RsdpTailOut => Question::Header,
         Code::RsdpLength => Question::Length,
         Code::RsdpLongOut => Question::Bytes,
         Code::RsdpExtendedSum => Question::Sum,
         _ => return false,
     };
-    head.is_some_and(|head| u8_at(head, 15) >= 2)
-        && fails(image, address, Frame::EXTENDED_RSDP, question)
+    u8_at(head, 15) >= 2 && fails(image, address, Frame::EXTENDED_RSDP, question)
 }
 
 /// The fault of the RSDP with this code: it has at most one, which is reported at its address.

@@ -1,12 +1,11 @@
 use Rattle.std.proofs.Common.{ap, rules, Ok}
 use Rattle.std.specs.Prelude.{⊤}
 use Rattle.acpi_base.specs.Contents.{HasPptt}
-use Rattle.acpi_base.specs.Lint.FadtAdvice.{IsFadtOfRevision, IsFacsDiffers, IsDsdtDiffers, IsBlockDiffers, IsSciNowhere}
-use Rattle.acpi_base.specs.Lint.MadtAdvice.{io_apic_id, nonzero_io_apic_address, gicd, IsIoApicAtZero, IsNmiNowhere, IsNoProcessor, IsMadtUnread}
-use Rattle.acpi_base.specs.Lint.PpttAdvice.{IsSameLeaf, IsCacheShape, IsSameCacheId, IsNoLeaf, IsLeafNowhere}
-use Rattle.acpi_base.specs.Lint.Processors.{uid_on, apic_id_on}
+use Rattle.acpi_base.specs.Lint.FadtAdvice.{IsSciNowhere}
+use Rattle.acpi_base.specs.Lint.MadtAdvice.{IsIoApicAtZero, IsMadtUnread}
+use Rattle.acpi_base.specs.Lint.PpttAdvice.{IsCacheShape}
 use Rattle.acpi_base.specs.Lint.Sets.{OfFadt, OfMadt, OfSrat}
-use Rattle.acpi_base.specs.Lint.SratAdvice.{IsTwoUidDomains, IsAffinityNowhere, IsNoDomain, IsSratUnread}
+use Rattle.acpi_base.specs.Lint.SratAdvice.{IsTwoUidDomains, IsSratUnread}
 use Rattle.acpi_base.specs.Listed.{slit_signature, HasListed}
 use Rattle.acpi_base.specs.Madt.{madt_contents}
 use Rattle.acpi_base.specs.Pptt.{pptt_contents}
@@ -16,8 +15,10 @@ use Rattle.acpi_base.specs.declared.table_kind.TableKind.TheVariants as kind
 use Rattle.acpi_read.specs.Madts.{madt_value}
 use Rattle.acpi_read.specs.Pptts.{pptt_value}
 use Rattle.acpi_read.specs.Srats.{srat_value}
+use Rattle.acpi_lint.specs.Advice.{IsFadtBroken, unique_number, IsMadtBroken, IsPpttBroken, IsMadtSratBroken, IsMadtPpttBroken}
 use Rattle.acpi_lint.specs.Places.{IsSizedDiffers}
 use Rattle.acpi_lint.proofs.OfTables.{listed_lifts, fadt_lifts, madt_lifts, srat_lifts, pptt_lifts, of_one, of_two, own_madt, own_srat, own_pptt, repeated_madt}
+use Rattle.acpi_lint.proofs.RuleGroups.{fadt_rules, unique_rules, madt_rules, pptt_rules, madt_srat_rules, madt_pptt_rules}
 use Rattle.acpi_lint.proofs.advice.first_place.Goals as goal
 
 -- ---- slots
@@ -40,37 +41,10 @@ pub returns-in-FadtOfRevision : goal.returns-in-FadtOfRevision
 returns-in-FadtOfRevision c =
     let m = c.args.image.now in
     let q = c.args.policy.now in
-    rw c.in-FadtOfRevision.is
-    (of_one (OfFadt m q) (λ whole. whole) IsFadtOfRevision {X = ⊤} (Ok c.and_then.result) c.fadt-fadt.result
+    fadt_rules m q c.and_then.result c.args.rule c.in-FadtOfRevision.is
+    (of_one (OfFadt m q) (λ whole. whole) (IsFadtBroken c.args.rule) {X = ⊤} (Ok c.and_then.result) c.fadt-fadt.result
     (fadt_lifts m q c.fadt-fadt.result c.requires c.fadt-fadt.ensures)
     c.and_then.ensures (λ none. ap Ok none) (λ whole found. search rules))
-
-pub returns-in-FacsDiffers : goal.returns-in-FacsDiffers
-returns-in-FacsDiffers c =
-    let m = c.args.image.now in
-    let q = c.args.policy.now in
-    rw c.in-FacsDiffers.is
-    (of_one (OfFadt m q) (λ whole. whole) IsFacsDiffers {X = ⊤} (Ok c.and_then-in-FacsDiffers.result)
-    c.fadt-fadt.result (fadt_lifts m q c.fadt-fadt.result c.requires c.fadt-fadt.ensures)
-    c.and_then-in-FacsDiffers.ensures (λ none. ap Ok none) (λ whole found. search rules))
-
-pub returns-in-DsdtDiffers : goal.returns-in-DsdtDiffers
-returns-in-DsdtDiffers c =
-    let m = c.args.image.now in
-    let q = c.args.policy.now in
-    rw c.in-DsdtDiffers.is
-    (of_one (OfFadt m q) (λ whole. whole) IsDsdtDiffers {X = ⊤} (Ok c.and_then-in-DsdtDiffers.result)
-    c.fadt-fadt.result (fadt_lifts m q c.fadt-fadt.result c.requires c.fadt-fadt.ensures)
-    c.and_then-in-DsdtDiffers.ensures (λ none. ap Ok none) (λ whole found. search rules))
-
-pub returns-in-BlockDiffers : goal.returns-in-BlockDiffers
-returns-in-BlockDiffers c =
-    let m = c.args.image.now in
-    let q = c.args.policy.now in
-    rw c.in-BlockDiffers.is
-    (of_one (OfFadt m q) (λ whole. whole) IsBlockDiffers {X = ⊤} (Ok c.and_then-in-BlockDiffers.result)
-    c.fadt-fadt.result (fadt_lifts m q c.fadt-fadt.result c.requires c.fadt-fadt.ensures)
-    c.and_then-in-BlockDiffers.ensures (λ none. ap Ok none) (λ whole found. search rules))
 
 pub returns-in-SlitDiffers : goal.returns-in-SlitDiffers
 returns-in-SlitDiffers c =
@@ -120,37 +94,9 @@ returns-in-CacheShape c =
 
 pub returns-in-SameUid : goal.returns-in-SameUid
 returns-in-SameUid c =
-    rw c.in-SameUid.is
-    (repeated_madt c.args.image.now c.args.policy.now madt_value uid_on c.repeated.result _
+    unique_rules c.args.image.now c.args.policy.now c.repeated.result c.args.rule c.in-SameUid.is
+    (repeated_madt c.args.image.now c.args.policy.now madt_value (unique_number c.args.rule) c.repeated.result _
     c.madt_entries-in_madt.result c.requires c.madt_entries-in_madt.ensures c.repeated.ensures
-    (λ at picked answers. search rules))
-
-pub returns-in-SameApicId : goal.returns-in-SameApicId
-returns-in-SameApicId c =
-    rw c.in-SameApicId.is
-    (repeated_madt c.args.image.now c.args.policy.now madt_value apic_id_on c.repeated-in-SameApicId.result _
-    c.madt_entries-in_madt.result c.requires c.madt_entries-in_madt.ensures c.repeated-in-SameApicId.ensures
-    (λ at picked answers. search rules))
-
-pub returns-in-SameIoApicId : goal.returns-in-SameIoApicId
-returns-in-SameIoApicId c =
-    rw c.in-SameIoApicId.is
-    (repeated_madt c.args.image.now c.args.policy.now madt_value io_apic_id c.repeated-in-SameIoApicId.result _
-    c.madt_entries-in_madt.result c.requires c.madt_entries-in_madt.ensures c.repeated-in-SameIoApicId.ensures
-    (λ at picked answers. search rules))
-
-pub returns-in-SameIoApicAddress : goal.returns-in-SameIoApicAddress
-returns-in-SameIoApicAddress c =
-    rw c.in-SameIoApicAddress.is
-    (repeated_madt c.args.image.now c.args.policy.now madt_value nonzero_io_apic_address
-    c.repeated-in-SameIoApicAddress.result _ c.madt_entries-in_madt.result c.requires c.madt_entries-in_madt.ensures
-    c.repeated-in-SameIoApicAddress.ensures (λ at picked answers. search rules))
-
-pub returns-in-SecondGicd : goal.returns-in-SecondGicd
-returns-in-SecondGicd c =
-    rw c.in-SecondGicd.is
-    (repeated_madt c.args.image.now c.args.policy.now madt_value gicd c.repeated-in-SecondGicd.result _
-    c.madt_entries-in_madt.result c.requires c.madt_entries-in_madt.ensures c.repeated-in-SecondGicd.ensures
     (λ at picked answers. search rules))
 
 pub returns-in-TwoUidDomains : goal.returns-in-TwoUidDomains
@@ -166,21 +112,12 @@ pub returns-in-SameLeaf : goal.returns-in-SameLeaf
 returns-in-SameLeaf c =
     let m = c.args.image.now in
     let q = c.args.policy.now in
-    rw c.in-SameLeaf.is
-    (of_one (HasPptt m q) pptt_contents IsSameLeaf c.map_or-in-SameLeaf.result c.pptt-pptt.result (pptt_lifts m q
-    c.pptt-pptt.result c.requires c.pptt-pptt.ensures)
+    pptt_rules m q c.map_or-in-SameLeaf.result c.args.rule c.in-SameLeaf.is
+    (of_one (HasPptt m q) pptt_contents (IsPpttBroken c.args.rule) c.map_or-in-SameLeaf.result c.pptt-pptt.result
+    (pptt_lifts m q c.pptt-pptt.result c.requires c.pptt-pptt.ensures)
     c.map_or-in-SameLeaf.ensures (λ none. none) (λ whole found. search rules))
 
-pub returns-in-SameCacheId : goal.returns-in-SameCacheId
-returns-in-SameCacheId c =
-    let m = c.args.image.now in
-    let q = c.args.policy.now in
-    rw c.in-SameCacheId.is
-    (of_one (HasPptt m q) pptt_contents IsSameCacheId c.map_or-in-SameCacheId.result c.pptt-pptt.result (pptt_lifts m q
-    c.pptt-pptt.result c.requires c.pptt-pptt.ensures)
-    c.map_or-in-SameCacheId.ensures (λ none. none) (λ whole found. search rules))
-
--- ---- numbers that are looked up
+-- ---- numbers that are looked up, and what is not there
 
 pub returns-in-SciNowhere : goal.returns-in-SciNowhere
 returns-in-SciNowhere c =
@@ -197,61 +134,30 @@ pub returns-in-NoProcessor : goal.returns-in-NoProcessor
 returns-in-NoProcessor c =
     let m = c.args.image.now in
     let q = c.args.policy.now in
-    rw c.in-NoProcessor.is
-    (of_one (OfMadt m q) madt_contents IsNoProcessor {X = ⊤} (Ok c.and_then-in-NoProcessor.result) c.madt-madt.result
+    madt_rules m q c.map_or-in-NoProcessor.result c.args.rule c.in-NoProcessor.is
+    (of_one (OfMadt m q) madt_contents (IsMadtBroken c.args.rule) c.map_or-in-NoProcessor.result c.madt-madt.result
     (madt_lifts m q c.madt-madt.result c.requires c.madt-madt.ensures)
-    c.and_then-in-NoProcessor.ensures (λ none. ap Ok none) (λ whole found. search rules))
-
-pub returns-in-NmiNowhere : goal.returns-in-NmiNowhere
-returns-in-NmiNowhere c =
-    let m = c.args.image.now in
-    let q = c.args.policy.now in
-    rw c.in-NmiNowhere.is
-    (of_one (OfMadt m q) madt_contents IsNmiNowhere c.map_or-in-NmiNowhere.result c.madt-madt.result (madt_lifts m q
-    c.madt-madt.result c.requires c.madt-madt.ensures)
-    c.map_or-in-NmiNowhere.ensures (λ none. none) (λ whole found. search rules))
+    c.map_or-in-NoProcessor.ensures (λ none. none) (λ whole found. search rules))
 
 pub returns-in-AffinityNowhere : goal.returns-in-AffinityNowhere
 returns-in-AffinityNowhere c =
     let m = c.args.image.now in
     let q = c.args.policy.now in
-    rw c.in-AffinityNowhere.is
-    (of_two (OfMadt m q) madt_contents (OfSrat m q) srat_contents IsAffinityNowhere _
+    madt_srat_rules m q c.map_or-in-AffinityNowhere.result c.args.rule c.in-AffinityNowhere.is
+    (of_two (OfMadt m q) madt_contents (OfSrat m q) srat_contents (IsMadtSratBroken c.args.rule) _
     c.map_or-in-AffinityNowhere.result c.madt-madt.result c.srat-srat.result
     (madt_lifts m q c.madt-madt.result c.requires c.madt-madt.ensures)
     (srat_lifts m q c.srat-srat.result c.requires c.srat-srat.ensures)
-    (rw c.zip-in-AffinityNowhere.ensures at c.map_or-in-AffinityNowhere.ensures) (λ none. none) (λ one two found.
-    search rules))
-
-pub returns-in-NoDomain : goal.returns-in-NoDomain
-returns-in-NoDomain c =
-    let m = c.args.image.now in
-    let q = c.args.policy.now in
-    rw c.in-NoDomain.is
-    (of_two (OfMadt m q) madt_contents (OfSrat m q) srat_contents IsNoDomain _ c.map_or-in-NoDomain.result
-    c.madt-madt.result c.srat-srat.result
-    (madt_lifts m q c.madt-madt.result c.requires c.madt-madt.ensures)
-    (srat_lifts m q c.srat-srat.result c.requires c.srat-srat.ensures)
-    (rw c.zip-in-NoDomain.ensures at c.map_or-in-NoDomain.ensures) (λ none. none) (λ one two found. search rules))
+    (rw c.zip-in-AffinityNowhere.ensures at c.map_or-in-AffinityNowhere.ensures) (λ none. none)
+    (λ one two found. search rules))
 
 pub returns-in-NoLeaf : goal.returns-in-NoLeaf
 returns-in-NoLeaf c =
     let m = c.args.image.now in
     let q = c.args.policy.now in
-    rw c.in-NoLeaf.is
-    (of_two (OfMadt m q) madt_contents (HasPptt m q) pptt_contents IsNoLeaf _ c.map_or-in-NoLeaf.result
-    c.madt-madt.result c.pptt-pptt.result
+    madt_pptt_rules m q c.map_or-in-NoLeaf.result c.args.rule c.in-NoLeaf.is
+    (of_two (OfMadt m q) madt_contents (HasPptt m q) pptt_contents (IsMadtPpttBroken c.args.rule) _
+    c.map_or-in-NoLeaf.result c.madt-madt.result c.pptt-pptt.result
     (madt_lifts m q c.madt-madt.result c.requires c.madt-madt.ensures)
     (pptt_lifts m q c.pptt-pptt.result c.requires c.pptt-pptt.ensures)
     (rw c.zip-in-NoLeaf.ensures at c.map_or-in-NoLeaf.ensures) (λ none. none) (λ one two found. search rules))
-
-pub returns-in-LeafNowhere : goal.returns-in-LeafNowhere
-returns-in-LeafNowhere c =
-    let m = c.args.image.now in
-    let q = c.args.policy.now in
-    rw c.in-LeafNowhere.is
-    (of_two (OfMadt m q) madt_contents (HasPptt m q) pptt_contents IsLeafNowhere _ c.map_or-in-LeafNowhere.result
-    c.madt-madt.result c.pptt-pptt.result
-    (madt_lifts m q c.madt-madt.result c.requires c.madt-madt.ensures)
-    (pptt_lifts m q c.pptt-pptt.result c.requires c.pptt-pptt.ensures)
-    (rw c.zip-in-LeafNowhere.ensures at c.map_or-in-LeafNowhere.ensures) (λ none. none) (λ one two found. search rules))

@@ -3,11 +3,9 @@ use Rattle.acpi_base.specs.Lint.Numbered.{IsNamed}
 use Rattle.acpi_base.specs.Lint.Processors.{apic_id_of, placed_apic_id, placed_uid, uid_of}
 use Rattle.acpi_base.specs.Madt.{madt_contents}
 use Rattle.acpi_base.specs.Srat.{srat_contents}
-use Rattle.acpi_read.specs.Madts.{madt_value}
 use Rattle.acpi_read.specs.Srats.{srat_value}
 use Rattle.acpi_check.proofs.EntryPasses.Kept.{srat_rising}
 use Rattle.acpi_lint.specs.EntryNumbers.{IsUnknownAffinity}
-use Rattle.acpi_lint.proofs.CollectedNumbers.{known_read}
 use Rattle.acpi_lint.proofs.FirstEntries.{least_of_entries}
 use Rattle.acpi_lint.proofs.LeastPlaces.{least_as}
 use Rattle.acpi_lint.proofs.UnknownOnes.{IsUnknownNamedOfTwo, unknown_of_two, where_all_read}
@@ -26,11 +24,7 @@ returns c =
     (IsUnknownNamedOfTwo placed_apic_id (IsNamed apic_id_of others) placed_uid (IsNamed uid_of others) entries) found
     c.where_read.result c.where_read.ensures
     (unknown_of_two placed_apic_id placed_uid (IsNamed apic_id_of others) (IsNamed uid_of others) entries ids uids found
-    (known_read madt_value apic_id_of others ids
-    (rw (c.entries.ensures.entries, ← c.as_slice-ids.ensures.value) at c.in_ok-ids.ensures)
-    (λ at number answers. search rules))
-    (known_read madt_value uid_of others uids
-    (rw (c.entries-2.ensures.entries, ← c.as_slice-uids.ensures.value) at c.in_ok-uids.ensures)
-    (λ at number answers. search rules))
+    (rw (← c.as_slice-ids.ensures.value) at c.in_ok-ids.ensures)
+    (rw (← c.as_slice-uids.ensures.value) at c.in_ok-uids.ensures)
     (least_of_entries srat_value (IsUnknownAffinity ids uids) 48 found c.first_picked-place.ensures
-    c.entries-3.ensures.entries (srat_rising c.args.srat.now) (λ at picked here answers. search rules))))
+    c.entries.ensures.entries (srat_rising c.args.srat.now) (λ at picked here answers. search rules))))

@@ -1,10 +1,8 @@
-use Rattle.std.proofs.Common.{◌≡◌, ℕ, rules}
+use Rattle.std.proofs.Common.{◌≡◌, ℕ}
 use Rattle.acpi_base.specs.Lint.Numbered.{IsNamed}
 use Rattle.acpi_base.specs.Lint.Processors.{uid_of, IsLeafAt}
 use Rattle.acpi_base.specs.Madt.{MadtContents, madt_contents}
 use Rattle.acpi_base.specs.Pptt.{PpttContents, pptt_contents}
-use Rattle.acpi_read.specs.Madts.{madt_value}
-use Rattle.acpi_lint.proofs.CollectedNumbers.{known_read}
 use Rattle.acpi_lint.proofs.LeastPlaces.{least_as}
 use Rattle.acpi_lint.proofs.UnknownOnes.{unknown_placed, where_all_read}
 use Rattle.acpi_lint.proofs.nowhere.leaf_nowhere.Goals as goal
@@ -24,7 +22,6 @@ returns c =
     (where_all_read madt (IsUnknownLeaf madt pptt) c.first_unknown.result c.where_read.result c.where_read.ensures
     (unknown_placed (IsNamed uid_of madt.entries) (IsLeafAt pptt) c.in_ok-uids.uids.items c.in_ok-leaves.leaves.items
     c.first_unknown.result
-    (known_read madt_value uid_of madt.entries c.in_ok-uids.uids.items
-    (rw c.entries.ensures.entries at c.in_ok-uids.ensures) (λ at number answers. search rules))
+    c.in_ok-uids.ensures
     c.in_ok-leaves.ensures
     (rw (c.deref.ensures.value, c.deref-2.ensures.value) at c.first_unknown.ensures)))

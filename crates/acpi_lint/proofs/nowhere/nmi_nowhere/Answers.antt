@@ -6,7 +6,6 @@ use Rattle.acpi_base.specs.Madt.{madt_contents}
 use Rattle.acpi_read.specs.Madts.{madt_value}
 use Rattle.acpi_check.proofs.EntryPasses.Kept.{madt_rising}
 use Rattle.acpi_lint.specs.EntryNumbers.{IsUnknownOf}
-use Rattle.acpi_lint.proofs.CollectedNumbers.{known_read}
 use Rattle.acpi_lint.proofs.FirstEntries.{least_of_entries}
 use Rattle.acpi_lint.proofs.LeastPlaces.{least_as}
 use Rattle.acpi_lint.proofs.UnknownOnes.{IsUnknownNamed, unknown_named, where_all_read}
@@ -22,8 +21,6 @@ returns c =
     (where_all_read madt (IsUnknownNamed nmi_uid (IsNamed uid_of madt.entries) madt.entries) found c.where_read.result
     c.where_read.ensures
     (unknown_named nmi_uid (IsNamed uid_of madt.entries) madt.entries uids found
-    (known_read madt_value uid_of madt.entries uids
-    (rw (c.entries.ensures.entries, ← c.as_slice-uids.ensures.value) at c.in_ok-uids.ensures)
-    (λ at number answers. search rules))
+    (rw (← c.as_slice-uids.ensures.value) at c.in_ok-uids.ensures)
     (least_of_entries madt_value (IsUnknownOf nmi_uid uids) 44 found c.first_picked-place.ensures
-    c.entries-2.ensures.entries (madt_rising c.args.madt.now) (λ at picked here answers. search rules))))
+    c.entries.ensures.entries (madt_rising c.args.madt.now) (λ at picked here answers. search rules))))

@@ -4,10 +4,8 @@ use Rattle.acpi_base.specs.Lint.Processors.{apic_id_on, gicc_uid_on, placed_apic
 use Rattle.acpi_base.specs.Madt.{madt_contents}
 use Rattle.acpi_base.specs.Srat.{srat_contents}
 use Rattle.acpi_read.specs.Madts.{madt_value}
-use Rattle.acpi_read.specs.Srats.{srat_value}
 use Rattle.acpi_check.proofs.EntryPasses.Kept.{madt_rising}
 use Rattle.acpi_lint.specs.EntryNumbers.{IsUnplaced}
-use Rattle.acpi_lint.proofs.CollectedNumbers.{known_read}
 use Rattle.acpi_lint.proofs.FirstEntries.{least_of_entries}
 use Rattle.acpi_lint.proofs.LeastPlaces.{least_as}
 use Rattle.acpi_lint.proofs.UnknownOnes.{IsUnknownNamedOfTwo, unknown_of_two, where_all_read}
@@ -29,11 +27,7 @@ returns c =
     c.where_read.result c.where_read.ensures
     (unknown_of_two apic_id_on gicc_uid_on (IsNamed placed_apic_id others) (IsNamed placed_uid others) entries ids uids
     found
-    (known_read srat_value placed_apic_id others ids
-    (rw (c.entries.ensures.entries, ← c.as_slice-ids.ensures.value) at c.in_ok-ids.ensures)
-    (λ at number answers. search rules))
-    (known_read srat_value placed_uid others uids
-    (rw (c.entries-2.ensures.entries, ← c.as_slice-uids.ensures.value) at c.in_ok-uids.ensures)
-    (λ at number answers. search rules))
-    (least_of_entries madt_value (IsUnplaced ids uids) 44 found c.first_picked-place.ensures c.entries-3.ensures.entries
+    (rw (← c.as_slice-ids.ensures.value) at c.in_ok-ids.ensures)
+    (rw (← c.as_slice-uids.ensures.value) at c.in_ok-uids.ensures)
+    (least_of_entries madt_value (IsUnplaced ids uids) 44 found c.first_picked-place.ensures c.entries.ensures.entries
     (madt_rising c.args.madt.now) (λ at picked here answers. search rules))))
