@@ -1,4 +1,4 @@
--- A finder that serves several rules finds each of them: the definition of the group says of a rule what the rule's own says.
+-- A finder that serves several rules finds each of them: its definition says of each what the rule's own one says.
 use Rattle.std.proofs.Common.{◌≡◌, ℕ, Result, inl, inr}
 use Rattle.std.specs.Prelude.{◌⊎◌, IfOk, Option}
 use Rattle.acpi_base.specs.Contents.{HasPptt}
@@ -54,7 +54,8 @@ pptt_rules m q result r (inr is) found = rw is (rw is at found)
 pub madt_srat_rules : {X : Type 0} (m : Memory) (q : PolicyValue) (result : Result (Option Place) X) (r : Rule)
     → OneOfTwo r rule.AffinityNowhere rule.NoDomain
     → IfOk result
-    (FindsLeast (λ at other point. OfMadt m q (λ madt. OfSrat m q (λ srat. IsMadtSratBroken r madt srat at other point))))
+    (FindsLeast (λ at other point. OfMadt m q
+    (λ madt. OfSrat m q (λ srat. IsMadtSratBroken r madt srat at other point))))
     → IfOk result (FindsLeast (IsBroken r m q))
 madt_srat_rules m q result r (inl is) found = rw is (rw is at found)
 madt_srat_rules m q result r (inr is) found = rw is (rw is at found)
@@ -62,7 +63,8 @@ madt_srat_rules m q result r (inr is) found = rw is (rw is at found)
 pub madt_pptt_rules : {X : Type 0} (m : Memory) (q : PolicyValue) (result : Result (Option Place) X) (r : Rule)
     → OneOfTwo r rule.NoLeaf rule.LeafNowhere
     → IfOk result
-    (FindsLeast (λ at other point. OfMadt m q (λ madt. HasPptt m q (λ pptt. IsMadtPpttBroken r madt pptt at other point))))
+    (FindsLeast (λ at other point. OfMadt m q
+    (λ madt. HasPptt m q (λ pptt. IsMadtPpttBroken r madt pptt at other point))))
     → IfOk result (FindsLeast (IsBroken r m q))
 madt_pptt_rules m q result r (inl is) found = rw is (rw is at found)
 madt_pptt_rules m q result r (inr is) found = rw is (rw is at found)

@@ -42,7 +42,8 @@ fn known_numbers<'a, E: TableEntry<'a> + Copy, F: Fn(&EntryAt<E>) -> Option<u64>
 
 /// The UIDs of a MADT's processors, in rising order. Allocates for each.
 pub fn processor_uids(alloc: Global, madt: &Table<'_>) -> Result<Vec<u64>, AllocError>
-    ensures { IfOk result (λ known. AreKnown (IsNamed uid_of (madt_contents madt.now).entries) known.items) }
+    ensures { IfOk result
+        (λ known. AreKnown (IsNamed uid_of (madt_contents madt.now).entries) known.items) }
 {
     known_numbers(
         alloc,
@@ -53,7 +54,8 @@ pub fn processor_uids(alloc: Global, madt: &Table<'_>) -> Result<Vec<u64>, Alloc
 
 /// The APIC IDs and x2APIC IDs of a MADT's processors, in rising order. Allocates for each.
 pub fn processor_apic_ids(alloc: Global, madt: &Table<'_>) -> Result<Vec<u64>, AllocError>
-    ensures { IfOk result (λ known. AreKnown (IsNamed apic_id_of (madt_contents madt.now).entries) known.items) }
+    ensures { IfOk result
+        (λ known. AreKnown (IsNamed apic_id_of (madt_contents madt.now).entries) known.items) }
 {
     known_numbers(
         alloc,
@@ -64,7 +66,8 @@ pub fn processor_apic_ids(alloc: Global, madt: &Table<'_>) -> Result<Vec<u64>, A
 
 /// The UIDs that the enabled GICC affinities of an SRAT place, in rising order. Allocates for each.
 pub fn placed_uids(alloc: Global, srat: &Table<'_>) -> Result<Vec<u64>, AllocError>
-    ensures { IfOk result (λ known. AreKnown (IsNamed placed_uid (srat_contents srat.now).entries) known.items) }
+    ensures { IfOk result
+        (λ known. AreKnown (IsNamed placed_uid (srat_contents srat.now).entries) known.items) }
 {
     known_numbers(
         alloc,
@@ -75,7 +78,8 @@ pub fn placed_uids(alloc: Global, srat: &Table<'_>) -> Result<Vec<u64>, AllocErr
 
 /// The APIC IDs and x2APIC IDs that the enabled affinities of an SRAT place, in rising order. Allocates for each.
 pub fn placed_apic_ids(alloc: Global, srat: &Table<'_>) -> Result<Vec<u64>, AllocError>
-    ensures { IfOk result (λ known. AreKnown (IsNamed placed_apic_id (srat_contents srat.now).entries) known.items) }
+    ensures { IfOk result
+        (λ known. AreKnown (IsNamed placed_apic_id (srat_contents srat.now).entries) known.items) }
 {
     known_numbers(
         alloc,

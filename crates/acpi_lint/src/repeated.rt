@@ -64,7 +64,8 @@ fn unique_number(rule: Rule, entry: &MadtEntry<'_>) -> Option<u32>
 
 /// The same at the entry's place.
 pub fn unique_number_at(rule: Rule, at: &EntryAt<MadtEntry<'_>>) -> Option<Numbered>
-    ensures { result ≡ option_map (at_place at.now.offset) (unique_number rule (madt_value at.now.entry)) }
+    ensures { result
+        ≡ option_map (at_place at.now.offset) (unique_number rule (madt_value at.now.entry)) }
 {
     at_place(at.offset, unique_number(rule, &at.entry))
 }
