@@ -1,7 +1,7 @@
 //! Numbers that are looked up, in rising order: those of the processors of a MADT, of the affinities of an SRAT, and
 //! of the leaves of a PPTT. Also whether tables have entries of a kind without which a rule does not apply.
 
-ghost use Rattle.std.specs.Prelude.{◌≡◌, ◌≤◌, ◌↔◌, ℕ, length, map, IfOk, IsTrue};
+ghost use Rattle.std.specs.Prelude.{◌≡◌, ◌≤◌, ◌↔◌, ℕ, length, map, IfOk, IsSome, IsTrue};
 ghost use denote.Ref.{Bor};
 ghost use Rattle.acpi_base.specs.Entries.{StandsWith, entries_read_by};
 ghost use Rattle.acpi_base.specs.Lint.Numbered.{IsNamed};
@@ -11,6 +11,7 @@ ghost use Rattle.acpi_base.specs.Madt as madts;
 ghost use Rattle.acpi_base.specs.Pptt.{pptt_contents};
 ghost use Rattle.acpi_base.specs.Srat.{srat_contents};
 ghost use Rattle.acpi_read.specs.Madts.{madt_value, IsCompleteEntry};
+ghost use Rattle.acpi_read.specs.Srats.{srat_value};
 ghost use Rattle.acpi_check.specs.CollectedValues.{Picks};
 ghost use Rattle.acpi_lint.specs.EntryNumbers.{AreGathered, AreKnown, IsAnyNamed};
 
@@ -40,16 +41,26 @@ fn known_numbers<'a, E: TableEntry<'a> + Copy, F: Fn(&EntryAt<E>) -> Option<u64>
     sorted_unique(numbers)
 }
 
+/// The UID of a processor.
+fn uid_at(at: &EntryAt<MadtEntry<'_>>) -> Option<u64>
+    ensures { result ≡ uid_of (madt_value at.now.entry) }
+{
+    uid_of(&at.entry).map(u64::from)
+}
+
 /// The UIDs of a MADT's processors, in rising order. Allocates for each.
 pub fn processor_uids(alloc: Global, madt: &Table<'_>) -> Result<Vec<u64>, AllocError>
     ensures { IfOk result
         (λ known. AreKnown (IsNamed uid_of (madt_contents madt.now).entries) known.items) }
 {
-    known_numbers(
-        alloc,
-        madt.entries::<MadtEntry<'_>>(),
-        |at| uid_of(&at.entry).map(u64::from),
-    )
+    known_numbers(alloc, madt.entries::<MadtEntry<'_>>(), uid_at)
+}
+
+/// The APIC ID or x2APIC ID of a processor that has one.
+fn apic_id_at(at: &EntryAt<MadtEntry<'_>>) -> Option<u64>
+    ensures { result ≡ apic_id_of (madt_value at.now.entry) }
+{
+    apic_id_of(&at.entry).map(u64::from)
 }
 
 /// The APIC IDs and x2APIC IDs of a MADT's processors, in rising order. Allocates for each.
@@ -57,11 +68,14 @@ pub fn processor_apic_ids(alloc: Global, madt: &Table<'_>) -> Result<Vec<u64>, A
     ensures { IfOk result
         (λ known. AreKnown (IsNamed apic_id_of (madt_contents madt.now).entries) known.items) }
 {
-    known_numbers(
-        alloc,
-        madt.entries::<MadtEntry<'_>>(),
-        |at| apic_id_of(&at.entry).map(u64::from),
-    )
+    known_numbers(alloc, madt.entries::<MadtEntry<'_>>(), apic_id_at)
+}
+
+/// The UID that an enabled GICC affinity places.
+fn placed_uid_at(at: &EntryAt<SratEntry<'_>>) -> Option<u64>
+    ensures { result ≡ placed_uid (srat_value at.now.entry) }
+{
+    placed_uid(&at.entry).map(u64::from)
 }
 
 /// The UIDs that the enabled GICC affinities of an SRAT place, in rising order. Allocates for each.
@@ -69,11 +83,14 @@ pub fn placed_uids(alloc: Global, srat: &Table<'_>) -> Result<Vec<u64>, AllocErr
     ensures { IfOk result
         (λ known. AreKnown (IsNamed placed_uid (srat_contents srat.now).entries) known.items) }
 {
-    known_numbers(
-        alloc,
-        srat.entries::<SratEntry<'_>>(),
-        |at| placed_uid(&at.entry).map(u64::from),
-    )
+    known_numbers(alloc, srat.entries::<SratEntry<'_>>(), placed_uid_at)
+}
+
+/// The APIC ID or x2APIC ID that an enabled affinity places.
+fn placed_apic_id_at(at: &EntryAt<SratEntry<'_>>) -> Option<u64>
+    ensures { result ≡ placed_apic_id (srat_value at.now.entry) }
+{
+    placed_apic_id(&at.entry).map(u64::from)
 }
 
 /// The APIC IDs and x2APIC IDs that the enabled affinities of an SRAT place, in rising order. Allocates for each.
@@ -81,11 +98,7 @@ pub fn placed_apic_ids(alloc: Global, srat: &Table<'_>) -> Result<Vec<u64>, Allo
     ensures { IfOk result
         (λ known. AreKnown (IsNamed placed_apic_id (srat_contents srat.now).entries) known.items) }
 {
-    known_numbers(
-        alloc,
-        srat.entries::<SratEntry<'_>>(),
-        |at| placed_apic_id(&at.entry).map(u64::from),
-    )
+    known_numbers(alloc, srat.entries::<SratEntry<'_>>(), placed_apic_id_at)
 }
 
 /// Only the numbers.
@@ -123,14 +136,14 @@ fn is_other_form(bytes: &[u8]) -> bool
     }
 }
 
-/// The same for an entry.
-fn is_other_processor(entry: &MadtEntry<'_>) -> bool
-    requires { IsCompleteEntry entry.now }
-    ensures { IsTrue result ↔ IsOtherProcessor (madt_value entry.now) }
+/// Some for an entry of a MADT that does.
+fn other_processor_at(at: &EntryAt<MadtEntry<'_>>) -> Option<()>
+    requires { IsCompleteEntry at.now.entry }
+    ensures { IsSome result ↔ IsOtherProcessor (madt_value at.now.entry) }
 {
-    match entry {
-        MadtEntry::Opaque(bytes) => is_other_form(bytes),
-        _ => false,
+    match at.entry {
+        MadtEntry::Opaque(bytes) if is_other_form(bytes) => Some(()),
+        _ => None,
     }
 }
 
@@ -138,27 +151,32 @@ fn is_other_processor(entry: &MadtEntry<'_>) -> bool
 pub fn are_processors_read(madt: &Table<'_>) -> bool
     ensures { IsTrue result ↔ AreProcessorsRead (madt_contents madt.now) }
 {
-    let other = first_picked(madt.entries::<MadtEntry<'_>>(), |at| {
-        is_other_processor(&at.entry).then_some(())
-    });
+    let other = first_picked(madt.entries::<MadtEntry<'_>>(), other_processor_at);
     other.is_none()
+}
+
+/// The UID of a usable processor.
+fn uid_on_at(at: &EntryAt<MadtEntry<'_>>) -> Option<u32>
+    ensures { result ≡ uid_on (madt_value at.now.entry) }
+{
+    uid_on(&at.entry)
 }
 
 /// Whether a MADT has a usable processor.
 pub fn is_any_on(madt: &Table<'_>) -> bool
     ensures { IsTrue result ↔ IsAnyNamed uid_on (madt_contents madt.now).entries }
 {
-    let uid = first_picked(madt.entries::<MadtEntry<'_>>(), |at| uid_on(&at.entry));
+    let uid = first_picked(madt.entries::<MadtEntry<'_>>(), uid_on_at);
     uid.is_some()
 }
 
-/// Whether an entry is a GIC CPU interface that the rules read.
-fn is_gicc_entry(entry: &MadtEntry<'_>) -> bool
-    ensures { IsTrue result ↔ IsGicc (madt_value entry.now) }
+/// Some for a GIC CPU interface that the rules read.
+fn gicc_at(at: &EntryAt<MadtEntry<'_>>) -> Option<()>
+    ensures { IsSome result ↔ IsGicc (madt_value at.now.entry) }
 {
-    match entry {
-        MadtEntry::Opaque(bytes) => is_gicc(bytes),
-        _ => false,
+    match at.entry {
+        MadtEntry::Opaque(bytes) if is_gicc(bytes) => Some(()),
+        _ => None,
     }
 }
 
@@ -167,19 +185,21 @@ pub fn has_gicc(madt: &Table<'_>) -> bool
     ensures { IsTrue result
         ↔ ((o : ℕ) × StandsWith (madt_contents madt.now).entries o IsGicc) }
 {
-    let gicc = first_picked(madt.entries::<MadtEntry<'_>>(), |at| {
-        is_gicc_entry(&at.entry).then_some(())
-    });
+    let gicc = first_picked(madt.entries::<MadtEntry<'_>>(), gicc_at);
     gicc.is_some()
+}
+
+/// The domain into which an enabled affinity puts its processor.
+fn processor_domain_at(at: &EntryAt<SratEntry<'_>>) -> Option<u32>
+    ensures { result ≡ processor_domain (srat_value at.now.entry) }
+{
+    processor_domain(&at.entry)
 }
 
 /// Whether an SRAT has an enabled affinity for a processor.
 pub fn is_any_placed(srat: &Table<'_>) -> bool
     ensures { IsTrue result ↔ IsAnyNamed processor_domain (srat_contents srat.now).entries }
 {
-    let domain = first_picked(
-        srat.entries::<SratEntry<'_>>(),
-        |at| processor_domain(&at.entry),
-    );
+    let domain = first_picked(srat.entries::<SratEntry<'_>>(), processor_domain_at);
     domain.is_some()
 }

@@ -1,12 +1,12 @@
 //! The leaves of a PPTT.
 
-ghost use Rattle.std.specs.Prelude.{◌≡◌, ◌<◌, ◌↔◌, ℕ, AllPairs, Contains, IfOk};
+ghost use Rattle.std.specs.Prelude.{◌≡◌, ◌<◌, ◌↔◌, ℕ, AllPairs, Contains, IfOk, option_map};
 ghost use Rattle.acpi_base.specs.Lint.Numbered.{NamesAt};
 ghost use Rattle.acpi_base.specs.Lint.Processors.{IsLeafAt, IsParent};
 ghost use Rattle.acpi_base.specs.Pptt.{pptt_contents, parent_of};
 ghost use Rattle.acpi_read.specs.Pptts.{pptt_value};
 ghost use Rattle.acpi_lint.specs.Leaves.{valid_id, said_leaf_id, unnamed_id, IsUnnamedAt};
-ghost use Rattle.acpi_lint.specs.Numbered.{AreNumbersAt};
+ghost use Rattle.acpi_lint.specs.Numbered.{at_place, AreNumbersAt};
 
 use crate::numbered::{Numbered, at_place};
 use acpi_check::{binary_search, collected, sorted_unique};
@@ -43,22 +43,28 @@ fn said_leaf_id(entry: &PpttEntry<'_>) -> Option<u32>
     }
 }
 
+/// The same at the node's offset.
+fn said_leaf_at(at: &EntryAt<PpttEntry<'_>>) -> Option<Numbered>
+    ensures { result
+        ≡ option_map (at_place at.now.offset) (said_leaf_id (pptt_value at.now.entry)) }
+{
+    at_place(at.offset, said_leaf_id(&at.entry))
+}
+
 /// The nodes that are marked as leaves.
 fn said_leaves(alloc: Global, pptt: &Table<'_>) -> Result<Vec<Numbered>, AllocError>
     ensures { IfOk result (λ leaves. AreNumbersAt
         (NamesAt said_leaf_id (pptt_contents pptt.now).entries) leaves.items) }
 {
-    collected(alloc, pptt.entries::<PpttEntry<'_>>(), |at| {
-        at_place(at.offset, said_leaf_id(&at.entry))
-    })
+    collected(alloc, pptt.entries::<PpttEntry<'_>>(), said_leaf_at)
 }
 
 /// The Parent of a node.
-fn parent_of(entry: &PpttEntry<'_>) -> Option<u32>
-    ensures { result ≡ parent_of (pptt_value entry.now) }
+fn parent_of(at: &EntryAt<PpttEntry<'_>>) -> Option<u64>
+    ensures { result ≡ parent_of (pptt_value at.now.entry) }
 {
-    match entry {
-        PpttEntry::Node(head, _) => Some(head.parent),
+    match &at.entry {
+        PpttEntry::Node(head, _) => Some(u64::from(head.parent)),
         _ => None,
     }
 }
@@ -69,9 +75,7 @@ fn parents_of(alloc: Global, pptt: &Table<'_>) -> Result<Vec<u64>, AllocError>
     ensures all { IfOk result (λ parents. (o : ℕ) →
         Contains parents.items o ↔ IsParent (pptt_contents pptt.now) o) }
 {
-    let parents = collected(alloc, pptt.entries::<PpttEntry<'_>>(), |at| {
-        parent_of(&at.entry).map(u64::from)
-    })?;
+    let parents = collected(alloc, pptt.entries::<PpttEntry<'_>>(), parent_of)?;
     sorted_unique(parents)
 }
 

@@ -3,11 +3,12 @@
 ghost use Rattle.std.specs.Prelude.{◌≡◌, IfOk, MatchOption, option_map};
 ghost use denote.Ref.{Bor};
 ghost use Rattle.acpi_base.specs.Entries.{entries_read_by};
-ghost use Rattle.acpi_base.specs.Lint.PpttAdvice.{IsSameCacheId, IsSameLeaf};
+ghost use Rattle.acpi_base.specs.Lint.PpttAdvice.{cache_id, IsSameCacheId, IsSameLeaf};
 ghost use Rattle.acpi_base.specs.Lint.SratAdvice.{IsTwoUidDomains};
 ghost use Rattle.acpi_base.specs.Pptt.{pptt_contents};
 ghost use Rattle.acpi_base.specs.Srat.{srat_contents};
 ghost use Rattle.acpi_read.specs.Madts.{madt_value};
+ghost use Rattle.acpi_read.specs.Pptts.{pptt_value};
 ghost use Rattle.acpi_read.specs.Srats.{srat_value};
 ghost use Rattle.acpi_check.specs.CollectedValues.{Picks};
 ghost use Rattle.acpi_lint.specs.Advice.{unique_number, IsPpttBroken};
@@ -75,6 +76,13 @@ pub fn unique_number_at(rule: Rule, at: &EntryAt<MadtEntry<'_>>) -> Option<Numbe
 /// The lowest Revision of the PPTT that has Cache IDs.
 const HAS_CACHE_IDS: u8 = 3;
 
+/// The Cache ID of a cache at its offset.
+fn cache_id_at(at: &EntryAt<PpttEntry<'_>>) -> Option<Numbered>
+    ensures { result ≡ option_map (at_place at.now.offset) (cache_id (pptt_value at.now.entry)) }
+{
+    at_place(at.offset, cache_id(&at.entry))
+}
+
 /// The first cache that has the Cache ID of an earlier one, if the PPTT's Revision is 3 or later. Allocates for the
 /// Cache ID of each.
 fn same_cache_id(alloc: Global, pptt: &Table<'_>) -> Result<Option<Place>, AllocError>
@@ -83,9 +91,7 @@ fn same_cache_id(alloc: Global, pptt: &Table<'_>) -> Result<Option<Place>, Alloc
     if revision(pptt) < HAS_CACHE_IDS {
         return Ok(None);
     }
-    repeated(alloc, Some(pptt.entries::<PpttEntry<'_>>()), |at| {
-        at_place(at.offset, cache_id(&at.entry))
-    })
+    repeated(alloc, Some(pptt.entries::<PpttEntry<'_>>()), cache_id_at)
 }
 
 /// The first leaf that has the ACPI processor ID of an earlier one. Allocates for each leaf, and below Revision 2 for
@@ -128,10 +134,6 @@ fn domain_of_uid(at: &EntryAt<SratEntry<'_>>) -> Option<Numbered>
 pub fn two_uid_domains(alloc: Global, srat: &Table<'_>) -> Result<Option<Place>, AllocError>
     ensures { IfOk result (FindsLeast (IsTwoUidDomains (srat_contents srat.now))) }
 {
-    let domains = collected(
-        alloc,
-        srat.entries::<SratEntry<'_>>(),
-        |at| domain_of_uid(at),
-    )?;
+    let domains = collected(alloc, srat.entries::<SratEntry<'_>>(), domain_of_uid)?;
     first_unlike(domains, Order::First)
 }
