@@ -20,17 +20,18 @@ from dataclasses import dataclass
 from itertools import count
 from pathlib import Path
 
-HERE = Path(__file__).parent
-sys.path += [str(HERE / "rows"), str(HERE / "show"), str(HERE / "rebuild"), str(HERE / "lint")]
+HERE = Path(__file__).resolve().parent
+sys.path.insert(0, str(HERE))
 
-from cases import text_in
-from expected import EXPECTED
-from judge import judge
+from acpi_images.advice import linted
+from acpi_images.known.linted import EXPECTED
+from acpi_images.known.rows import OVERLAP, ROWS, SMALLEST, WHOLE
+from acpi_images.program import Cases, finish, firmware_text
+from acpi_images.rebuilt import rebuilt
+from acpi_images.shown import shown
+from acpi_images.tables import *
+from acpi_images.text import LONGEST_LINE, LONGEST_TEXT, read, text_of
 from preloaded import build_object, numbers
-from reader import shown
-from rebuilder import rebuilt
-from rows import OVERLAP, ROWS, SMALLEST, WHOLE
-from tables import *
 
 SECONDS = 60
 OUT_OF_MEMORY = (4, "", "acpiset: out of memory\n")
@@ -97,7 +98,7 @@ BASE = 0x7FFE0000
 
 def lint_run(name, text, words):
     """All findings, as a second program tells them."""
-    lines, status = judge(words, text)
+    lines, status = linted(words, read(text))
     return Run(name, text, ["lint", *words], status, "".join(line + "\n" for line in lines))
 
 
@@ -116,14 +117,14 @@ def clean_runs(name, text, address, found, lines, anew):
 
 
 def made(name, pieces):
-    text = text_of(pieces)
-    return clean_runs(name, text, "e0000", "0xe0000", shown(text, RSDP_AT), rebuilt(text, RSDP_AT, BASE))
+    image = read(text_of(pieces))
+    return clean_runs(name, text_of(pieces), "e0000", "0xe0000", shown(image, RSDP_AT), rebuilt(image, RSDP_AT, BASE))
 
 
 def firmware(name, address, found):
-    text = (HERE / "images" / f"{name}.img.txt").read_bytes()
+    text = firmware_text(name)
     lines = (HERE / "show" / "images" / f"{name}.txt").read_text()
-    return clean_runs(name, text, address, found, lines, rebuilt(text, int(address, 16), BASE))
+    return clean_runs(name, text, address, found, lines, rebuilt(read(text), int(address, 16), BASE))
 
 
 WHOLE_RUNS = made("a whole set", WHOLE)
@@ -136,8 +137,7 @@ CLEAN_RUNS = [
 
 
 def row_run(row):
-    text = row.pieces if isinstance(row.pieces, bytes) else text_of(row.pieces)
-    return Run(row.name, text, row.words.split(), int(row.answer != "yes"), row.answer + "\n")
+    return Run(row.name, text_of(row.pieces), row.words.split(), int(row.answer != "yes"), row.answer + "\n")
 
 
 # The stages that take memory, and may have to find the first fault by a longer way.
@@ -156,7 +156,7 @@ def faulty_runs():
     yield row_run(next(row for row in ROWS if row.name == "two nodes that lead to a cycle of three"))
     for name in FOUND:
         it = next(it for it in EXPECTED if it.name == name)
-        yield lint_run(f"lint, {name}", text_in(it.pieces), it.words.split())
+        yield lint_run(f"lint, {name}", text_of(it.pieces), it.words.split())
     words = ["confirm", "--rsdp", "e0000", "--witness", "10 Overlap 0x80 0xa8 0x3fffffff"]
     yield Run("confirm, two ranges that share an address", text_of(OVERLAP), words, 0, "true\n")
 
@@ -468,7 +468,6 @@ BAD_TEXTS = [
     ("a row past the end", b"@ffffffffffffffff\n00 00\n" + GOOD_TEXT, 24, "line 2: past the end"),
     ("half a pair at the end", GOOD_TEXT + b"0", None, f"line {GOOD_LINES + 1}: bad line"),
 ]
-LONGEST_LINE = 65_536
 BAD_TEXTS.append(("a line that is too long", b"#" * (LONGEST_LINE + 100), LONGEST_LINE + 1, "too long"))
 
 
@@ -539,7 +538,6 @@ def fed(program, words, pieces):
 STOPS = text_of({RSDP_AT: WHOLE[RSDP_AT]})
 NO_ROOT = "no 2 RootHeaderOut 0x1000 0x0 0x0\n"
 STOPPED = {"confirm": "false\n", "find": "rsdp 0xe0000\n"}
-LONGEST_TEXT = 67_108_864
 
 
 def pipes(program, run):
@@ -558,9 +556,10 @@ def pipes(program, run):
 LARGE_SIZE = 8
 LARGE_TEXT = text_of(WHOLE) + b"@1000000\n" + (b"00" * 16384 + b"\n") * (LARGE_SIZE << 6)
 SIZES = (5, 6, 7, 8, 10, 12, 14, 16, 20, 24, 80)
-WHOLE_TEXT = text_of(WHOLE)
-ANEW = rebuilt(WHOLE_TEXT, RSDP_AT, BASE)
-LARGE_RUNS = clean_runs("an image of 8 MiB", LARGE_TEXT, "e0000", "0xe0000", shown(WHOLE_TEXT, RSDP_AT), ANEW)
+WHOLE_IMAGE = read(text_of(WHOLE))
+LARGE_RUNS = clean_runs(
+    "an image of 8 MiB", LARGE_TEXT, "e0000", "0xe0000", shown(WHOLE_IMAGE, RSDP_AT), rebuilt(WHOLE_IMAGE, RSDP_AT, BASE)
+)
 
 
 def little_memory(program, run):
@@ -612,20 +611,14 @@ def cases(program):
 
 def main():
     _, path = sys.argv
-    passed = failed = 0
+    counted = Cases(path)
     with tempfile.TemporaryDirectory() as scratch:
         program = Program(path, Path(scratch))
         if not program.preload:
-            failed = 1
-            print("no C compiler to build tests/refusals.c")
+            counted.count("tests/refusals.c", "no C compiler to build it")
         for name, wrong in cases(program) if program.preload else ():
-            if wrong:
-                failed += 1
-                print(f"{name}: {wrong}")
-            else:
-                passed += 1
-    print(f"refusals: {passed} passed, {failed} failed")
-    sys.exit(1 if failed else 0)
+            counted.count(name, wrong)
+    finish("refusals", counted)
 
 
 main()

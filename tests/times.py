@@ -12,13 +12,15 @@ import tempfile
 from pathlib import Path
 
 TESTS = Path(__file__).resolve().parent
-sys.path[:0] = [str(TESTS / "explain"), str(TESTS / "tools")]
-import sets  # noqa: E402
-from explained import IMAGES, Tests  # noqa: E402
-from files import dump_of  # noqa: E402
-from judge import seconds_of  # noqa: E402
-from memory_dumps import small_set  # noqa: E402
-from tables import *  # noqa: E402
+sys.path[:0] = [str(TESTS), str(TESTS / "explain"), str(TESTS / "tools")]
+
+import sets
+from acpi_images.program import finish
+from acpi_images.tables import *
+from explained import IMAGES, Tests
+from files import dump_of
+from memory_dumps import small_set
+from tool_cases import seconds_of
 
 TOOLS = TESTS.parent / "tools"
 MOST_TIMES = 3
@@ -96,8 +98,7 @@ def main():
         times.grows("acpidump2image", lambda data: times.convert("acpidump2image", data), dump_of_tables, 10_000)
         times.grows("acpidump2image, addresses of 0", lambda data: times.convert("acpidump2image", data), dump_of_zeros, 10_000)
         times.grows("memory2image", lambda data: times.convert("memory2image", data), memory_of, 64 << 20)
-    print(f"times of the tools: {times.passed} passed, {times.failed} failed")
-    sys.exit(1 if times.failed else 0)
+    finish("times of the tools", times)
 
 
 if __name__ == "__main__":

@@ -9,9 +9,12 @@ import re
 import subprocess
 import sys
 import tempfile
+from pathlib import Path
+
+sys.path.insert(0, str(Path(__file__).resolve().parents[1]))
 
 import sets
-from cases import IMAGES as FIRMWARE_AT
+from acpi_images.program import IMAGES as FIRMWARE_AT, finish
 from explained import IMAGES, TOP, Tests
 
 OVERLAP = "no 10 Overlap 0x90 0xb8 0x100000000"
@@ -420,8 +423,7 @@ def main():
         tests = Tests(os.path.realpath(program), scratch)
         for part in PARTS:
             part(tests)
-    print(f"explain: {tests.passed} passed, {tests.failed} failed")
-    sys.exit(1 if tests.failed else 0)
+    finish("explain", tests)
 
 
 if __name__ == "__main__":

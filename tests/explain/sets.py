@@ -1,11 +1,8 @@
-"""Sets of tables for tests/explain/run.py, made by tests/rows/tables.py. The lines of acpiset on them, and what explain has to
+"""Sets of tables for tests/explain/run.py, made by tests/acpi_images/tables.py. The lines of acpiset on them, and what explain has to
 say of them, are in run.py and were worked out by hand."""
 
-import os
-import sys
-
-sys.path.insert(0, os.path.join(os.path.dirname(os.path.abspath(__file__)), "..", "rows"))
-from tables import *  # noqa: E402
+from acpi_images.tables import *
+from acpi_images.text import text_of
 
 FADT = full_fadt()
 GIB = 1 << 30

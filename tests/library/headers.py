@@ -1,9 +1,8 @@
 """The header of the library: its lists, which compilers accept it, and what it says when it is compiled."""
 
+from acpi_images.advice import RULES
+from acpi_images.faults import STAGE_OF
 from builds import HEADER, HERE, TOP, difference, refused_by, run, syntaxes
-
-from advice import RULES
-from faults import STAGE_OF
 
 # Changes of parts that lists.py compares, and does not write.
 BY_HAND = ("a kind's number", "a kind", "the version")

@@ -1,63 +1,18 @@
-"""Cycles in PPTTs, which `confirm.py` asks about: small tables of entries in random order, each witness judged by a second program
-below, and long chains, which must not take much longer than reading their text."""
+"""Cycles in PPTTs, which `confirm.py` asks about: small tables of entries in random order, each witness judged by the second program,
+and long chains, which must not take much longer than reading their text."""
 
 import os
 import random
 import tempfile
 
-from tables import *
+from acpi_images.faults import CHAINS, Fault, Judgement, links_of
+from acpi_images.table_set import PpttEntries, Policy, entries_of
+from acpi_images.tables import *
+from acpi_images.text import Bytes, Image, text_of
 
-PARENT = ("14 ParentCycle", 0, 20)
-NEXT_LEVEL = ("15 CacheCycle", 1, 24)
+PARENT, NEXT_LEVEL = CHAINS
 FIRST = 36
 FILLER = bytes([6, 2])
-
-
-def written(fault, numbers):
-    return " ".join((fault[0], *map(hex, numbers)))
-
-
-# ---- the second program: the definitions of docs/FAULTS.md, taken word by word
-
-
-def starts_of(whole):
-    """The entries that stand, by their offsets."""
-    entries, at = {}, FIRST
-    while at + 2 <= len(whole) and whole[at + 1] >= 2 and at + whole[at + 1] <= len(whole):
-        entries[at] = whole[at : at + whole[at + 1]]
-        at += whole[at + 1]
-    return entries
-
-
-def is_typed(entry):
-    """Whether the entry is a node of 20 bytes and 4 for each private resource, or a cache of 24 or 28 bytes."""
-    if entry[0] == 0:
-        return len(entry) >= 20 and len(entry) == 20 + 4 * int.from_bytes(entry[16:20], "little")
-    return entry[0] == 1 and len(entry) in (24, 28)
-
-
-def named_by(whole, kind):
-    """What the typed entries of a type name, by their offsets."""
-    entries = starts_of(whole)
-    return {at: int.from_bytes(it[8:12], "little") for at, it in entries.items() if it[0] == kind and is_typed(it)}
-
-
-def led(names, at, steps):
-    """Where this many steps lead, or None."""
-    for _ in range(steps):
-        at = names.get(at)
-        if not at or at not in names:
-            return None
-    return at
-
-
-def is_cycle(whole, fault, at, lead, around):
-    _, kind, least = fault
-    if around == 0 or lead + around > len(whole) // least:
-        return False
-    names = named_by(whole, kind)
-    there = led(names, at, lead)
-    return there is not None and led(names, there, around) == there
 
 
 # ---- small tables
@@ -83,29 +38,29 @@ def small_table(draw):
     body = bytearray(b"".join(entry_of(draw) for _ in range(draw.randrange(1, 60))))
     if draw.random() < 0.2:
         body += bytes(draw.randrange(1, 30))
-    whole = bytes(36) + bytes(body)
-    places = {kind: [at for at, it in starts_of(whole).items() if it[0] == kind and is_typed(it)] for kind in (0, 1)}
+    entries = entries_of(PpttEntries, Bytes(bytes(36) + body))
+    places = {name: [entry.offset for entry in entries.typed(kind)] for name, (kind, _) in CHAINS.items()}
     inside = [FIRST + at for at in range(len(body) - 20) if body[at : at + 2] == b"\0\x14"]
-    for kind, offsets in places.items():
+    for offsets in places.values():
         for at in offsets:
-            other = draw.choice(inside) if inside and draw.random() < 0.02 else draw.choice(offsets)
-            body[at - FIRST + 8 : at - FIRST + 12] = number(other, 4)
+            named = draw.choice(inside) if inside and draw.random() < 0.02 else draw.choice(offsets)
+            body[at - FIRST + 8 : at - FIRST + 12] = number(named, 4)
     return pptt(bytes(body)), places
 
 
-def small_witnesses(draw, whole, places):
-    """Of a place the cycle that it leads to, and witnesses near it."""
-    for fault, offsets in ((PARENT, places[0]), (NEXT_LEVEL, places[1])):
+def small_faults(draw, judgement, places):
+    """Of a place the cycle that it leads to, and faults near it."""
+    for name, offsets in places.items():
+        names = links_of(judgement.pptt, CHAINS[name][0])
         for at in draw.sample(offsets, min(2, len(offsets))):
             passed = [at]
-            names = named_by(whole, fault[1])
             while names.get(passed[-1]) in names and names[passed[-1]] not in passed:
                 passed.append(names[passed[-1]])
             back = names.get(passed[-1])
             lead = passed.index(back) if back in passed else len(passed) - 1
             around = len(passed) - lead
             for numbers in ((at, lead, around), (at, lead + around, around), (at, lead + 1, around), (at, lead, around + 1), (at + 2, 0, 1)):
-                yield fault, *numbers
+                yield Fault(name, *numbers)
 
 
 def small_questions():
@@ -114,8 +69,9 @@ def small_questions():
     for turn in range(30):
         whole, places = small_table(draw)
         pieces = image_of(fadt(), whole)
-        for fault, *numbers in small_witnesses(draw, whole, places):
-            yield f"small table {turn}", pieces, written(fault, numbers), is_cycle(whole, fault, *numbers)
+        judgement = Judgement(Image(pieces), RSDP_AT, Policy())
+        for fault in small_faults(draw, judgement, places):
+            yield f"small table {turn}", pieces, str(fault), judgement.stands(fault)
 
 
 # ---- long chains
@@ -183,23 +139,24 @@ def ran(program, words, path):
 TIMES, MORE = 8, 0.1
 
 
-def wrong_long(program, folder, name, body, fault, numbers):
-    """What is wrong with the answers to the witness and to two that are one step off, and with their time."""
+def on_a_chain(cases, folder, name, body, fault, numbers):
+    """The answers to the witness and to two that are one step off, and their time beside that of reading the text."""
     path = os.path.join(folder, "image.txt")
     with open(path, "wb") as out:
         out.write(text_of(image_of(fadt(), others={0x100000: pptt(body)}, slots=[TABLES_AT, 0x100000])))
+    program = os.path.realpath(cases.program)
     read = min(ran(program, ["check", "--rsdp", "e0000", "--through", "3"], path)[1] for _ in range(2))
     at, lead, around = numbers
-    for asked, answer in ((numbers, "true"), ((at, lead, around - 1), "false"), ((at + 2, lead, around), "false")):
-        told, took = ran(program, ["confirm", "--rsdp", "e0000", "--witness", written(fault, asked)], path)
-        if told != answer + "\n":
-            yield f"{name}: {written(fault, asked)}: {told!r}, not {answer}"
-        if took > TIMES * read + MORE:
-            yield f"{name}: {written(fault, asked)} took {took:.2f} s, where reading took {read:.2f} s"
+    for asked, expected in ((numbers, "true"), ((at, lead, around - 1), "false"), ((at + 2, lead, around), "false")):
+        witness = str(Fault(fault, *asked))
+        told, took = ran(program, ["confirm", "--rsdp", "e0000", "--witness", witness], path)
+        cases.same(f"{name}: {witness}", told, expected + "\n")
+        is_slow = took > TIMES * read + MORE
+        cases.count(f"{name}: {witness}", f"it took {took:.2f} s, where reading took {read:.2f} s" if is_slow else "")
 
 
-def wrong_chains(program):
-    """How many questions were asked on long chains, and what is wrong with the answers. They are asked one after another."""
-    chains = list(long_chains())
+def on_long_chains(cases):
+    """The chains one after another."""
     with tempfile.TemporaryDirectory() as folder:
-        return 6 * len(chains), [fault for chain in chains for fault in wrong_long(os.path.realpath(program), folder, *chain)]
+        for chain in long_chains():
+            on_a_chain(cases, folder, *chain)

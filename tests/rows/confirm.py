@@ -4,15 +4,22 @@ one number, save those that the definition takes too. Other faults, true and fal
 
 usage: confirm.py PROGRAM; the last line is 'confirm: N passed, M failed'."""
 
-import subprocess
-import sys
-from concurrent.futures import ThreadPoolExecutor
-from dataclasses import dataclass
+from __future__ import annotations
 
-from chains import small_questions, wrong_chains
-from judged import JUDGED
-from rows import BOTH_KINDS, CHAIN, FULL, OVERLAP, RING, ROWS, SMALLEST, TWO_IO_APICS, TWO_SRATS, TWO_WINDOWS, WINDOW, two_domains
-from tables import *
+import sys
+from dataclasses import dataclass
+from pathlib import Path
+
+sys.path.insert(0, str(Path(__file__).resolve().parents[1]))
+
+from acpi_images.known.judged import JUDGED
+from acpi_images.known.rows import (
+    BOTH_KINDS, CHAIN, FULL, OVERLAP, RING, ROWS, SMALLEST, TWO_IO_APICS, TWO_SRATS, TWO_WINDOWS, WINDOW, two_domains, words_of,
+)
+from acpi_images.program import answer, main
+from acpi_images.tables import *
+from acpi_images.text import text_of
+from chains import on_long_chains, small_questions
 
 # What the definition takes too, worked out by hand for each row: the faults that are one away from the reported one, by
 # the row's name.
@@ -79,15 +86,6 @@ def near(witness):
                 yield written(stage, name, [*numbers[:place], other, *numbers[place + 1 :]])
 
 
-def words_of(row):
-    """The row's words, without those that only a check takes."""
-    words = row.words.split()[1:]
-    if "--through" in words:
-        at = words.index("--through")
-        del words[at : at + 2]
-    return words
-
-
 def questions_of(row):
     """What is asked on a row that reports a fault."""
     witness = row.answer.removeprefix("no ")
@@ -133,7 +131,7 @@ asked("a later fault of a set without a FADT", image_of(srat(memory(0, 2), memor
 UNSUMMED = changed(srat(memory(0, 2), memory(1, 2)), {9: 0})
 asked("an overlap in an SRAT that does not sum to 0", image_of(fadt(), UNSUMMED), "10 Overlap 0x30 0x58 0x1", "true")
 TOP = hex(2**64 - 1)
-for lead, round_, answer in (
+for lead, round_, due in (
     ("0x1", "0x3e8", "true"),
     ("0x2", "0x3e8", "false"),
     ("0x0", "0x7d0", "false"),
@@ -142,7 +140,7 @@ for lead, round_, answer in (
     ("0x1", TOP, "false"),
     (TOP, TOP, "false"),
 ):
-    asked(f"a ring, {lead} {round_}", RING, f"14 ParentCycle 0x24 {lead} {round_}", answer)
+    asked(f"a ring, {lead} {round_}", RING, f"14 ParentCycle 0x24 {lead} {round_}", due)
 asked("a ring, from its last node", RING, f"14 ParentCycle {36 + 20 * 999:#x} 0x0 0x3e8", "true")
 asked("a chain that ends", image_of(fadt(), pptt(*CHAIN, node())), "14 ParentCycle 0x24 0x0 0x3e8", "false")
 # Length / 24 is 5, and Length / 20 is 6: each kind of entry has its own bound
@@ -156,8 +154,8 @@ asked("a cycle of caches is none of nodes", FOUR, "14 ParentCycle 0x24 0x0 0x1",
 THREE = image_of(fadt(), madt(*[lapic_address(0)] * 3))
 asked("the second of three addresses", THREE, "6 SecondAddressOverride 0x44 0x38 0x0", "true")
 asked("an address before the other", THREE, "6 SecondAddressOverride 0x38 0x44 0x0", "false")
-for number, answer in ((TOP, "false"), ("0x100000000", "false"), ("0x2c", "true")):
-    asked(f"an entry at {number}", image_of(fadt(), madt(override(9, 9, bus=1))), f"6 OverrideBus {number} 0x0 0x0", answer)
+for at, due in ((TOP, "false"), ("0x100000000", "false"), ("0x2c", "true")):
+    asked(f"an entry at {at}", image_of(fadt(), madt(override(9, 9, bus=1))), f"6 OverrideBus {at} 0x0 0x0", due)
 # inside the entry of the unknown type stands what looks like an override of another bus
 INSIDE = image_of(fadt(), madt(bytes([11, 12]) + override(9, 9, bus=1)))
 asked("an entry inside another", INSIDE, "6 OverrideBus 0x2e 0x0 0x0", "false")
@@ -171,31 +169,22 @@ for name, pieces, witness, stands in small_questions():
     asked(name, pieces, witness, "true" if stands else "false")
 
 
-def wrong(program, texts, question):
-    """What is wrong with the program's answer; nothing where it is right."""
-    command = [program, "confirm", "--witness", question.witness, *question.words]
-    run = subprocess.run(command, input=texts[id(question.pieces)], capture_output=True, timeout=60)
-    told = (run.returncode, run.stdout.decode(), run.stderr.decode())
-    expected = (0 if question.answer == "true" else 1, question.answer + "\n", "")
-    return "" if told == expected else f"{question.name}: {question.witness} {question.words}: {told}, not {expected}"
-
-
-def main():
-    _, program = sys.argv
+def confirmed(cases):
     faulty = [row for row in ROWS if row.answer.startswith("no ") and row.answer != "no rsdp"]
     questions = [question for row in faulty for question in questions_of(row)] + ASKED
-    texts = {id(it.pieces): it.pieces if isinstance(it.pieces, bytes) else text_of(it.pieces) for it in questions}
-    with ThreadPoolExecutor() as pool:
-        faults = list(filter(None, pool.map(lambda it: wrong(program, texts, it), questions)))
-    on_chains, wrong_on_chains = wrong_chains(program)
-    faults += wrong_on_chains
+    texts = {id(it.pieces): text_of(it.pieces) for it in questions}
+
+    def told(it):
+        found, due = cases.run(["confirm", "--witness", it.witness, *it.words], texts[id(it.pieces)]), answer(it.answer)
+        yield f"{it.name}: {it.witness} {it.words}", "" if found == due else f"{found}, not {due}"
+
+    cases.beside(told, questions)
     # each fault of the list above is one that was asked
     true = {(it.name, it.witness) for it in questions if it.answer == "true"}
-    unused = [f"{name}: {witness} is not one away" for name, also in ALSO.items() for witness in also if (name, witness) not in true]
-    print(*faults, *unused, sep="\n", end="\n" if faults or unused else "")
-    print(f"confirm: {len(questions) + on_chains - len(faults)} passed, {len(faults) + len(unused)} failed")
-    sys.exit(1 if faults or unused else 0)
+    for name, witness in ((name, witness) for name, also in ALSO.items() for witness in also):
+        if (name, witness) not in true:
+            cases.count(name, f"{witness} is not one away")
 
 
 if __name__ == "__main__":
-    main()
+    main("confirm", confirmed, on_long_chains)

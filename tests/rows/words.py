@@ -6,17 +6,21 @@ usage: words.py PROGRAM; the last line is 'words: N passed, M failed'."""
 
 import subprocess
 import sys
+from pathlib import Path
 
-from tables import *
+sys.path.insert(0, str(Path(__file__).resolve().parents[1]))
+
+from acpi_images.program import main
+from acpi_images.tables import *
+from acpi_images.text import text_of
 
 SECONDS = 20
 
 # ---- the address of the RSDP, and the last stage
-LEAF = node(0, IS_ID_VALID | IS_LEAF, 7)
 LAST_FAULT = "no 18 LeafUnknown 0x24 0x0 0x7"
 # Sets whose first fault is of the last stage, and of stages 2, 3 and 4.
 FAULTY = {
-    18: (image_of(fadt(), madt(lapic(5, 0)), pptt(LEAF)), LAST_FAULT),
+    18: (image_of(fadt(), madt(lapic(5, 0)), pptt(leaf(7))), LAST_FAULT),
     2: ({RSDP_AT: rsdp()}, "no 2 RootHeaderOut 0x1000 0x0 0x0"),
     3: ({RSDP_AT: rsdp(), RSDT_AT: rsdt(TABLES_AT)}, "no 3 TableHeaderOut 0x0 0x2000 0x0"),
     4: ({RSDP_AT: rsdp(), RSDT_AT: rsdt()}, "no 4 NoFadt 0x0 0x0 0x0"),
@@ -337,13 +341,18 @@ def has_controls(error):
     return any(it in CONTROLS and it != "\n" for it in text) or not 4 <= text.count("\n") <= 5
 
 
-def printed_cases(program):
+def first_line(run):
+    """The status of a run and the first line of its error message."""
+    return run.returncode, run.stderr.decode().partition("\n")[0]
+
+
+def printed_words(cases):
     """Each control character at each place; and values of which the beginning is printed, never a part of a character."""
     for place in PLACES:
         for control in CONTROLS:
             words = [it.format(f"x{control}y") for it in place]
-            run = subprocess.run(["acpiset", *words], executable=program, input=b"", capture_output=True, timeout=SECONDS)
-            yield repr(words), (run.returncode, run.stdout, has_controls(run.stderr)), (2, b"", False)
+            run = told(cases, ["acpiset", *words], b"")
+            cases.same(repr(words), (run.returncode, run.stdout, has_controls(run.stderr)), (2, b"", False))
     for text in (
         *("".join(CONTROLS[begin:][:40]) for begin in range(0, len(CONTROLS), 40)),
         PRINTING,
@@ -352,47 +361,34 @@ def printed_cases(program):
         "\x1b" * 201,
         "\x9b" * 101,
     ):
-        run = subprocess.run(["acpiset", "check", "--hotplug", text], executable=program, input=b"", capture_output=True, timeout=SECONDS)
-        first = run.stderr.decode().partition("\n")[0]
-        yield repr(text), (run.returncode, first), (2, f"acpiset: --hotplug '{printed(text)}': expected counted or apart")
+        run = told(cases, ["acpiset", "check", "--hotplug", text], b"")
+        cases.same(repr(text), first_line(run), (2, f"acpiset: --hotplug '{printed(text)}': expected counted or apart"))
 
 
 # ---- all of them
-def told(program, line, text):
-    """The program's answer where its arguments, the name that it is run by among them, stand a space apart."""
-    return subprocess.run(line.split(" "), executable=program, input=text, capture_output=True, timeout=SECONDS)
 
 
-def cases(program):
-    """Each case with the answer and the expected one."""
-    answers = [*read_cases(), *(case for row in INPUTS for case in input_cases(*row)), *setting_cases(), many_counts()]
-    answers = [(*case, int(case[2] != "yes")) for case in answers]
-    for line, text, answer, status in [*answers, *lint_cases()]:
-        run = told(program, line, text)
-        expected = (status, answer + "\n", "")
-        yield line, (run.returncode, run.stdout.decode(), run.stderr.decode()), expected
+def told(cases, words, text):
+    """The program's run; the first word is the name that it is run by."""
+    return subprocess.run(words, executable=cases.program, input=text, capture_output=True, timeout=SECONDS)
+
+
+def answers(cases):
+    """Each line, whose words stand a space apart, with the answer."""
+    asked = [*read_cases(), *(case for row in INPUTS for case in input_cases(*row)), *setting_cases(), many_counts()]
+    asked = [(*case, int(case[2] != "yes")) for case in asked]
+    for line, text, answer, status in [*asked, *lint_cases()]:
+        run = told(cases, line.split(" "), text)
+        cases.same(line[:100], (run.returncode, run.stdout.decode(), run.stderr.decode()), (status, answer + "\n", ""))
+
+
+def refusals(cases):
     smallest = text_of({RSDP_AT: rsdp(), RSDT_AT: rsdt()})
     for line in REFUSED:
-        run = told(program, line, smallest)
-        yield line, (run.returncode, run.stdout), (2, b"")
+        run = told(cases, line.split(" "), smallest)
+        cases.same(line, (run.returncode, run.stdout), (2, b""))
     for line, message in MESSAGES:
-        run = told(program, line, smallest)
-        first = run.stderr.decode().partition("\n")[0]
-        yield line, (run.returncode, first), (2, f"acpiset: {message}")
-    yield from printed_cases(program)
+        cases.same(line, first_line(told(cases, line.split(" "), smallest)), (2, f"acpiset: {message}"))
 
 
-def main():
-    _, program = sys.argv
-    passed = failed = 0
-    for line, answer, expected in cases(program):
-        if answer == expected:
-            passed += 1
-        else:
-            failed += 1
-            print(f"{line[:100]}: {answer}, not {expected}")
-    print(f"words: {passed} passed, {failed} failed")
-    sys.exit(1 if failed else 0)
-
-
-main()
+main("words", answers, refusals, printed_words)

@@ -2,8 +2,9 @@
 
 import os
 
+from acpi_images.tables import *
+from acpi_images.text import text_of
 from files import DSDT, FADT, HPET, MADT, ROOT_AT, image_of_files, wide_fadt
-from tables import *
 
 RESERVED_INTI = madt(lapic(0, 0), io_apic(0xFEC00000, 0), override(0, 2, flags=2))
 OVERLAPPING = srat(memory(0, 0x1000), memory(0x800, 0x1000))

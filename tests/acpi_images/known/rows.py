@@ -1,9 +1,11 @@
 """Sets of tables, and what the program has to answer. Each answer is worked out from the rules in docs/TABLES.md and
 docs/FAULTS.md by hand, and none is taken from the program."""
 
+from __future__ import annotations
+
 from dataclasses import dataclass
 
-from tables import *
+from ..tables import *
 
 
 @dataclass
@@ -15,6 +17,17 @@ class Row:
 
 
 ROWS = []
+
+
+def without_stage(words):
+    """Words without those that only a check takes."""
+    at = words.index("--through") if "--through" in words else len(words)
+    return [*words[:at], *words[at + 2 :]]
+
+
+def words_of(row):
+    """The row's words after its command, without those that only a check takes."""
+    return without_stage(row.words.split()[1:])
 
 
 def row(name, pieces, answer, words="", command="check --rsdp e0000"):

@@ -3,9 +3,11 @@ docs/TABLES.md and docs/FAULTS.md, and none is taken from a program.
 
 A set is kept as small as its rule lets it, so other rules are often broken beside it: they stand there too."""
 
+from __future__ import annotations
+
 from dataclasses import dataclass
 
-from parts import *
+from ..tables import *
 
 
 @dataclass
@@ -268,8 +270,8 @@ sci("an SCI that is served", 23, [SERVED], "yes")
 sci("an SCI one past what is served", 24, [SERVED], "yes", "advice SciNowhere 0x2e 0x0 0x18")
 sci("an SCI of 200", 200, [SERVED], "yes", "advice SciNowhere 0x2e 0x0 0xc8")
 sci("an SCI before what is served", 0, [io_apic(0xFEC00000, 1)], "yes", "advice SciNowhere 0x2e 0x0 0x0")
-sci("an SCI between two I/O APICs", 24, [SERVED, numbered_io_apic(1, 0xFEC10000, 25)], "yes", "advice SciNowhere 0x2e 0x0 0x18")
-sci("an SCI of the second I/O APIC", 25, [SERVED, numbered_io_apic(1, 0xFEC10000, 25)], "yes")
+sci("an SCI between two I/O APICs", 24, [SERVED, io_apic(0xFEC10000, 25, 1)], "yes", "advice SciNowhere 0x2e 0x0 0x18")
+sci("an SCI of the second I/O APIC", 25, [SERVED, io_apic(0xFEC10000, 25, 1)], "yes")
 sci("an SCI of 200, of reduced hardware", 200, [SERVED], "yes", flags=REDUCED)
 sci("an SCI of 200, and no I/O APIC", 200, [], "yes")
 sci("an SCI of 200, and an I/O APIC of 201 inputs", 200, [SERVED], "yes", words="fec00000=201")
@@ -391,21 +393,21 @@ processors(
 processors("an I/O APIC at address 0", [ON, io_apic(0, 0)], "IoApicAtZero 0x34 0x0 0x0")
 processors(
     "two I/O APICs at address 0",
-    [ON, numbered_io_apic(1, 0xFEC00000, 48), numbered_io_apic(2, 0, 0), numbered_io_apic(3, 0, 24)],
+    [ON, io_apic(0xFEC00000, 48, 1), io_apic(0, 0, 2), io_apic(0, 24, 3)],
     "IoApicAtZero 0x40 0x0 0x0",
 )
-processors("two I/O APICs", [ON, SERVED, numbered_io_apic(1, 0xFEC10000, 24)])
+processors("two I/O APICs", [ON, SERVED, io_apic(0xFEC10000, 24, 1)])
 processors("one ID of two I/O APICs", [ON, SERVED, io_apic(0xFEC10000, 24)], "SameIoApicId 0x40 0x34 0x0")
 processors(
     "one ID of three I/O APICs",
-    [ON, numbered_io_apic(1, 0xFEC20000, 48), numbered_io_apic(9, 0xFEC00000, 0)]
-    + [numbered_io_apic(9, 0xFEC10000, 24), numbered_io_apic(9, 0xFEC30000, 72)],
+    [ON, io_apic(0xFEC20000, 48, 1), io_apic(0xFEC00000, 0, 9)]
+    + [io_apic(0xFEC10000, 24, 9), io_apic(0xFEC30000, 72, 9)],
     "SameIoApicId 0x4c 0x40 0x9",
 )
-processors("one address of two I/O APICs", [ON, SERVED, numbered_io_apic(1, 0xFEC00000, 24)], "SameIoApicAddress 0x40 0x34 0xfec00000")
+processors("one address of two I/O APICs", [ON, SERVED, io_apic(0xFEC00000, 24, 1)], "SameIoApicAddress 0x40 0x34 0xfec00000")
 processors(
     "two addresses of three I/O APICs, one of them 0",
-    [ON, numbered_io_apic(1, 0, 0), numbered_io_apic(2, 1, 24), numbered_io_apic(3, 0, 48), numbered_io_apic(4, 1, 72)],
+    [ON, io_apic(0, 0, 1), io_apic(1, 24, 2), io_apic(0, 48, 3), io_apic(1, 72, 4)],
     "IoApicAtZero 0x34 0x0 0x0",
     "SameIoApicAddress 0x58 0x40 0x1",
 )
@@ -835,7 +837,7 @@ expected(
     "a fault in each of four tables",
     image_of(
         full_fadt(_89=b"\1"),
-        madt(ON, SERVED, numbered_io_apic(1, 0xFEC10000, 20)),
+        madt(ON, SERVED, io_apic(0xFEC10000, 20, 1)),
         srat(memory(0, 0x2000), memory(0x1000, 0x1000)),
         slit(2, [10, 9, 9, 10]),
         others={FACS_AT: facs()},
@@ -889,9 +891,9 @@ expected(
             6,
         ),
         0x3000: madt(
-            numbered_io_apic(0, 0, 0),  # 0x2C, serves 0 to 23
-            numbered_io_apic(0, 0xFEC00000, 20),  # 0x38, serves 20 to 43
-            numbered_io_apic(1, 0xFEC00000, 0xFFFFFFF0),  # 0x44
+            io_apic(0, 0, 0),  # 0x2C, serves 0 to 23
+            io_apic(0xFEC00000, 20, 0),  # 0x38, serves 20 to 43
+            io_apic(0xFEC00000, 0xFFFFFFF0, 1),  # 0x44
             override(5, 5),  # 0x50
             override(5, 9, 2, bus=1),  # 0x5A
             lapic_address(0xFEE00000),  # 0x64
@@ -1011,9 +1013,9 @@ expected(
     "each fault of the MADT's entries, and of the interrupt numbers",
     listed(
         madt(
-            numbered_io_apic(0, 0xFEC00000, 0),  # 0x2C
-            numbered_io_apic(1, 0xFEC01000, 16),  # 0x38
-            numbered_io_apic(2, 0xFEC02000, 0xFFFFFFF0),  # 0x44
+            io_apic(0xFEC00000, 0, 0),  # 0x2C
+            io_apic(0xFEC01000, 16, 1),  # 0x38
+            io_apic(0xFEC02000, 0xFFFFFFF0, 2),  # 0x44
             override(5, 5),  # 0x50
             override(5, 9, 2, bus=1),  # 0x5A
             override(5, 5),  # 0x64
@@ -1098,7 +1100,7 @@ expected(
 )
 expected(
     "I/O APICs from one number on, the one with more inputs first",
-    listed(madt(ON, numbered_io_apic(0, 0xFEC00000, 8), numbered_io_apic(1, 0xFEC10000, 8))),
+    listed(madt(ON, io_apic(0xFEC00000, 8, 0), io_apic(0xFEC10000, 8, 1))),
     "no 7 GsiClash 0x34 0x40 0x8",
     words="--rsdp e0000 fec00000=24 fec10000=8",
 )

@@ -3,7 +3,7 @@
 Tables have a checksum of 0, since only the faults of sums ask for it. Nothing but the tables that a row is about is
 valid, and a fault stands whether or not others do."""
 
-from tables import *
+from ..tables import *
 
 JUDGED = []
 TOP = 2**64 - 1

@@ -1,10 +1,12 @@
 """The edge of each fault: for each code a function that changes a made set so that a value lies just on the wrong side of its
 rule, or just on the right one."""
 
-from layout import nowhere, somewhere
-from made_sets import (
-    FACS_SIZE, HEADER_SIZE, LOW, MADT_TYPES, REDUCED, RESET_REG_SUP, RSDP_SIZE, SRAT_TYPES, TOP, Item, apic_domain,
-    flagged_entries, io_apic, lapic, lapic_address, little, memory_range, nmi_source, override, x2apic, x2apic_domain,
+from ..table_set import MadtEntries, SratEntries
+from ..tables import REDUCED, RESET_REG_SUP, lapic, nmi_source, number, override
+from ..text import TOP
+from .layout import nowhere, somewhere
+from .sets import (
+    FACS_SIZE, HEADER_SIZE, LOW, RSDP_SIZE, Item, apic_domain, flagged_entries, io_apic, lapic_address, memory, x2apic, x2apic_domain,
 )
 
 PM1_EVT_LEN, PM1_CNT_LEN, PM_TMR_LEN, GPE0_BLK_LEN, GPE1_BLK_LEN = 88, 89, 91, 92, 93
@@ -172,7 +174,7 @@ def fadt_short(made, is_wrong):
 
 def set_flags(made, bits, is_set):
     flags = int.from_bytes(made.fadt[FLAGS : FLAGS + 4], "little")
-    made.fadt[FLAGS : FLAGS + 4] = little(flags | bits if is_set else flags & ~bits, 4)
+    made.fadt[FLAGS : FLAGS + 4] = number(flags | bits if is_set else flags & ~bits, 4)
 
 
 def block_length(at, wrong, right):
@@ -272,7 +274,7 @@ def madt_entry_cut(made, is_wrong):
 
 
 def madt_entry_length(made, is_wrong):
-    put(made, made.madt, mistyped(made, MADT_TYPES, is_wrong))
+    put(made, made.madt, mistyped(made, MadtEntries.LENGTHS, is_wrong))
 
 
 def override_bus(made, is_wrong):
@@ -324,16 +326,16 @@ def srat_entry_cut(made, is_wrong):
 
 
 def srat_entry_length(made, is_wrong):
-    put(made, made.srat, mistyped(made, SRAT_TYPES, is_wrong))
+    put(made, made.srat, mistyped(made, SratEntries.LENGTHS, is_wrong))
 
 
 def range_past_end(made, is_wrong):
     dice = made.dice
     length = dice.choice((2, 0x1000, TOP - 1) if is_wrong else (0, 1, 0x1000, TOP - 1))
     base = min(TOP - length + is_wrong, TOP - 1)
-    put(made, made.srat, memory_range(base, length, dice.choice((1, 3, 5))))
+    put(made, made.srat, memory(base, length, dice.choice((1, 3, 5))))
     if dice.random() < 0.3:
-        put(made, made.srat, memory_range(TOP - 1, 0x1000, dice.choice((0, 2))))
+        put(made, made.srat, memory(TOP - 1, 0x1000, dice.choice((0, 2))))
 
 
 def overlap(made, is_wrong):
@@ -342,13 +344,13 @@ def overlap(made, is_wrong):
     dice = made.dice
     base, size, flags = dice.choice((0x10000, LOW - 8, TOP - 0x2000)), dice.choice((1, 8, 0x1000)), dice.choice((1, 3))
     start = base + size - is_wrong * dice.choice((1, 1, size))
-    ranges = [memory_range(base, size, flags), memory_range(start, dice.choice((1, 8, 0x1000)), dice.choice((1, 3, flags, flags)))]
+    ranges = [memory(base, size, flags), memory(start, dice.choice((1, 8, 0x1000)), dice.choice((1, 3, flags, flags)))]
     if dice.random() < 0.4:
         start, is_plain = dice.choice((base, start, max(base - 1, 0))), dice.random() < 0.5
-        ranges.append(memory_range(start, dice.choice((0, 1, 2, 0x1001)), dice.choice((0, 2, 1, 3)) if is_plain else flags))
+        ranges.append(memory(start, dice.choice((0, 1, 2, 0x1001)), dice.choice((0, 2, 1, 3)) if is_plain else flags))
     if is_wrong and dice.random() < 0.5:
         starts = (base, base + dice.choice((-8, 0, 0, 0, 8)))
-        ranges = [memory_range(at, 16, its_flags) for at, its_flags in zip(starts, (1, 3)) for _ in range(2)]
+        ranges = [memory(at, 16, its_flags) for at, its_flags in zip(starts, (1, 3)) for _ in range(2)]
     put(made, made.srat, *ranges)
 
 
@@ -527,7 +529,7 @@ def leaf_unknown(made, is_wrong):
     dice = made.dice
     kept_by = None if is_wrong else dice.choice(("processor", "processor", "flags", "revision", "entry", "cut"))
     uid = dice.choice((7, 255, 256, 0xABCDEF, LOW - 1))
-    made.madt[:] = [entry for entry in made.madt if len(entry) == MADT_TYPES.get(entry[0])]
+    made.madt[:] = [entry for entry in made.madt if len(entry) == MadtEntries.LENGTHS.get(entry[0])]
     made.pptt_revision = dice.choice((1, 1, 0)) if kept_by == "revision" else dice.choice((2, 2, 3, 255))
     if kept_by == "processor":
         flags = dice.choice((1, 0))

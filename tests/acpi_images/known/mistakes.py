@@ -2,12 +2,14 @@
 each, worked out by hand from the rules in docs/TABLES.md and docs/FAULTS.md and from what tests/show/images says of the set.
 Nine of 26 break a rule that `check` looks at; the others are seen by advice alone."""
 
+from __future__ import annotations
+
 from dataclasses import dataclass, field
 
-from image import Image, TableSet
-from parts import *
-
-from cases import FIRMWARE, IMAGES
+from ..program import IMAGES, firmware_text
+from ..table_set import TableSet, whole_table
+from ..tables import *
+from ..text import read
 
 # What each set deserves as it is, with the words after `lint` and the address of its RSDP.
 UNCHANGED = [
@@ -20,10 +22,6 @@ UNCHANGED = [
     ("q10-efi-virt-smp4", "", ["yes", "advice MadtUnread 0x184 0xd 0x0"]),
     ("q11-efi-virt-caches", "", ["yes", "advice ListedTwice 0x3 0x2 0x47fc198e", "advice MadtUnread 0x2c4 0xe 0x0"]),
 ]
-
-
-def firmware_text(name):
-    return (FIRMWARE / f"{name}.img.txt").read_bytes()
 
 
 @dataclass
@@ -49,18 +47,15 @@ class Mistake:
 
     def pieces(self):
         """The pieces of the changed set."""
-        image = Image(firmware_text(self.image))
+        image = read(firmware_text(self.image))
         tables = TableSet(image, int(IMAGES[self.image], 16))
         is_root = self.signature == tables.signature
         address = tables.root_at if is_root else tables.slots[tables.first_slots[self.signature]]
-        start, data = next(run for run in image.runs if run[0] <= address < run[0] + len(run[1]))
-        at = address - start
+        table = bytearray(whole_table(image, address).data)
         for offset, new in self.changes.items():
-            data[at + offset : at + offset + len(new)] = new
-        if self.closes:
-            size = int.from_bytes(data[at + 4 : at + 8], "little")
-            data[at : at + size] = summed(data[at : at + size], 9)
-        return {**{first: bytes(held) for first, held in image.runs}, **self.others}
+            table[offset : offset + len(new)] = new
+        image.replace(address, summed(table, 9) if self.closes else table)
+        return {**image.pieces(), **self.others}
 
 
 MISTAKES = []

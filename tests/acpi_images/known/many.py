@@ -2,8 +2,8 @@
 once without a fault, and once with one among the last entries; and PPTTs of 2 MiB. A stage that gives up on this many is out of
 memory to each contract, so only these sets show it."""
 
-from rows import Row
-from tables import *
+from ..tables import *
+from .rows import Row
 
 COUNT = 10_000
 LAST = COUNT - 1

@@ -1,12 +1,8 @@
 """Sets of tables, and the text that `show` has to write of each, which is written by hand from the tables' fields."""
 
-import sys
 from dataclasses import dataclass
-from pathlib import Path
 
-sys.path.append(str(Path(__file__).parent.parent / "rows"))
-
-from tables import *
+from ..tables import *
 
 
 @dataclass
@@ -292,10 +288,6 @@ block GPE1 port 15 0x800
 )
 
 
-def gas(space, width, offset, access, address):
-    return bytes([space, width, offset, access]) + number(address, 8)
-
-
 with_fadt(
     "all register blocks, by their X_ structures, and X_DSDT",
     fadt(
@@ -304,7 +296,7 @@ with_fadt(
         _56=b"\1" * 32,
         _88=b"\2" * 6,
         _140=number(0x1_0000_0000, 8),
-        _148=b"".join(gas(k, 2 * k, 3 * k, 4 * k, 2**64 - 1 - k) for k in range(8)),
+        _148=b"".join(generic_address(2**64 - 1 - k, k, 2 * k, 3 * k, 4 * k) for k in range(8)),
     ),
     """
 fadt 0x2000 length 276 profile 0 sci 0 flags 0x100000 reduced yes
@@ -330,7 +322,7 @@ block GPE0 port 6 0x22
 )
 with_fadt(
     "an X_ structure whose address is 0, and one that ends with the FADT",
-    fadt(length=244, _84=number(0x33, 4), _93=b"\x08", _220=gas(1, 8, 0, 1, 0), _232=gas(1, 16, 0, 2, 0x44)),
+    fadt(length=244, _84=number(0x33, 4), _93=b"\x08", _220=generic_address(0, 1, 8, 0, 1), _232=generic_address(0x44, 1, 16, 0, 2)),
     """
 fadt 0x2000 length 244 profile 0 sci 0 flags 0x100000 reduced yes
 dsdt 0x0
@@ -659,7 +651,7 @@ with_fadt(
         _45=bytes([200]) + number(300, 2),
         _64=number(0x604, 4),
         _89=bytes([20]),
-        _148=gas(127, 48, 16, 20, 0x1234),
+        _148=generic_address(0x1234, 127, 48, 16, 20),
     ),
     """
 fadt 0x2000 length 244 profile 200 sci 300 flags 0xa5c reduced no
