@@ -1,24 +1,10 @@
 #!/usr/bin/env bash
 # Runs the built program on image texts, and tests its output, its status and its error messages.
 # usage: tests/program.sh PROGRAM; the last line is 'N passed, M failed'.
-set -u
 program=$(realpath "${1:?usage: tests/program.sh PROGRAM}")
-[ -x "$program" ] || { printf '%s: no program\n' "$program" >&2; exit 1; }
-cd "$(dirname "$0")" || exit
-scratch=$(mktemp -d)
-trap 'rm -rf "$scratch"' EXIT
-passed=0
-failed=0
-
-# count NAME WHAT_IS_WRONG: counts a case; nothing wrong means passed.
-count() {
-  if [ -z "$2" ]; then
-    passed=$((passed + 1))
-  else
-    failed=$((failed + 1))
-    printf '%s: %s\n' "$1" "$2"
-  fi
-}
+# shellcheck source=tests/prelude.sh
+. "$(dirname "$0")/prelude.sh"
+cd tests || exit
 
 # runs NAME STATUS STDOUT STDERR INPUT ARGUMENTS..: runs the program on the file INPUT. STDOUT and STDERR are
 # what it must write.
@@ -447,5 +433,4 @@ status "no arguments, and standard error is full" 2 "$smallest"
 status "a text that is no image, and standard error is full" 3 "$(text stray 'zz\n')" check --rsdp e0000
 status "an input that is a folder, and standard error is full" 4 "$scratch" check --rsdp e0000
 
-printf '%d passed, %d failed\n' "$passed" "$failed"
-[ "$failed" = 0 ]
+finish ''
