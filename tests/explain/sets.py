@@ -53,9 +53,7 @@ CACHES = image_of(pptt(cache(next_level=0x3C), cache(next_level=0x54), cache(nex
 # A Parent into the middle of a structure, one to a cache, one after the table; a private resource that is a node.
 DANGLING = image_of(pptt(node(parent=0x40), node(parent=0x4C), cache(next_level=0x1000), node(resources=(0x24,))))
 
-LEAF = image_of(
-    madt(lapic(0, 0), lapic(1, 1), lapic(2, 2, flags=0), x2apic(300, 9)), pptt(node(flags=0xA, uid=7), node(flags=0xA, uid=1))
-)
+LEAF = image_of(madt(lapic(0, 0), lapic(1, 1), lapic(2, 2, flags=0), x2apic(300, 9)), pptt(node(flags=0xA, uid=7), node(flags=0xA, uid=1)))
 GICC = bytes([11, 80]) + bytes(6) + number(21, 4) + number(1, 4) + bytes(64)
 AFFINITY = bytes([3, 18]) + number(6, 4) + number(22, 4) + number(1, 4) + bytes(4)
 ARM = image_of(madt(GICC), srat(AFFINITY))

@@ -45,10 +45,7 @@ ALSO = {
     "a node that is its own parent": {"14 ParentCycle 0x24 0x1 0x1": ONE_STEP_MORE, "14 ParentCycle 0x24 0x0 0x2": TWICE_AROUND},
     "two nodes that lead to a cycle of three": {"14 ParentCycle 0x24 0x3 0x3": ONE_STEP_MORE},
     "two nodes that are each other's parents": {"14 ParentCycle 0x24 0x1 0x2": ONE_STEP_MORE},
-    "a node under one that is its own parent": {
-        "14 ParentCycle 0x24 0x2 0x1": ONE_STEP_MORE,
-        "14 ParentCycle 0x24 0x1 0x2": TWICE_AROUND,
-    },
+    "a node under one that is its own parent": {"14 ParentCycle 0x24 0x2 0x1": ONE_STEP_MORE, "14 ParentCycle 0x24 0x1 0x2": TWICE_AROUND},
     "the second node is its own parent": {"14 ParentCycle 0x38 0x1 0x1": ONE_STEP_MORE, "14 ParentCycle 0x38 0x0 0x2": TWICE_AROUND},
     "a ring of 1,000 nodes": {"14 ParentCycle 0x24 0x1 0x3e8": ONE_STEP_MORE},
     # the bound is Length / 24, rounded down: 4 and 2

@@ -161,104 +161,33 @@ def lint_cases():
 
 
 # ---- lines that are refused
-REFUSED = """acpiset
-acpiset --help
-acpiset -h
-acpiset help
-acpiset check --help
-acpiset judge --rsdp e0000
-acpiset Check --rsdp e0000
-acpiset chec --rsdp e0000
-acpiset --rsdp e0000
-acpiset find --rsdp e0000
-acpiset find find
-acpiset check --rsdp
-acpiset check --rsdp 0x
-acpiset check --rsdp g
-acpiset check --rsdp 0Xe0000
-acpiset check --rsdp 0x0x1
-acpiset check --rsdp +1
-acpiset check --rsdp -1
-acpiset check --rsdp e_0000
-acpiset check --rsdp 10000000000000000
-acpiset check --rsdp 0x00000000000000001
-acpiset check --rsdp e0000 --rsdp e0000
-acpiset check --rsd e0000
-acpiset check -rsdp e0000
-acpiset check e0000
-acpiset check --rsdp e0000 --through
-acpiset check --rsdp e0000 --through 0
-acpiset check --rsdp e0000 --through 00
-acpiset check --rsdp e0000 --through 19
-acpiset check --rsdp e0000 --through 003
-acpiset check --rsdp e0000 --through 0x3
-acpiset check --rsdp e0000 --through a
-acpiset check --rsdp e0000 --through +3
-acpiset check --rsdp e0000 --through 3 --through 3
-acpiset fec00000=24
-acpiset find fec00000=24
-acpiset find --default-inputs 24
-acpiset check help
-acpiset check fec00000
-acpiset check fec00000=
-acpiset check fec00000=0
-acpiset check fec00000=257
-acpiset check fec00000=024 fec00000=0024
-acpiset check fec00000=+24
-acpiset check fec00000=0x18
-acpiset check fec00000=18h
-acpiset check fec00000==24
-acpiset check fec00000=24=24
-acpiset check fec00000=24,fec01000=24
-acpiset check fec00000 = 24
-acpiset check =24
-acpiset check 0x=24
-acpiset check 0Xfec00000=24
-acpiset check fec0000h=24
-acpiset check 1fec00000=24
-acpiset check 0x0fec00000=24
-acpiset check -fec00000=24
-acpiset check --fec00000=24
-acpiset check fec00000=24 fec01000=0
-acpiset check --default-inputs
-acpiset check --default-inputs 0
-acpiset check --default-inputs 257
-acpiset check --default-inputs 0024
-acpiset check --default-inputs 24 --default-inputs 24
-acpiset check --hotplug
-acpiset check --hotplug Apart
-acpiset check --hotplug apar
-acpiset check --hotplug aparts
-acpiset check --hotplug counted,apart
-acpiset check --hotplug apart --hotplug counted
-acpiset find --hotplug apart
-acpiset check --processors
-acpiset check --processors Usable
-acpiset check --processors apart
-acpiset check --processors usable --processors usable
-acpiset find --processors usable
-acpiset Lint
-acpiset lint --strict --strict
-acpiset lint --strict=true
-acpiset lint --strict true
-acpiset lint -strict
-acpiset lint --through 3
-acpiset lint --rsdp
-acpiset lint --rsdp g --strict
-acpiset lint --default-inputs 0
-acpiset lint fec00000
-acpiset lint --hotplug both
-acpiset lint --processors online
-acpiset --strict lint
-acpiset check --strict
-acpiset confirm --strict
-acpiset show --strict
-acpiset rebuild --rsdp e0000
-acpiset rebuild --base
-acpiset rebuild --base 10000000000000000
-acpiset rebuild --base e0000 --base e0000
-acpiset rebuild --base e0000 --through 3
-acpiset check --base e0000""".split("\n")
+# Lines that are refused: of each command the words after it, with bars between two lines.
+REFUSED_WORDS = {
+    "acpiset": (
+        "--help | -h | help | judge --rsdp e0000 | Check --rsdp e0000 | chec --rsdp e0000 | --rsdp e0000 | fec00000=24 | Lint | "
+        "--strict lint | confirm --strict | show --strict"
+    ),
+    "acpiset check": (
+        "--help | --rsdp | --rsdp 0x | --rsdp g | --rsdp 0Xe0000 | --rsdp 0x0x1 | --rsdp +1 | --rsdp -1 | --rsdp e_0000 | "
+        "--rsdp 10000000000000000 | --rsdp 0x00000000000000001 | --rsdp e0000 --rsdp e0000 | --rsd e0000 | -rsdp e0000 | e0000 | "
+        "--rsdp e0000 --through | --rsdp e0000 --through 0 | --rsdp e0000 --through 00 | --rsdp e0000 --through 19 | "
+        "--rsdp e0000 --through 003 | --rsdp e0000 --through 0x3 | --rsdp e0000 --through a | --rsdp e0000 --through +3 | "
+        "--rsdp e0000 --through 3 --through 3 | help | fec00000 | fec00000= | fec00000=0 | fec00000=257 | "
+        "fec00000=024 fec00000=0024 | fec00000=+24 | fec00000=0x18 | fec00000=18h | fec00000==24 | fec00000=24=24 | "
+        "fec00000=24,fec01000=24 | fec00000 = 24 | =24 | 0x=24 | 0Xfec00000=24 | fec0000h=24 | 1fec00000=24 | 0x0fec00000=24 | "
+        "-fec00000=24 | --fec00000=24 | fec00000=24 fec01000=0 | --default-inputs | --default-inputs 0 | --default-inputs 257 | "
+        "--default-inputs 0024 | --default-inputs 24 --default-inputs 24 | --hotplug | --hotplug Apart | --hotplug apar | "
+        "--hotplug aparts | --hotplug counted,apart | --hotplug apart --hotplug counted | --processors | --processors Usable | "
+        "--processors apart | --processors usable --processors usable | --strict | --base e0000"
+    ),
+    "acpiset find": "--rsdp e0000 | find | fec00000=24 | --default-inputs 24 | --hotplug apart | --processors usable",
+    "acpiset lint": (
+        "--strict --strict | --strict=true | --strict true | -strict | --through 3 | --rsdp | --rsdp g --strict | "
+        "--default-inputs 0 | fec00000 | --hotplug both | --processors online"
+    ),
+    "acpiset rebuild": "--rsdp e0000 | --base | --base 10000000000000000 | --base e0000 --base e0000 | --base e0000 --through 3",
+}
+REFUSED = ["acpiset", *(f"{command} {words}" for command, lines in REFUSED_WORDS.items() for words in lines.split(" | "))]
 # Lines whose last argument is empty.
 REFUSED += [f"{line} " for line in ("acpiset", "acpiset check --rsdp", "acpiset check --rsdp e0000 --through", "acpiset check --hotplug")]
 
@@ -275,10 +204,7 @@ MESSAGES = [
     ("acpiset check fec00000=257", f"'fec00000=257': expected a COUNT {COUNT}"),
     ("acpiset check fec00000=", f"'fec00000=': expected a COUNT {COUNT}"),
     ("acpiset check fec00000", f"'fec00000': {NO_COUNT}"),
-    (
-        "acpiset check 1fec00000=257",
-        "'1fec00000=257': expected an ADDRESS of 1 to 8 hex digits, with or without 0x before them",
-    ),
+    ("acpiset check 1fec00000=257", "'1fec00000=257': expected an ADDRESS of 1 to 8 hex digits, with or without 0x before them"),
     ("acpiset check --hotplug both", "--hotplug 'both': expected counted or apart"),
     ("acpiset check --processors online", "--processors 'online': expected enabled or usable"),
     ("acpiset lint --strict --strict", "the argument '--strict' cannot be used multiple times"),

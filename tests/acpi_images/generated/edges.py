@@ -18,9 +18,19 @@ def changed(data, at, values):
     return data[:at] + bytes(values) + data[at + len(values) :]
 
 
-def error(dice):
-    """What a sum that is wrong comes to."""
-    return dice.choice((1, 2, 128, 255))
+# What a sum that is wrong comes to.
+WRONG_SUMS = (1, 2, 128, 255)
+
+
+def value(part, name, wrong, right, is_extended=False):
+    """The edge of one value of the set or of a part of it, sometimes with the extended form of the RSDP."""
+
+    def change(made, is_wrong):
+        if is_extended:
+            extended(made)
+        setattr(getattr(made, part) if part else made, name, made.dice.choice(wrong) if is_wrong else right)
+
+    return change
 
 
 def one_byte_wrong(dice, signature):
@@ -33,57 +43,43 @@ def one_byte_wrong(dice, signature):
 
 def extended(made):
     """Gives the RSDP the extended form."""
-    made.rsdp["revision"] = made.dice.choice((2, 2, 3, 255))
+    made.rsdp.revision = made.dice.choice((2, 2, 3, 255))
 
 
 def rsdp_out(made, is_wrong):
     if not is_wrong:
-        made.rsdp["revision"] = made.dice.randrange(2)
+        made.rsdp.revision = made.dice.randrange(2)
         made.is_xsdt, made.root.signature = False, b"RSDT"
-    made.rsdp["held"] = made.dice.choice((19, 19, 0, 8, 15)) if is_wrong else RSDP_SIZE
+    made.rsdp.held = made.dice.choice((19, 19, 0, 8, 15)) if is_wrong else RSDP_SIZE
 
 
 def rsdp_signature(made, is_wrong):
-    made.rsdp["signature"] = one_byte_wrong(made.dice, b"RSD PTR ") if is_wrong else b"RSD PTR "
-
-
-def rsdp_sum(made, is_wrong):
-    made.rsdp["error"] = error(made.dice) if is_wrong else 0
-
-
-def rsdp_tail_out(made, is_wrong):
-    extended(made)
-    made.rsdp["held"] = made.dice.choice((35, 35, 20, 24, 32)) if is_wrong else 36
-
-
-def rsdp_length(made, is_wrong):
-    extended(made)
-    made.rsdp["length"] = made.dice.choice((35, 35, 20, 0, 33)) if is_wrong else 36
+    made.rsdp.signature = one_byte_wrong(made.dice, b"RSD PTR ") if is_wrong else b"RSD PTR "
 
 
 def rsdp_long_out(made, is_wrong):
     extended(made)
-    made.rsdp["tail"] = bytes(range(made.dice.choice((1, 2, 28))))
-    made.rsdp["length"] = 36 + len(made.rsdp["tail"])
-    made.rsdp["held"] = made.rsdp["length"] - is_wrong
+    made.rsdp.tail = bytes(range(made.dice.choice((1, 2, 28))))
+    made.rsdp.length = 36 + len(made.rsdp.tail)
+    made.rsdp.held = made.rsdp.length - is_wrong
     if is_wrong and made.dice.random() < 0.2:
-        made.rsdp["length"] = LOW - 1
+        made.rsdp.length = LOW - 1
 
 
 def rsdp_extended_sum(made, is_wrong):
     extended(made)
-    made.rsdp["tail"] = bytes(range(made.dice.choice((0, 0, 4))))
-    made.rsdp["length"] = 36 + len(made.rsdp["tail"])
-    made.rsdp["long_error"] = error(made.dice) if is_wrong else 0
+    made.rsdp.tail = bytes(range(made.dice.choice((0, 0, 4))))
+    made.rsdp.length = 36 + len(made.rsdp.tail)
+    made.rsdp.long_error = made.dice.choice(WRONG_SUMS) if is_wrong else 0
 
 
 # ---- root
 
 
 def no_root(made, is_wrong):
-    made.rsdp["rsdt"] = 0
+    made.rsdp.rsdt = 0
     if is_wrong:
-        made.rsdp["xsdt"] = made.dice.choice((0, None)) if made.rsdp["revision"] < 2 else 0
+        made.rsdp.xsdt = made.dice.choice((0, None)) if made.rsdp.revision < 2 else 0
     else:
         extended(made)
         made.is_xsdt, made.root.signature = True, b"XSDT"
@@ -92,16 +88,12 @@ def no_root(made, is_wrong):
 def root_header_out(made, is_wrong):
     made.root.held = made.dice.choice((35, 35, 0, 8)) if is_wrong else HEADER_SIZE
     if is_wrong and made.is_xsdt and made.dice.random() < 0.2:
-        made.root.held, made.rsdp["xsdt"] = None, made.dice.choice((1 << 56, 1, TOP - 1))
+        made.root.held, made.rsdp.xsdt = None, made.dice.choice((1 << 56, 1, TOP - 1))
 
 
 def root_signature(made, is_wrong):
     own, other = (b"XSDT", b"RSDT") if made.is_xsdt else (b"RSDT", b"XSDT")
     made.root.signature = made.dice.choice((other, one_byte_wrong(made.dice, own))) if is_wrong else own
-
-
-def root_length(made, is_wrong):
-    made.root.length = made.dice.choice((35, 35, 0, 9)) if is_wrong else HEADER_SIZE
 
 
 def root_out(made, is_wrong):
@@ -113,10 +105,6 @@ def root_ragged(made, is_wrong):
     made.ragged = b"\1\2\3\4\5\6\7"[: made.dice.choice((1, 3, 4, 7) if made.is_xsdt else (1, 2, 3))] if is_wrong else b""
     if not is_wrong:
         made.extra_slots.append(nowhere)
-
-
-def root_sum(made, is_wrong):
-    made.root.error = error(made.dice) if is_wrong else 0
 
 
 # ---- listed tables
@@ -151,7 +139,7 @@ def table_out(made, is_wrong):
 
 
 def table_sum(made, is_wrong):
-    wrong = error(made.dice) if is_wrong else 0
+    wrong = made.dice.choice(WRONG_SUMS) if is_wrong else 0
     on_a_table(made, lambda table: setattr(table, "error", wrong))
     if made.dice.random() < 0.5:
         made.extra_slots += [nowhere, somewhere]
@@ -244,37 +232,33 @@ def put(made, entries, *more):
         entries.insert(made.dice.randrange(len(entries) + 1), entry)
 
 
-def cut_last(made, entries, is_wrong):
-    """Appends bytes that are no entry, or an entry."""
-    kind, size = made.dice.choice((0, 1, 2, 7, 200)), made.dice.choice((3, 8, 12, 255))
-    wrong = (b"\7", bytes([kind, 0]), bytes([kind, 1, 0]), bytes([kind, size]) + bytes(size - 3), bytes([kind, 1]))
-    entries.append(made.dice.choice(wrong) if is_wrong else bytes([7, size]) + bytes(size - 2))
-
-
-def mistyped(made, types, is_wrong):
-    """An entry with a length that is one more or less than its type has, that of another type, or the right one."""
-    kind = made.dice.choice(list(types))
-    size = types[kind]
-    wrong = [it for it in (size - 1, size + 1, *types.values(), 2, 255) if it != size and it >= 2]
-    size = made.dice.choice(wrong) if is_wrong else size
-    return bytes([kind, size]) + bytes(size - 2)
-
-
-def table_cut(name, first):
-    """The edge of a table's fixed part."""
+def last_entry(table):
+    """The edge of a table's last entry: bytes that are no entry, or an entry."""
 
     def change(made, is_wrong):
-        setattr(made, name, made.dice.choice((first - 1, first - 1, 36, first - 4)) if is_wrong else first)
+        kind, size = made.dice.choice((0, 1, 2, 7, 200)), made.dice.choice((3, 8, 12, 255))
+        wrong = (b"\7", bytes([kind, 0]), bytes([kind, 1, 0]), bytes([kind, size]) + bytes(size - 3), bytes([kind, 1]))
+        getattr(made, table).append(made.dice.choice(wrong) if is_wrong else bytes([7, size]) + bytes(size - 2))
 
     return change
 
 
-def madt_entry_cut(made, is_wrong):
-    cut_last(made, made.madt, is_wrong)
+def entry_length(table, types):
+    """The edge of an entry's length: one more or less than its type has, that of another type, or the right one."""
+
+    def change(made, is_wrong):
+        kind = made.dice.choice(list(types))
+        size = types[kind]
+        wrong = [it for it in (size - 1, size + 1, *types.values(), 2, 255) if it != size and it >= 2]
+        size = made.dice.choice(wrong) if is_wrong else size
+        put(made, getattr(made, table), bytes([kind, size]) + bytes(size - 2))
+
+    return change
 
 
-def madt_entry_length(made, is_wrong):
-    put(made, made.madt, mistyped(made, MadtEntries.LENGTHS, is_wrong))
+def table_cut(name, first):
+    """The edge of a table's fixed part."""
+    return value(None, name, (first - 1, first - 1, 36, first - 4), first)
 
 
 def override_bus(made, is_wrong):
@@ -319,14 +303,6 @@ def override_clash(made, is_wrong):
     dice, source = made.dice, made.dice.choice((0, 9, 202))
     gsis = [dice.choice((0, 1, 2)) for _ in range(dice.choice((1, 1, 2)))]
     put(made, made.madt, *[override(source, gsi) for gsi in (*gsis, gsis[0] + is_wrong * dice.choice((1, 256, 1 << 24)))])
-
-
-def srat_entry_cut(made, is_wrong):
-    cut_last(made, made.srat, is_wrong)
-
-
-def srat_entry_length(made, is_wrong):
-    put(made, made.srat, mistyped(made, SratEntries.LENGTHS, is_wrong))
 
 
 def range_past_end(made, is_wrong):
@@ -543,15 +519,17 @@ def leaf_unknown(made, is_wrong):
 
 
 EDGES = (
-    rsdp_out, rsdp_signature, rsdp_sum, rsdp_tail_out, rsdp_length, rsdp_long_out, rsdp_extended_sum,
-    no_root, root_header_out, root_signature, root_length, root_out, root_ragged, root_sum,
+    rsdp_out, rsdp_signature, value("rsdp", "error", WRONG_SUMS, 0), value("rsdp", "held", (35, 35, 20, 24, 32), 36, True),
+    value("rsdp", "length", (35, 35, 20, 0, 33), 36, True), rsdp_long_out, rsdp_extended_sum,
+    no_root, root_header_out, root_signature, value("root", "length", (35, 35, 0, 9), HEADER_SIZE), root_out, root_ragged,
+    value("root", "error", WRONG_SUMS, 0),
     table_header_out, table_length, table_out, table_sum,
     no_fadt, fadt_short, block_length(PM1_EVT_LEN, (3, 3, 0), (4, 5, 255)), block_length(PM1_CNT_LEN, (1, 1, 0), (2, 3, 255)),
     block_length(PM_TMR_LEN, (1, 3, 5, 255), (0, 4)), gpe_length, reset_register,
     no_facs, facs_align, facs_header_out, facs_signature, facs_length, facs_out,
-    table_cut("madt_cut", 44), madt_entry_cut, madt_entry_length, override_bus, reserved_inti, second_address, gsi_past_end,
+    table_cut("madt_cut", 44), last_entry("madt"), entry_length("madt", MadtEntries.LENGTHS), override_bus, reserved_inti, second_address, gsi_past_end,
     gsi_clash, override_clash,
-    table_cut("srat_cut", 48), srat_entry_cut, srat_entry_length, range_past_end, overlap,
+    table_cut("srat_cut", 48), last_entry("srat"), entry_length("srat", SratEntries.LENGTHS), range_past_end, overlap,
     slit_short, slit_size, slit_cell(True, (9, 11, 0, 255), (10,)), slit_cell(False, (9, 0, 9), (10, 255, 11)),
     pptt_entry_cut, pptt_entry_length, dangling_parent, dangling_resource, dangling_cache, cycle(0), cycle(1),
     two_domains, gsi_nowhere, leaf_unknown,

@@ -43,7 +43,7 @@ class Layout:
         made, dice = self.made, self.dice
         alone = [table for table in self.tables if not self.inner or table is not self.inner[0]]
         parts = [(table, len(table)) for table in alone] + [(made.root, self.size_of_root()), (made.facs, made.facs.size)]
-        parts += [(made.rsdp, LONG_RSDP_SIZE + len(made.rsdp["tail"]))] if made.rsdp_at is None else []
+        parts += [(made.rsdp, LONG_RSDP_SIZE + len(made.rsdp.tail))] if made.rsdp_at is None else []
         dice.shuffle(parts)
         at, places = 0, []
         alignment = dice.choice((1, 4, 16, 64))
@@ -88,7 +88,7 @@ class Layout:
                 pieces.append((table.at, self.bytes_of(table), table.held))
         pieces.append((made.facs.at + made.facs.shift, made.facs.bytes(dice), made.facs.held))
         pieces.append((made.root.at, self.root_bytes(), made.root.held))
-        pieces.append((made.rsdp_at, self.rsdp_bytes(), made.rsdp["held"]))
+        pieces.append((made.rsdp_at, self.rsdp_bytes(), made.rsdp.held))
         image = Image()
         for at, data, held in self.decoys(pieces[-1][1]) + pieces:
             image.replace(at, data[:held][: max(TOP - at, 0)])
@@ -135,15 +135,15 @@ class Layout:
     def rsdp_bytes(self):
         made, rsdp = self.made, self.made.rsdp
         rsdt = 0 if made.is_xsdt and self.dice.random() < 0.5 else made.root.at
-        rsdt = rsdt if rsdp["rsdt"] is None else rsdp["rsdt"]
+        rsdt = rsdt if rsdp.rsdt is None else rsdp.rsdt
         xsdt = made.root.at if made.is_xsdt else 0
-        xsdt = xsdt if rsdp["xsdt"] is None else rsdp["xsdt"]
+        xsdt = xsdt if rsdp.xsdt is None else rsdp.xsdt
         maker = bytes(self.dice.randrange(256) for _ in range(6))
-        first = rsdp["signature"] + b"\0" + maker + bytes([rsdp["revision"]]) + number(rsdt, 4)
-        first = summed(first, 8, RSDP_SIZE, rsdp["error"])
-        data = first + number(rsdp["length"], 4) + number(xsdt, 8) + bytes(4) + rsdp["tail"]
-        data = summed(data, 32, rsdp["length"], rsdp["long_error"])
-        is_short = rsdp["revision"] < 2 and self.dice.random() < 0.7
+        first = rsdp.signature + b"\0" + maker + bytes([rsdp.revision]) + number(rsdt, 4)
+        first = summed(first, 8, RSDP_SIZE, rsdp.error)
+        data = first + number(rsdp.length, 4) + number(xsdt, 8) + bytes(4) + rsdp.tail
+        data = summed(data, 32, rsdp.length, rsdp.long_error)
+        is_short = rsdp.revision < 2 and self.dice.random() < 0.7
         return data[:RSDP_SIZE] if is_short else data
 
 

@@ -2,6 +2,7 @@
 are little-endian."""
 
 from functools import partial
+from types import SimpleNamespace
 
 from .. import tables as built
 from ..table_set import Policy
@@ -120,8 +121,8 @@ class MadeSet:
         self.dice = dice
         self.settings = made_settings(dice)
         self.is_xsdt = dice.random() < 0.5
-        self.rsdp = {"signature": b"RSD PTR ", "revision": self.made_revision(), "length": 36, "tail": b"", "size": 36}
-        self.rsdp.update(error=0, long_error=0, rsdt=None, xsdt=None, held=None)
+        self.rsdp = SimpleNamespace(signature=b"RSD PTR ", revision=self.made_revision(), length=36, tail=b"", rsdt=None, xsdt=None)
+        self.rsdp.error, self.rsdp.long_error, self.rsdp.held = 0, 0, None
         self.rsdp_at = dice.choice((0xE0000, 0xE0000 + 16 * dice.randrange(1, 0x2000), 0xFFFF0, None))
         self.root = Table(b"XSDT" if self.is_xsdt else b"RSDT", b"", dice.randrange(3))
         self.ragged, self.extra_slots = b"", [listed_table] * (dice.random() < 0.1)
