@@ -28,23 +28,14 @@ FAULTY = {
 
 # Lines that are read, with the address and the number of the last stage that they give.
 READ = [
-    ("acpiset check --rsdp e0000", 0xE0000, 18),
-    ("acpiset check --rsdp 0xe0000", 0xE0000, 18),
-    ("acpiset check --rsdp E0000", 0xE0000, 18),
-    ("acpiset check --rsdp=e0000", 0xE0000, 18),
-    ("acpiset check --rsdp 0", 0, 18),
-    ("a check --rsdp 0", 0, 18),
-    ("acpiset check --rsdp ffffffffffffffff", 2**64 - 1, 18),
-    ("acpiset check --rsdp 0x0123456789aBcDeF", 0x0123456789ABCDEF, 18),
-    ("acpiset check --rsdp e0000 --through 1", 0xE0000, 1),
-    ("acpiset check --through 2 --rsdp e0000", 0xE0000, 2),
-    ("acpiset check --rsdp e0000 --through 3", 0xE0000, 3),
-    ("acpiset check --rsdp e0000 --through 03", 0xE0000, 3),
-    ("acpiset check --rsdp e0000 --through 18", 0xE0000, 18),
-    ("acpiset check --rsdp e0000 --through 17", 0xE0000, 17),
+    ("acpiset check --rsdp e0000", 0xE0000, 18), ("acpiset check --rsdp 0xe0000", 0xE0000, 18), ("acpiset check --rsdp E0000", 0xE0000, 18),
+    ("acpiset check --rsdp=e0000", 0xE0000, 18), ("acpiset check --rsdp 0", 0, 18), ("a check --rsdp 0", 0, 18),
+    ("acpiset check --rsdp ffffffffffffffff", 2**64 - 1, 18), ("acpiset check --rsdp 0x0123456789aBcDeF", 0x0123456789ABCDEF, 18),
+    ("acpiset check --rsdp e0000 --through 1", 0xE0000, 1), ("acpiset check --through 2 --rsdp e0000", 0xE0000, 2),
+    ("acpiset check --rsdp e0000 --through 3", 0xE0000, 3), ("acpiset check --rsdp e0000 --through 03", 0xE0000, 3),
+    ("acpiset check --rsdp e0000 --through 18", 0xE0000, 18), ("acpiset check --rsdp e0000 --through 17", 0xE0000, 17),
     # The address that is found.
-    ("acpiset check", 0xE0000, 18),
-    ("acpiset check --through 3", 0xE0000, 3),
+    ("acpiset check", 0xE0000, 18), ("acpiset check --through 3", 0xE0000, 3),
 ]
 
 
@@ -63,25 +54,15 @@ def read_cases():
 # ---- how many inputs an I/O APIC has
 # Lines that are read, with the address of an I/O APIC and the number of inputs that it then has.
 INPUTS = [
-    ("acpiset check", 0xFEC00000, 24),
-    ("acpiset check --default-inputs 1", 0xFEC00000, 1),
-    ("acpiset check --default-inputs 256", 0xFEC00000, 256),
-    ("acpiset check --default-inputs 016", 0xFEC00000, 16),
-    ("acpiset check fec00000=32", 0xFEC00000, 32),
-    ("acpiset check fec00000=32", 0xFEC01000, 24),
-    ("acpiset check fec00000=1", 0xFEC00000, 1),
-    ("acpiset check fec00000=256", 0xFEC00000, 256),
-    ("acpiset check fec00000=007", 0xFEC00000, 7),
-    ("acpiset check FEC0ABCD=32", 0xFEC0ABCD, 32),
-    ("acpiset check 0xFeC0aBcD=32", 0xFEC0ABCD, 32),
-    ("acpiset check 0=32", 0, 32),
-    ("acpiset check 0xffffffff=32", 0xFFFFFFFF, 32),
-    ("acpiset check fec00000=32 fec00000=8", 0xFEC00000, 32),
-    ("acpiset check FEC00000=24 0xfec00000=32", 0xFEC00000, 24),
-    ("acpiset check fec00000=32 fec01000=8", 0xFEC01000, 8),
-    ("acpiset check fec00000=32 --default-inputs 16 fec01000=8", 0xFEC01000, 8),
-    ("acpiset check fec00000=32 --default-inputs 16 fec01000=8", 0xFEC02000, 16),
-    ("acpiset check -- fec00000=32", 0xFEC00000, 32),
+    ("acpiset check", 0xFEC00000, 24), ("acpiset check --default-inputs 1", 0xFEC00000, 1),
+    ("acpiset check --default-inputs 256", 0xFEC00000, 256), ("acpiset check --default-inputs 016", 0xFEC00000, 16),
+    ("acpiset check fec00000=32", 0xFEC00000, 32), ("acpiset check fec00000=32", 0xFEC01000, 24),
+    ("acpiset check fec00000=1", 0xFEC00000, 1), ("acpiset check fec00000=256", 0xFEC00000, 256),
+    ("acpiset check fec00000=007", 0xFEC00000, 7), ("acpiset check FEC0ABCD=32", 0xFEC0ABCD, 32),
+    ("acpiset check 0xFeC0aBcD=32", 0xFEC0ABCD, 32), ("acpiset check 0=32", 0, 32), ("acpiset check 0xffffffff=32", 0xFFFFFFFF, 32),
+    ("acpiset check fec00000=32 fec00000=8", 0xFEC00000, 32), ("acpiset check FEC00000=24 0xfec00000=32", 0xFEC00000, 24),
+    ("acpiset check fec00000=32 fec01000=8", 0xFEC01000, 8), ("acpiset check fec00000=32 --default-inputs 16 fec01000=8", 0xFEC01000, 8),
+    ("acpiset check fec00000=32 --default-inputs 16 fec01000=8", 0xFEC02000, 16), ("acpiset check -- fec00000=32", 0xFEC00000, 32),
 ]
 
 
@@ -113,10 +94,8 @@ def many_counts():
 # ---- the settings
 # Lines that are read, with the settings that they give, and the number of inputs of the I/O APIC at 0xFEC00000.
 SETTINGS = [
-    ("acpiset check", "counted", "enabled", 24),
-    ("acpiset check --hotplug counted --processors enabled", "counted", "enabled", 24),
-    ("acpiset check --hotplug apart", "apart", "enabled", 24),
-    ("acpiset check --hotplug=apart", "apart", "enabled", 24),
+    ("acpiset check", "counted", "enabled", 24), ("acpiset check --hotplug counted --processors enabled", "counted", "enabled", 24),
+    ("acpiset check --hotplug apart", "apart", "enabled", 24), ("acpiset check --hotplug=apart", "apart", "enabled", 24),
     ("acpiset check --processors usable", "counted", "usable", 24),
     ("acpiset check --processors usable --hotplug apart", "apart", "usable", 24),
     ("acpiset check fec00000=32 --hotplug apart --default-inputs 16", "apart", "enabled", 32),
@@ -136,13 +115,9 @@ def setting_cases():
 # ---- all findings
 # Lines that are read, and whether advice counts.
 LINTED = [
-    ("acpiset lint", False),
-    ("acpiset lint --rsdp e0000", False),
-    ("acpiset lint --strict", True),
-    ("acpiset lint --strict --rsdp e0000", True),
-    ("acpiset lint --rsdp=0xe0000 --processors usable --strict", True),
-    ("acpiset lint fec00000=8 --strict --default-inputs 1", True),
-    ("acpiset lint --hotplug apart -- fec00000=8", False),
+    ("acpiset lint", False), ("acpiset lint --rsdp e0000", False), ("acpiset lint --strict", True),
+    ("acpiset lint --strict --rsdp e0000", True), ("acpiset lint --rsdp=0xe0000 --processors usable --strict", True),
+    ("acpiset lint fec00000=8 --strict --default-inputs 1", True), ("acpiset lint --hotplug apart -- fec00000=8", False),
 ]
 # Two I/O APICs with one ID and no processor, in a table that slots 1 and 2 list: advice, and no fault.
 ADVISED = image_of(fadt(), madt(io_apic(0xFEC00000, 0), io_apic(0xFEC01000, 24)), slots=[0x2000, 0x3000, 0x3000])
@@ -196,24 +171,20 @@ COUNT = "from 1 to 256, in at most 3 decimal digits"
 NO_COUNT = "expected ADDRESS=COUNT, as in fec00000=24"
 # Lines that are refused, and what for.
 MESSAGES = [
-    ("acpiset judge", "unrecognized subcommand 'judge'"),
-    ("acpiset check --fix", "unexpected argument '--fix' found"),
+    ("acpiset judge", "unrecognized subcommand 'judge'"), ("acpiset check --fix", "unexpected argument '--fix' found"),
     ("acpiset check --rsdp f59e0h", f"--rsdp 'f59e0h': expected {ADDRESS}"),
     ("acpiset check --through 19", "--through '19': expected a stage from 1 to 18, in at most 2 decimal digits"),
     ("acpiset check --default-inputs 0", f"--default-inputs '0': expected a number of inputs {COUNT}"),
     ("acpiset check fec00000=257", f"'fec00000=257': expected a COUNT {COUNT}"),
-    ("acpiset check fec00000=", f"'fec00000=': expected a COUNT {COUNT}"),
-    ("acpiset check fec00000", f"'fec00000': {NO_COUNT}"),
+    ("acpiset check fec00000=", f"'fec00000=': expected a COUNT {COUNT}"), ("acpiset check fec00000", f"'fec00000': {NO_COUNT}"),
     ("acpiset check 1fec00000=257", "'1fec00000=257': expected an ADDRESS of 1 to 8 hex digits, with or without 0x before them"),
     ("acpiset check --hotplug both", "--hotplug 'both': expected counted or apart"),
     ("acpiset check --processors online", "--processors 'online': expected enabled or usable"),
     ("acpiset lint --strict --strict", "the argument '--strict' cannot be used multiple times"),
     ("acpiset lint --strict=true", "unexpected value 'true' for '--strict' found; no more were expected"),
-    ("acpiset lint --rsdp f59e0h", f"--rsdp 'f59e0h': expected {ADDRESS}"),
-    ("acpiset lint strict", f"'strict': {NO_COUNT}"),
+    ("acpiset lint --rsdp f59e0h", f"--rsdp 'f59e0h': expected {ADDRESS}"), ("acpiset lint strict", f"'strict': {NO_COUNT}"),
     ("acpiset check --strict", "unexpected argument '--strict' found"),
-    ("acpiset rebuild --base e0000h", f"--base 'e0000h': expected {ADDRESS}"),
-    ("acpiset rebuild", f"rebuild needs --base HEX: {ADDRESS}"),
+    ("acpiset rebuild --base e0000h", f"--base 'e0000h': expected {ADDRESS}"), ("acpiset rebuild", f"rebuild needs --base HEX: {ADDRESS}"),
     # The first wrong word is named, and an option before any word.
     ("acpiset check fec00000=24 fec01000=0 fec02000", f"'fec01000=0': expected a COUNT {COUNT}"),
     ("acpiset check fec00000 --rsdp g", f"--rsdp 'g': expected {ADDRESS}"),
@@ -227,27 +198,11 @@ CONTROLS = [chr(code) for code in (*range(1, 0x20), *range(0x7F, 0xA0))]
 PRINTING = "a~\u00a0\u07ff\u0800\uffff\U00010000\U0010ffff"
 # Where an argument can stand that is printed.
 PLACES = [
-    ["{}"],
-    ["--{}"],
-    ["-{}"],
-    ["check", "--{}"],
-    ["check", "{}"],
-    ["check", "a/{}"],
-    ["check", "{}=24"],
-    ["check", "fec00000={}"],
-    ["check", "--rsdp", "{}"],
-    ["check", "--rsdp={}"],
-    ["check", "--through", "{}"],
-    ["check", "--default-inputs", "{}"],
-    ["check", "--hotplug", "{}"],
-    ["check", "--processors", "{}"],
-    ["lint", "--strict={}"],
-    ["rebuild", "--base", "{}"],
-    ["confirm", "--witness", "{}"],
-    ["confirm", "--witness", "10 {} 0x30 0x58 0x0"],
-    ["confirm", "--witness", "{} Overlap 0x30 0x58 0x0"],
-    ["confirm", "--witness", "10 Overlap 0x30 0x58 {}"],
-    ["find", "{}"],
+    ["{}"], ["--{}"], ["-{}"], ["check", "--{}"], ["check", "{}"], ["check", "a/{}"], ["check", "{}=24"], ["check", "fec00000={}"],
+    ["check", "--rsdp", "{}"], ["check", "--rsdp={}"], ["check", "--through", "{}"], ["check", "--default-inputs", "{}"],
+    ["check", "--hotplug", "{}"], ["check", "--processors", "{}"], ["lint", "--strict={}"], ["rebuild", "--base", "{}"],
+    ["confirm", "--witness", "{}"], ["confirm", "--witness", "10 {} 0x30 0x58 0x0"], ["confirm", "--witness", "{} Overlap 0x30 0x58 0x0"],
+    ["confirm", "--witness", "10 Overlap 0x30 0x58 {}"], ["find", "{}"],
 ]
 
 
@@ -280,12 +235,9 @@ def printed_words(cases):
             run = told(cases, ["acpiset", *words], b"")
             cases.same(repr(words), (run.returncode, run.stdout, has_controls(run.stderr)), (2, b"", False))
     for text in (
-        *("".join(CONTROLS[begin:][:40]) for begin in range(0, len(CONTROLS), 40)),
-        PRINTING,
+        *("".join(CONTROLS[begin:][:40]) for begin in range(0, len(CONTROLS), 40)), PRINTING,
         *(it * count for it in PRINTING for count in (49, 50, 51, 66, 67, 100, 101, 200, 201, 1000)),
-        *("x" * count + it for it in (*PRINTING, "\x1b", "\x9b") for count in range(195, 202)),
-        "\x1b" * 201,
-        "\x9b" * 101,
+        *("x" * count + it for it in (*PRINTING, "\x1b", "\x9b") for count in range(195, 202)), "\x1b" * 201, "\x9b" * 101,
     ):
         run = told(cases, ["acpiset", "check", "--hotplug", text], b"")
         cases.same(repr(text), first_line(run), (2, f"acpiset: --hotplug '{printed(text)}': expected counted or apart"))
