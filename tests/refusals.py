@@ -9,6 +9,8 @@ prefix.
 usage: refusals.py PROGRAM; the last line is 'refusals: N passed, M failed'. The object that is preloaded into the program is
 built from refusals.c, by the C compiler of the system or of the toolchain."""
 
+from __future__ import annotations
+
 import os
 import resource
 import subprocess
@@ -68,27 +70,15 @@ NODES = [node(flags=1), *(node(84, IS_ID_VALID | IS_LEAF, uid, [36 + 24 * (uid /
 ENTRIES = image_of(
     full_fadt(_92=b"\4"),
     madt(
-        *(lapic(uid, 2 * uid) for uid in (0, 1)),
-        *(x2apic(uid, 0x100 + uid) for uid in (2, 3)),
-        io_apic(0xFEC00000, 0),
-        io_apic(0xFEC01000, 24),
-        override(0, 2),
-        override(9, 47, 0b1101),
-        nmi_source(25),
-        *local_nmis(0xFFFFFFFF, 1),
+        *(lapic(uid, 2 * uid) for uid in (0, 1)), *(x2apic(uid, 0x100 + uid) for uid in (2, 3)), io_apic(0xFEC00000, 0),
+        io_apic(0xFEC01000, 24), override(0, 2), override(9, 47, 0b1101), nmi_source(25), *local_nmis(0xFFFFFFFF, 1),
         lapic_address(0xFEE00000),
     ),
     srat(
-        *(apic_domain(apic_id, 0) for apic_id in (0, 2)),
-        *(x2apic_domain(apic_id, 1) for apic_id in (0x102, 0x103)),
-        memory(0, 0xA0000),
-        memory(0x100000, 0x7FF00000),
-        memory(0x100000000, 0x80000000),
-        memory(0x180000000, 0x80000000, 3),
+        *(apic_domain(apic_id, 0) for apic_id in (0, 2)), *(x2apic_domain(apic_id, 1) for apic_id in (0x102, 0x103)), memory(0, 0xA0000),
+        memory(0x100000, 0x7FF00000), memory(0x100000000, 0x80000000), memory(0x180000000, 0x80000000, 3),
     ),
-    slit(2, [10, 20, 20, 10]),
-    pptt(*CACHES, *NODES),
-    others={FACS_AT: facs()},
+    slit(2, [10, 20, 20, 10]), pptt(*CACHES, *NODES), others={FACS_AT: facs()},
 )
 
 
@@ -129,9 +119,7 @@ def firmware(name, address, found):
 
 WHOLE_RUNS = made("a whole set", WHOLE)
 CLEAN_RUNS = [
-    *WHOLE_RUNS,
-    *made("a set of entries of each kind", ENTRIES),
-    *firmware("sb-q35-numa4-dist", "f59c0", "0xf59c0"),
+    *WHOLE_RUNS, *made("a set of entries of each kind", ENTRIES), *firmware("sb-q35-numa4-dist", "f59c0", "0xf59c0"),
     *firmware("q11-efi-virt-caches", "47fe0000", "none"),
 ]
 
@@ -196,10 +184,7 @@ def scattered_runs():
 IN_NO_ORDER = "find in 4,000 pieces in no order"
 ONE_TWICE = "find in 4,000 pieces in no order, one twice"
 SPARED_AFTER = {
-    (IN_NO_ORDER, "REFUSE_AT"),
-    (ONE_TWICE, "REFUSE_AT"),
-    (ONE_TWICE, "REFUSE_FROM"),
-    ("check, no address", "REFUSE_AT"),
+    (IN_NO_ORDER, "REFUSE_AT"), (ONE_TWICE, "REFUSE_AT"), (ONE_TWICE, "REFUSE_FROM"), ("check, no address", "REFUSE_AT"),
     ("check, a row past the end", "REFUSE_AT"),
 }
 
@@ -213,8 +198,7 @@ USAGE = "usage: acpiset check [OPTION].. [ADDRESS=COUNT].. < IMAGE"
 NOT_A_FAULT = "9 Overlap 0x30 0x58 0x0"
 # Arguments that are refused, with what is said of them.
 WRONG_WORDS = [
-    ("unrecognized subcommand 'chek'", ["chek"]),
-    ("unexpected argument '--rspd' found", ["check", "--rspd", "e0000"]),
+    ("unrecognized subcommand 'chek'", ["chek"]), ("unexpected argument '--rspd' found", ["check", "--rspd", "e0000"]),
     ("a value is required for '--rsdp <HEX>' but none was supplied", ["check", "--rsdp"]),
     ("--rsdp 'xyz': expected 1 to 16 hex digits, with or without 0x before them, as in f59e0", ["check", "--rsdp", "xyz"]),
     ("--through '0': expected a stage from 1 to 18, in at most 2 decimal digits", ["check", "--through", "0"]),
@@ -224,10 +208,8 @@ WRONG_WORDS = [
     ("'fec00000=257': expected a COUNT from 1 to 256, in at most 3 decimal digits", ["check", "fec00000=24", "fec00000=257"]),
     ("'fec00000': expected ADDRESS=COUNT, as in fec00000=24", ["check", "fec00000"]),
     ("an argument is not UTF-8", ["check", "--rsdp", b"\xff"]),
-    ("checks the static ACPI tables that an operating system reaches from", ["--help"]),
-    ("version 0.1.0, 18 stages", ["--version"]),
-    (USAGE, []),
-    ("unrecognized subcommand 'image.txt'", ["image.txt"]),
+    ("checks the static ACPI tables that an operating system reaches from", ["--help"]), ("version 0.1.0, 18 stages", ["--version"]),
+    (USAGE, []), ("unrecognized subcommand 'image.txt'", ["image.txt"]),
     (f"confirm needs --witness FAULT: {A_FAULT}, in one argument, as in '10 Overlap 0x30 0x58 0x0'", ["confirm"]),
     (f"--witness '{NOT_A_FAULT}': Overlap is a fault of stage 10, not '9'", ["confirm", "--witness", NOT_A_FAULT]),
     ("rebuild needs --base HEX: 1 to 16 hex digits, with or without 0x before them, as in f59e0", ["rebuild"]),

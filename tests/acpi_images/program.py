@@ -1,5 +1,6 @@
 """Runs the built program, counts the cases, and has the images of real firmware."""
 
+import resource
 import subprocess
 import sys
 from concurrent.futures import ThreadPoolExecutor
@@ -41,6 +42,14 @@ def refusal(line):
     return 3, "", f"acpiset: {line}\n"
 
 
+def timed(call):
+    """What a call returns, and the processor time in seconds of the programs that it ran."""
+    before = resource.getrusage(resource.RUSAGE_CHILDREN)
+    returned = call()
+    after = resource.getrusage(resource.RUSAGE_CHILDREN)
+    return returned, after.ru_utime + after.ru_stime - before.ru_utime - before.ru_stime
+
+
 class Cases:
     """Runs the program, counts the cases, and tells what failed."""
 
@@ -52,7 +61,7 @@ class Cases:
         """Counts a case, which is passed where nothing is wrong."""
         if wrong:
             self.failed += 1
-            print(f"{name}: {wrong}")
+            print(f"{name}: {wrong}", flush=True)
         else:
             self.passed += 1
 

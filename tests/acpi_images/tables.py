@@ -261,3 +261,8 @@ def image_of(*tables, others=(), slots=None):
     pieces.update(zip(listed, tables))
     pieces.update(others)
     return pieces
+
+
+def listed(*tables, **pieces):
+    """A FADT of reduced hardware at 0x2000, and these tables from 0x3000 on."""
+    return image_of(fadt(), *tables, **pieces)

@@ -71,10 +71,8 @@ ESCAPE = image_of(table(b"\x1b[2J", b""))
 SUMS = {}
 CLEAN = {RSDP_AT: extended_rsdp(), XSDT_AT: xsdt(0x2000, 0x3000), 0x2000: FADT, 0x3000: hpet(), FACS_AT: facs()}
 for line, address, place in (
-    ("no 1 RsdpSum 0xe0000 0x0 0x0", RSDP_AT, 8),
-    ("no 1 RsdpExtendedSum 0xe0000 0x0 0x0", RSDP_AT, 32),
-    ("no 2 RootSum 0x1100 0x0 0x0", XSDT_AT, 9),
-    ("no 3 TableSum 0x1 0x3000 0x0", 0x3000, 9),
+    ("no 1 RsdpSum 0xe0000 0x0 0x0", RSDP_AT, 8), ("no 1 RsdpExtendedSum 0xe0000 0x0 0x0", RSDP_AT, 32),
+    ("no 2 RootSum 0x1100 0x0 0x0", XSDT_AT, 9), ("no 3 TableSum 0x1 0x3000 0x0", 0x3000, 9),
 ):
     wrong = changed(CLEAN[address], {place: 0x5A})
     SUMS[line] = text_of({**CLEAN, address: wrong}), f"now 0x5a, has to be {CLEAN[address][place]:#x}."

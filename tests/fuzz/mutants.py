@@ -133,9 +133,9 @@ class Texts:
 
 
 class Sets:
-    """Sets of tables, judged by faults.py. Advice is compared as far as it depends on that."""
+    """Sets of tables, judged by faults.py. Advice and the lines of `show` are compared as far as they depend on what is planted."""
 
-    modules = ("table_set", "faults", "advice")
+    modules = ("table_set", "faults", "advice", "shown")
     planted = ("table_set", "faults")
 
     def __init__(self, cases):
@@ -171,7 +171,8 @@ class Sets:
         settings = modules["table_set"].Policy(**vars(case.settings))
         judgement = modules["faults"].Judgement(image, rsdp, settings)
         stands = [(str(fault), judgement.stands(fault)) for fault in (*judgement.faults, *faults)]
-        return found, str(judgement.verdict(case.last)), modules["advice"].lint_lines(image, rsdp, settings), stands
+        lines, text = modules["advice"].lint_lines(image, rsdp, settings), modules["shown"].shown(image, rsdp)
+        return found, str(judgement.verdict(case.last)), lines, text, stands
 
 
 def too_long(*_):

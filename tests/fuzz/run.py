@@ -21,7 +21,7 @@ sys.path.insert(0, str(Path(__file__).resolve().parents[1]))
 from acpi_images.advice import RULES, lint_lines, status_of
 from acpi_images.faults import STAGE_OF, Judgement
 from acpi_images.generated.cases import asked, changed_case, made_case
-from acpi_images.program import answer, finish, refusal
+from acpi_images.program import Cases, answer, finish, refusal
 from acpi_images.rebuilt import NotRebuilt, rebuilt
 from acpi_images.shown import shown
 from acpi_images.table_set import find_rsdp
@@ -140,20 +140,22 @@ class Judged:
 # ---- the comparison
 
 
-class Fuzz:
+class Fuzz(Cases):
+    """Compares cases, and counts what they have."""
+
     def __init__(self, said):
-        self.said, self.program = said, Program(said.program)
-        self.passed = self.failed = 0
+        super().__init__(said.program)
+        self.said, self.fast_program = said, Program(said.program)
         self.reported, self.confirmed, self.advised = Counter(), Counter(), Counter()
 
     def wrong_with(self, case, dice):
         """What differs of a case, run by run."""
-        self.program.read(case.text)
+        self.fast_program.read(case.text)
         judged, wrong = Judged(case, dice), []
         most = RUNS_OF_LONG_TEXT if len(case.text) > LONG_TEXT else None
         try:
             for words, expected in islice(judged.answers(), most):
-                told = self.program.run(*words)
+                told = self.fast_program.run(*words)
                 if told != expected:
                     wrong.append(f"  {words}\n    program {told}\n    judged  {expected}")
         except OSError:
@@ -169,14 +171,9 @@ class Fuzz:
     def run_case(self, place, make):
         said = self.said
         case, dice = make(said.seed, place)
-        wrong = self.wrong_with(case, dice)
-        if not wrong:
-            self.passed += 1
-            return
-        self.failed += 1
-        name = f"{make.__name__} {place} of seed {said.seed}"
-        print(f"{name} (--seed {said.seed} --first {place} --cases 1):", *wrong, sep="\n", flush=True)
-        if said.keep:
+        name, wrong = f"{make.__name__} {place} of seed {said.seed}", self.wrong_with(case, dice)
+        self.count(f"{name} (--seed {said.seed} --first {place} --cases 1)", "\n".join(["", *wrong]) if wrong else "")
+        if wrong and said.keep:
             (Path(said.keep) / f"{name.replace(' ', '-')}.img.txt").write_bytes(case.text)
 
     def print_coverage(self):
@@ -190,8 +187,7 @@ class Fuzz:
         one."""
         missing = [name for name in STAGE_OF if not self.reported[name]] + [name for name in RULES if not self.advised[name]]
         if missing:
-            self.failed += 1
-            print("never reported:", *missing)
+            self.count("never reported", " ".join(missing))
 
 
 def read_words():

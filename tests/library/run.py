@@ -60,7 +60,7 @@ def many_processors():
         fadt(length=276),
         madt(*(x2apic(uid, uid) for uid in range(COUNT)), io_apic(0xFEC00000, 0), override(0, 2)),
         srat(*(x2apic_domain(uid, uid // 512) for uid in range(COUNT)), *(memory(at << 32, 1 << 32) for at in range(8))),
-        slit(8, [10 if at // 8 == at % 8 else 20 for at in range(64)]),
+        slit(8, even_cells(8)),
         pptt(*caches, *leaves),
     ]
     places = [0x1000000 * place for place in range(1, 6)]

@@ -3,9 +3,9 @@ list tables each in its own segment of the image. A rule that gave up on this ma
 sets show it."""
 
 import random
-import resource
 import struct
 
+from acpi_images.program import timed
 from acpi_images.tables import *
 from acpi_images.text import text_of
 
@@ -62,17 +62,11 @@ def listed_in_no_order():
     return pieces, ["yes", f"advice ListedTwice {at:#x} {first[slots[at]]:#x} {slots[at]:#x}"]
 
 
-def seconds(cases, command, text, expected):
-    """The processor time of a command that writes the expected lines."""
-    before = resource.getrusage(resource.RUSAGE_CHILDREN)
-    cases.writes(f"{command} on {SLOTS} slots", f"{command} --rsdp e0000", text, expected)
-    after = resource.getrusage(resource.RUSAGE_CHILDREN)
-    return after.ru_utime + after.ru_stime - before.ru_utime - before.ru_stime
-
-
 def many_slots(cases):
     pieces, lines = listed_in_no_order()
     text = text_of(pieces)
-    checked, linted = seconds(cases, "check", text, lines[:1]), seconds(cases, "lint", text, lines)
+    asks = lambda command, due: cases.writes(f"{command} on {SLOTS} slots", f"{command} --rsdp e0000", text, due)
+    _, checked = timed(lambda: asks("check", lines[:1]))
+    _, linted = timed(lambda: asks("lint", lines))
     slow = linted > TIMES * checked + MORE
     cases.count(f"time with {SLOTS} slots", f"{linted} seconds, and check {checked}" if slow else "")

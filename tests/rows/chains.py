@@ -68,7 +68,7 @@ def small_questions():
     draw = random.Random(34)
     for turn in range(30):
         whole, places = small_table(draw)
-        pieces = image_of(fadt(), whole)
+        pieces = listed(whole)
         judgement = Judgement(Image(pieces), RSDP_AT, Policy())
         for fault in small_faults(draw, judgement, places):
             yield f"small table {turn}", pieces, str(fault), judgement.stands(fault)
@@ -143,7 +143,7 @@ def on_a_chain(cases, folder, name, body, fault, numbers):
     """The answers to the witness and to two that are one step off, and their time beside that of reading the text."""
     path = os.path.join(folder, "image.txt")
     with open(path, "wb") as out:
-        out.write(text_of(image_of(fadt(), others={0x100000: pptt(body)}, slots=[TABLES_AT, 0x100000])))
+        out.write(text_of(listed(others={0x100000: pptt(body)}, slots=[TABLES_AT, 0x100000])))
     program = os.path.realpath(cases.program)
     read = min(ran(program, ["check", "--rsdp", "e0000", "--through", "3"], path)[1] for _ in range(2))
     at, lead, around = numbers

@@ -126,7 +126,7 @@ asked("a processor that may be enabled, enabled", two_domains(0b10), LATER, "fal
 asked("the two entries exchanged", two_domains(0b01), "16 TwoDomains 0x30 0x40 0x5", "false")
 asked("a later fault of a set without a FADT", image_of(srat(memory(0, 2), memory(1, 2))), "10 Overlap 0x30 0x58 0x1", "true")
 UNSUMMED = changed(srat(memory(0, 2), memory(1, 2)), {9: 0})
-asked("an overlap in an SRAT that does not sum to 0", image_of(fadt(), UNSUMMED), "10 Overlap 0x30 0x58 0x1", "true")
+asked("an overlap in an SRAT that does not sum to 0", listed(UNSUMMED), "10 Overlap 0x30 0x58 0x1", "true")
 TOP = hex(2**64 - 1)
 for lead, round_, due in (
     ("0x1", "0x3e8", "true"),
@@ -139,22 +139,22 @@ for lead, round_, due in (
 ):
     asked(f"a ring, {lead} {round_}", RING, f"14 ParentCycle 0x24 {lead} {round_}", due)
 asked("a ring, from its last node", RING, f"14 ParentCycle {36 + 20 * 999:#x} 0x0 0x3e8", "true")
-asked("a chain that ends", image_of(fadt(), pptt(*CHAIN, node())), "14 ParentCycle 0x24 0x0 0x3e8", "false")
+asked("a chain that ends", listed(pptt(*CHAIN, node())), "14 ParentCycle 0x24 0x0 0x3e8", "false")
 # Length / 24 is 5, and Length / 20 is 6: each kind of entry has its own bound
-FIVE = image_of(fadt(), pptt(node(36), *[node()] * 4))
+FIVE = listed(pptt(node(36), *[node()] * 4))
 asked("as many steps as nodes fit", FIVE, "14 ParentCycle 0x24 0x5 0x1", "true")
 asked("more steps than nodes fit", FIVE, "14 ParentCycle 0x24 0x6 0x1", "false")
-FOUR = image_of(fadt(), pptt(cache(36, 28), *[cache()] * 3))
+FOUR = listed(pptt(cache(36, 28), *[cache()] * 3))
 asked("as many steps as caches fit", FOUR, "15 CacheCycle 0x24 0x4 0x1", "true")
 asked("more steps than caches fit, and not more than nodes would", FOUR, "15 CacheCycle 0x24 0x5 0x1", "false")
 asked("a cycle of caches is none of nodes", FOUR, "14 ParentCycle 0x24 0x0 0x1", "false")
-THREE = image_of(fadt(), madt(*[lapic_address(0)] * 3))
+THREE = listed(madt(*[lapic_address(0)] * 3))
 asked("the second of three addresses", THREE, "6 SecondAddressOverride 0x44 0x38 0x0", "true")
 asked("an address before the other", THREE, "6 SecondAddressOverride 0x38 0x44 0x0", "false")
 for at, due in ((TOP, "false"), ("0x100000000", "false"), ("0x2c", "true")):
-    asked(f"an entry at {at}", image_of(fadt(), madt(override(9, 9, bus=1))), f"6 OverrideBus {at} 0x0 0x0", due)
+    asked(f"an entry at {at}", listed(madt(override(9, 9, bus=1))), f"6 OverrideBus {at} 0x0 0x0", due)
 # inside the entry of the unknown type stands what looks like an override of another bus
-INSIDE = image_of(fadt(), madt(bytes([11, 12]) + override(9, 9, bus=1)))
+INSIDE = listed(madt(bytes([11, 12]) + override(9, 9, bus=1)))
 asked("an entry inside another", INSIDE, "6 OverrideBus 0x2e 0x0 0x0", "false")
 
 for name, pieces, words, rows in JUDGED:

@@ -20,7 +20,7 @@ SECONDS = 20
 LAST_FAULT = "no 18 LeafUnknown 0x24 0x0 0x7"
 # Sets whose first fault is of the last stage, and of stages 2, 3 and 4.
 FAULTY = {
-    18: (image_of(fadt(), madt(lapic(5, 0)), pptt(leaf(7))), LAST_FAULT),
+    18: (listed(madt(lapic(5, 0)), pptt(leaf(7))), LAST_FAULT),
     2: ({RSDP_AT: rsdp()}, "no 2 RootHeaderOut 0x1000 0x0 0x0"),
     3: ({RSDP_AT: rsdp(), RSDT_AT: rsdt(TABLES_AT)}, "no 3 TableHeaderOut 0x0 0x2000 0x0"),
     4: ({RSDP_AT: rsdp(), RSDT_AT: rsdt()}, "no 4 NoFadt 0x0 0x0 0x0"),
@@ -69,7 +69,7 @@ INPUTS = [
 def input_cases(line, address, count):
     """The last input is served, and the one after it is not."""
     for gsi in (count - 1, count):
-        pieces = image_of(fadt(), madt(io_apic(address, 0), override(9, gsi)))
+        pieces = listed(madt(io_apic(address, 0), override(9, gsi)))
         yield line, text_of(pieces), "yes" if gsi < count else f"no 17 GsiNowhere 0x38 0x0 {gsi:#x}"
 
 
@@ -87,7 +87,7 @@ def many_counts():
         entries += [io_apic(address, base), nmi_source(base + count - 1)]
         base += count
     entries.append(io_apic(65_000, base))
-    pieces = image_of(fadt(), slots=[TABLES_AT, HIGH_AT], others={HIGH_AT: madt(*entries)})
+    pieces = listed(slots=[TABLES_AT, HIGH_AT], others={HIGH_AT: madt(*entries)})
     return " ".join(["acpiset check", *words]), text_of(pieces), "yes"
 
 
@@ -101,8 +101,8 @@ SETTINGS = [
     ("acpiset check fec00000=32 --hotplug apart --default-inputs 16", "apart", "enabled", 32),
 ]
 # A hot-pluggable range over another one, and two domains of a processor that is not enabled, and online capable.
-HOT_PLUG = image_of(fadt(), srat(memory(0, 0x80000000), memory(0, 0x100000000, 3)))
-CAPABLE = image_of(fadt(), madt(lapic(0, 5, 0b10)), srat(apic_domain(5, 0), x2apic_domain(5, 1)))
+HOT_PLUG = listed(srat(memory(0, 0x80000000), memory(0, 0x100000000, 3)))
+CAPABLE = listed(madt(lapic(0, 5, 0b10)), srat(apic_domain(5, 0), x2apic_domain(5, 1)))
 
 
 def setting_cases():
@@ -120,7 +120,7 @@ LINTED = [
     ("acpiset lint fec00000=8 --strict --default-inputs 1", True), ("acpiset lint --hotplug apart -- fec00000=8", False),
 ]
 # Two I/O APICs with one ID and no processor, in a table that slots 1 and 2 list: advice, and no fault.
-ADVISED = image_of(fadt(), madt(io_apic(0xFEC00000, 0), io_apic(0xFEC01000, 24)), slots=[0x2000, 0x3000, 0x3000])
+ADVISED = listed(madt(io_apic(0xFEC00000, 0), io_apic(0xFEC01000, 24)), slots=[0x2000, 0x3000, 0x3000])
 ADVICE = "advice ListedTwice 0x2 0x1 0x3000\nadvice SameIoApicId 0x38 0x2c 0x0\nadvice NoProcessor 0x0 0x0 0x0"
 
 
@@ -131,7 +131,7 @@ def lint_cases():
         pieces, fault = FAULTY[4]
         yield line, text_of(pieces), fault, 1
     for line, least in (("acpiset lint", 24), ("acpiset lint --default-inputs 16", 16), ("acpiset lint fec00000=32", 32)):
-        pieces = image_of(fadt(), madt(io_apic(0xFEC00000, 0), override(9, least), lapic(0, 0)))
+        pieces = listed(madt(io_apic(0xFEC00000, 0), override(9, least), lapic(0, 0)))
         yield line, text_of(pieces), f"no 17 GsiNowhere 0x38 0x0 {least:#x}", 1
 
 

@@ -13,7 +13,7 @@ sys.path.insert(0, str(Path(__file__).resolve().parents[1]))
 
 from acpi_images.known.rows import ROWS
 from acpi_images.known.shown import SHOWN
-from acpi_images.program import IMAGES, firmware_text, main
+from acpi_images.program import IMAGES, firmware_text, main, timed
 from acpi_images.shown import shown
 from acpi_images.tables import *
 from acpi_images.text import read, text_of
@@ -96,11 +96,9 @@ def seconds(cases, count):
     most = 10 * sum(len(piece) for piece in pieces.values())
     limit = lambda: resource.setrlimit(resource.RLIMIT_AS, (most, most))
     text = text_of(pieces)
-    before = resource.getrusage(resource.RUSAGE_CHILDREN)
-    status, told, complaint = cases.run("show --rsdp e0000", text, preexec_fn=limit)
-    after = resource.getrusage(resource.RUSAGE_CHILDREN)
+    (status, told, complaint), spent = timed(lambda: cases.run("show --rsdp e0000", text, preexec_fn=limit))
     cases.count(f"{count} entries", "" if (status, told) == (0, expected) else f"status {status}, {complaint}")
-    return after.ru_utime + after.ru_stime - before.ru_utime - before.ru_stime
+    return spent
 
 
 def large(cases):

@@ -43,50 +43,41 @@ def dump_of(pieces, width=16, margin=4, padded=True):
     return "".join(line + "\n" for line in lines).encode()
 
 
-def files():
-    yield "facp.dat", FADT
-    yield "apic.dat", MADT
-    yield "hpet.dat", HPET
-    yield "dsdt.dat", DSDT
-    yield "facs.dat", facs()
-    yield "facs2.dat", facs()
-    yield "rsdp.dat", rsdp()
-    yield "xsdt.dat", xsdt(0x2000)
-    yield "wide.dat", wide_fadt(0x123456789ABC0)
-    yield "last.dat", wide_fadt(2**64 - 64)
-    yield "past.dat", wide_fadt(2**64 - 32)
-    yield "first.dat", full_fadt(RSDP_AT)
-    yield "second.dat", full_fadt(0x101000)
-    yield "named.dat", full_fadt(0)
-    yield "reduced.dat", fadt()
-    yield "longer.dat", MADT + b"\1\2\3"
-    yield "cut.dat", MADT[:-1]
-    yield "short.dat", HPET[:35]
-    yield "huge.dat", HPET[:4] + b"\xff" * 4 + HPET[8:36]
-    yield "empty.dat", b""
-    yield "zeros.dat", bytes(64)
-    yield "packed.dat", b"\x1f\x8b\x08\x00" + bytes(60)
-    yield "old.image", text_of(image_of_files(FADT, MADT, HPET))
+# What tables2image is given.
+RAW = {
+    "facp.dat": FADT, "apic.dat": MADT, "hpet.dat": HPET, "dsdt.dat": DSDT, "facs.dat": facs(), "facs2.dat": facs(), "rsdp.dat": rsdp(),
+    "xsdt.dat": xsdt(0x2000), "wide.dat": wide_fadt(0x123456789ABC0), "last.dat": wide_fadt(2**64 - 64), "past.dat": wide_fadt(2**64 - 32),
+    "first.dat": full_fadt(RSDP_AT), "second.dat": full_fadt(0x101000), "named.dat": full_fadt(0), "reduced.dat": fadt(),
+    "longer.dat": MADT + b"\1\2\3", "cut.dat": MADT[:-1], "short.dat": HPET[:35], "huge.dat": HPET[:4] + b"\xff" * 4 + HPET[8:36],
+    "empty.dat": b"", "zeros.dat": bytes(64), "packed.dat": b"\x1f\x8b\x08\x00" + bytes(60),
+    "old.image": text_of(image_of_files(FADT, MADT, HPET)),
+}
 
-    pointer, root, *tables, lock = WHOLE
-    yield "whole.txt", dump_of(WHOLE)
-    yield "narrow.txt", dump_of(WHOLE, width=8, margin=2, padded=False)
-    yield "twice.txt", dump_of([*WHOLE, tables[1]])
-    yield "changed.txt", dump_of([*WHOLE, (0x7FE3001, MADT[:-1] + b"\0")])
-    yield "overlap.txt", dump_of([*WHOLE, (0x7FE3010, HPET)])
-    yield "rootless.txt", dump_of([*tables, lock])
-    yield "pointerless.txt", dump_of([root, *tables, lock])
-    yield "rsdt.txt", dump_of([*tables, (root[0], rsdt(*dict(tables))), lock])
-    yield "zeros.txt", dump_of([(0, FADT), (0, MADT)])
-    yield "some.txt", dump_of([*WHOLE, (0, HPET)])
-    lines = dump_of(WHOLE).splitlines(keepends=True)
-    yield "lost.txt", b"".join(lines[:2] + lines[3:])
-    yield "returns.txt", dump_of(WHOLE).replace(b"\n", b"\r\n")
-    yield "utf16.txt", dump_of(WHOLE).decode().encode("utf-16")
+
+def dumps():
+    """What acpidump2image is given."""
+    _, root, *tables, lock = WHOLE
+    text = dump_of(WHOLE)
+    lines = text.splitlines(keepends=True)
+    return {
+        "whole.txt": text,
+        "narrow.txt": dump_of(WHOLE, width=8, margin=2, padded=False),
+        "twice.txt": dump_of([*WHOLE, tables[1]]),
+        "changed.txt": dump_of([*WHOLE, (0x7FE3001, MADT[:-1] + b"\0")]),
+        "overlap.txt": dump_of([*WHOLE, (0x7FE3010, HPET)]),
+        "rootless.txt": dump_of([*tables, lock]),
+        "pointerless.txt": dump_of([root, *tables, lock]),
+        "rsdt.txt": dump_of([*tables, (root[0], rsdt(*dict(tables))), lock]),
+        "zeros.txt": dump_of([(0, FADT), (0, MADT)]),
+        "some.txt": dump_of([*WHOLE, (0, HPET)]),
+        "lost.txt": b"".join(lines[:2] + lines[3:]),
+        "returns.txt": text.replace(b"\n", b"\r\n"),
+        "utf16.txt": text.decode().encode("utf-16"),
+    }
 
 
 def write_into(folder):
     os.mkdir(f"{folder}/folder")
-    for name, data in files():
+    for name, data in {**RAW, **dumps()}.items():
         with open(f"{folder}/{name}", "wb") as file:
             file.write(data)

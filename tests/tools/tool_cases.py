@@ -5,7 +5,6 @@ import importlib.machinery
 import importlib.util
 import os
 import re
-import resource
 import subprocess
 import sys
 
@@ -77,14 +76,6 @@ class ToolCases(Cases):
             NOT_PRINTED.search(run.stderr) and "bytes that are not printed",
             b"Traceback" in run.stderr and "a traceback",
         )
-
-
-def seconds_of(words, **options):
-    """The processor's time that a run took, with the run."""
-    before = resource.getrusage(resource.RUSAGE_CHILDREN)
-    run = subprocess.run(words, capture_output=True, timeout=600, **options)
-    after = resource.getrusage(resource.RUSAGE_CHILDREN)
-    return after.ru_utime + after.ru_stime - before.ru_utime - before.ru_stime, run
 
 
 def module_of(tool):

@@ -8,6 +8,7 @@ from __future__ import annotations
 from dataclasses import dataclass
 
 from ..tables import *
+from .rows import whole
 
 
 @dataclass
@@ -21,13 +22,6 @@ class Expected:
 EXPECTED = []
 
 
-def whole(line):
-    """A line with its three numbers."""
-    words = line.split()
-    count = 0 if line == "no rsdp" else {"no": 6, "advice": 5}.get(words[0], 0)
-    return line + " 0x0" * (count - len(words))
-
-
 def expected(name, pieces, *lines, words="--rsdp e0000"):
     """The program's lines, with these words after `lint`."""
     EXPECTED.append(Expected(name, pieces, list(map(whole, lines)), words))
@@ -36,11 +30,6 @@ def expected(name, pieces, *lines, words="--rsdp e0000"):
 def advised(name, pieces, *advice, words="--rsdp e0000"):
     """A set without a fault, and the advice on it."""
     expected(name, pieces, "yes", *(f"advice {line}" for line in advice), words=words)
-
-
-def listed(*tables, **pieces):
-    """A FADT of reduced hardware at 0x2000, and these tables from 0x3000 on."""
-    return image_of(fadt(), *tables, **pieces)
 
 
 def processors(name, entries, *advice):
@@ -399,7 +388,7 @@ for name, entries, *advice in (
     ("a UID in two domains", [uid_domain(5, 0), uid_domain(5, 1)], "TwoUidDomains 0x30 0x42 0x5"),
     ("a UID in three domains", [uid_domain(5, 0), uid_domain(5, 1), uid_domain(5, 2)], "TwoUidDomains 0x30 0x42 0x5"),
     ("a UID in two domains, the first one twice", [uid_domain(5, 0)] * 2 + [uid_domain(5, 1)], "TwoUidDomains 0x30 0x54 0x5"),
-    ("a UID in a domain, in another and in the first", [uid_domain(5, 0), uid_domain(5, 1), uid_domain(5, 0)], "TwoUidDomains 0x30 0x42 0x5"),
+    ("a UID in a domain, in another and in the first", [uid_domain(5, domain) for domain in (0, 1, 0)], "TwoUidDomains 0x30 0x42 0x5"),
     (
         "two UIDs in two domains, one within the other", [uid_domain(7, 0), uid_domain(5, 0), uid_domain(5, 1), uid_domain(7, 1)],
         "TwoUidDomains 0x30 0x66 0x7",
@@ -434,7 +423,8 @@ domains("a processor in a domain, by the longer entry", [lapic(0, 6)], [x2apic_d
 domains("an x2APIC in a domain, by the shorter entry", [x2apic(0, 6)], [apic_domain(6, 0)])
 domains("a processor and nothing in the SRAT", [lapic(0, 6)], [])
 domains("a processor and memory", [lapic(0, 6)], [memory(0, 1)])
-domains("a processor and an affinity that is not enabled", [lapic(0, 6)], [apic_domain(7, 0, 0), x2apic_domain(7, 0, 2), uid_domain(7, 0, 2)])
+NOT_ENABLED = [apic_domain(7, 0, 0), x2apic_domain(7, 0, 2), uid_domain(7, 0, 2)]
+domains("a processor and an affinity that is not enabled", [lapic(0, 6)], NOT_ENABLED)
 domains("an affinity of another processor", [lapic(0, 6)], [apic_domain(7, 0)], "AffinityNowhere 0x30 0x0 0x7", "NoDomain 0x2c 0x0 0x6")
 domains(
     "an affinity of a UID that is an APIC ID", [lapic(7, 6)], [apic_domain(7, 0)], "AffinityNowhere 0x30 0x0 0x7", "NoDomain 0x2c 0x0 0x6",

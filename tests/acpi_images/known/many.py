@@ -13,10 +13,10 @@ PLACES = [0x1000000 * place for place in range(1, 4)]
 MANY = []
 
 
-def many(name, answer, *listed, words="", count=COUNT):
+def many(name, answer, *tables, words="", count=COUNT):
     """The program's line for a FADT and these tables."""
-    others = dict(zip(PLACES, listed))
-    pieces = image_of(fadt(), slots=[TABLES_AT, *others], others=others)
+    others = dict(zip(PLACES, tables))
+    pieces = listed(slots=[TABLES_AT, *others], others=others)
     MANY.append(Row(f"{count} {name}", pieces, f"check --rsdp e0000 {words}".strip(), answer))
 
 

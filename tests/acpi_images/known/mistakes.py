@@ -10,7 +10,7 @@ from ..program import IMAGES, firmware_text
 from ..table_set import TableSet, whole_table
 from ..tables import *
 from ..text import read
-from .linted import whole
+from .rows import whole
 
 # What each set deserves as it is, with the words after `lint` and the address of its RSDP.
 UNCHANGED = [

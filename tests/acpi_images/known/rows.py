@@ -1,9 +1,10 @@
 """Sets of tables, and what the program has to answer. Each answer is worked out from the rules in docs/TABLES.md and
-docs/FAULTS.md by hand, and none is taken from the program."""
+docs/FAULTS.md by hand, and none is taken from the program. Numbers of 0 at the end of an answer are left out."""
 
 from __future__ import annotations
 
 from dataclasses import dataclass
+from functools import partial
 
 from ..tables import *
 
@@ -30,22 +31,29 @@ def words_of(row):
     return without_stage(row.words.split()[1:])
 
 
+def whole(line):
+    """A line with its three numbers."""
+    words = line.split()
+    count = 0 if line == "no rsdp" else {"no": 6, "advice": 5}.get(words[0], 0)
+    return line + " 0x0" * (count - len(words))
+
+
 def row(name, pieces, answer, words="", command="check --rsdp e0000"):
     """The program's line for these pieces, or for this text, with these words after the command's own."""
-    ROWS.append(Row(name, pieces, f"{command} {words}".strip(), answer))
+    ROWS.append(Row(name, pieces, f"{command} {words}".strip(), whole(answer)))
 
 
 # ---- the RSDP and the root
 SMALLEST = {RSDP_AT: rsdp(), RSDT_AT: rsdt()}
 row("a set that lists nothing, through the listed tables", SMALLEST, "yes", "--through 3")
-row("a set that lists nothing", SMALLEST, "no 4 NoFadt 0x0 0x0 0x0")
-row("an empty text", b"", "no 1 RsdpOut 0xe0000 0x0 0x0")
-row("an RSDP whose bytes do not sum to 0", {**SMALLEST, RSDP_AT: rsdp().replace(b"A", b"B", 1)}, "no 1 RsdpSum 0xe0000 0x0 0x0")
+row("a set that lists nothing", SMALLEST, "no 4 NoFadt")
+row("an empty text", b"", "no 1 RsdpOut 0xe0000")
+row("an RSDP whose bytes do not sum to 0", {**SMALLEST, RSDP_AT: rsdp().replace(b"A", b"B", 1)}, "no 1 RsdpSum 0xe0000")
 row("an RSDT in two pieces that touch", {RSDP_AT: rsdp(), RSDT_AT + 20: rsdt()[20:], RSDT_AT: rsdt()[:20]}, "yes", "--through 3")
 row("an XSDT", {RSDP_AT: extended_rsdp(), XSDT_AT: xsdt()}, "yes", "--through 3")
-row("an RSDT with two bytes behind its slots", {RSDP_AT: rsdp(), RSDT_AT: table(b"RSDT", b"\0\0")}, "no 2 RootRagged 0x1000 0x0 0x0")
-row("an extended RSDP of Length 2^32 - 1", {RSDP_AT: extended_rsdp(length=2**32 - 1), XSDT_AT: xsdt()}, "no 1 RsdpLongOut 0xe0000 0x0 0x0")
-row("no RSDP at the top of the addresses", SMALLEST, "no 1 RsdpOut 0xfffffffffffffff0 0x0 0x0", command="check --rsdp fffffffffffffff0")
+row("an RSDT with two bytes behind its slots", {RSDP_AT: rsdp(), RSDT_AT: table(b"RSDT", b"\0\0")}, "no 2 RootRagged 0x1000")
+row("an extended RSDP of Length 2^32 - 1", {RSDP_AT: extended_rsdp(length=2**32 - 1), XSDT_AT: xsdt()}, "no 1 RsdpLongOut 0xe0000")
+row("no RSDP at the top of the addresses", SMALLEST, "no 1 RsdpOut 0xfffffffffffffff0", command="check --rsdp fffffffffffffff0")
 
 # ---- the search
 row("an RSDP at the first place", SMALLEST, "rsdp 0xe0000", command="find")
@@ -56,11 +64,11 @@ row("nothing to find", b"", "rsdp none", command="find")
 row("nothing to check", b"", "no rsdp", command="check")
 
 # ---- listed tables
-row("a slot of 0 between two tables", image_of(fadt(), hpet(), slots=(0x2000, 0, 0x3000)), "yes")
-row("a table of Length 2^32 - 1", image_of(fadt()[:4] + b"\xff" * 4 + fadt()[8:]), "no 3 TableOut 0x0 0x2000 0x0")
+row("a slot of 0 between two tables", listed(hpet(), slots=(0x2000, 0, 0x3000)), "yes")
+row("a table of Length 2^32 - 1", image_of(fadt()[:4] + b"\xff" * 4 + fadt()[8:]), "no 3 TableOut 0x0 0x2000")
 UNSUMMED = changed(hpet(), {9: 0})
-row("a table without a sum in two slots", image_of(fadt(), UNSUMMED, slots=(0x2000, 0x3000, 0x3000)), "no 3 TableSum 0x1 0x3000 0x0")
-row("an RSDT that lists itself", image_of(fadt(), slots=(0x1000, 0x2000)), "yes")
+row("a table without a sum in two slots", listed(UNSUMMED, slots=(0x2000, 0x3000, 0x3000)), "no 3 TableSum 0x1 0x3000")
+row("an RSDT that lists itself", listed(slots=(0x1000, 0x2000)), "yes")
 
 # ---- tables at 4 GiB and at the last address: rows of text end exactly there
 LONG = table(b"HPET", bytes(28))
@@ -80,18 +88,18 @@ for at in (2**32 - 0x1000, 2**32 - 1, 2**32):
     high_row(f"a byte at {at:x}, which comes alone", "yes", pieces, at - 10)
     del pieces[at]
     high_row(f"no byte at {at:x}", f"no 3 TableHeaderOut 0x1 {at - 10:#x} 0x0", pieces, at - 10)
-row("a table up to 4 GiB, by an RSDT", image_of(fadt(), slots=(0x2000, 2**32 - 64), others={2**32 - 64: LONG}), "yes")
+row("a table up to 4 GiB, by an RSDT", listed(slots=(0x2000, 2**32 - 64), others={2**32 - 64: LONG}), "yes")
 
 # ---- FADT and FACS
 FULL = image_of(full_fadt(), others={FACS_AT: facs()})
 row("full hardware", FULL, "yes")
 row("full hardware, a FADT of 244 bytes", image_of(full_fadt(length=244), others={FACS_AT: facs()}), "yes")
 row("reduced hardware, a FADT of 276 bytes", image_of(fadt(length=276)), "yes")
-row("a FACS at no multiple of 64", image_of(full_fadt(0x7020), others={0x7020: facs()}), "no 5 FacsAlign 0x7020 0x0 0x0")
+row("a FACS at no multiple of 64", image_of(full_fadt(0x7020), others={0x7020: facs()}), "no 5 FacsAlign 0x7020")
 X_FIRMWARE_CTRL = {"_132": number(FACS_AT, 8)}
 row("X_FIRMWARE_CTRL wins", image_of(full_fadt(0x7020, 244, **X_FIRMWARE_CTRL), others={FACS_AT: facs()}), "yes")
 row("a part of X_FIRMWARE_CTRL", image_of(fadt(length=139, _132=b"\1" * 7)), "yes")
-row("a reset register of no width", image_of(fadt(REDUCED | RESET_REG_SUP, 276)), "no 4 ResetRegister 0x74 0x0 0x0")
+row("a reset register of no width", image_of(fadt(REDUCED | RESET_REG_SUP, 276)), "no 4 ResetRegister 0x74")
 row("a FADT that ends before the reset register", image_of(fadt(REDUCED | RESET_REG_SUP)), "yes")
 
 # ---- one piece changed
@@ -101,118 +109,101 @@ BY_RSDT = {**FULL, **SHORT}
 BY_XSDT = {RSDP_AT: extended_rsdp(), XSDT_AT: xsdt(TABLES_AT), TABLES_AT: full_fadt(), FACS_AT: facs(), **SHORT}
 
 
-def changed_row(answer, pieces, at, changes, *sums):
+def changed_row(pieces, at, answer, changes, *sums):
     """A set with the piece at this address changed."""
     name = ", ".join(f"{offset}: {byte:02x}" for offset, byte in changes.items())
     row(f"the piece at {at:x} with {name}, sums {sums}", {**pieces, at: changed(pieces[at], changes, *sums)}, answer)
 
 
-def rsdp_row(answer, changes, *sums):
-    changed_row(answer, BY_RSDT, RSDP_AT, changes, *sums)
-
-
-def extended_row(answer, changes, *sums):
-    changed_row(answer, BY_XSDT, RSDP_AT, changes, *sums)
-
-
-def rsdt_row(answer, changes, *sums):
-    changed_row(answer, BY_RSDT, RSDT_AT, changes, *sums)
-
-
-def fadt_row(answer, changes, *sums):
-    changed_row(answer, BY_RSDT, TABLES_AT, changes, *sums)
-
-
-def facs_row(answer, changes):
-    changed_row(answer, BY_RSDT, FACS_AT, changes)
-
-
+rsdp_row, rsdt_row, fadt_row, facs_row = (partial(changed_row, BY_RSDT, at) for at in (RSDP_AT, RSDT_AT, TABLES_AT, FACS_AT))
+extended_row = partial(changed_row, BY_XSDT, RSDP_AT)
 row("by an RSDT", BY_RSDT, "yes")
 row("by an XSDT", BY_XSDT, "yes")
-rsdp_row("no 1 RsdpSignature 0xe0000 0x0 0x0", {0: 0x72}, (8, 20))
-rsdp_row("no 1 RsdpSignature 0xe0000 0x0 0x0", {0: 0x72})
-rsdp_row("no 1 RsdpSum 0xe0000 0x0 0x0", {8: 0x4A})
+rsdp_row("no 1 RsdpSignature 0xe0000", {0: 0x72}, (8, 20))
+rsdp_row("no 1 RsdpSignature 0xe0000", {0: 0x72})
+rsdp_row("no 1 RsdpSum 0xe0000", {8: 0x4A})
 rsdp_row("yes", {15: 1}, (8, 20))
-rsdp_row("no 1 RsdpTailOut 0xe0000 0x0 0x0", {15: 2}, (8, 20))
+rsdp_row("no 1 RsdpTailOut 0xe0000", {15: 2}, (8, 20))
 extended_row("yes", {15: 0xFF}, (8, 20))
-extended_row("no 1 RsdpLength 0xe0000 0x0 0x0", {20: 35}, (32, 36))
-extended_row("no 1 RsdpLongOut 0xe0000 0x0 0x0", {20: 37}, (32, 36))
-extended_row("no 1 RsdpExtendedSum 0xe0000 0x0 0x0", {32: 0xCC})
+extended_row("no 1 RsdpLength 0xe0000", {20: 35}, (32, 36))
+extended_row("no 1 RsdpLongOut 0xe0000", {20: 37}, (32, 36))
+extended_row("no 1 RsdpExtendedSum 0xe0000", {32: 0xCC})
 LONG_RSDP = changed(extended_rsdp() + b"\1\2\3\4", {20: 40}, (32, 40))
 row("an RSDP of 40 bytes", {**BY_XSDT, RSDP_AT: LONG_RSDP}, "yes")
-rsdp_row("no 2 NoRoot 0xe0000 0x0 0x0", {17: 0}, (8, 20))
-rsdp_row("no 2 RootHeaderOut 0x4000 0x0 0x0", {17: 0x40}, (8, 20))
-extended_row("no 2 RootHeaderOut 0x1000 0x0 0x0", {25: 0}, (32, 36))
-rsdt_row("no 2 RootSignature 0x1000 0x0 0x0", {0: ord("X")}, (9, 40))
-changed_row("no 2 RootSignature 0x1100 0x0 0x0", BY_XSDT, XSDT_AT, {0: ord("R")}, (9, 44))
-rsdt_row("no 2 RootLength 0x1000 0x0 0x0", {4: 35}, (9, 35))
-rsdt_row("no 2 RootOut 0x1000 0x0 0x0", {4: 41})
-rsdt_row("no 2 RootRagged 0x1000 0x0 0x0", {4: 39}, (9, 39))
-rsdt_row("no 2 RootSum 0x1000 0x0 0x0", {9: 0xE7})
-rsdt_row("no 3 TableHeaderOut 0x0 0x4000 0x0", {37: 0x40}, (9, 40))
-fadt_row("no 3 TableLength 0x0 0x2000 0x0", {4: 35}, (9, 35))
-fadt_row("no 3 TableOut 0x0 0x2000 0x0", {4: 117})
-fadt_row("no 3 TableSum 0x0 0x2000 0x0", {9: 0x64})
-row("a second table that is not there", {**BY_RSDT, RSDT_AT: rsdt(0x2000, 0x4000)}, "no 3 TableHeaderOut 0x1 0x4000 0x0")
-fadt_row("no 4 NoFadt 0x0 0x0 0x0", {0: ord("f")}, (9, 116))
-fadt_row("no 4 FadtShort 0x0 0x0 0x0", {4: 115}, (9, 115))
+rsdp_row("no 2 NoRoot 0xe0000", {17: 0}, (8, 20))
+rsdp_row("no 2 RootHeaderOut 0x4000", {17: 0x40}, (8, 20))
+extended_row("no 2 RootHeaderOut 0x1000", {25: 0}, (32, 36))
+rsdt_row("no 2 RootSignature 0x1000", {0: ord("X")}, (9, 40))
+changed_row(BY_XSDT, XSDT_AT, "no 2 RootSignature 0x1100", {0: ord("R")}, (9, 44))
+rsdt_row("no 2 RootLength 0x1000", {4: 35}, (9, 35))
+rsdt_row("no 2 RootOut 0x1000", {4: 41})
+rsdt_row("no 2 RootRagged 0x1000", {4: 39}, (9, 39))
+rsdt_row("no 2 RootSum 0x1000", {9: 0xE7})
+rsdt_row("no 3 TableHeaderOut 0x0 0x4000", {37: 0x40}, (9, 40))
+fadt_row("no 3 TableLength 0x0 0x2000", {4: 35}, (9, 35))
+fadt_row("no 3 TableOut 0x0 0x2000", {4: 117})
+fadt_row("no 3 TableSum 0x0 0x2000", {9: 0x64})
+row("a second table that is not there", {**BY_RSDT, RSDT_AT: rsdt(0x2000, 0x4000)}, "no 3 TableHeaderOut 0x1 0x4000")
+fadt_row("no 4 NoFadt", {0: ord("f")}, (9, 116))
+fadt_row("no 4 FadtShort", {4: 115}, (9, 115))
 row("a second FADT, which is too short", {**BY_RSDT, RSDT_AT: rsdt(0x2000, 0x3000)}, "yes")
-row("a first FADT that is too short", {**BY_RSDT, RSDT_AT: rsdt(0x3000, 0x2000)}, "no 4 FadtShort 0x0 0x0 0x0")
-fadt_row("no 4 PmEventLength 0x58 0x0 0x0", {88: 3}, (9, 116))
-fadt_row("no 4 PmControlLength 0x59 0x0 0x0", {89: 1}, (9, 116))
-fadt_row("no 4 PmTimerLength 0x5b 0x0 0x0", {91: 3}, (9, 116))
+row("a first FADT that is too short", {**BY_RSDT, RSDT_AT: rsdt(0x3000, 0x2000)}, "no 4 FadtShort")
+fadt_row("no 4 PmEventLength 0x58", {88: 3}, (9, 116))
+fadt_row("no 4 PmControlLength 0x59", {89: 1}, (9, 116))
+fadt_row("no 4 PmTimerLength 0x5b", {91: 3}, (9, 116))
 fadt_row("yes", {91: 0}, (9, 116))
-fadt_row("no 4 GpeLength 0x5c 0x0 0x0", {92: 1, 93: 1}, (9, 116))
-fadt_row("no 4 GpeLength 0x5d 0x0 0x0", {93: 1}, (9, 116))
+fadt_row("no 4 GpeLength 0x5c", {92: 1, 93: 1}, (9, 116))
+fadt_row("no 4 GpeLength 0x5d", {93: 1}, (9, 116))
 # reduced hardware has none of these
 fadt_row("yes", {88: 0, 89: 0, 91: 3, 92: 1, 114: 0x10}, (9, 116))
-for space, width, answer in ((1, 8, "yes"), (3, 8, "no 4 ResetRegister 0x74 0x0 0x0"), (1, 16, "no 4 ResetRegister 0x74 0x0 0x0")):
+for space, width, answer in ((1, 8, "yes"), (3, 8, "no 4 ResetRegister 0x74"), (1, 16, "no 4 ResetRegister 0x74")):
     register = bytes([space, width, 0, 0]) + bytes(8)
     resettable = full_fadt(length=129, _113=b"\4", _116=register)
     row(f"a reset register of {width} bits in the space {space}", {**BY_RSDT, TABLES_AT: resettable}, answer)
-fadt_row("no 5 NoFacs 0x0 0x0 0x0", {37: 0}, (9, 116))
-fadt_row("no 5 FacsAlign 0x7020 0x0 0x0", {36: 0x20}, (9, 116))
-fadt_row("no 5 FacsHeaderOut 0x8000 0x0 0x0", {37: 0x80}, (9, 116))
-facs_row("no 5 FacsSignature 0x7000 0x0 0x0", {0: ord("f")})
-facs_row("no 5 FacsLength 0x7000 0x0 0x0", {4: 63})
-facs_row("no 5 FacsOut 0x7000 0x0 0x0", {4: 65})
+fadt_row("no 5 NoFacs", {37: 0}, (9, 116))
+fadt_row("no 5 FacsAlign 0x7020", {36: 0x20}, (9, 116))
+fadt_row("no 5 FacsHeaderOut 0x8000", {37: 0x80}, (9, 116))
+facs_row("no 5 FacsSignature 0x7000", {0: ord("f")})
+facs_row("no 5 FacsLength 0x7000", {4: 63})
+facs_row("no 5 FacsOut 0x7000", {4: 65})
 
 # ---- the MADT's entries
-row("a MADT of its fixed fields", image_of(fadt(), madt()), "yes")
-row("a MADT of 40 bytes", image_of(fadt(), table(b"APIC", bytes(4))), "no 6 MadtShort 0x0 0x0 0x0")
-row("one byte behind the last entry", image_of(fadt(), madt(lapic(0, 0), b"\7")), "no 6 MadtEntryCut 0x34 0x0 0x0")
-row("an entry of length 0", image_of(fadt(), madt(b"\0\0")), "no 6 MadtEntryCut 0x2c 0x0 0x0")
-row("an entry of length 0 behind another", image_of(fadt(), madt(lapic(0, 0), b"\7\0")), "no 6 MadtEntryCut 0x34 0x0 0x0")
-row("an entry that goes past the table", image_of(fadt(), madt(lapic(0, 0), b"\0\11" + bytes(6))), "no 6 MadtEntryCut 0x34 0x0 0x0")
-row("an entry of length 1", image_of(fadt(), madt(b"\0\1")), "no 6 MadtEntryCut 0x2c 0x0 0x0")
-row("a local APIC of 12 bytes", image_of(fadt(), madt(bytes([0, 12]) + bytes(10))), "no 6 MadtEntryLength 0x2c 0x0 0x0")
-row("an entry of a type that no rule names", image_of(fadt(), madt(bytes([11, 80]) + bytes(78))), "yes")
-row("a reserved polarity", image_of(fadt(), madt(override(9, 9, 0b0010))), "no 6 ReservedInti 0x2c 0x0 0x0")
-row("a reserved trigger mode", image_of(fadt(), madt(override(9, 9, 0b1000))), "no 6 ReservedInti 0x2c 0x0 0x0")
-row("active high and level", image_of(fadt(), madt(override(9, 9, 0b1101))), "yes")
-row("a reserved polarity of an NMI source", image_of(fadt(), madt(nmi_source(9, 0b0010))), "no 6 ReservedInti 0x2c 0x0 0x0")
-row("a reserved polarity of a local APIC NMI", image_of(fadt(), madt(lapic_nmi(255, 1, 0b0010))), "no 6 ReservedInti 0x2c 0x0 0x0")
-row("a reserved polarity of an x2APIC NMI", image_of(fadt(), madt(x2apic_nmi(0, 1, 0b0010))), "no 6 ReservedInti 0x2c 0x0 0x0")
-row("an override of another bus", image_of(fadt(), madt(override(9, 9, 0b0010, bus=1))), "no 6 OverrideBus 0x2c 0x0 0x0")
+row("a MADT of its fixed fields", listed(madt()), "yes")
+row("a MADT of 40 bytes", listed(table(b"APIC", bytes(4))), "no 6 MadtShort")
+row("one byte behind the last entry", listed(madt(lapic(0, 0), b"\7")), "no 6 MadtEntryCut 0x34")
+row("an entry of length 0", listed(madt(b"\0\0")), "no 6 MadtEntryCut 0x2c")
+row("an entry of length 0 behind another", listed(madt(lapic(0, 0), b"\7\0")), "no 6 MadtEntryCut 0x34")
+row("an entry that goes past the table", listed(madt(lapic(0, 0), b"\0\11" + bytes(6))), "no 6 MadtEntryCut 0x34")
+row("an entry of length 1", listed(madt(b"\0\1")), "no 6 MadtEntryCut 0x2c")
+row("a local APIC of 12 bytes", listed(madt(bytes([0, 12]) + bytes(10))), "no 6 MadtEntryLength 0x2c")
+row("an entry of a type that no rule names", listed(madt(bytes([11, 80]) + bytes(78))), "yes")
+row("a reserved polarity", listed(madt(override(9, 9, 0b0010))), "no 6 ReservedInti 0x2c")
+row("a reserved trigger mode", listed(madt(override(9, 9, 0b1000))), "no 6 ReservedInti 0x2c")
+row("active high and level", listed(madt(override(9, 9, 0b1101))), "yes")
+row("a reserved polarity of an NMI source", listed(madt(nmi_source(9, 0b0010))), "no 6 ReservedInti 0x2c")
+row("a reserved polarity of a local APIC NMI", listed(madt(lapic_nmi(255, 1, 0b0010))), "no 6 ReservedInti 0x2c")
+row("a reserved polarity of an x2APIC NMI", listed(madt(x2apic_nmi(0, 1, 0b0010))), "no 6 ReservedInti 0x2c")
+row("an override of another bus", listed(madt(override(9, 9, 0b0010, bus=1))), "no 6 OverrideBus 0x2c")
 THREE_ADDRESSES = [lapic_nmi(255, 1), lapic_address(0), lapic(0, 0), lapic_address(0), lapic_address(0)]
-row("three addresses of the local APICs", image_of(fadt(), madt(*THREE_ADDRESSES)), "no 6 SecondAddressOverride 0x46 0x32 0x0")
-row("two addresses of the local APICs", image_of(fadt(), madt(lapic_address(0), lapic_address(0))), "no 6 SecondAddressOverride 0x38 0x2c 0x0")
-HIGH = image_of(fadt(), madt(io_apic(0xFEC00000, 0xFFFFFFF0)))
+row("three addresses of the local APICs", listed(madt(*THREE_ADDRESSES)), "no 6 SecondAddressOverride 0x46 0x32")
+row("two addresses of the local APICs", listed(madt(lapic_address(0), lapic_address(0))), "no 6 SecondAddressOverride 0x38 0x2c")
+HIGH = listed(madt(io_apic(0xFEC00000, 0xFFFFFFF0)))
 row("interrupt numbers up to 2^32", HIGH, "yes", "--default-inputs 16")
-row("an interrupt number of 2^32", HIGH, "no 6 GsiPastEnd 0x2c 0x0 0x0", "--default-inputs 17")
+row("an interrupt number of 2^32", HIGH, "no 6 GsiPastEnd 0x2c", "--default-inputs 17")
 EVERY_KIND = madt(
     lapic(0, 0), io_apic(0xFEC00000, 0), override(0, 2), nmi_source(3), lapic_nmi(255, 1), lapic_address(0xFEE00000),
     x2apic(256, 256), x2apic_nmi(256, 1),
 )
-row("a MADT of every kind", image_of(fadt(), EVERY_KIND), "yes")
+row("a MADT of every kind", listed(EVERY_KIND), "yes")
 
 # ---- interrupt numbers and overrides
-TWO_IO_APICS = image_of(fadt(), madt(io_apic(0xFEC00000, 0), io_apic(0xFEC01000, 24)))
+TWO_IO_APICS = listed(madt(io_apic(0xFEC00000, 0), io_apic(0xFEC01000, 24)))
 row("two I/O APICs", TWO_IO_APICS, "yes")
 row("two I/O APICs, the first one with 32 inputs", TWO_IO_APICS, "no 7 GsiClash 0x2c 0x38 0x18", "fec00000=32")
 row("the first count of an address stands", TWO_IO_APICS, "no 7 GsiClash 0x2c 0x38 0x18", "fec00000=32 fec00000=24")
-row("interrupt numbers that touch", image_of(fadt(), madt(io_apic(0xFEC10000, 144), io_apic(0xFEC80000, 24), io_apic(0xFEC00000, 0))), "yes", "fec80000=120")
-row("the last interrupt numbers", image_of(fadt(), madt(io_apic(0xFEC00000, 2**32 - 24), io_apic(0xFEC10000, 2**32 - 48))), "yes")
+TOUCHING = madt(io_apic(0xFEC10000, 144), io_apic(0xFEC80000, 24), io_apic(0xFEC00000, 0))
+row("interrupt numbers that touch", listed(TOUCHING), "yes", "fec80000=120")
+row("the last interrupt numbers", listed(madt(io_apic(0xFEC00000, 2**32 - 24), io_apic(0xFEC10000, 2**32 - 48))), "yes")
 for bases, words, clash in (
     ((0, 23), "", "0x2c 0x38 0x17"),
     ((23, 0), "", "0x38 0x2c 0x17"),
@@ -227,50 +218,51 @@ for bases, words, clash in (
     ((2**32 - 24, 2**32 - 47), "", "0x38 0x2c 0xffffffe8"),
 ):
     io_apics = [io_apic(0xFEC00000 + 0x10000 * place, base) for place, base in enumerate(bases)]
-    row(f"I/O APICs from {bases} on", image_of(fadt(), madt(*io_apics)), f"no 7 GsiClash {clash}", words)
-row("two numbers of one source", image_of(fadt(), madt(override(9, 9), override(9, 20))), "no 8 OverrideClash 0x36 0x2c 0x9")
+    row(f"I/O APICs from {bases} on", listed(madt(*io_apics)), f"no 7 GsiClash {clash}", words)
+row("two numbers of one source", listed(madt(override(9, 9), override(9, 20))), "no 8 OverrideClash 0x36 0x2c 0x9")
 SIX_OVERRIDES = [override(9, 20), override(0, 2), override(9, 20), override(9, 9), override(0, 2), override(9, 9)]
-row("the first of six overrides", image_of(fadt(), madt(*SIX_OVERRIDES)), "no 8 OverrideClash 0x4a 0x2c 0x9")
-row("one override twice", image_of(fadt(), madt(override(9, 9), override(9, 9))), "yes")
+row("the first of six overrides", listed(madt(*SIX_OVERRIDES)), "no 8 OverrideClash 0x4a 0x2c 0x9")
+row("one override twice", listed(madt(override(9, 9), override(9, 9))), "yes")
 
 # ---- the SRAT's entries
 RANGES = (memory(0, 0xA0000), memory(0x50000, 0), memory(0x100000, 0x3FF00000))
-row("ranges that are apart, one of them empty", image_of(fadt(), srat(*RANGES)), "yes")
-row("an SRAT of 44 bytes", image_of(fadt(), table(b"SRAT", bytes(8))), "no 9 SratShort 0x0 0x0 0x0")
-row("half an SRAT entry", image_of(fadt(), srat(memory(0, 0)[:20])), "no 9 SratEntryCut 0x30 0x0 0x0")
-row("a range of 24 bytes", image_of(fadt(), srat(bytes([1, 24]) + bytes(22))), "no 9 SratEntryLength 0x30 0x0 0x0")
-row("a byte behind the last SRAT entry", image_of(fadt(), srat(b"\3\2", b"\0")), "no 9 SratEntryCut 0x32 0x0 0x0")
-row("the first of two wrong lengths", image_of(fadt(), srat(x2apic_domain(0, 0), b"\3\3\0", b"\0\17" + bytes(13), b"\1\2")), "no 9 SratEntryLength 0x4b 0x0 0x0")
-row("an SRAT entry of a type that no rule names", image_of(fadt(), srat(bytes([3, 20]) + bytes(18))), "yes")
-row("a range up to 2^64", image_of(fadt(), srat(memory(0xFFFFFFFFFFFFF000, 0x1000))), "yes")
-row("a range past 2^64", image_of(fadt(), srat(memory(0xFFFFFFFFFFFFF000, 0x1001))), "no 9 RangePastEnd 0x30 0x0 0x0")
-row("the longest range, from 1", image_of(fadt(), srat(memory(1, 2**64 - 1))), "yes")
-row("the longest range, from 2", image_of(fadt(), srat(memory(2, 2**64 - 1))), "no 9 RangePastEnd 0x30 0x0 0x0")
-row("the third range goes past 2^64", image_of(fadt(), srat(memory(2, 2**64 - 1, 0), memory(2, 2**64 - 1, 2), memory(2, 2**64 - 1, 3))), "no 9 RangePastEnd 0x80 0x0 0x0")
-row("a range past 2^64 that is not enabled", image_of(fadt(), srat(memory(2, 2**64 - 1, flags=0))), "yes")
+row("ranges that are apart, one of them empty", listed(srat(*RANGES)), "yes")
+row("an SRAT of 44 bytes", listed(table(b"SRAT", bytes(8))), "no 9 SratShort")
+row("half an SRAT entry", listed(srat(memory(0, 0)[:20])), "no 9 SratEntryCut 0x30")
+row("a range of 24 bytes", listed(srat(bytes([1, 24]) + bytes(22))), "no 9 SratEntryLength 0x30")
+row("a byte behind the last SRAT entry", listed(srat(b"\3\2", b"\0")), "no 9 SratEntryCut 0x32")
+row("the first of two wrong lengths", listed(srat(x2apic_domain(0, 0), other(3, 3), other(0, 15), other(1, 2))), "no 9 SratEntryLength 0x4b")
+row("an SRAT entry of a type that no rule names", listed(srat(bytes([3, 20]) + bytes(18))), "yes")
+row("a range up to 2^64", listed(srat(memory(0xFFFFFFFFFFFFF000, 0x1000))), "yes")
+row("a range past 2^64", listed(srat(memory(0xFFFFFFFFFFFFF000, 0x1001))), "no 9 RangePastEnd 0x30")
+row("the longest range, from 1", listed(srat(memory(1, 2**64 - 1))), "yes")
+row("the longest range, from 2", listed(srat(memory(2, 2**64 - 1))), "no 9 RangePastEnd 0x30")
+row("the third range goes past 2^64", listed(srat(*(memory(2, 2**64 - 1, flags) for flags in (0, 2, 3)))), "no 9 RangePastEnd 0x80")
+row("a range past 2^64 that is not enabled", listed(srat(memory(2, 2**64 - 1, flags=0))), "yes")
 
 # ---- memory ranges
-OVERLAP = image_of(fadt(), srat(*RANGES, memory(0x3FFFFFFF, 0x1000)))
+OVERLAP = listed(srat(*RANGES, memory(0x3FFFFFFF, 0x1000)))
 row("two ranges that share an address", OVERLAP, "no 10 Overlap 0x80 0xa8 0x3fffffff")
-row("the least address of three overlaps", image_of(fadt(), srat(memory(0x1000, 0x2000), memory(0, 0x2000), memory(0x1000, 0x800))), "no 10 Overlap 0x58 0x30 0x1000")
-row("ranges that touch, in no order", image_of(fadt(), srat(memory(16, 16), memory(0, 16), memory(32, 8))), "yes")
-row("a range inside the first, behind another", image_of(fadt(), srat(memory(0, 64), memory(100, 1), memory(8, 4))), "no 10 Overlap 0x30 0x80 0x8")
-row("ranges that are not enabled", image_of(fadt(), srat(memory(0, 16), memory(0, 16, 0), memory(0, 16, 2))), "yes")
-row("empty ranges inside another", image_of(fadt(), srat(memory(0, 16), memory(8, 0), memory(8, 0))), "yes")
-row("the last and the first addresses", image_of(fadt(), srat(memory(2**64 - 0x1000, 0x1000), memory(0, 0x1000))), "yes")
-row("the last address", image_of(fadt(), srat(memory(2**64 - 0x1000, 0x1000), memory(2**64 - 1, 1))), "no 10 Overlap 0x30 0x58 0xffffffffffffffff")
-TWO_SRATS = image_of(fadt(), srat(memory(0, 0x1000)), srat(memory(0, 0x2000), memory(0, 0x2000)))
+THREE = srat(memory(0x1000, 0x2000), memory(0, 0x2000), memory(0x1000, 0x800))
+row("the least address of three overlaps", listed(THREE), "no 10 Overlap 0x58 0x30 0x1000")
+row("ranges that touch, in no order", listed(srat(memory(16, 16), memory(0, 16), memory(32, 8))), "yes")
+row("a range inside the first, behind another", listed(srat(memory(0, 64), memory(100, 1), memory(8, 4))), "no 10 Overlap 0x30 0x80 0x8")
+row("ranges that are not enabled", listed(srat(memory(0, 16), memory(0, 16, 0), memory(0, 16, 2))), "yes")
+row("empty ranges inside another", listed(srat(memory(0, 16), memory(8, 0), memory(8, 0))), "yes")
+row("the last and the first addresses", listed(srat(memory(2**64 - 0x1000, 0x1000), memory(0, 0x1000))), "yes")
+row("the last address", listed(srat(memory(2**64 - 0x1000, 0x1000), memory(2**64 - 1, 1))), "no 10 Overlap 0x30 0x58 0xffffffffffffffff")
+TWO_SRATS = listed(srat(memory(0, 0x1000)), srat(memory(0, 0x2000), memory(0, 0x2000)))
 row("an overlap in a second SRAT", TWO_SRATS, "yes")
-WINDOW = image_of(fadt(), srat(memory(0, 0x80000000), memory(0, 0x100000000, 3)))
-TWO_WINDOWS = image_of(fadt(), srat(memory(0, 0x80000000), memory(0, 0x100000000, 3), memory(0x80000000, 0x1000, 3)))
-BOTH_KINDS = image_of(fadt(), srat(*(memory(0, 0x1000, flags) for flags in (3, 3, 1, 1))))
+WINDOW = listed(srat(memory(0, 0x80000000), memory(0, 0x100000000, 3)))
+TWO_WINDOWS = listed(srat(memory(0, 0x80000000), memory(0, 0x100000000, 3), memory(0x80000000, 0x1000, 3)))
+BOTH_KINDS = listed(srat(*(memory(0, 0x1000, flags) for flags in (3, 3, 1, 1))))
 for name, pieces, answer in (
     ("a hot-plug window over a range", WINDOW, "yes"),
     ("a hot-plug window over another", TWO_WINDOWS, "no 10 Overlap 0x58 0x80 0x80000000"),
-    ("overlaps of both kinds at one address", BOTH_KINDS, "no 10 Overlap 0x80 0xa8 0x0"),
+    ("overlaps of both kinds at one address", BOTH_KINDS, "no 10 Overlap 0x80 0xa8"),
 ):
-    row(f"{name}, all counted", pieces, "no 10 Overlap 0x30 0x58 0x0")
-    row(f"{name}, counted", pieces, "no 10 Overlap 0x30 0x58 0x0", "--hotplug counted")
+    row(f"{name}, all counted", pieces, "no 10 Overlap 0x30 0x58")
+    row(f"{name}, counted", pieces, "no 10 Overlap 0x30 0x58", "--hotplug counted")
     row(f"{name}, apart", pieces, answer, "--hotplug apart")
 
 for ranges, overlap in (
@@ -282,59 +274,59 @@ for ranges, overlap in (
     (((0, 9, 3), (0, 9, 1), (8, 1, 3), (8, 1, 1)), "0x58 0xa8 0x8"),
 ):
     entries = [memory(*numbers) for numbers in ranges]
-    row(f"ranges {ranges}", image_of(fadt(), srat(*entries)), f"no 10 Overlap {overlap}", "--hotplug apart")
+    row(f"ranges {ranges}", listed(srat(*entries)), f"no 10 Overlap {overlap}", "--hotplug apart")
 
 # ---- the SLIT
-row("no localities", image_of(fadt(), slit(0)), "yes")
-row("one locality", image_of(fadt(), slit(1, [10])), "yes")
-row("a SLIT of 40 bytes", image_of(fadt(), table(b"SLIT", bytes(4))), "no 11 SlitShort 0x0 0x0 0x0")
-row("2^32 localities, whose square is 0 in 64 bits", image_of(fadt(), slit(2**32)), "no 11 SlitSize 0x24 0x0 0x0")
-row("2^64 - 1 localities", image_of(fadt(), slit(2**64 - 1)), "no 11 SlitSize 0x24 0x0 0x0")
-row("a locality at 11 from itself", image_of(fadt(), slit(2, [11, 20, 20, 10])), "no 11 SlitDiagonal 0x2c 0x0 0x0")
-row("the second locality at 11 from itself", image_of(fadt(), slit(2, [10, 20, 20, 11])), "no 11 SlitDiagonal 0x2f 0x0 0x0")
-row("a distance of 9 in the second row", image_of(fadt(), slit(2, [10, 20, 9, 10])), "no 11 SlitLow 0x2e 0x0 0x0")
-row("a cell too few", image_of(fadt(), slit(2, [10, 20, 20])), "no 11 SlitSize 0x24 0x0 0x0")
-row("a distance of 9", image_of(fadt(), slit(2, [10, 9, 20, 10])), "no 11 SlitLow 0x2d 0x0 0x0")
-row("a locality at 9 from itself", image_of(fadt(), slit(2, [9, 20, 20, 10])), "no 11 SlitDiagonal 0x2c 0x0 0x0")
-row("a SLIT of 43 bytes", image_of(fadt(), table(b"SLIT", bytes(7))), "no 11 SlitShort 0x0 0x0 0x0")
-row("a byte behind no localities", image_of(fadt(), slit(0, [0])), "no 11 SlitSize 0x24 0x0 0x0")
-row("a distance of 9 before a locality at 11 from itself", image_of(fadt(), slit(2, [10, 9, 20, 11])), "no 11 SlitLow 0x2d 0x0 0x0")
-row("a locality at 9 from itself before a distance of 9", image_of(fadt(), slit(2, [9, 9, 20, 10])), "no 11 SlitDiagonal 0x2c 0x0 0x0")
-row("a locality out of reach", image_of(fadt(), slit(2, [10, 255, 255, 10])), "yes")
+row("no localities", listed(slit(0)), "yes")
+row("one locality", listed(slit(1, [10])), "yes")
+row("a SLIT of 40 bytes", listed(table(b"SLIT", bytes(4))), "no 11 SlitShort")
+row("2^32 localities, whose square is 0 in 64 bits", listed(slit(2**32)), "no 11 SlitSize 0x24")
+row("2^64 - 1 localities", listed(slit(2**64 - 1)), "no 11 SlitSize 0x24")
+row("a locality at 11 from itself", listed(slit(2, [11, 20, 20, 10])), "no 11 SlitDiagonal 0x2c")
+row("the second locality at 11 from itself", listed(slit(2, [10, 20, 20, 11])), "no 11 SlitDiagonal 0x2f")
+row("a distance of 9 in the second row", listed(slit(2, [10, 20, 9, 10])), "no 11 SlitLow 0x2e")
+row("a cell too few", listed(slit(2, [10, 20, 20])), "no 11 SlitSize 0x24")
+row("a distance of 9", listed(slit(2, [10, 9, 20, 10])), "no 11 SlitLow 0x2d")
+row("a locality at 9 from itself", listed(slit(2, [9, 20, 20, 10])), "no 11 SlitDiagonal 0x2c")
+row("a SLIT of 43 bytes", listed(table(b"SLIT", bytes(7))), "no 11 SlitShort")
+row("a byte behind no localities", listed(slit(0, [0])), "no 11 SlitSize 0x24")
+row("a distance of 9 before a locality at 11 from itself", listed(slit(2, [10, 9, 20, 11])), "no 11 SlitLow 0x2d")
+row("a locality at 9 from itself before a distance of 9", listed(slit(2, [9, 9, 20, 10])), "no 11 SlitDiagonal 0x2c")
+row("a locality out of reach", listed(slit(2, [10, 255, 255, 10])), "yes")
 
 # ---- the PPTT
-row("a PPTT with no entries", image_of(fadt(), pptt()), "yes")
-row("a byte behind the last node", image_of(fadt(), pptt(node(), b"\0")), "no 12 PpttEntryCut 0x38 0x0 0x0")
-row("a node of 24 bytes with no resources", image_of(fadt(), pptt(node(count=0, length=24) + bytes(4))), "no 12 PpttEntryLength 0x24 0x0 0x0")
-row("a node of 2^32 - 1 resources", image_of(fadt(), pptt(node(count=2**32 - 1, length=20))), "no 12 PpttEntryLength 0x24 0x0 0x0")
-row("a cache of 26 bytes", image_of(fadt(), pptt(cache(length=26))), "no 12 PpttEntryLength 0x24 0x0 0x0")
-row("a parent inside an entry that looks like a node", image_of(fadt(), pptt(node(58), bytes([5, 22]) + node())), "no 13 DanglingParent 0x24 0x3a 0x0")
-row("a resource that is a cache", image_of(fadt(), pptt(node(resources=[60]), cache())), "yes")
-row("a resource of a type that no rule names", image_of(fadt(), pptt(node(resources=[60]), bytes([2, 30]) + bytes(28))), "yes")
-row("a resource that is a node", image_of(fadt(), pptt(node(resources=[36]), cache())), "no 13 DanglingResource 0x24 0x0 0x24")
-row("a resource of 0", image_of(fadt(), pptt(node(resources=[0]), cache())), "no 13 DanglingResource 0x24 0x0 0x0")
-row("the last but one of three resources", image_of(fadt(), pptt(node(resources=[68, 69, 68]), cache())), "no 13 DanglingResource 0x24 0x1 0x45")
-row("a next level inside its own cache", image_of(fadt(), pptt(cache(37, 28))), "no 13 DanglingCache 0x24 0x25 0x0")
-row("a node that is its own parent", image_of(fadt(), pptt(node(36))), "no 14 ParentCycle 0x24 0x0 0x1")
-row("two nodes that lead to a cycle of three", image_of(fadt(), pptt(node(56), node(76), node(96), node(116), node(76))), "no 14 ParentCycle 0x24 0x2 0x3")
-row("a next level that is a node", image_of(fadt(), pptt(node(), cache(36))), "no 13 DanglingCache 0x38 0x24 0x0")
-row("a parent inside a node, before a wrong resource", image_of(fadt(), pptt(node(), node(40, resources=[36]))), "no 13 DanglingParent 0x38 0x28 0x0")
-row("a parent that is a cache", image_of(fadt(), pptt(node(56), cache())), "no 13 DanglingParent 0x24 0x38 0x0")
-row("two nodes that are each other's parents", image_of(fadt(), pptt(node(56), node(36))), "no 14 ParentCycle 0x24 0x0 0x2")
-row("a node under one that is its own parent", image_of(fadt(), pptt(node(56), node(56))), "no 14 ParentCycle 0x24 0x1 0x1")
-row("the second node is its own parent", image_of(fadt(), pptt(node(), node(56))), "no 14 ParentCycle 0x38 0x0 0x1")
+row("a PPTT with no entries", listed(pptt()), "yes")
+row("a byte behind the last node", listed(pptt(node(), b"\0")), "no 12 PpttEntryCut 0x38")
+row("a node of 24 bytes with no resources", listed(pptt(node(count=0, length=24) + bytes(4))), "no 12 PpttEntryLength 0x24")
+row("a node of 2^32 - 1 resources", listed(pptt(node(count=2**32 - 1, length=20))), "no 12 PpttEntryLength 0x24")
+row("a cache of 26 bytes", listed(pptt(cache(length=26))), "no 12 PpttEntryLength 0x24")
+row("a parent inside an entry that looks like a node", listed(pptt(node(58), bytes([5, 22]) + node())), "no 13 DanglingParent 0x24 0x3a")
+row("a resource that is a cache", listed(pptt(node(resources=[60]), cache())), "yes")
+row("a resource of a type that no rule names", listed(pptt(node(resources=[60]), bytes([2, 30]) + bytes(28))), "yes")
+row("a resource that is a node", listed(pptt(node(resources=[36]), cache())), "no 13 DanglingResource 0x24 0x0 0x24")
+row("a resource of 0", listed(pptt(node(resources=[0]), cache())), "no 13 DanglingResource 0x24")
+row("the last but one of three resources", listed(pptt(node(resources=[68, 69, 68]), cache())), "no 13 DanglingResource 0x24 0x1 0x45")
+row("a next level inside its own cache", listed(pptt(cache(37, 28))), "no 13 DanglingCache 0x24 0x25")
+row("a node that is its own parent", listed(pptt(node(36))), "no 14 ParentCycle 0x24 0x0 0x1")
+row("two nodes that lead to a cycle of three", listed(pptt(*map(node, (56, 76, 96, 116, 76)))), "no 14 ParentCycle 0x24 0x2 0x3")
+row("a next level that is a node", listed(pptt(node(), cache(36))), "no 13 DanglingCache 0x38 0x24")
+row("a parent inside a node, before a wrong resource", listed(pptt(node(), node(40, resources=[36]))), "no 13 DanglingParent 0x38 0x28")
+row("a parent that is a cache", listed(pptt(node(56), cache())), "no 13 DanglingParent 0x24 0x38")
+row("two nodes that are each other's parents", listed(pptt(node(56), node(36))), "no 14 ParentCycle 0x24 0x0 0x2")
+row("a node under one that is its own parent", listed(pptt(node(56), node(56))), "no 14 ParentCycle 0x24 0x1 0x1")
+row("the second node is its own parent", listed(pptt(node(), node(56))), "no 14 ParentCycle 0x38 0x0 0x1")
 CHAIN = [node(56 + 20 * place) for place in range(999)]
-RING = image_of(fadt(), pptt(*CHAIN, node(36)))
-row("a chain of 1,000 nodes", image_of(fadt(), pptt(*CHAIN, node())), "yes")
+RING = listed(pptt(*CHAIN, node(36)))
+row("a chain of 1,000 nodes", listed(pptt(*CHAIN, node())), "yes")
 row("a ring of 1,000 nodes", RING, "no 14 ParentCycle 0x24 0x0 0x3e8")
-row("three caches that end", image_of(fadt(), pptt(cache(60), cache(84, 24), cache(length=28))), "yes")
-row("a cache that leads to a cycle of two", image_of(fadt(), pptt(cache(60), cache(84), cache(60, 28))), "no 15 CacheCycle 0x24 0x1 0x2")
-row("a cache that is its own next level", image_of(fadt(), pptt(cache(36, 28))), "no 15 CacheCycle 0x24 0x0 0x1")
+row("three caches that end", listed(pptt(cache(60), cache(84, 24), cache(length=28))), "yes")
+row("a cache that leads to a cycle of two", listed(pptt(cache(60), cache(84), cache(60, 28))), "no 15 CacheCycle 0x24 0x1 0x2")
+row("a cache that is its own next level", listed(pptt(cache(36, 28))), "no 15 CacheCycle 0x24 0x0 0x1")
 
 # ---- proximity domains of processors
 def two_domains(flags, second=1):
     """A processor of the MADT with these flags, which the SRAT puts in the domains 0 and `second`."""
-    return image_of(fadt(), madt(lapic(0, 5, flags)), srat(apic_domain(5, 0), x2apic_domain(5, second)))
+    return listed(madt(lapic(0, 5, flags)), srat(apic_domain(5, 0), x2apic_domain(5, second)))
 
 
 TWO_DOMAINS = "no 16 TwoDomains 0x40 0x30 0x5"
@@ -349,23 +341,23 @@ for flags, enabled, usable in (
     row(f"two domains of a processor with flags {flags:02b}, usable", two_domains(flags), usable, "--processors usable")
     row(f"one domain twice of a processor with flags {flags:02b}", two_domains(flags, second=0), "yes", "--processors usable")
 row("two domains, the high bits apart", two_domains(1, second=0x100), TWO_DOMAINS)
-row("two domains of an x2APIC", image_of(fadt(), madt(x2apic(0, 5)), srat(apic_domain(5, 0), x2apic_domain(5, 1))), TWO_DOMAINS)
-row("a disabled entry in the SRAT", image_of(fadt(), madt(lapic(0, 5)), srat(apic_domain(5, 0), x2apic_domain(5, 1, flags=0))), "yes")
+row("two domains of an x2APIC", listed(madt(x2apic(0, 5)), srat(apic_domain(5, 0), x2apic_domain(5, 1))), TWO_DOMAINS)
+row("a disabled entry in the SRAT", listed(madt(lapic(0, 5)), srat(apic_domain(5, 0), x2apic_domain(5, 1, flags=0))), "yes")
 
 # ---- interrupt numbers that are named
-row("an override to a number that none serves", image_of(fadt(), madt(io_apic(0xFEC00000, 0), override(9, 24))), "no 17 GsiNowhere 0x38 0x0 0x18")
-row("an NMI source of a number that none serves", image_of(fadt(), madt(io_apic(0xFEC00000, 0), nmi_source(24))), "no 17 GsiNowhere 0x38 0x0 0x18")
-row("an override to a number of the second I/O APIC", image_of(fadt(), madt(io_apic(0xFEC00000, 0), io_apic(0xFEC01000, 24), override(9, 47))), "yes")
-row("an override and no I/O APIC", image_of(fadt(), madt(override(9, 24))), "yes")
+row("an override to a number that none serves", listed(madt(io_apic(0xFEC00000, 0), override(9, 24))), "no 17 GsiNowhere 0x38 0x0 0x18")
+row("an NMI source of a number that none serves", listed(madt(io_apic(0xFEC00000, 0), nmi_source(24))), "no 17 GsiNowhere 0x38 0x0 0x18")
+row("an override to a number of the second I/O APIC", listed(madt(io_apic(0xFEC00000, 0), io_apic(0xFEC01000, 24), override(9, 47))), "yes")
+row("an override and no I/O APIC", listed(madt(override(9, 24))), "yes")
 
 # ---- leaves
 LEAF = node(0, IS_ID_VALID | IS_LEAF, 7)
-row("a leaf that is no processor", image_of(fadt(), madt(lapic(5, 0)), pptt(LEAF)), "no 18 LeafUnknown 0x24 0x0 0x7")
-row("a leaf that is a disabled processor", image_of(fadt(), madt(lapic(7, 0, flags=0)), pptt(LEAF)), "yes")
-row("a leaf in a PPTT of Revision 1", image_of(fadt(), madt(lapic(5, 0)), pptt(LEAF, revision=1)), "yes")
-row("a leaf, and a MADT entry of a type that no rule names", image_of(fadt(), madt(lapic(5, 0), bytes([11, 80]) + bytes(78)), pptt(LEAF)), "yes")
-row("a leaf whose ID is not valid", image_of(fadt(), madt(lapic(5, 0)), pptt(node(0, IS_LEAF, 7))), "yes")
-row("a node that is no leaf", image_of(fadt(), madt(lapic(5, 0)), pptt(node(0, IS_ID_VALID, 7))), "yes")
+row("a leaf that is no processor", listed(madt(lapic(5, 0)), pptt(LEAF)), "no 18 LeafUnknown 0x24 0x0 0x7")
+row("a leaf that is a disabled processor", listed(madt(lapic(7, 0, flags=0)), pptt(LEAF)), "yes")
+row("a leaf in a PPTT of Revision 1", listed(madt(lapic(5, 0)), pptt(LEAF, revision=1)), "yes")
+row("a leaf, and a MADT entry of a type that no rule names", listed(madt(lapic(5, 0), bytes([11, 80]) + bytes(78)), pptt(LEAF)), "yes")
+row("a leaf whose ID is not valid", listed(madt(lapic(5, 0)), pptt(node(0, IS_LEAF, 7))), "yes")
+row("a node that is no leaf", listed(madt(lapic(5, 0)), pptt(node(0, IS_ID_VALID, 7))), "yes")
 
 # ---- a whole set, and parts of it
 WHOLE = image_of(
@@ -386,7 +378,7 @@ for gsi, domain, uid, answer in (
     processors = madt(lapic(5, 5), io_apic(0xFEC00000, 0), override(9, gsi))
     domains = srat(apic_domain(5, 0), x2apic_domain(5, domain))
     leaf = pptt(node(0, IS_ID_VALID | IS_LEAF, uid))
-    row(f"a set for all stages, {gsi} {domain} {uid}", image_of(fadt(), processors, domains, leaf), answer)
+    row(f"a set for all stages, {gsi} {domain} {uid}", listed(processors, domains, leaf), answer)
 
 
 def part(address, size):
@@ -396,7 +388,7 @@ def part(address, size):
 
 
 for size in range(20):
-    row(f"an RSDP of which {size} bytes are held", part(RSDP_AT, size), "no 1 RsdpOut 0xe0000 0x0 0x0")
+    row(f"an RSDP of which {size} bytes are held", part(RSDP_AT, size), "no 1 RsdpOut 0xe0000")
 for size in range(48):
     fault = "RootHeaderOut" if size < 36 else "RootOut"
     row(f"an RSDT of which {size} bytes are held", part(RSDT_AT, size), f"no 2 {fault} 0x1000 0x0 0x0")
@@ -420,9 +412,9 @@ def madt_of_length(length):
 ENTRY_ENDS = (44, 52, 64, 74, 80)
 for length in range(81):
     if length < 36:
-        answer = "no 3 TableLength 0x1 0x3000 0x0"
+        answer = "no 3 TableLength 0x1 0x3000"
     elif length < 44:
-        answer = "no 6 MadtShort 0x0 0x0 0x0"
+        answer = "no 6 MadtShort"
     elif length in ENTRY_ENDS:
         answer = "yes"
     else:

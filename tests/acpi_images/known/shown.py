@@ -37,7 +37,7 @@ def beside_fadt(name, second, lines):
     """A FADT of hardware-reduced ACPI at 0x2000, and a second table at 0x3000: the line of its slot, and its own lines."""
     slot = f"slot 1 0x3000 {second[:4].decode()} length {len(second)} revision {second[8]}"
     text = HEADS.strip() + "\n" + slot + REDUCED_FADT + lines.strip() + "\n"
-    shown(name, image_of(fadt(), second), text)
+    shown(name, listed(second), text)
 
 
 # ---- whole sets
@@ -95,7 +95,7 @@ slot 0 0x123456789000 SSDT length 42 revision 2
 slot 1 empty
 slot 2 0x1100 XSDT length 60 revision 1
 """)
-shown("a table at address 0, which no slot lists", {**image_of(fadt(), slots=(0, 0x2000)), 0: hpet()}, """
+shown("a table at address 0, which no slot lists", {**listed(slots=(0, 0x2000)), 0: hpet()}, """
 rsdp 0xe0000 revision 0
 root 0x1000 RSDT length 44 slots 2
 slot 0 empty
@@ -114,7 +114,7 @@ slot 1 0x3000 ~... length 36 revision 1
 slot 2 0x4000 a.b. length 36 revision 1
 slot 3 0x5000 .... length 36 revision 1
 """)
-shown("of two tables with one signature the first is shown", image_of(fadt(), table(b"APIC", b"", 7), madt(lapic(1, 2)), fadt(0, 200)), """
+shown("of two tables with one signature the first is shown", listed(table(b"APIC", b"", 7), madt(lapic(1, 2)), fadt(0, 200)), """
 rsdp 0xe0000 revision 0
 root 0x1000 RSDT length 52 slots 4
 slot 0 0x2000 FACP length 116 revision 1
@@ -433,7 +433,7 @@ pptt 0x3000
 """)
 beside_fadt(
     "a PPTT with nodes and caches of other lengths",
-    pptt(node(length=24) + bytes(4), node(resources=(1, 2), count=1), bytes([0, 19]) + bytes(17), node(count=2**32 - 1), cache(0, 26), cache(0, 32)),
+    pptt(node(length=24) + bytes(4), node(resources=(1, 2), count=1), other(0, 19), node(count=2**32 - 1), cache(0, 26), cache(0, 32)),
     """
 pptt 0x3000
 0x24 entry type 0 length 24
