@@ -132,7 +132,7 @@ def row_run(row):
 LATER_STAGES = (7, 10, 13, 14, 15, 16, 17, 18)
 
 
-# Sets with several findings, by their names in tests/lint.
+# Sets with several findings, by their names in known/linted.py.
 FOUND = ("a fault in each of four tables", "two UIDs and two APIC IDs")
 
 

@@ -345,7 +345,7 @@ def lint_lines(image, rsdp, policy):
     return (lines or ["yes"]) + [f"advice {advice[name]}" for name in RULES if name in advice]
 
 
-def status_of(lines, strict=False):
+def lint_status(lines, strict=False):
     """The status with which `lint` ends after these lines."""
     is_advised = any(line.startswith("advice ") for line in lines)
     return 1 if lines[0] != "yes" or (strict and is_advised) else 0
@@ -372,4 +372,4 @@ def linted(words, image):
     """The lines and the status of `lint` with these words."""
     rsdp, policy, strict = read_words(words)
     lines = lint_lines(image, rsdp, policy)
-    return lines, status_of(lines, strict)
+    return lines, lint_status(lines, strict)

@@ -126,7 +126,8 @@ class Texts:
         except modules["text"].Refused as refusal:
             return str(refusal)
         pieces = image.pieces()
-        held = [image.held(at + shift, len(data)) is None for at, data in pieces.items() for shift in (-1, 0, 1)]
+        held = [image.held(at + shift, len(data)) for at, data in pieces.items() for shift in (-1, 0, 1)]
+        held = [it and (it.data, it.number(0, len(it)), it.sums_to_0()) for it in held]
         for at in pieces:
             image.drop(at + 1, 2)
         return pieces, modules["text"].text_of(pieces), held, image.pieces()

@@ -18,7 +18,7 @@ from pathlib import Path
 
 sys.path.insert(0, str(Path(__file__).resolve().parents[1]))
 
-from acpi_images.advice import RULES, lint_lines, status_of
+from acpi_images.advice import RULES, lint_lines, lint_status
 from acpi_images.faults import STAGE_OF, Judgement
 from acpi_images.generated.cases import asked, changed_case, made_case
 from acpi_images.program import Cases, answer, finish, refusal
@@ -126,7 +126,7 @@ class Judged:
     def linted(self, image, rsdp):
         lines = lint_lines(image, rsdp, self.case.settings)
         self.advised = [line.split()[1] for line in lines if line.startswith("advice ")]
-        return status_of(lines, self.case.is_strict), "".join(f"{line}\n" for line in lines), ""
+        return lint_status(lines, self.case.is_strict), "".join(f"{line}\n" for line in lines), ""
 
     def rebuilt(self, image, rsdp):
         if self.case.base % 64 == 0 and self.fault:

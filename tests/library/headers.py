@@ -64,7 +64,7 @@ BadLine NoAddress TextOverlap TextPastEnd TextTooLong""".split()
 
 
 def names():
-    """What header.c prints: codes, stages and rules as the second program of tests/lint has them, and kinds as above."""
+    """What header.c prints: codes, stages and rules as the second programs of tests/acpi_images have them, and kinds as above."""
     for number, (name, stage) in enumerate(STAGE_OF.items(), 1):
         yield f"{number} {name} {stage}"
     for number, name in enumerate(RULES, 101):

@@ -14,7 +14,7 @@ from pathlib import Path
 
 sys.path.insert(0, str(Path(__file__).resolve().parents[1]))
 
-from acpi_images.advice import NO_RSDP, linted, status_of
+from acpi_images.advice import NO_RSDP, linted, lint_status
 from acpi_images.known.judged import JUDGED
 from acpi_images.known.linted import EXPECTED
 from acpi_images.known.many import MANY
@@ -95,7 +95,7 @@ def lints(cases, case):
         yield "" if lines == case.lines else f"judged {lines}, not {case.lines}"
     expected = case.lines or lines
     told = cases.run(["lint", *case.words], case.text)
-    right = (status_of(expected), "".join(line + "\n" for line in expected), "")
+    right = (lint_status(expected), "".join(line + "\n" for line in expected), "")
     yield "" if told == right else f"{case.words}: {told}, not {right}"
     checked = case.checked or cases.run(["check", *case.words], case.text)[1].removesuffix("\n")
     faults = [line for line in lines if not line.startswith("advice ")]

@@ -133,7 +133,7 @@ def of_all_rows(judge):
             told, wanted = judge.answer(asked, text), judge.answer(asked, text_of(row.pieces))
             if told != wanted:
                 wrong.append(f"{row.name}: {asked}: {told}, not {wanted}")
-    judge.count("sets of tests/rows", "\n".join(wrong), count < 100 and f"{count} sets alone")
+    judge.count("known sets", "\n".join(wrong), count < 100 and f"{count} sets alone")
 
 
 # ---- the RSDP
