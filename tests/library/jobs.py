@@ -7,6 +7,7 @@ import gzip
 import random
 from dataclasses import dataclass
 
+from acpi_images.known.confirmed import all_questions
 from acpi_images.known.judged import JUDGED
 from acpi_images.known.linted import EXPECTED
 from acpi_images.known.many import MANY
@@ -16,7 +17,6 @@ from acpi_images.known.shown import SHOWN
 from acpi_images.generated.cases import changed_case
 from acpi_images.program import FIRMWARE, IMAGES, firmware_text, status_of
 from acpi_images.text import text_of
-from confirm import ASKED, questions_of
 
 SEED = 1
 
@@ -48,8 +48,7 @@ def rows():
 
 
 def confirmations():
-    faulty = [row for row in ROWS if row.answer.startswith("no ") and row.answer != "no rsdp"]
-    for it in [question for row in faulty for question in questions_of(row)] + ASKED:
+    for it in all_questions():
         yield known(it.name, ["confirm", *it.words, "--witness", it.witness], text_of(it.pieces), [it.answer])
 
 

@@ -17,8 +17,9 @@ from dataclasses import dataclass
 from pathlib import Path
 
 HERE = Path(__file__).resolve().parent
-sys.path += [str(HERE.parent), str(HERE.parent / "rows")]
+sys.path.insert(0, str(HERE.parent))
 
+from acpi_images.generated.chains import falling, ring, shuffled
 from acpi_images.known.linted import EXPECTED
 from acpi_images.known.rows import ROWS, WHOLE
 from acpi_images.program import FIRMWARE, IMAGES, Cases, finish
@@ -26,7 +27,6 @@ from acpi_images.tables import *
 from acpi_images.text import text_of
 from beside import all_jobs, compared
 from builds import SOURCES, builds_of, counted, run
-from chains import falling, ring, shuffled
 from example_runs import examples, fuzzer
 from files import files
 from headers import header, lists, printed

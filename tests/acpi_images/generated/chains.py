@@ -1,14 +1,12 @@
-"""Cycles in PPTTs, which `confirm.py` asks about: small tables of entries in random order, each witness judged by the second program,
+"""Cycles in PPTTs, which `confirm` is asked about: small tables of entries in random order, each witness judged by the second program,
 and long chains, which must not take much longer than reading their text."""
 
-import os
 import random
-import tempfile
 
-from acpi_images.faults import CHAINS, Fault, Judgement, links_of
-from acpi_images.table_set import PpttEntries, Policy, entries_of
-from acpi_images.tables import *
-from acpi_images.text import Bytes, Image, text_of
+from ..faults import CHAINS, Fault, Judgement, links_of
+from ..table_set import PpttEntries, Policy, entries_of
+from ..tables import *
+from ..text import Bytes, Image
 
 PARENT, NEXT_LEVEL = CHAINS
 FIRST = 36
@@ -122,41 +120,3 @@ def long_chains():
     size = 20 + 2 * len(long)
     body = b"".join(node(FIRST + size * ((number - 1) % 3000)) + long * 2 for number in range(3000))
     yield "a node before each 510 bytes of two entries", body, PARENT, (FIRST, most_steps(body, 3000), 3000)
-
-
-def ran(program, words, path):
-    """The program's answer to the text in the file, and its processor time in seconds."""
-    with open(path, "rb") as text, tempfile.TemporaryFile() as out:
-        pid = os.posix_spawn(
-            program, [program, *words], os.environ, file_actions=[(os.POSIX_SPAWN_DUP2, text.fileno(), 0), (os.POSIX_SPAWN_DUP2, out.fileno(), 1)]
-        )
-        _, _, used = os.wait4(pid, 0)
-        out.seek(0)
-        return out.read().decode(), used.ru_utime + used.ru_stime
-
-
-# A long chain may take this many times the time of reading its text, and this much more.
-TIMES, MORE = 8, 0.1
-
-
-def on_a_chain(cases, folder, name, body, fault, numbers):
-    """The answers to the witness and to two that are one step off, and their time beside that of reading the text."""
-    path = os.path.join(folder, "image.txt")
-    with open(path, "wb") as out:
-        out.write(text_of(listed(others={0x100000: pptt(body)}, slots=[TABLES_AT, 0x100000])))
-    program = os.path.realpath(cases.program)
-    read = min(ran(program, ["check", "--rsdp", "e0000", "--through", "3"], path)[1] for _ in range(2))
-    at, lead, around = numbers
-    for asked, expected in ((numbers, "true"), ((at, lead, around - 1), "false"), ((at + 2, lead, around), "false")):
-        witness = str(Fault(fault, *asked))
-        told, took = ran(program, ["confirm", "--rsdp", "e0000", "--witness", witness], path)
-        cases.same(f"{name}: {witness}", told, expected + "\n")
-        is_slow = took > TIMES * read + MORE
-        cases.count(f"{name}: {witness}", f"it took {took:.2f} s, where reading took {read:.2f} s" if is_slow else "")
-
-
-def on_long_chains(cases):
-    """The chains one after another."""
-    with tempfile.TemporaryDirectory() as folder:
-        for chain in long_chains():
-            on_a_chain(cases, folder, *chain)
