@@ -19,10 +19,11 @@ import tempfile
 
 sys.dont_write_bytecode = True
 TOP = os.path.join(os.path.dirname(os.path.abspath(__file__)), "..")
-sys.path.insert(0, os.path.join(TOP, "tests", "rows"))
+sys.path[:0] = [os.path.join(TOP, "tests"), os.path.join(TOP, "tests", "rows")]
 
-from examples import EXAMPLE, FIRST_RULE, PART, changed, image_of, text_of
-from tables import number
+from acpi_images.tables import number, summed
+from acpi_images.text import Image, read, text_of
+from examples import EXAMPLE, FIRST_RULE, PART, changed
 
 STAGE = re.compile(r"^## Stages? (\d+):", re.M)
 COMPLAINT = re.compile(
@@ -46,46 +47,27 @@ GROUPS = [
 DSDT = 'DefinitionBlock ("dsdt.aml", "DSDT", 2, "AAAAAA", "AAAAAAAA", 1) {}\n'
 
 
-def pieces_of(image):
-    """The runs of bytes that are present, by their addresses."""
-    pieces = {}
-    for at in sorted(image):
-        if at - 1 in image:
-            pieces[start].append(image[at])
-        else:
-            start = at
-            pieces[start] = bytearray([image[at]])
-    return pieces
-
-
-def close_sum(piece):
-    """Sets the checksum of a table, if its Length bytes are present."""
+def with_sum(piece):
+    """A table with the checksum set, if its Length bytes are present."""
     length = int.from_bytes(piece[4:8], "little")
     if piece.startswith(b"RSD PTR ") or piece.startswith(b"FACS") or not 36 <= length <= len(piece):
-        return
-    piece[9] = 0
-    piece[9] = -sum(piece[:length]) % 256
+        return piece
+    return summed(piece, 9, length)
 
 
 def closed(image, old):
     """The image with corrected checksums in those of its tables that are not among the old pieces."""
-    image = dict(image)
-    for at, piece in pieces_of(image).items():
-        if piece != old.get(at):
-            close_sum(piece)
-            image.update((at + place, byte) for place, byte in enumerate(piece))
-    return image
+    return Image({at: piece if piece == old.get(at) else with_sum(piece) for at, piece in image.pieces().items()})
 
 
 def sound_image():
     """The set of tables that the examples begin with. Its FADT names no ports and no DSDT, and its Revision does not match its
     length, about which these tools complain: here it has all of these."""
-    with open(f"{TOP}/tests/images/example.img.txt") as file:
-        image = image_of(file.read())
+    with open(f"{TOP}/tests/images/example.img.txt", "rb") as file:
+        image = read(file.read())
     for offset, address in ((40, 0x8000), (56, 0x600), (64, 0x604), (76, 0x608), (80, 0x620)):
-        for place, byte in enumerate(number(address, 4)):
-            image[FADT_AT + offset + place] = byte
-    image[FADT_AT + 8] = 3
+        image.replace(FADT_AT + offset, number(address, 4))
+    image.replace(FADT_AT + 8, b"\3")
     return closed(image, {})
 
 
@@ -131,7 +113,7 @@ def told(tool, image):
     """The complaints of a tool on the tables of an image, each in a file."""
     with tempfile.TemporaryDirectory() as folder:
         names = []
-        for at, piece in pieces_of(image).items():
+        for at, piece in image.pieces().items():
             names.append(f"{at:x}")
             with open(os.path.join(folder, f"{at:x}.dat"), "wb") as file:
                 file.write(piece)
@@ -154,7 +136,7 @@ def faults_of(document):
 
 def acpiset(program, image, name):
     """The line of acpiset for an image, if it is that of the fault."""
-    run = subprocess.run([program, "check", "--rsdp", "e0000"], input=text_of(image), capture_output=True, timeout=60)
+    run = subprocess.run([program, "check", "--rsdp", "e0000"], input=text_of(image.pieces()), capture_output=True, timeout=60)
     line = run.stdout.decode().strip()
     return [line] if line.split()[2:3] == [name] else []
 
@@ -180,7 +162,7 @@ def main():
     for stage, name, example in faults:
         image = changed(sound, example)
         if not name.endswith("Sum"):
-            image = closed(image, pieces_of(sound))
+            image = closed(image, sound.pieces())
         news = [acpiset(program, image, name)]
         news += [sorted(told(tool, image) - usual[tool]) for tool in (iasl, acpiexec)]
         rows.append((stage, [lines != [] for lines in news]))

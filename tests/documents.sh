@@ -4,33 +4,19 @@
 # usage: tests/documents.sh; the last line is 'documents: N passed, M failed'.
 # shellcheck disable=SC2016 # backquotes in patterns are those of Markdown
 # shellcheck disable=SC2013,SC2046 # no name of a file here has blanks in it
-set -u
-cd "$(dirname "$0")/.." || exit
-scratch=$(mktemp -d)
-trap 'rm -rf "$scratch"' EXIT
-passed=0
-failed=0
+# shellcheck source=tests/prelude.sh
+. "$(dirname "$0")/prelude.sh"
 
 # Each awk that runs from here on prints warnings about its program.
-if command -v gawk >/dev/null; then
+if has gawk; then
   mkdir "$scratch/bin"
   printf '#!/bin/sh\nexec gawk --lint "$@" 2>>"$LINT"\n' >"$scratch/bin/awk"
   chmod +x "$scratch/bin/awk"
   export LINT="$scratch/awk" PATH="$scratch/bin:$PATH"
 fi
 
-# count WHAT LINES: counts a case; no lines means passed.
-count() {
-  if [ -z "$2" ]; then
-    passed=$((passed + 1))
-  else
-    failed=$((failed + 1))
-    printf '%s:\n%s\n' "$1" "$2"
-  fi
-}
-
-# same WHAT FIRST SECOND: both lists have the same names.
-same() { count "$1" "$(diff <(sort -u <<<"$2") <(sort -u <<<"$3") | grep '^[<>]')"; }
+# agree WHAT FIRST SECOND: both lists have the same names.
+agree() { count "$1" "$(diff <(sort -u <<<"$2") <(sort -u <<<"$3") | grep '^[<>]')"; }
 
 # within WHAT FIRST SECOND: each name of the first list is in the second.
 within() { count "$1" "$(comm -23 <(sort -u <<<"$2") <(sort -u <<<"$3"))"; }
@@ -129,7 +115,7 @@ for crate in $crates; do
   [ -z "$edited" ] || refused="$refused$(wc -l <<<"$edited") $crate"$'\n'
 done
 told=$(sed -n '/^\*\*Wrong bodies are refused\.\*\*/,/^$/p' docs/PROOF.md | tr '\n' ' ' | grep -o '[0-9]* of `[a-z_]*`' | sed 's/ of `\(.*\)`/ \1/')
-same 'wrong bodies (<) and those of PROOF.md (>)' "${refused%$'\n'}" "$told"
+agree 'wrong bodies (<) and those of PROOF.md (>)' "${refused%$'\n'}" "$told"
 
 # ---- public calls and laws: a table of PROMISES.md names each
 
@@ -208,32 +194,32 @@ codes=$(sed -n 's/^code_row code\.\([A-Za-z0-9]*\) = (\([0-9]*\), .*)$/\2 \1/p' 
 parts=$(sed -n 's/^### \([0-9]* [A-Za-z0-9]*\)$/\1/p' docs/FAULTS.md)
 described=$(awk '$1 <= 100' <<<"$parts")
 advised=$(awk '$1 > 100' <<<"$parts")
-same 'codes (<) and parts of FAULTS.md (>)' "$codes" "$described"
+agree 'codes (<) and parts of FAULTS.md (>)' "$codes" "$described"
 indexed=$(sed -n '/^## Index$/,/^## How/p' docs/FAULTS.md | grep -o '[0-9][0-9]* \[[A-Za-z0-9]*\](#[a-z0-9-]*)' | sed 's/\[\(.*\)\](#.*/\1/')
-same 'parts of FAULTS.md (<) and its index by code (>)' "$described" "$indexed"
+agree 'parts of FAULTS.md (<) and its index by code (>)' "$described" "$indexed"
 by_name=$(sed -n '/^## Index$/,/^## How/p' docs/FAULTS.md | grep -o '\[[A-Za-z0-9]*\](#[0-9]*-[a-z]*) [0-9][0-9]*' | sed 's/\[\(.*\)\](#.*) \(.*\)/\2 \1/')
-same 'parts of FAULTS.md (<) and its index by name (>)' "$described" "$by_name"
+agree 'parts of FAULTS.md (<) and its index by name (>)' "$described" "$by_name"
 complete=$(awk 'BEGIN { part = "" } /^### [0-9]/ { part = $2 " " $3 } /^## / { part = "" } part != "" && /^- [A-Z][a-z]*:/ { print part, $2 }' docs/FAULTS.md)
 asked=$(
   while read -r part; do printf '%s %s\n' "$part" Wrong: "$part" Fields: "$part" Numbers: "$part" System: "$part" Fix: "$part" Example:; done <<<"$described"
   while read -r part; do printf '%s %s\n' "$part" Found: "$part" Fields: "$part" Numbers: "$part" Severity: "$part" System: "$part" Fix: "$part" Example:; done <<<"$advised"
 )
-same 'what a part of FAULTS.md has to say (<) and what it says (>)' "$asked" "$complete"
+agree 'what a part of FAULTS.md has to say (<) and what it says (>)' "$asked" "$complete"
 stages=$(sed -n 's/^stage_number stage\.[A-Za-z0-9]* = \([0-9]*\)$/\1/p' crates/acpi_base/specs/Codes.antt)
 listed=$(sed -n 's/^| \([0-9]*\) | .* | [0-9to, ]* |$/\1/p' docs/FAULTS.md)
-same 'stages (<) and those that FAULTS.md lists (>)' "$stages" "$listed"
+agree 'stages (<) and those that FAULTS.md lists (>)' "$stages" "$listed"
 rules=$(sed -n 's/^rule_row rule\.\([A-Za-z0-9]*\) = (\([0-9]*\), .*)$/\2 \1/p' crates/acpi_base/specs/Lint/Rules.antt)
 listed=$(sed -n '/^## Advice$/,/^## /s/^| \([0-9]* [A-Za-z0-9]*\) | .*/\1/p' docs/TABLES.md)
-same 'rules of advice (<) and those that TABLES.md lists (>)' "$rules" "$listed"
-same 'rules of advice (<) and their parts in FAULTS.md (>)' "$rules" "$advised"
+agree 'rules of advice (<) and those that TABLES.md lists (>)' "$rules" "$listed"
+agree 'rules of advice (<) and their parts in FAULTS.md (>)' "$rules" "$advised"
 awk -f man/faults.awk docs/FAULTS.md >"$scratch/acpiset-faults.7"
-same 'codes and rules of advice (<) and their parts in acpiset-faults(7) (>)' "$codes"$'\n'"$rules" \
+agree 'codes and rules of advice (<) and their parts in acpiset-faults(7) (>)' "$codes"$'\n'"$rules" \
   "$(sed -n 's/^\.SS \([0-9]* [A-Za-z0-9]*\)$/\1/p' "$scratch/acpiset-faults.7")"
 index=$(sed -n '/^### Index of advice$/,/^### What/p' docs/FAULTS.md)
 indexed=$(grep -o '[0-9][0-9]* \[[A-Za-z0-9]*\](#[a-z0-9-]*)' <<<"$index" | sed 's/\[\(.*\)\](#.*/\1/')
-same 'rules of advice (<) and their index by number in FAULTS.md (>)' "$rules" "$indexed"
+agree 'rules of advice (<) and their index by number in FAULTS.md (>)' "$rules" "$indexed"
 by_name=$(grep -o '\[[A-Za-z]*\](#[0-9]*-[a-z]*) [0-9][0-9]*' <<<"$index" | sed 's/\[\(.*\)\](#.*) \(.*\)/\2 \1/')
-same 'rules of advice (<) and their index by name in FAULTS.md (>)' "$rules" "$by_name"
+agree 'rules of advice (<) and their index by name in FAULTS.md (>)' "$rules" "$by_name"
 headline=$(sed -n '/^## The headline$/,/^## /{/^```rust$/,/^```$/p}' docs/PROOF.md | grep -v '^```')
 # contract FUNCTION FILE: what comes before the function's body.
 contract() { sed -n "/^pub fn $1[(<]/,/^{\$/p" "$2" | grep -v '^{$'; }
@@ -243,7 +229,7 @@ contracts=$(
   contract check_and_confirm_agree crates/acpi_cli/src/laws.rt
   contract run_check crates/acpi_cli/src/check.rt
 )
-same 'the contracts of the headline, as PROOF.md has them (<) and in the code (>)' "$headline" "$contracts"
+agree 'the contracts of the headline, as PROOF.md has them (<) and in the code (>)' "$headline" "$contracts"
 
 count 'definitions that public contracts rest on' "$(tests/definitions.py 2>&1)"
 for crate in $crates; do
@@ -268,10 +254,10 @@ count 'links that lead nowhere' "$(tests/links.py 2>&1)"
 count 'lines of README beyond 150' "$(tail -n +151 README.md)"
 paths=$(cat README.md docs/*.md | grep -o '`\(bindings\|crates\|docs\|examples\|tests\|bench\|tools\|man\|scripts\|release\|share/acpiset\)/[A-Za-z0-9_./-]*[A-Za-z0-9_]`' | tr -d '`' | sort -u)
 there=$(while read -r path; do [ -e "$path" ] && printf '%s\n' "$path"; done <<<"$paths")
-same 'files that the documents name (<) and that are there (>)' "$paths" "$there"
+agree 'files that the documents name (<) and that are there (>)' "$paths" "$there"
 parts=$(cat README.md docs/*.md | grep -o '`\(src\|specs\)/[A-Za-z0-9_/]*\.\(rt\|antt\)`' | tr -d '`' | sort -u)
 there=$(while read -r part; do for crate in crates/*; do [ -e "$crate/$part" ] && printf '%s\n' "$part"; done; done <<<"$parts")
-same 'files of a crate that the documents name (<) and that are there (>)' "$parts" "$there"
+agree 'files of a crate that the documents name (<) and that are there (>)' "$parts" "$there"
 
 # listed CHANGE EXAMPLE: the files that a change touches by ARCHITECTURE.md; each of them has to name the example, a pattern.
 listed() {
@@ -311,7 +297,7 @@ count 'lines of proofs with more than 120 columns that are no imports' "$(grep -
 count 'clauses with more than 100 columns' "$(grep -rnE '^ *(requires|ensures) ' crates/*/src --include='*.rt' | wide 100)"
 
 version=$(sed -n 's/^const VERSION: &str = "\(.*\)";$/\1/p' crates/acpi_arguments/src/reply.rt)
-same 'the version of the program (<) and the last one in CHANGELOG.md (>)' "$version" "$(sed -n 's/^## \([0-9.]*\).*/\1/p' CHANGELOG.md | head -n 1)"
+agree 'the version of the program (<) and the last one in CHANGELOG.md (>)' "$version" "$(sed -n 's/^## \([0-9.]*\).*/\1/p' CHANGELOG.md | head -n 1)"
 # page SECTION: the lines of a section of the manual page, with plain hyphens.
 page() { sed -n "/^\.SH $1\$/,/^\.SH /p" man/acpiset.1 | sed 's/\\-/-/g'; }
 # terms SECTION: the terms that a section of the manual page explains, which are the lines after a `.TP`.
@@ -321,21 +307,21 @@ option_names() { grep -o -- '--[a-z-]*[a-z]'; }
 within 'options that the synopsis of man/acpiset.1 does not name' "$options" "$(page SYNOPSIS | option_names)"
 within 'options that man/acpiset.1 does not explain' "$options" "$(terms OPTIONS | option_names)"
 commands=$(sed -n 's/.*Command::new(alloc, "\([a-z]*\)").*/\1/p' crates/acpi_arguments/src/command_line.rt | grep -vx acpiset)
-same 'commands (<) and those in the synopsis of man/acpiset.1 (>)' "$commands" "$(page SYNOPSIS | sed -n 's/^\.B acpiset //p')"
-same 'commands (<) and those that man/acpiset.1 explains (>)' "$commands" "$(terms DESCRIPTION | sed -n 's/^\.B //p')"
+agree 'commands (<) and those in the synopsis of man/acpiset.1 (>)' "$commands" "$(page SYNOPSIS | sed -n 's/^\.B acpiset //p')"
+agree 'commands (<) and those that man/acpiset.1 explains (>)' "$commands" "$(terms DESCRIPTION | sed -n 's/^\.B //p')"
 
 # ---- the library: what its header declares is in its documents
 
 header=bindings/c/acpiset.h
 kinds=$(sed -n '/^enum acpiset_kind {$/,/^};$/s/^ *\(ACPISET_[A-Z_]*\) = \([0-9]*\).*/\1 \2/p' "$header")
 refusals=$(awk '$2 > 1' <<<"$kinds")
-same 'refusals in acpiset.h (<) and in LIBRARY.md (>)' "$refusals" "$(sed -n 's/^| `\(ACPISET_[A-Z_]*\)` | \([0-9]*\) | .*/\1 \2/p' docs/LIBRARY.md)"
-same 'refusals in acpiset.h (<) and in man/acpiset.3 (>)' "$refusals" "$(sed -n 's/^\.BR \(ACPISET_[A-Z_]*\) " (\([0-9]*\))"$/\1 \2/p' man/acpiset.3)"
+agree 'refusals in acpiset.h (<) and in LIBRARY.md (>)' "$refusals" "$(sed -n 's/^| `\(ACPISET_[A-Z_]*\)` | \([0-9]*\) | .*/\1 \2/p' docs/LIBRARY.md)"
+agree 'refusals in acpiset.h (<) and in man/acpiset.3 (>)' "$refusals" "$(sed -n 's/^\.BR \(ACPISET_[A-Z_]*\) " (\([0-9]*\))"$/\1 \2/p' man/acpiset.3)"
 within 'refusals that the order in LIBRARY.md leaves out' "$(sed 's/^ACPISET_//; s/ .*//' <<<"$refusals")" \
   "$(sed -n '/first one in this order/,/^## /p' docs/LIBRARY.md | grep -o '`[A-Z_]*`' | tr -d '`')"
 declared=$(sed -n 's/^struct acpiset_answer \(acpiset_[a-z_]*\)(.*/\1/p; s/^uint32_t \(acpiset_[a-z_]*\)(.*/\1/p' "$header")
-same 'functions of acpiset.h (<) and those that LIBRARY.md lists (>)' "$declared" "$(sed -n '/^## The calls$/,/^## /p' docs/LIBRARY.md | sed -n '/^| `acpiset_/p' | cut -d '|' -f 2 | grep -o 'acpiset_[a-z_]*')"
-same 'functions of acpiset.h (<) and those that man/acpiset.3 explains (>)' "$declared" "$(sed -n '/^\.SH DESCRIPTION$/,/^\.SH SETTINGS$/s/^\.B \(acpiset_[a-z_]*\)$/\1/p' man/acpiset.3)"
+agree 'functions of acpiset.h (<) and those that LIBRARY.md lists (>)' "$declared" "$(sed -n '/^## The calls$/,/^## /p' docs/LIBRARY.md | sed -n '/^| `acpiset_/p' | cut -d '|' -f 2 | grep -o 'acpiset_[a-z_]*')"
+agree 'functions of acpiset.h (<) and those that man/acpiset.3 explains (>)' "$declared" "$(sed -n '/^\.SH DESCRIPTION$/,/^\.SH SETTINGS$/s/^\.B \(acpiset_[a-z_]*\)$/\1/p' man/acpiset.3)"
 # members STRUCT: the names of its fields.
 members() { sed -n "/^struct $1 {\$/,/^};\$/{s/;.*//;s/^ .* \**\([a-z_]*\)\$/\1/p;}" "$header"; }
 told=$(sed -n '/^\.SH SYNOPSIS$/,/^\.SH DESCRIPTION$/p' man/acpiset.3 | grep -o '[a-z_]*[,;]' | tr -d ',;')
@@ -347,13 +333,13 @@ count 'the Rust crate, and what its lists are written from' "$(bindings/rust/lis
 # ---- a release: what is installed, and what the program and the library have inside
 
 tools=$(sed -n "s/^tools='\(.*\)'$/\1/p" scripts/install | tr ' ' '\n')
-same 'tools that scripts/install lists (<) and those that are here (>)' "$tools" "$(cd tools && printf '%s\n' * | grep -x '[a-z0-9]*')"
-same 'tools (<) and those with a manual page (>)' "$tools" "$(printf '%s\n' man/acpiset-*.1 | sed 's/.*acpiset-//; s/\.1$//')"
+agree 'tools that scripts/install lists (<) and those that are here (>)' "$tools" "$(cd tools && printf '%s\n' * | grep -x '[a-z0-9]*')"
+agree 'tools (<) and those with a manual page (>)' "$tools" "$(printf '%s\n' man/acpiset-*.1 | sed 's/.*acpiset-//; s/\.1$//')"
 within 'tools that the README of an archive does not name' "$tools" "$(grep -o '`bin/acpiset-[a-z0-9]*`' release/README.md | sed 's/^.*-//; s/`//')"
 count 'an install' "$(BINARY=/bin/sh LIBRARY=none DESTDIR=$scratch/root PREFIX=/usr scripts/install install 2>&1)"
 linked=$(sed -n 's/^[a-z_]*\( staticlib\)\{0,1\}: *//p' crates.txt | tr ' ' '\n' | grep -vxF "$crates")
 within 'libraries of the toolchain in crates.txt that release/parts.txt does not have' "$linked" "$(sed -n 's/^\([a-z_]*\) | .*/\1/p' release/parts.txt)"
-same 'libraries in release/parts.txt (<) and those with a notice in release/NOTICES.md (>)' "$(sed -n 's/^\([a-z_]*\) | .*/\1/p' release/parts.txt)" \
+agree 'libraries in release/parts.txt (<) and those with a notice in release/NOTICES.md (>)' "$(sed -n 's/^\([a-z_]*\) | .*/\1/p' release/parts.txt)" \
   "$(sed -n 's/^## //p' release/NOTICES.md)"
 if command -v rt >/dev/null; then
   count 'libraries of the toolchain, and what release/parts.txt and release/NOTICES.md say of them' "$(scripts/parts check "$(dirname "$(rt doc)")" 2>&1)"
@@ -376,5 +362,4 @@ if asked gawk; then
   count 'awk --lint' "$(sort -u "$scratch/awk" | sed 's/ (FILENAME=.*FNR=[0-9]*)//' | grep -v ' warning: substr: ' | sort | uniq -c)"
 fi
 
-printf 'documents: %d passed, %d failed\n' "$passed" "$failed"
-[ "$failed" = 0 ]
+finish 'documents: '

@@ -4,34 +4,13 @@
 # The folders have names with blanks, and some with all characters that have a meaning in a shell or in make.
 # usage: tests/install.sh PROGRAM; the last line is 'install: N passed, M failed'.
 # shellcheck disable=SC2016 # dollar signs and backquotes in names of folders and in pages are no commands
-set -u
 program=$(realpath -- "${1:?usage: tests/install.sh PROGRAM}")
-[ -x "$program" ] || { printf '%s: no program\n' "$program" >&2; exit 1; }
-cd "$(dirname "$0")/.." || exit
+# shellcheck source=tests/prelude.sh
+. "$(dirname "$0")/prelude.sh"
 # `make` passes its own settings on to the programs that it starts.
 unset DESTDIR PREFIX LIBDIR PC_PREFIX BINARY LIBRARY SOURCE_DATE_EPOCH
-scratch=$(mktemp -d)
-trap 'rm -rf "$scratch"' EXIT
 mkdir "$scratch/a tmp"
 export TMPDIR="$scratch/a tmp"
-passed=0
-failed=0
-
-# same WHAT GOT WANTED: counts a case.
-same() {
-  if [ "$2" = "$3" ]; then
-    passed=$((passed + 1))
-  else
-    failed=$((failed + 1))
-    printf '%s: %s\nnot: %s\n' "$1" "$2" "$3"
-  fi
-}
-
-# left_out WHAT WHY: says that cases were left out.
-left_out() { printf 'left out: %s: %s\n' "$1" "$2"; }
-
-# has COMMAND: whether it is installed.
-has() { command -v "$1" >/dev/null; }
 
 # copy_tree FOLDER: copies this tree without what was built, so that no archive is left here.
 copy_tree() {
@@ -377,7 +356,7 @@ if [ -e "$unpacked/lib/acpiset.o" ]; then
   same 'how its program is hardened' "$(hardened "$unpacked/bin/acpiset")" 'DYN RW relro now 0'
   same 'notices of the C library' "$(grep -cw 'Version 2.1, February 1999' "$unpacked/licences/LGPL-2.1.txt") $(grep -cim 1 'GNU C Library' "$unpacked/licences/glibc.txt")" '1 1'
   same 'libraries that its program asks for' "$(readelf -d "$unpacked/bin/acpiset" | grep -c NEEDED)" 0
-  same 'its program on the sets of tests/rows' "$(tests/rows/run.py "$unpacked/bin/acpiset" | grep -c ' 0 failed$')" 1
+  same 'its program on the known sets' "$(tests/rows/run.py "$unpacked/bin/acpiset" | grep -c ' 0 failed$')" 1
 else
   left_out 'the program of the archive with the C library inside' 'it could not be linked here'
   same 'the C library in the list of parts' "$(grep -A 1 '"relationshipType": "DYNAMIC_LINK"' "$unpacked/acpiset.spdx.json" | grep -c acpiset)" 1
@@ -511,5 +490,4 @@ if has objdump; then
   same 'version of the C library' "$newest" "$(sed -n 's/.*`.\/acpiset` itself needs glibc \([0-9.]*\) or later.*/\1/p' README.md)"
 fi
 
-printf 'install: %d passed, %d failed\n' "$passed" "$failed"
-[ "$failed" = 0 ]
+finish 'install: '

@@ -1,36 +1,30 @@
 #!/usr/bin/env bash
 # Runs the built program on image texts, and tests its output, its status and its error messages.
 # usage: tests/program.sh PROGRAM; the last line is 'N passed, M failed'.
-set -u
 program=$(realpath "${1:?usage: tests/program.sh PROGRAM}")
-[ -x "$program" ] || { printf '%s: no program\n' "$program" >&2; exit 1; }
-cd "$(dirname "$0")" || exit
-scratch=$(mktemp -d)
-trap 'rm -rf "$scratch"' EXIT
-passed=0
-failed=0
+# shellcheck source=tests/prelude.sh
+. "$(dirname "$0")/prelude.sh"
+cd tests || exit
 
-# count NAME WHAT_IS_WRONG: counts a case; nothing wrong means passed.
-count() {
-  if [ -z "$2" ]; then
-    passed=$((passed + 1))
-  else
-    failed=$((failed + 1))
-    printf '%s: %s\n' "$1" "$2"
-  fi
+# told STATUS INPUT ARGUMENTS..: runs the program on the file INPUT, and sets `wrong` where it has another status.
+told() {
+  local got
+  wrong=""
+  "${program[@]}" "${@:3}" <"$2" >"$scratch/out" 2>"${errors:-$scratch/err}"
+  got=$?
+  [ "$got" = "$1" ] || wrong="status $got, not $1"
 }
+
+# has_written FILE WHAT TEXT: adds to `wrong` where the file has another text. An x stands after the text, which keeps its line ends.
+has_written() { [ "$(cat "$scratch/$1"; printf x)" = "$3" ] || wrong="$wrong; $2 $(cat "$scratch/$1")"; }
 
 # runs NAME STATUS STDOUT STDERR INPUT ARGUMENTS..: runs the program on the file INPUT. STDOUT and STDERR are
 # what it must write.
 runs() {
-  local name=$1 status=$2 out=$3 err=$4 input=$5
-  shift 5
-  "$program" "$@" <"$input" >"$scratch/out" 2>"$scratch/err"
-  local got=$? wrong=""
-  [ "$got" = "$status" ] || wrong="status $got, not $status"
-  [ "$(cat "$scratch/out"; printf x)" = "$(printf '%b' "$out"; printf x)" ] || wrong="$wrong; standard output $(cat "$scratch/out")"
-  [ "$(cat "$scratch/err"; printf x)" = "$(printf '%b' "$err"; printf x)" ] || wrong="$wrong; standard error $(cat "$scratch/err")"
-  count "$name" "$wrong"
+  told "$2" "$5" "${@:6}"
+  has_written out 'standard output' "$(printf '%bx' "$3")"
+  has_written err 'standard error' "$(printf '%bx' "$4")"
+  count "$1" "$wrong"
 }
 
 # text NAME CONTENT: an image text of the scratch folder; prints its path.
@@ -154,15 +148,10 @@ For more: acpiset --help, man acpiset, or docs/TROUBLESHOOTING.md#words"
 
 # says TEXT ARGUMENTS..: the arguments are refused with this text.
 says() {
-  local text=$1 wrong=""
-  shift
-  "$program" "$@" <"$smallest" >"$scratch/out" 2>"$scratch/err"
-  local got=$?
-  [ "$got" = 2 ] || wrong="status $got, not 2"
-  [ ! -s "$scratch/out" ] || wrong="$wrong; standard output $(cat "$scratch/out")"
-  [ "$(cat "$scratch/err"; printf x)" = "acpiset: $text
-x" ] || wrong="$wrong; standard error $(cat "$scratch/err")"
-  count "arguments '$*'" "$wrong"
+  told 2 "$smallest" "${@:2}"
+  has_written out 'standard output' x
+  has_written err 'standard error' "acpiset: $1"$'\nx'
+  count "arguments '${*:2}'" "$wrong"
 }
 
 # refuses MESSAGE ARGUMENTS..: the arguments are refused with this error message, and the usage in short. hints MESSAGE TIP
@@ -175,11 +164,8 @@ $usage" "${@:3}"; }
 
 # helps ARGUMENTS..: the complete help is written, exactly as in help.txt.
 helps() {
-  local wrong=""
-  "$program" "$@" <"$smallest" >"$scratch/out" 2>"$scratch/err"
-  local got=$?
-  [ "$got" = 2 ] || wrong="status $got, not 2"
-  [ ! -s "$scratch/out" ] || wrong="$wrong; standard output $(cat "$scratch/out")"
+  told 2 "$smallest" "$@"
+  has_written out 'standard output' x
   cmp -s help.txt "$scratch/err" || wrong="$wrong; standard error, beside help.txt: $(diff help.txt "$scratch/err")"
   count "arguments '$*'" "$wrong"
 }
@@ -418,14 +404,11 @@ refuses "unrecognized subcommand '$long...'" "$long$long"
 # ---- many arguments counts NAME STATUS STDOUT FIRST_LINE WORDS..: checks the smallest set with many words ADDRESS=COUNT. It has
 # 20 seconds, and needs less than one.
 counts() {
-  local name=$1 status=$2 out=$3 first=$4 wrong=""
-  shift 4
-  timeout 20 "$program" check --rsdp e0000 --through 3 "$@" <"$smallest" >"$scratch/out" 2>"$scratch/err"
-  local got=$?
-  [ "$got" = "$status" ] || wrong="status $got, not $status"
-  [ "$(cat "$scratch/out")" = "$out" ] || wrong="$wrong; standard output $(cat "$scratch/out")"
-  [ "$(head -n 1 "$scratch/err")" = "$first" ] || wrong="$wrong; standard error $(head -n 1 "$scratch/err")"
-  count "$name" "$wrong"
+  local program=(timeout 20 "$program")
+  told "$2" "$smallest" check --rsdp e0000 --through 3 "${@:5}"
+  [ "$(cat "$scratch/out")" = "$3" ] || wrong="$wrong; standard output $(cat "$scratch/out")"
+  [ "$(head -n 1 "$scratch/err")" = "$4" ] || wrong="$wrong; standard error $(head -n 1 "$scratch/err")"
+  count "$1" "$wrong"
 }
 mapfile -t words < <(awk 'BEGIN { for (i = 64999; i >= 0; i--) printf "%x=%d\n", 16 * i, i % 256 + 1 }')
 counts "65,000 counts of inputs, addresses falling" 0 yes '' "${words[@]}"
@@ -435,17 +418,13 @@ counts "65,000 counts of inputs, and a wrong one" 2 '' "acpiset: 'fec00000=0': e
 
 # status NAME STATUS INPUT ARGUMENTS..: runs the program while writes to standard error fail.
 status() {
-  local name=$1 status=$2 input=$3 wrong=""
-  shift 3
-  "$program" "$@" <"$input" >"$scratch/out" 2>/dev/full
-  local got=$?
-  [ "$got" = "$status" ] || wrong="status $got, not $status"
-  [ ! -s "$scratch/out" ] || wrong="$wrong; standard output $(cat "$scratch/out")"
-  count "$name" "$wrong"
+  local errors=/dev/full
+  told "$2" "$3" "${@:4}"
+  has_written out 'standard output' x
+  count "$1" "$wrong"
 }
 status "no arguments, and standard error is full" 2 "$smallest"
 status "a text that is no image, and standard error is full" 3 "$(text stray 'zz\n')" check --rsdp e0000
 status "an input that is a folder, and standard error is full" 4 "$scratch" check --rsdp e0000
 
-printf '%d passed, %d failed\n' "$passed" "$failed"
-[ "$failed" = 0 ]
+finish ''

@@ -12,16 +12,13 @@
 # recipes use. All run in one folder and in one shell, so each finds what those before it left. The folder has ./acpiset, tools
 # and tests, like the top of the repository; acpiset and acpiset-NAME are on the PATH, and IMAGES names the folder of images, as
 # in the archive. The kernel is the one that the variable KERNEL names, or that of /boot.
-set -u
 program=$(realpath "${1:?usage: tests/recipes.sh PROGRAM}")
-[ -x "$program" ] || { printf '%s: no program\n' "$program" >&2; exit 1; }
-cd "$(dirname "$0")/.." || exit
+# shellcheck source=tests/prelude.sh
+. "$(dirname "$0")/prelude.sh"
 SOURCE=$PWD
 # shellcheck disable=SC2034 # a recipe may use it
 IMAGES=$SOURCE/tests/images
 KERNEL=${KERNEL:-$(find /boot -name 'vmlinuz-*' -readable 2>/dev/null | sort -V | tail -n 1)}
-scratch=$(mktemp -d)
-trap 'rm -rf "$scratch"' EXIT
 mkdir "$scratch/bin" "$scratch/blocks" "$scratch/work"
 ln -s "$program" "$scratch/work/acpiset"
 ln -s "$SOURCE/tools" "$SOURCE/tests" "$SOURCE/bench" "$scratch/work"
@@ -38,8 +35,6 @@ if [ -r "$library/libacpiset.a" ]; then
   export PKG_CONFIG_PATH="$scratch/library"
   unset ACPISET_LIB_DIR
 fi
-passed=0
-failed=0
 left=0
 
 awk -v folder="$scratch/blocks" '

@@ -9,6 +9,8 @@ prefix.
 usage: refusals.py PROGRAM; the last line is 'refusals: N passed, M failed'. The object that is preloaded into the program is
 built from refusals.c, by the C compiler of the system or of the toolchain."""
 
+from __future__ import annotations
+
 import os
 import resource
 import subprocess
@@ -20,17 +22,18 @@ from dataclasses import dataclass
 from itertools import count
 from pathlib import Path
 
-HERE = Path(__file__).parent
-sys.path += [str(HERE / "rows"), str(HERE / "show"), str(HERE / "rebuild"), str(HERE / "lint")]
+HERE = Path(__file__).resolve().parent
+sys.path.insert(0, str(HERE))
 
-from cases import text_in
-from expected import EXPECTED
-from judge import judge
+from acpi_images.advice import linted
+from acpi_images.known.linted import EXPECTED
+from acpi_images.known.rows import OVERLAP, ROWS, SMALLEST, WHOLE
+from acpi_images.program import Cases, finish, firmware_text
+from acpi_images.rebuilt import rebuilt
+from acpi_images.shown import shown
+from acpi_images.tables import *
+from acpi_images.text import LONGEST_LINE, LONGEST_TEXT, read, text_of
 from preloaded import build_object, numbers
-from reader import shown
-from rebuilder import rebuilt
-from rows import OVERLAP, ROWS, SMALLEST, WHOLE
-from tables import *
 
 SECONDS = 60
 OUT_OF_MEMORY = (4, "", "acpiset: out of memory\n")
@@ -67,27 +70,15 @@ NODES = [node(flags=1), *(node(84, IS_ID_VALID | IS_LEAF, uid, [36 + 24 * (uid /
 ENTRIES = image_of(
     full_fadt(_92=b"\4"),
     madt(
-        *(lapic(uid, 2 * uid) for uid in (0, 1)),
-        *(x2apic(uid, 0x100 + uid) for uid in (2, 3)),
-        io_apic(0xFEC00000, 0),
-        io_apic(0xFEC01000, 24),
-        override(0, 2),
-        override(9, 47, 0b1101),
-        nmi_source(25),
-        *local_nmis(0xFFFFFFFF, 1),
+        *(lapic(uid, 2 * uid) for uid in (0, 1)), *(x2apic(uid, 0x100 + uid) for uid in (2, 3)), io_apic(0xFEC00000, 0),
+        io_apic(0xFEC01000, 24), override(0, 2), override(9, 47, 0b1101), nmi_source(25), *local_nmis(0xFFFFFFFF, 1),
         lapic_address(0xFEE00000),
     ),
     srat(
-        *(apic_domain(apic_id, 0) for apic_id in (0, 2)),
-        *(x2apic_domain(apic_id, 1) for apic_id in (0x102, 0x103)),
-        memory(0, 0xA0000),
-        memory(0x100000, 0x7FF00000),
-        memory(0x100000000, 0x80000000),
-        memory(0x180000000, 0x80000000, 3),
+        *(apic_domain(apic_id, 0) for apic_id in (0, 2)), *(x2apic_domain(apic_id, 1) for apic_id in (0x102, 0x103)), memory(0, 0xA0000),
+        memory(0x100000, 0x7FF00000), memory(0x100000000, 0x80000000), memory(0x180000000, 0x80000000, 3),
     ),
-    slit(2, [10, 20, 20, 10]),
-    pptt(*CACHES, *NODES),
-    others={FACS_AT: facs()},
+    slit(2, [10, 20, 20, 10]), pptt(*CACHES, *NODES), others={FACS_AT: facs()},
 )
 
 
@@ -97,7 +88,7 @@ BASE = 0x7FFE0000
 
 def lint_run(name, text, words):
     """All findings, as a second program tells them."""
-    lines, status = judge(words, text)
+    lines, status = linted(words, read(text))
     return Run(name, text, ["lint", *words], status, "".join(line + "\n" for line in lines))
 
 
@@ -116,35 +107,32 @@ def clean_runs(name, text, address, found, lines, anew):
 
 
 def made(name, pieces):
-    text = text_of(pieces)
-    return clean_runs(name, text, "e0000", "0xe0000", shown(text, RSDP_AT), rebuilt(text, RSDP_AT, BASE))
+    image = read(text_of(pieces))
+    return clean_runs(name, text_of(pieces), "e0000", "0xe0000", shown(image, RSDP_AT), rebuilt(image, RSDP_AT, BASE))
 
 
 def firmware(name, address, found):
-    text = (HERE / "images" / f"{name}.img.txt").read_bytes()
+    text = firmware_text(name)
     lines = (HERE / "show" / "images" / f"{name}.txt").read_text()
-    return clean_runs(name, text, address, found, lines, rebuilt(text, int(address, 16), BASE))
+    return clean_runs(name, text, address, found, lines, rebuilt(read(text), int(address, 16), BASE))
 
 
 WHOLE_RUNS = made("a whole set", WHOLE)
 CLEAN_RUNS = [
-    *WHOLE_RUNS,
-    *made("a set of entries of each kind", ENTRIES),
-    *firmware("sb-q35-numa4-dist", "f59c0", "0xf59c0"),
+    *WHOLE_RUNS, *made("a set of entries of each kind", ENTRIES), *firmware("sb-q35-numa4-dist", "f59c0", "0xf59c0"),
     *firmware("q11-efi-virt-caches", "47fe0000", "none"),
 ]
 
 
 def row_run(row):
-    text = row.pieces if isinstance(row.pieces, bytes) else text_of(row.pieces)
-    return Run(row.name, text, row.words.split(), int(row.answer != "yes"), row.answer + "\n")
+    return Run(row.name, text_of(row.pieces), row.words.split(), int(row.answer != "yes"), row.answer + "\n")
 
 
 # The stages that take memory, and may have to find the first fault by a longer way.
 LATER_STAGES = (7, 10, 13, 14, 15, 16, 17, 18)
 
 
-# Sets with several findings, by their names in tests/lint.
+# Sets with several findings, by their names in known/linted.py.
 FOUND = ("a fault in each of four tables", "two UIDs and two APIC IDs")
 
 
@@ -156,7 +144,7 @@ def faulty_runs():
     yield row_run(next(row for row in ROWS if row.name == "two nodes that lead to a cycle of three"))
     for name in FOUND:
         it = next(it for it in EXPECTED if it.name == name)
-        yield lint_run(f"lint, {name}", text_in(it.pieces), it.words.split())
+        yield lint_run(f"lint, {name}", text_of(it.pieces), it.words.split())
     words = ["confirm", "--rsdp", "e0000", "--witness", "10 Overlap 0x80 0xa8 0x3fffffff"]
     yield Run("confirm, two ranges that share an address", text_of(OVERLAP), words, 0, "true\n")
 
@@ -196,10 +184,7 @@ def scattered_runs():
 IN_NO_ORDER = "find in 4,000 pieces in no order"
 ONE_TWICE = "find in 4,000 pieces in no order, one twice"
 SPARED_AFTER = {
-    (IN_NO_ORDER, "REFUSE_AT"),
-    (ONE_TWICE, "REFUSE_AT"),
-    (ONE_TWICE, "REFUSE_FROM"),
-    ("check, no address", "REFUSE_AT"),
+    (IN_NO_ORDER, "REFUSE_AT"), (ONE_TWICE, "REFUSE_AT"), (ONE_TWICE, "REFUSE_FROM"), ("check, no address", "REFUSE_AT"),
     ("check, a row past the end", "REFUSE_AT"),
 }
 
@@ -213,8 +198,7 @@ USAGE = "usage: acpiset check [OPTION].. [ADDRESS=COUNT].. < IMAGE"
 NOT_A_FAULT = "9 Overlap 0x30 0x58 0x0"
 # Arguments that are refused, with what is said of them.
 WRONG_WORDS = [
-    ("unrecognized subcommand 'chek'", ["chek"]),
-    ("unexpected argument '--rspd' found", ["check", "--rspd", "e0000"]),
+    ("unrecognized subcommand 'chek'", ["chek"]), ("unexpected argument '--rspd' found", ["check", "--rspd", "e0000"]),
     ("a value is required for '--rsdp <HEX>' but none was supplied", ["check", "--rsdp"]),
     ("--rsdp 'xyz': expected 1 to 16 hex digits, with or without 0x before them, as in f59e0", ["check", "--rsdp", "xyz"]),
     ("--through '0': expected a stage from 1 to 18, in at most 2 decimal digits", ["check", "--through", "0"]),
@@ -224,10 +208,8 @@ WRONG_WORDS = [
     ("'fec00000=257': expected a COUNT from 1 to 256, in at most 3 decimal digits", ["check", "fec00000=24", "fec00000=257"]),
     ("'fec00000': expected ADDRESS=COUNT, as in fec00000=24", ["check", "fec00000"]),
     ("an argument is not UTF-8", ["check", "--rsdp", b"\xff"]),
-    ("checks the static ACPI tables that an operating system reaches from", ["--help"]),
-    ("version 0.1.0, 18 stages", ["--version"]),
-    (USAGE, []),
-    ("unrecognized subcommand 'image.txt'", ["image.txt"]),
+    ("checks the static ACPI tables that an operating system reaches from", ["--help"]), ("version 0.1.0, 18 stages", ["--version"]),
+    (USAGE, []), ("unrecognized subcommand 'image.txt'", ["image.txt"]),
     (f"confirm needs --witness FAULT: {A_FAULT}, in one argument, as in '10 Overlap 0x30 0x58 0x0'", ["confirm"]),
     (f"--witness '{NOT_A_FAULT}': Overlap is a fault of stage 10, not '9'", ["confirm", "--witness", NOT_A_FAULT]),
     ("rebuild needs --base HEX: 1 to 16 hex digits, with or without 0x before them, as in f59e0", ["rebuild"]),
@@ -468,7 +450,6 @@ BAD_TEXTS = [
     ("a row past the end", b"@ffffffffffffffff\n00 00\n" + GOOD_TEXT, 24, "line 2: past the end"),
     ("half a pair at the end", GOOD_TEXT + b"0", None, f"line {GOOD_LINES + 1}: bad line"),
 ]
-LONGEST_LINE = 65_536
 BAD_TEXTS.append(("a line that is too long", b"#" * (LONGEST_LINE + 100), LONGEST_LINE + 1, "too long"))
 
 
@@ -539,7 +520,6 @@ def fed(program, words, pieces):
 STOPS = text_of({RSDP_AT: WHOLE[RSDP_AT]})
 NO_ROOT = "no 2 RootHeaderOut 0x1000 0x0 0x0\n"
 STOPPED = {"confirm": "false\n", "find": "rsdp 0xe0000\n"}
-LONGEST_TEXT = 67_108_864
 
 
 def pipes(program, run):
@@ -558,9 +538,10 @@ def pipes(program, run):
 LARGE_SIZE = 8
 LARGE_TEXT = text_of(WHOLE) + b"@1000000\n" + (b"00" * 16384 + b"\n") * (LARGE_SIZE << 6)
 SIZES = (5, 6, 7, 8, 10, 12, 14, 16, 20, 24, 80)
-WHOLE_TEXT = text_of(WHOLE)
-ANEW = rebuilt(WHOLE_TEXT, RSDP_AT, BASE)
-LARGE_RUNS = clean_runs("an image of 8 MiB", LARGE_TEXT, "e0000", "0xe0000", shown(WHOLE_TEXT, RSDP_AT), ANEW)
+WHOLE_IMAGE = read(text_of(WHOLE))
+LARGE_RUNS = clean_runs(
+    "an image of 8 MiB", LARGE_TEXT, "e0000", "0xe0000", shown(WHOLE_IMAGE, RSDP_AT), rebuilt(WHOLE_IMAGE, RSDP_AT, BASE)
+)
 
 
 def little_memory(program, run):
@@ -612,20 +593,14 @@ def cases(program):
 
 def main():
     _, path = sys.argv
-    passed = failed = 0
+    counted = Cases(path)
     with tempfile.TemporaryDirectory() as scratch:
         program = Program(path, Path(scratch))
         if not program.preload:
-            failed = 1
-            print("no C compiler to build tests/refusals.c")
+            counted.count("tests/refusals.c", "no C compiler to build it")
         for name, wrong in cases(program) if program.preload else ():
-            if wrong:
-                failed += 1
-                print(f"{name}: {wrong}")
-            else:
-                passed += 1
-    print(f"refusals: {passed} passed, {failed} failed")
-    sys.exit(1 if failed else 0)
+            counted.count(name, wrong)
+    finish("refusals", counted)
 
 
 main()

@@ -3,22 +3,8 @@
 # scripts/wrong_bodies says of wrong bodies, by what the compiler printed of them; and what scripts/prove builds in the gate. Scripts
 # and a toolchain that do nothing replace the real ones.
 # usage: tests/scripts.sh; the last line is 'build scripts: N passed, M failed'.
-set -u
-cd "$(dirname "$0")/.." || exit
-scratch=$(mktemp -d)
-trap 'rm -rf "$scratch"' EXIT
-passed=0
-failed=0
-
-# same WHAT GOT WANTED: counts a case.
-same() {
-  if [ "$2" = "$3" ]; then
-    passed=$((passed + 1))
-  else
-    failed=$((failed + 1))
-    printf '%s: %s\nnot: %s\n' "$1" "$2" "$3"
-  fi
-}
+# shellcheck source=tests/prelude.sh
+. "$(dirname "$0")/prelude.sh"
 
 # ---- tests/all.sh
 
@@ -285,5 +271,4 @@ echo 'def crates_of(root): return [1]' >>"$scratch/kit/bin/rt"
 printed=$(kept)
 same 'scripts/kept, with another toolchain' "$? ${printed%%: AttributeError*}" '1 scripts/kept: cannot tell with this toolchain'
 
-printf 'build scripts: %d passed, %d failed\n' "$passed" "$failed"
-[ "$failed" = 0 ]
+finish 'build scripts: '

@@ -7,18 +7,20 @@ programs keep busy is slower, and not by the same factor for each run."""
 
 import os
 import re
+import subprocess
 import sys
 import tempfile
 from pathlib import Path
 
 TESTS = Path(__file__).resolve().parent
-sys.path[:0] = [str(TESTS / "explain"), str(TESTS / "tools")]
-import sets  # noqa: E402
-from explained import IMAGES, Tests  # noqa: E402
-from files import dump_of  # noqa: E402
-from judge import seconds_of  # noqa: E402
-from memory_dumps import small_set  # noqa: E402
-from tables import *  # noqa: E402
+sys.path[:0] = [str(TESTS), str(TESTS / "explain"), str(TESTS / "tools")]
+
+import sets
+from acpi_images.program import finish, timed
+from acpi_images.tables import *
+from explained import IMAGES, Tests
+from files import dump_of
+from memory_dumps import small_set
 
 TOOLS = TESTS.parent / "tools"
 MOST_TIMES = 3
@@ -62,24 +64,29 @@ def memory_of(size):
     return bytes(memory)
 
 
+def fastest(words, **how):
+    """A run of a tool, and the processor time of the fastest of some."""
+    runs = [timed(lambda: subprocess.run(words, capture_output=True, timeout=600, **how)) for _ in range(RUNS)]
+    return runs[0][0], min(seconds for _, seconds in runs)
+
+
 class Times(Tests):
     def explain(self, image):
         """How long explain takes for what check says of this image, with what it says."""
         path = self.file(image)
         line = self.run("check", text=image, tool=self.program).stdout
-        spent = [seconds_of([self.tool, path], input=line, env={**os.environ, "PATH": self.path}) for _ in range(RUNS)]
-        assert spent[0][1].stdout.startswith(line.strip()), spent[0][1]
-        return min(seconds for seconds, _ in spent)
+        run, seconds = fastest([self.tool, path], input=line, env={**os.environ, "PATH": self.path})
+        assert run.stdout.startswith(line.strip()), run
+        return seconds
 
     def convert(self, tool, data):
         """How long a tool takes that makes an image of this, which check then takes."""
         path = self.file(data)
-        spent = [seconds_of([sys.executable, TOOLS / tool, path]) for _ in range(RUNS)]
-        made = spent[0][1]
+        made, seconds = fastest([sys.executable, TOOLS / tool, path])
         told = re.search(rb"check it with --rsdp ([0-9a-f]+)$", made.stderr, re.M)
         said = self.run("check", *(["--rsdp", told[1].decode()] if told else []), text=made.stdout, tool=self.program)
         assert said.stdout == b"yes\n", (made.stderr, said)
-        return min(seconds for seconds, _ in spent)
+        return seconds
 
     def grows(self, name, time, make, size):
         """The time on what is made of twice this size, beside that on what is made of it."""
@@ -96,8 +103,7 @@ def main():
         times.grows("acpidump2image", lambda data: times.convert("acpidump2image", data), dump_of_tables, 10_000)
         times.grows("acpidump2image, addresses of 0", lambda data: times.convert("acpidump2image", data), dump_of_zeros, 10_000)
         times.grows("memory2image", lambda data: times.convert("memory2image", data), memory_of, 64 << 20)
-    print(f"times of the tools: {times.passed} passed, {times.failed} failed")
-    sys.exit(1 if times.failed else 0)
+    finish("times of the tools", times)
 
 
 if __name__ == "__main__":

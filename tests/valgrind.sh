@@ -2,20 +2,16 @@
 # Runs the program on twenty inputs under valgrind, if that is installed: no access outside a buffer, no use of uninitialized
 # memory, no leak, and the same output, error message and status as without it.
 # usage: tests/valgrind.sh PROGRAM; the last line is 'valgrind: N passed, M failed', or 'left out: ..'.
-set -u
 program=$(realpath -- "${1:?usage: tests/valgrind.sh PROGRAM}")
-cd "$(dirname "$0")/.." || exit
-command -v valgrind >/dev/null || { echo 'left out: valgrind is not installed'; exit 0; }
-scratch=$(mktemp -d)
-trap 'rm -rf "$scratch"' EXIT
-passed=0
-failed=0
+# shellcheck source=tests/prelude.sh
+. "$(dirname "$0")/prelude.sh"
+has valgrind || { echo 'left out: valgrind is not installed'; exit 0; }
 
 # A status that the program itself never has.
 WRONG=99
 
-# same IMAGE STATUS ARGUMENT..: runs the program on an image; it has to end with this status.
-same() {
+# alike IMAGE STATUS ARGUMENT..: runs the program on an image; it has to end with this status.
+alike() {
   local image=$1 status=$2 plain under
   shift 2
   "$program" "$@" <"$image" >"$scratch/out" 2>"$scratch/err"
@@ -23,13 +19,8 @@ same() {
   valgrind --quiet --leak-check=full --show-leak-kinds=all --errors-for-leak-kinds=all --error-exitcode=$WRONG --log-file="$scratch/log" \
     "$program" "$@" <"$image" >"$scratch/out.under" 2>"$scratch/err.under"
   under=$?
-  if [ "$plain $under" = "$status $status" ] && cmp -s "$scratch/out" "$scratch/out.under" && cmp -s "$scratch/err" "$scratch/err.under"; then
-    passed=$((passed + 1))
-  else
-    failed=$((failed + 1))
-    printf '%s on %s: status %s, under valgrind %s, and not %s\n' "$*" "$image" "$plain" "$under" "$status"
-    tail -n 40 "$scratch/log"
-  fi
+  [ "$plain $under" = "$status $status" ] && cmp -s "$scratch/out" "$scratch/out.under" && cmp -s "$scratch/err" "$scratch/err.under"
+  count "$* on $image" "$([ $? = 0 ] || { echo "status $plain, under valgrind $under, and not $status"; tail -n 40 "$scratch/log"; })"
 }
 
 numa=tests/images/sb-q35-numa4-dist.img.txt
@@ -42,26 +33,25 @@ printf '@1000\nzz\n' >"$scratch/no-hex"
 : >"$scratch/empty"
 cat "$example" "$example" >"$scratch/twice"
 
-same "$example" 0 check
-same "$numa" 0 check
-same "$caches" 0 check --rsdp 47fe0000
-same "$nvdimm" 1 check
-same "$nvdimm" 0 check --hotplug apart
-same "$scratch/grown" 1 check
-same "$scratch/empty" 1 check
-same "$scratch/no-hex" 3 check
-same "$scratch/twice" 3 check
-same "$example" 2 check --no-such-option
-same "$numa" 0 lint
-same "$nvdimm" 1 lint
-same "$scratch/grown" 1 lint --strict
-same "$numa" 0 show
-same "$caches" 0 show --rsdp 47fe0000
-same "$numa" 0 rebuild --base 7ffe0000
-same "$nvdimm" 1 rebuild --base 7ffe0000
-same "$nvdimm" 0 confirm --witness '10 Overlap 0x90 0xb8 0x100000000'
-same "$example" 1 confirm --witness '10 Overlap 0x90 0xb8 0x100000000'
-same "$numa" 0 find
+alike "$example" 0 check
+alike "$numa" 0 check
+alike "$caches" 0 check --rsdp 47fe0000
+alike "$nvdimm" 1 check
+alike "$nvdimm" 0 check --hotplug apart
+alike "$scratch/grown" 1 check
+alike "$scratch/empty" 1 check
+alike "$scratch/no-hex" 3 check
+alike "$scratch/twice" 3 check
+alike "$example" 2 check --no-such-option
+alike "$numa" 0 lint
+alike "$nvdimm" 1 lint
+alike "$scratch/grown" 1 lint --strict
+alike "$numa" 0 show
+alike "$caches" 0 show --rsdp 47fe0000
+alike "$numa" 0 rebuild --base 7ffe0000
+alike "$nvdimm" 1 rebuild --base 7ffe0000
+alike "$nvdimm" 0 confirm --witness '10 Overlap 0x90 0xb8 0x100000000'
+alike "$example" 1 confirm --witness '10 Overlap 0x90 0xb8 0x100000000'
+alike "$numa" 0 find
 
-printf 'valgrind: %d passed, %d failed\n' "$passed" "$failed"
-[ "$failed" = 0 ]
+finish 'valgrind: '

@@ -5,10 +5,10 @@ import shutil
 import subprocess
 import sys
 
-TOP = os.path.realpath(os.path.join(os.path.dirname(os.path.abspath(__file__)), "..", ".."))
-IMAGES = os.path.join(TOP, "tests", "images")
-sys.path.insert(0, os.path.join(TOP, "tests", "rows"))
-from cases import Cases
+from acpi_images.program import FIRMWARE, TESTS, Cases
+
+TOP = str(TESTS.parent)
+IMAGES = str(FIRMWARE)
 
 
 class Tests(Cases):

@@ -9,9 +9,12 @@ import re
 import subprocess
 import sys
 import tempfile
+from pathlib import Path
+
+sys.path.insert(0, str(Path(__file__).resolve().parents[1]))
 
 import sets
-from cases import IMAGES as FIRMWARE_AT
+from acpi_images.program import IMAGES as FIRMWARE_AT, finish
 from explained import IMAGES, TOP, Tests
 
 OVERLAP = "no 10 Overlap 0x90 0xb8 0x100000000"
@@ -101,46 +104,23 @@ def refused_lines(tests):
 
 # Lines on wrong lengths, what is said of the structure, and of the one before it.
 LENGTHS = [
+    ("no 6 MadtEntryLength 0x34", sets.MADT_LENGTH, "type 0 has a length of 8, but byte 1 is 12", "  0x2c lapic uid 3 id 7 flags 0x1"),
+    ("no 6 MadtEntryLength 0x2c", sets.FIRST_LENGTH, "type 1 has a length of 12, but byte 1 is 8", "no structure is before it"),
     (
-        "no 6 MadtEntryLength 0x34",
-        sets.MADT_LENGTH,
-        "type 0 has a length of 8, but byte 1 is 12",
-        "  0x2c lapic uid 3 id 7 flags 0x1",
-    ),
-    (
-        "no 6 MadtEntryLength 0x2c",
-        sets.FIRST_LENGTH,
-        "type 1 has a length of 12, but byte 1 is 8",
-        "no structure is before it",
-    ),
-    (
-        "no 6 MadtEntryCut 0x38",
-        sets.MADT_CUT,
-        "its length, byte 1, is 200, but only 4 bytes are left in the table",
+        "no 6 MadtEntryCut 0x38", sets.MADT_CUT, "its length, byte 1, is 200, but only 4 bytes are left in the table",
         "  0x2c ioapic id 0 address 0xfec00000 base 5",
     ),
+    ("no 9 SratEntryLength 0x40", sets.SRAT_LENGTH, "type 1 has a length of 40, but byte 1 is 24", "  0x30 cpu id 9 domain 300 flags 0x1"),
     (
-        "no 9 SratEntryLength 0x40",
-        sets.SRAT_LENGTH,
-        "type 1 has a length of 40, but byte 1 is 24",
-        "  0x30 cpu id 9 domain 300 flags 0x1",
-    ),
-    (
-        "no 9 SratEntryCut 0x58",
-        sets.SRAT_CUT,
-        "a single byte is left, and a structure has at least 2",
+        "no 9 SratEntryCut 0x58", sets.SRAT_CUT, "a single byte is left, and a structure has at least 2",
         "  0x30 memory domain 0 base 0x140000000 length 0x40000000 flags 0x1",
     ),
     (
-        "no 12 PpttEntryLength 0x3c",
-        sets.PPTT_LENGTH,
-        "type 0 has a length of 20 + 4 * 2 = 28, but byte 1 is 24",
+        "no 12 PpttEntryLength 0x3c", sets.PPTT_LENGTH, "type 0 has a length of 20 + 4 * 2 = 28, but byte 1 is 24",
         "  0x24 cache flags 0x0 next 0x0 size 0 sets 0 ways 0 attributes 0x0 line 0",
     ),
     (
-        "no 12 PpttEntryCut 0x38",
-        sets.PPTT_CUT,
-        "its length, byte 1, is 0, but a structure has at least 2 bytes",
+        "no 12 PpttEntryCut 0x38", sets.PPTT_CUT, "its length, byte 1, is 0, but a structure has at least 2 bytes",
         "  0x24 node flags 0x0 parent 0x0 id 4 resources",
     ),
 ]
@@ -242,14 +222,12 @@ def unread(tests):
 def judged(tests):
     """Whether the image has what the line says: acpiset is asked, with the counts and settings that are given."""
     for line, words, image, is_doubted in (
-        ("no 10 Overlap 0x50 0x78 0x0", (), "example.img.txt", True),
-        ("no 7 GsiClash 0x3c 0x48 0x18", (), "example.img.txt", True),
+        ("no 10 Overlap 0x50 0x78 0x0", (), "example.img.txt", True), ("no 7 GsiClash 0x3c 0x48 0x18", (), "example.img.txt", True),
         ("no 7 GsiClash 0x3c 0x48 0x18", ("0xfec00000=25",), "example.img.txt", False),
         ("no 7 GsiClash 0x3c 0x48 0x18", ("fec00000=24", "fec00000=25"), "example.img.txt", True),
         (OVERLAP, ("--hotplug", "counted"), "sb-pc-nvdimm-numa.img.txt", False),
         (OVERLAP, ("--hotplug", "apart"), "sb-pc-nvdimm-numa.img.txt", True),
-        ("no 18 LeafUnknown 0x38 0x0 0x1", ("--rsdp", "e0000"), sets.LEAF, True),
-        ("no 1 RsdpOut 0x123 0x0 0x0", (), sets.LEAF, False),
+        ("no 18 LeafUnknown 0x38 0x0 0x1", ("--rsdp", "e0000"), sets.LEAF, True), ("no 1 RsdpOut 0x123 0x0 0x0", (), sets.LEAF, False),
     ):
         tests.says(line, f"..{DOUBT}" if is_doubted else line, image, *words, without=() if is_doubted else (DOUBT,))
     advice = "advice SlitDiffers 0x2d 0x2e 0x0"
@@ -272,8 +250,7 @@ def other_programs(tests):
     tool = tests.copy("other", "tools", "explain", os.path.join("docs", "FAULTS.md"))
     unknown = "(acpiset has no verdict on this image, so it is not known whether it has this)"
     for script, line, text in (
-        ("exit 4", OVERLAP, unknown),
-        ("echo maybe", OVERLAP, unknown),
+        ("exit 4", OVERLAP, unknown), ("echo maybe", OVERLAP, unknown),
         ("printf 'advice SlitDiffers \\033[2J\\n'", "advice SlitDiffers 0x2d 0x2e 0x0", "..SlitDiffers \\x1b[2J"),
     ):
         with open(os.path.join(tests.scratch, "other", "acpiset"), "w", encoding="ascii") as file:
@@ -304,40 +281,15 @@ def shown(tests):
 
 # Image texts and whether acpiset reads them.
 TEXTS = [
-    (b"", True),
-    (b" \r", True),
-    (b"@10\n41 42", True),
-    (b" @20\n41\n@20\n@10\n42\n", True),
-    (b"  @10 \t# an address\r\n\t41 42\t43 \r\n4445#\n\n", True),
-    (b"@10\n41\r", True),
-    (b"@fffffffffffffffe\n41 42\n@0\n41\n", True),
-    (b"@10\n41\n@8\n42 43 44 45 46 47 48 49\n", True),
-    (b"@10\n" + b"41" * 32_768 + b"\n", True),
-    (b"@10\n41#" + b"x" * 65_533 + b"\n", True),
-    (b"41\n", False),
-    (b"@10 41\n", False),
-    (b"@10\n41 @20\n42\n", False),
-    (b"@ 10\n41\n", False),
-    (b"@\n41\n", False),
-    (b"@00000000000000010\n41\n", False),
-    (b"@1_0\n41\n", False),
-    (b"@10\n41 4\n", False),
-    (b"@10\n4 1\n", False),
-    (b"@10\n4\n1\n", False),
-    (b"@10\n41\x0b42\n", False),
-    (b"\x0c@10\n41\n", False),
-    (b"@10\n@20\x0c\n41\n", False),
-    (b"@10\n41\0\n", False),
-    (b"@10\n41\r\r\n", False),
-    (b"@10\n41\r#\n", False),
-    (b"@10\r41\n", False),
-    (b"@10\n0x41\n", False),
-    (b"@fffffffffffffffe\n41 42 43\n", False),
-    (b"@10\n41 42\n@11\n43\n", False),
-    (b"@11\n41 42\n@10\n43 44\n", False),
-    (b"@10\n41\n@10\n42\n", False),
-    (b"@10\n" + b"41" * 32_768 + b" \n", False),
-    (b"@10\n41#" + b"x" * 65_534 + b"\n", False),
+    (b"", True), (b" \r", True), (b"@10\n41 42", True), (b" @20\n41\n@20\n@10\n42\n", True),
+    (b"  @10 \t# an address\r\n\t41 42\t43 \r\n4445#\n\n", True), (b"@10\n41\r", True), (b"@fffffffffffffffe\n41 42\n@0\n41\n", True),
+    (b"@10\n41\n@8\n42 43 44 45 46 47 48 49\n", True), (b"@10\n" + b"41" * 32_768 + b"\n", True),
+    (b"@10\n41#" + b"x" * 65_533 + b"\n", True), (b"41\n", False), (b"@10 41\n", False), (b"@10\n41 @20\n42\n", False),
+    (b"@ 10\n41\n", False), (b"@\n41\n", False), (b"@00000000000000010\n41\n", False), (b"@1_0\n41\n", False), (b"@10\n41 4\n", False),
+    (b"@10\n4 1\n", False), (b"@10\n4\n1\n", False), (b"@10\n41\x0b42\n", False), (b"\x0c@10\n41\n", False), (b"@10\n@20\x0c\n41\n", False),
+    (b"@10\n41\0\n", False), (b"@10\n41\r\r\n", False), (b"@10\n41\r#\n", False), (b"@10\r41\n", False), (b"@10\n0x41\n", False),
+    (b"@fffffffffffffffe\n41 42 43\n", False), (b"@10\n41 42\n@11\n43\n", False), (b"@11\n41 42\n@10\n43 44\n", False),
+    (b"@10\n41\n@10\n42\n", False), (b"@10\n" + b"41" * 32_768 + b" \n", False), (b"@10\n41#" + b"x" * 65_534 + b"\n", False),
     (b"@10\n" + b"#" * 65_535 + b"\n" + (b"#" * 65_535 + b"\n") * 1023 + b"\n", False),
 ]
 
@@ -368,8 +320,7 @@ def streams(tests):
     for name, closing, status, told in (
         ("a closed output", ">&-", 4, "explain: standard output cannot be written: it is closed\n"),
         ("a closed input", "<&-", 4, "explain: standard input cannot be read: it is closed\n"),
-        ("closed output and error", ">&- 2>&-", 4, ""),
-        ("a line as argument, and a closed input", f"'{OVERLAP}' <&- >/dev/null", 0, ""),
+        ("closed output and error", ">&- 2>&-", 4, ""), ("a line as argument, and a closed input", f"'{OVERLAP}' <&- >/dev/null", 0, ""),
     ):
         words = ["sh", "-c", f'"$0" "$1" {closing}', tests.tool, image]
         run = subprocess.run(words, input=line, stderr=subprocess.PIPE, env=environment)
@@ -420,8 +371,7 @@ def main():
         tests = Tests(os.path.realpath(program), scratch)
         for part in PARTS:
             part(tests)
-    print(f"explain: {tests.passed} passed, {tests.failed} failed")
-    sys.exit(1 if tests.failed else 0)
+    finish("explain", tests)
 
 
 if __name__ == "__main__":

@@ -1,11 +1,8 @@
-"""Sets of tables for tests/explain/run.py, made by tests/rows/tables.py. The lines of acpiset on them, and what explain has to
+"""Sets of tables for tests/explain/run.py, made by tests/acpi_images/tables.py. The lines of acpiset on them, and what explain has to
 say of them, are in run.py and were worked out by hand."""
 
-import os
-import sys
-
-sys.path.insert(0, os.path.join(os.path.dirname(os.path.abspath(__file__)), "..", "rows"))
-from tables import *  # noqa: E402
+from acpi_images.tables import *
+from acpi_images.text import text_of
 
 FADT = full_fadt()
 GIB = 1 << 30
@@ -56,9 +53,7 @@ CACHES = image_of(pptt(cache(next_level=0x3C), cache(next_level=0x54), cache(nex
 # A Parent into the middle of a structure, one to a cache, one after the table; a private resource that is a node.
 DANGLING = image_of(pptt(node(parent=0x40), node(parent=0x4C), cache(next_level=0x1000), node(resources=(0x24,))))
 
-LEAF = image_of(
-    madt(lapic(0, 0), lapic(1, 1), lapic(2, 2, flags=0), x2apic(300, 9)), pptt(node(flags=0xA, uid=7), node(flags=0xA, uid=1))
-)
+LEAF = image_of(madt(lapic(0, 0), lapic(1, 1), lapic(2, 2, flags=0), x2apic(300, 9)), pptt(node(flags=0xA, uid=7), node(flags=0xA, uid=1)))
 GICC = bytes([11, 80]) + bytes(6) + number(21, 4) + number(1, 4) + bytes(64)
 AFFINITY = bytes([3, 18]) + number(6, 4) + number(22, 4) + number(1, 4) + bytes(4)
 ARM = image_of(madt(GICC), srat(AFFINITY))
@@ -76,10 +71,8 @@ ESCAPE = image_of(table(b"\x1b[2J", b""))
 SUMS = {}
 CLEAN = {RSDP_AT: extended_rsdp(), XSDT_AT: xsdt(0x2000, 0x3000), 0x2000: FADT, 0x3000: hpet(), FACS_AT: facs()}
 for line, address, place in (
-    ("no 1 RsdpSum 0xe0000 0x0 0x0", RSDP_AT, 8),
-    ("no 1 RsdpExtendedSum 0xe0000 0x0 0x0", RSDP_AT, 32),
-    ("no 2 RootSum 0x1100 0x0 0x0", XSDT_AT, 9),
-    ("no 3 TableSum 0x1 0x3000 0x0", 0x3000, 9),
+    ("no 1 RsdpSum 0xe0000 0x0 0x0", RSDP_AT, 8), ("no 1 RsdpExtendedSum 0xe0000 0x0 0x0", RSDP_AT, 32),
+    ("no 2 RootSum 0x1100 0x0 0x0", XSDT_AT, 9), ("no 3 TableSum 0x1 0x3000 0x0", 0x3000, 9),
 ):
     wrong = changed(CLEAN[address], {place: 0x5A})
     SUMS[line] = text_of({**CLEAN, address: wrong}), f"now 0x5a, has to be {CLEAN[address][place]:#x}."

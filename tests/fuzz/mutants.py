@@ -1,8 +1,7 @@
 #!/usr/bin/env python3
-"""Shows what the cases of the fuzzer are able to see: plants one mistake at a time in the second judge (image_text.py, verdicts.py,
-and image.py and faults.py of tests/lint), such as another number, `<` for `<=`, or `and` for `or`, and judges the same cases with it.
-A mistake at which no answer differs is printed: it changes no answer at all, or the cases have a hole. It needs no program, and some
-minutes.
+"""Shows what the cases of the fuzzer are able to see: plants one mistake at a time in the second judge (text.py, table_set.py and
+faults.py of tests/acpi_images), such as another number, `<` for `<=`, or `and` for `or`, and judges the same cases with it. A mistake at
+which no answer differs is printed: it changes no answer at all, or the cases have a hole. It needs no program, and some minutes.
 
 usage: mutants.py [--seed N] [--cases N]; the last line is 'mutants: N seen, M not seen'."""
 
@@ -15,12 +14,12 @@ import types
 from importlib import import_module
 from pathlib import Path
 
-sys.path.append(str(Path(__file__).parent.parent / "lint"))
+sys.path.insert(0, str(Path(__file__).resolve().parents[1]))
 
-import image_text
-from image import Image, find_rsdp
-from made_cases import asked, case_of
-from verdicts import Judgement
+from acpi_images.faults import Judgement
+from acpi_images.generated.cases import asked, changed_case, made_case
+from acpi_images.table_set import find_rsdp
+from acpi_images.text import Refused, read
 
 SEED, CASES = 1, 800
 SECONDS = 60
@@ -94,14 +93,14 @@ def mutants(path):
 
 
 def made_anew(names, wrong_name=None, wrong_code=None):
-    """Modules by their names, of which each imports only earlier ones; one of them has another code."""
-    path, made = list(sys.path), {}
+    """Modules of the package by their names, of which each imports only earlier ones; one of them has another code."""
+    made = {}
     for name in names:
-        file = import_module(name).__file__
-        made[name] = sys.modules[name] = types.ModuleType(name)
-        made[name].__file__ = file
+        whole_name = f"acpi_images.{name}"
+        file = import_module(whole_name).__file__
+        made[name] = sys.modules[whole_name] = types.ModuleType(whole_name)
+        made[name].__dict__.update(__file__=file, __package__="acpi_images")
         exec(wrong_code if name == wrong_name else compile(Path(file).read_text(), file, "exec"), made[name].__dict__)
-    sys.path[:] = path
     return made
 
 
@@ -109,9 +108,9 @@ def made_anew(names, wrong_name=None, wrong_code=None):
 
 
 class Texts:
-    """Image texts, judged by image_text.py."""
+    """Image texts, judged by text.py: what is held, and what is not beside it, and what is left where a byte is dropped."""
 
-    modules = planted = ("image_text",)
+    modules = planted = ("text",)
 
     def __init__(self, cases):
         self.texts = [case.text for case, _ in cases]
@@ -122,28 +121,31 @@ class Texts:
         return zip(self.texts, self.told)
 
     def judged(self, modules, text):
-        module = modules["image_text"]
         try:
-            memory = module.memory_of(text)
-        except module.Refused as refusal:
+            image = modules["text"].read(text)
+        except modules["text"].Refused as refusal:
             return str(refusal)
-        return memory.bytes, module.plain_text(memory)
+        pieces = image.pieces()
+        held = [image.held(at + shift, len(data)) for at, data in pieces.items() for shift in (-1, 0, 1)]
+        held = [it and (it.data, it.number(0, len(it)), it.sums_to_0()) for it in held]
+        for at in pieces:
+            image.drop(at + 1, 2)
+        return pieces, modules["text"].text_of(pieces), held, image.pieces()
 
 
 class Sets:
-    """Sets of tables, judged by verdicts.py and by the modules of tests/lint. Advice is compared as far as it depends on these."""
+    """Sets of tables, judged by faults.py. Advice and the lines of `show` are compared as far as they depend on what is planted."""
 
-    modules = ("image", "faults", "advice", "judge", "verdicts")
-    planted = ("image", "faults", "verdicts")
+    modules = ("table_set", "faults", "advice", "shown")
+    planted = ("table_set", "faults")
 
     def __init__(self, cases):
         self.sets = []
         for case, dice in cases:
             try:
-                memory = image_text.memory_of(case.text)
-            except image_text.Refused:
+                image = read(case.text)
+            except Refused:
                 continue
-            image = Image(image_text.plain_text(memory))
             rsdp = find_rsdp(image) if case.rsdp is None else case.rsdp
             faults = [] if rsdp is None else asked(dice, Judgement(image, rsdp, case.settings))
             self.sets.append((image, rsdp, case, faults))
@@ -164,13 +166,14 @@ class Sets:
 
     def judged(self, modules, it):
         image, rsdp, case, faults = it
-        found = modules["image"].find_rsdp(image)
+        found = modules["table_set"].find_rsdp(image)
         if rsdp is None:
             return found
-        settings = modules["image"].Policy(**vars(case.settings))
-        judgement = modules["verdicts"].Judgement(image, rsdp, settings)
+        settings = modules["table_set"].Policy(**vars(case.settings))
+        judgement = modules["faults"].Judgement(image, rsdp, settings)
         stands = [(str(fault), judgement.stands(fault)) for fault in (*judgement.faults, *faults)]
-        return found, str(judgement.verdict(case.last)), modules["judge"].judged(image, rsdp, settings), stands
+        lines, text = modules["advice"].lint_lines(image, rsdp, settings), modules["shown"].shown(image, rsdp)
+        return found, str(judgement.verdict(case.last)), lines, text, stands
 
 
 def too_long(*_):
@@ -179,7 +182,7 @@ def too_long(*_):
 
 def is_seen(judged, name, line, code):
     """Whether an answer differs. A mistake at which the judge stops, or does not end, is seen too."""
-    file = sys.modules[name].__file__
+    file = sys.modules[f"acpi_images.{name}"].__file__
     signal.alarm(SECONDS)
     try:
         modules = made_anew(judged.modules, name, code)
@@ -196,10 +199,10 @@ def main():
     parser.add_argument("--cases", type=int, default=CASES)
     said = parser.parse_args()
     signal.signal(signal.SIGALRM, too_long)
-    cases = [case_of(said.seed, place) for place in range(said.cases)]
+    cases = [make(said.seed, place) for place in range(said.cases) for make in (made_case, changed_case)]
     seen = unseen = 0
     for judged, name in [(judged, name) for judged in (Texts(cases), Sets(cases)) for name in judged.planted]:
-        for where, line, code in mutants(Path(sys.modules[name].__file__)):
+        for where, line, code in mutants(Path(sys.modules[f"acpi_images.{name}"].__file__)):
             if is_seen(judged, name, line, code):
                 seen += 1
             else:

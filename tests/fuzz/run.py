@@ -1,12 +1,12 @@
 #!/usr/bin/env python3
-"""Generates sets of tables and image texts, and compares every answer of the built program with that of a second program in Python:
-refusals with image_text.py, written from docs/TABLES.md alone; verdicts, faults and advice with the judge of tests/lint, written from
-docs/TABLES.md and docs/FAULTS.md alone; and all other lines with tests/show and tests/rebuild.
+"""Generates sets of tables and image texts, and compares every answer of the built program with that of second programs in Python,
+those of tests/acpi_images: refusals with text.py, written from docs/TABLES.md alone; verdicts, faults and advice with faults.py and
+advice.py, written from docs/TABLES.md and docs/FAULTS.md alone; and all other lines with shown.py and rebuilt.py.
 
 usage: run.py PROGRAM [--seed N] [--cases N] [--first N] [--keep FOLDER] [--coverage]
-A case depends on the seed and on its number alone; --first is the first number. Without options the cases are the same each time.
---keep leaves the text of each case that differs in this folder, and --coverage prints how often each fault was reported and
-confirmed. The last line is 'fuzz: N passed, M failed'."""
+Each number has two cases: a set or a text that is made, and a known set that is changed. A case depends on the seed and on its number
+alone; --first is the first number. Without options the cases are the same each time. --keep leaves the text of each case that differs
+in this folder, and --coverage prints how often each fault was reported and confirmed. The last line is 'fuzz: N passed, M failed'."""
 
 import argparse
 import os
@@ -16,19 +16,16 @@ from collections import Counter
 from itertools import islice
 from pathlib import Path
 
-HERE = Path(__file__).parent
-sys.path += [str(HERE.parent / place) for place in ("rows", "show", "rebuild", "lint")]
+sys.path.insert(0, str(Path(__file__).resolve().parents[1]))
 
-import judge as lint_judge
-from advice import RULES
-from faults import STAGE_OF
-from image import find_rsdp
-from image_text import Refused, memory_of, plain_text
-from made_cases import asked, case_of
-from reader import Image, shown
-from rebuilder import Refused as NotRebuilt
-from rebuilder import rebuilt
-from verdicts import Judgement
+from acpi_images.advice import RULES, lint_lines, lint_status
+from acpi_images.faults import STAGE_OF, Judgement
+from acpi_images.generated.cases import asked, changed_case, made_case
+from acpi_images.program import Cases, answer, finish, refusal
+from acpi_images.rebuilt import NotRebuilt, rebuilt
+from acpi_images.shown import shown
+from acpi_images.table_set import find_rsdp
+from acpi_images.text import Refused, read
 
 SEED, CASES = 1, 800
 SECONDS = 60
@@ -37,7 +34,7 @@ LONG_TEXT, RUNS_OF_LONG_TEXT = 1 << 20, 2
 
 
 class Disagree(Exception):
-    """A text and the memory that it was written from differ."""
+    """A text and the image that it was written from differ."""
 
 
 class Program:
@@ -72,15 +69,6 @@ class Program:
         return os.waitstatus_to_exitcode(status), out, err
 
 
-def answer(status, *lines):
-    return status, "".join(line + "\n" for line in lines), ""
-
-
-def line_of(fault):
-    """What `check` answers."""
-    return answer(0, "yes") if fault is None else answer(1, f"no {fault}")
-
-
 # ---- what the second programs say
 
 
@@ -97,18 +85,17 @@ class Judged:
         """(words, answer) of each run."""
         case = self.case
         try:
-            memory = memory_of(case.text)
-        except Refused as refusal:
-            return self.refusals((3, "", f"acpiset: {refusal}\n"))
-        if case.memory and memory.bytes != case.memory.bytes:
-            raise Disagree("the text says something else than the memory that it was written from")
-        plain = plain_text(memory)
-        found = find_rsdp(Image(plain))
+            image = read(case.text)
+        except Refused as refused:
+            return self.refusals(refusal(refused))
+        if case.image and image.pieces() != case.image.pieces():
+            raise Disagree("the text says something else than the image that it was written from")
+        found = find_rsdp(image)
         rsdp = found if case.rsdp is None else case.rsdp
-        find = (["find"], answer(1, "rsdp none") if found is None else answer(0, f"rsdp {found:#x}"))
+        find = (["find"], answer("rsdp none" if found is None else f"rsdp {found:#x}"))
         if rsdp is None:
-            return [find, *self.refusals(answer(1, "no rsdp"))[1:]]
-        return [find, *self.judged(plain, rsdp)]
+            return [find, *self.refusals(answer("no rsdp"))[1:]]
+        return [find, *self.judged(image, rsdp)]
 
     def refusals(self, told):
         """All commands, with one answer."""
@@ -117,52 +104,58 @@ class Judged:
         commands = (*commands, ["confirm", *witness, *self.words], ["rebuild", *self.base, *self.words])
         return [(words, told) for words in commands]
 
-    def judged(self, plain, rsdp):
-        case, image = self.case, Image(plain)
+    def judged(self, image, rsdp):
+        case = self.case
         judgement = Judgement(image, rsdp, case.settings)
         self.fault = judgement.verdict()
         through = ["--through", str(case.last)] if case.last != 18 else []
-        yield ["check", *self.words, *through], line_of(judgement.verdict(case.last))
+        yield ["check", *self.words, *through], self.line_of(judgement.verdict(case.last))
         yield ["lint", *self.words, *["--strict"] * case.is_strict], self.linted(image, rsdp)
-        early = judgement.verdict(3)
-        yield ["show", *case.rsdp_words], line_of(early) if early else (0, shown(plain, rsdp), "")
-        yield ["rebuild", *self.base, *self.words], self.rebuilt(plain, rsdp)
+        text = shown(image, rsdp)
+        yield ["show", *case.rsdp_words], self.line_of(self.fault) if text is None else (0, text, "")
+        yield ["rebuild", *self.base, *self.words], self.rebuilt(image, rsdp)
         for fault in asked(self.dice, judgement):
             stands = judgement.stands(fault)
             self.asked += [fault.name] if stands else []
-            yield ["confirm", "--witness", str(fault), *self.words], answer(0, "true") if stands else answer(1, "false")
+            yield ["confirm", "--witness", str(fault), *self.words], answer("true" if stands else "false")
+
+    def line_of(self, fault):
+        """What `check` answers."""
+        return answer("yes" if fault is None else f"no {fault}")
 
     def linted(self, image, rsdp):
-        lines = lint_judge.judged(image, rsdp, self.case.settings)
+        lines = lint_lines(image, rsdp, self.case.settings)
         self.advised = [line.split()[1] for line in lines if line.startswith("advice ")]
-        return answer(lint_judge.status_of(lines, self.case.is_strict), *lines)
+        return lint_status(lines, self.case.is_strict), "".join(f"{line}\n" for line in lines), ""
 
-    def rebuilt(self, plain, rsdp):
+    def rebuilt(self, image, rsdp):
         if self.case.base % 64 == 0 and self.fault:
-            return line_of(self.fault)
+            return self.line_of(self.fault)
         try:
-            return 0, rebuilt(plain, rsdp, self.case.base), ""
+            return 0, rebuilt(image, rsdp, self.case.base), ""
         except NotRebuilt as why:
-            return answer(1, f"refused {why}")
+            return answer(f"refused {why}")
 
 
 # ---- the comparison
 
 
-class Fuzz:
+class Fuzz(Cases):
+    """Compares cases, and counts what they have."""
+
     def __init__(self, said):
-        self.said, self.program = said, Program(said.program)
-        self.passed = self.failed = 0
+        super().__init__(said.program)
+        self.said, self.fast_program = said, Program(said.program)
         self.reported, self.confirmed, self.advised = Counter(), Counter(), Counter()
 
     def wrong_with(self, case, dice):
         """What differs of a case, run by run."""
-        self.program.read(case.text)
+        self.fast_program.read(case.text)
         judged, wrong = Judged(case, dice), []
         most = RUNS_OF_LONG_TEXT if len(case.text) > LONG_TEXT else None
         try:
             for words, expected in islice(judged.answers(), most):
-                told = self.program.run(*words)
+                told = self.fast_program.run(*words)
                 if told != expected:
                     wrong.append(f"  {words}\n    program {told}\n    judged  {expected}")
         except OSError:
@@ -175,17 +168,13 @@ class Fuzz:
         self.advised.update(judged.advised)
         return wrong
 
-    def run_case(self, place):
+    def run_case(self, place, make):
         said = self.said
-        case, dice = case_of(said.seed, place)
-        wrong = self.wrong_with(case, dice)
-        if not wrong:
-            self.passed += 1
-            return
-        self.failed += 1
-        print(f"case {place} of seed {said.seed} (--seed {said.seed} --first {place} --cases 1):", *wrong, sep="\n", flush=True)
-        if said.keep:
-            (Path(said.keep) / f"{said.seed}-{place}.img.txt").write_bytes(case.text)
+        case, dice = make(said.seed, place)
+        name, wrong = f"{make.__name__} {place} of seed {said.seed}", self.wrong_with(case, dice)
+        self.count(f"{name} (--seed {said.seed} --first {place} --cases 1)", "\n".join(["", *wrong]) if wrong else "")
+        if wrong and said.keep:
+            (Path(said.keep) / f"{name.replace(' ', '-')}.img.txt").write_bytes(case.text)
 
     def print_coverage(self):
         for code, name in enumerate(STAGE_OF, 1):
@@ -194,11 +183,11 @@ class Fuzz:
             print(f"advice {name}: {self.advised[name]} times")
 
     def count_codes(self):
-        """Each fault is reported at least once in the run without options. Few cases of another seed may miss one."""
-        missing = [name for name in STAGE_OF if not self.reported[name]]
+        """Each fault is reported, and each advice given, at least once in the run without options. Few cases of another seed may miss
+        one."""
+        missing = [name for name in STAGE_OF if not self.reported[name]] + [name for name in RULES if not self.advised[name]]
         if missing:
-            self.failed += 1
-            print("never reported:", *missing)
+            self.count("never reported", " ".join(missing))
 
 
 def read_words():
@@ -216,13 +205,13 @@ def main():
     said = read_words()
     fuzz = Fuzz(said)
     for place in range(said.first, said.first + said.cases):
-        fuzz.run_case(place)
+        fuzz.run_case(place, made_case)
+        fuzz.run_case(place, changed_case)
     if said.coverage:
         fuzz.print_coverage()
     if (said.seed, said.first) == (SEED, 0) and said.cases >= CASES:
         fuzz.count_codes()
-    print(f"fuzz: {fuzz.passed} passed, {fuzz.failed} failed")
-    sys.exit(1 if fuzz.failed else 0)
+    finish("fuzz", fuzz)
 
 
 if __name__ == "__main__":

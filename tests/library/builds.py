@@ -5,15 +5,12 @@ import os
 import re
 import shutil
 import subprocess
-import sys
 from dataclasses import dataclass
 from pathlib import Path
 
 HERE = Path(__file__).resolve().parent
 TOP = HERE.parent.parent
 HEADER = TOP / "bindings" / "c" / "acpiset.h"
-# The other tests, whose sets and second programs are used here.
-sys.path += [str(HERE.parent / place) for place in ("rows", "show", "rebuild", "lint")]
 SECONDS = 300
 STRICT = ["-Wall", "-Wextra", "-pedantic", "-Werror"]
 COUNTED = ["-Wl,--wrap=malloc,--wrap=realloc,--wrap=free"]

@@ -2,28 +2,25 @@
 
 import shutil
 
+from acpi_images.program import IMAGES, firmware_text
+from acpi_images.table_set import TableSet, fadt_of, whole_table
+from acpi_images.tables import changed
+from acpi_images.text import read
 from builds import HEADER, TOP, counted, run
-
-from cases import IMAGES
-from image import Image, TableSet, fadt_of
-from mistakes import firmware_text
-from tables import changed
 
 
 def tables_of(text, rsdp):
     """The tables of a set by their signatures. A signature that is repeated has its slot appended."""
-    image = Image(text)
+    image = read(text)
     tables = TableSet(image, rsdp)
     found = {}
-    for slot in tables.slots:
-        address = tables.slots[slot]
-        header = image.held(address, 36)
-        data = image.held(address, header.number(4, 4)).data
-        name = bytes(data[:4]).decode()
-        found[name if name not in found else f"{name}{slot}"] = bytes(data)
-    own = fadt_of(tables)
-    if own.facs:
-        found["FACS"] = bytes(image.held(own.facs, 64).data)
+    for slot, address in tables.slots.items():
+        data = whole_table(image, address).data
+        name = data[:4].decode()
+        found[name if name not in found else f"{name}{slot}"] = data
+    facs = fadt_of(tables).facs
+    if facs:
+        found["FACS"] = image.held(facs, 64).data
     return found
 
 

@@ -1,9 +1,8 @@
 """The header of the library: its lists, which compilers accept it, and what it says when it is compiled."""
 
+from acpi_images.advice import RULES
+from acpi_images.faults import STAGE_OF
 from builds import HEADER, HERE, TOP, difference, refused_by, run, syntaxes
-
-from advice import RULES
-from faults import STAGE_OF
 
 # Changes of parts that lists.py compares, and does not write.
 BY_HAND = ("a kind's number", "a kind", "the version")
@@ -65,7 +64,7 @@ BadLine NoAddress TextOverlap TextPastEnd TextTooLong""".split()
 
 
 def names():
-    """What header.c prints: codes, stages and rules as the second program of tests/lint has them, and kinds as above."""
+    """What header.c prints: codes, stages and rules as the second programs of tests/acpi_images have them, and kinds as above."""
     for number, (name, stage) in enumerate(STAGE_OF.items(), 1):
         yield f"{number} {name} {stage}"
     for number, name in enumerate(RULES, 101):

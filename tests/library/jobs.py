@@ -1,24 +1,23 @@
 """What the library is asked beside the program: sets of the other tests, with their arguments and answers; and the same sets under
 other settings, about which the program is asked too."""
 
+from __future__ import annotations
+
 import gzip
 import random
 from dataclasses import dataclass
 
-import builds  # the folders of the other tests
+from acpi_images.known.confirmed import all_questions
+from acpi_images.known.judged import JUDGED
+from acpi_images.known.linted import EXPECTED
+from acpi_images.known.many import MANY
+from acpi_images.known.mistakes import MISTAKES, UNCHANGED
+from acpi_images.known.rows import ROWS, without_stage
+from acpi_images.known.shown import SHOWN
+from acpi_images.generated.cases import changed_case
+from acpi_images.program import FIRMWARE, IMAGES, firmware_text, status_of
+from acpi_images.text import text_of
 
-from cases import FIRMWARE, IMAGES, text_in
-from confirm import ASKED, questions_of
-from expected import EXPECTED
-from fuzz import case_of
-from judged import JUDGED
-from many import MANY
-from mistakes import MISTAKES, UNCHANGED, firmware_text
-from rows import ROWS
-from sets import SHOWN
-from tables import *
-
-GOOD = ("yes", "rsdp 0x", "true")
 SEED = 1
 
 
@@ -37,7 +36,7 @@ class Job:
 
 def known(name, words, text, lines):
     """A job whose answer was worked out by hand."""
-    return Job(name, tuple(words), text, "".join(line + "\n" for line in lines), 0 if lines[0].startswith(GOOD) else 1)
+    return Job(name, tuple(words), text, "".join(line + "\n" for line in lines), status_of(lines[0]))
 
 
 # ---- answers that were worked out by hand
@@ -45,20 +44,19 @@ def known(name, words, text, lines):
 
 def rows():
     for row in (*ROWS, *MANY):
-        yield known(row.name, row.words.split(), text_in(row.pieces), [row.answer])
+        yield known(row.name, row.words.split(), text_of(row.pieces), [row.answer])
 
 
 def confirmations():
-    faulty = [row for row in ROWS if row.answer.startswith("no ") and row.answer != "no rsdp"]
-    for it in [question for row in faulty for question in questions_of(row)] + ASKED:
-        yield known(it.name, ["confirm", *it.words, "--witness", it.witness], text_in(it.pieces), [it.answer])
+    for it in all_questions():
+        yield known(it.name, ["confirm", *it.words, "--witness", it.witness], text_of(it.pieces), [it.answer])
 
 
 def all_findings():
     for it in EXPECTED:
-        yield known(it.name, ["lint", *it.words.split()], text_in(it.pieces), it.lines)
+        yield known(it.name, ["lint", *it.words.split()], text_of(it.pieces), it.lines)
     for it in MISTAKES:
-        yield known(it.name, ["lint", *it.words.split()], text_in(it.pieces()), it.lines)
+        yield known(it.name, ["lint", *it.words.split()], text_of(it.pieces()), it.lines)
     for name, words, lines in UNCHANGED:
         yield known(name, ["lint", "--rsdp", IMAGES[name], *words.split()], firmware_text(name), lines)
 
@@ -93,7 +91,7 @@ def sets():
         *((it.name, rsdp_in(it.words.split()), it.pieces()) for it in MISTAKES),
     ]
     for name, rsdp, pieces in everything:
-        text = text_in(pieces)
+        text = text_of(pieces)
         if (text, *rsdp) not in known_sets:
             known_sets.add((text, *rsdp))
             yield name, rsdp, text
@@ -101,7 +99,7 @@ def sets():
 
 def firmware():
     for name, rsdp in (*IMAGES.items(), ("example", "e0000")):
-        yield name, ["--rsdp", rsdp], (FIRMWARE / f"{name}.img.txt").read_bytes()
+        yield name, ["--rsdp", rsdp], firmware_text(name)
 
 
 def of_sets():
@@ -131,12 +129,11 @@ RANDOM_SETS = 300
 
 
 def at_random():
-    """Random sets, and random changes of other sets, as tests/lint/fuzz.py makes them. The program is asked."""
+    """Random sets, and random changes of other sets, as tests/fuzz/run.py has them. The program is asked."""
     for place in range(RANDOM_SETS):
-        words, text = case_of(SEED, place)
-        words = [word for word in words if word != "--strict"]
+        case, _ = changed_case(SEED, place)
         for command in ("check", "lint"):
-            yield Job(f"random set {place}", (command, *words), text)
+            yield Job(f"random set {place}", (command, *case.rsdp_words, *case.setting_words), case.text)
 
 
 def of_faults(answered):
@@ -144,10 +141,7 @@ def of_faults(answered):
     for job in answered:
         if job.words[0] != "check":
             continue
-        words = list(job.words[1:])
-        if "--through" in words:
-            at = words.index("--through")
-            del words[at : at + 2]
+        words = without_stage(job.words[1:])
         witness = job.lines.strip().removeprefix("no ")
         if not job.lines.startswith("no ") or witness == "rsdp":
             continue

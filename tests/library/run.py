@@ -17,20 +17,20 @@ from dataclasses import dataclass
 from pathlib import Path
 
 HERE = Path(__file__).resolve().parent
-sys.path.insert(0, str(HERE))
+sys.path.insert(0, str(HERE.parent))
 
+from acpi_images.generated.chains import falling, ring, shuffled
+from acpi_images.known.linted import EXPECTED
+from acpi_images.known.rows import ROWS, WHOLE
+from acpi_images.program import FIRMWARE, IMAGES, Cases, finish
+from acpi_images.tables import *
+from acpi_images.text import text_of
 from beside import all_jobs, compared
 from builds import SOURCES, builds_of, counted, run
 from example_runs import examples, fuzzer
 from files import files
 from headers import header, lists, printed
 from jobs import STAGES, firmware
-
-from cases import FIRMWARE, IMAGES, Cases, text_in
-from chains import falling, ring, shuffled
-from expected import EXPECTED
-from rows import ROWS, WHOLE
-from tables import *
 
 # Image texts that are larger are tried in one build alone.
 LARGE = 100_000
@@ -60,7 +60,7 @@ def many_processors():
         fadt(length=276),
         madt(*(x2apic(uid, uid) for uid in range(COUNT)), io_apic(0xFEC00000, 0), override(0, 2)),
         srat(*(x2apic_domain(uid, uid // 512) for uid in range(COUNT)), *(memory(at << 32, 1 << 32) for at in range(8))),
-        slit(8, [10 if at // 8 == at % 8 else 20 for at in range(64)]),
+        slit(8, even_cells(8)),
         pptt(*caches, *leaves),
     ]
     places = [0x1000000 * place for place in range(1, 6)]
@@ -91,7 +91,7 @@ def subjects(scratch):
 def written(scratch, name, pieces):
     """An image in a file with this name."""
     path = scratch / f"{name.replace(' ', '-')}.img.txt"
-    path.write_bytes(text_in(pieces))
+    path.write_bytes(text_of(pieces))
     return Subject("e0000", path)
 
 
@@ -186,8 +186,8 @@ def main():
         fuzzer(cases, folder, scratch)
         if builds and (builds[0].name, "speed") in built:
             speeds(builds[0], scratch)
-    print(f"library: {cases.passed} passed, {cases.failed} failed")
-    sys.exit(1 if cases.failed or not builds else 0)
+        cases.failed += not builds
+    finish("library", cases)
 
 
 main()

@@ -2,11 +2,12 @@
 # Builds the Rust crate of bindings/rust with the built library, and runs its tests.
 # usage: tests/library/rust.sh LIBRARY_FOLDER, the folder of libacpiset.a; the last line is 'rust bindings: N passed, M failed',
 # or 'left out: ..' if there is no cargo, or one that is too old. Nothing is downloaded, and nothing is written into the tree.
-set -u
 library=$(realpath "${1:?usage: tests/library/rust.sh LIBRARY_FOLDER}")
 [ -r "$library/libacpiset.a" ] || { printf '%s: no libacpiset.a\n' "$library" >&2; exit 1; }
-cd "$(dirname "$0")/../../bindings/rust" || exit
-if ! command -v cargo >/dev/null || ! command -v rustc >/dev/null; then
+# shellcheck source=tests/prelude.sh
+. "$(dirname "$0")/../prelude.sh"
+cd bindings/rust || exit
+if ! has cargo || ! has rustc; then
   echo 'left out: no cargo'
   exit 0
 fi
@@ -14,31 +15,16 @@ needed=$(sed -n 's/^rust-version = "\(.*\)"/\1/p' Cargo.toml)
 version=$(rustc --version | cut -d ' ' -f 2)
 [ "$(printf '%s\n' "$needed" "$version" | sort -V | head -n 1)" = "$needed" ] || { printf 'left out: rustc %s is older than %s\n' "$version" "$needed"; exit 0; }
 
-scratch=$(mktemp -d)
-trap 'rm -rf "$scratch"' EXIT
 export CARGO_TARGET_DIR="$scratch/target" CARGO_TERM_COLOR=never ACPISET_LIB_DIR="$library"
 unset RUSTFLAGS RUSTDOCFLAGS PKG_CONFIG PKG_CONFIG_LIBDIR
-passed=0
-failed=0
 
 # ran WHAT COMMAND..: counts a command that has to end well.
-ran() {
-  if "${@:2}" >"$scratch/log" 2>&1; then
-    passed=$((passed + 1))
-  else
-    failed=$((failed + 1))
-    printf '%s:\n%s\n' "$1" "$(cat "$scratch/log")"
-  fi
-}
+ran() { count "$1" "$("${@:2}" >"$scratch/log" 2>&1 || { echo "status $?"; cat "$scratch/log"; })"; }
 
 # says WHAT TEXT COMMAND..: counts a command that has to fail and to say this.
 says() {
-  if ! "${@:3}" >"$scratch/log" 2>&1 && grep -qF -- "$2" "$scratch/log"; then
-    passed=$((passed + 1))
-  else
-    failed=$((failed + 1))
-    printf '%s, which has to fail with "%s":\n%s\n' "$1" "$2" "$(cat "$scratch/log")"
-  fi
+  ! "${@:3}" >"$scratch/log" 2>&1 && grep -qF -- "$2" "$scratch/log"
+  count "$1, which has to fail with \"$2\"" "$([ $? = 0 ] || { echo 'it says:'; cat "$scratch/log"; })"
 }
 
 # tests COMMAND..: counts the tests that cargo runs.
@@ -77,14 +63,14 @@ says 'a folder without the library' 'which has no libacpiset.a' build ACPISET_LI
 says 'a relative path' 'which is no absolute path' build ACPISET_LIB_DIR=lib
 says 'no library' 'Set ACPISET_LIB_DIR to the folder that has it' build -u ACPISET_LIB_DIR PKG_CONFIG_LIBDIR="$scratch/empty"
 says 'no library and no pkg-config' 'Set ACPISET_LIB_DIR to the folder that has it' build -u ACPISET_LIB_DIR PKG_CONFIG="$scratch/none"
-if command -v pkg-config >/dev/null; then
+if has pkg-config; then
   ran 'the library of pkg-config' build -u ACPISET_LIB_DIR PKG_CONFIG_PATH="$scratch/installed"
 else
   echo 'left out: pkg-config'
 fi
 
 # ---- libraries of later versions
-if command -v cc >/dev/null && command -v ar >/dev/null; then
+if has cc && has ar; then
   for version in 1 2; do
     later=$scratch/later$version
     mkdir "$later"
@@ -97,5 +83,4 @@ else
   echo 'left out: later libraries, for want of a C compiler'
 fi
 
-printf 'rust bindings: %d passed, %d failed\n' "$passed" "$failed"
-[ "$failed" = 0 ]
+finish 'rust bindings: '

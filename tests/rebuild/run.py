@@ -1,18 +1,21 @@
 #!/usr/bin/env python3
-"""Runs the built program's `rebuild`. Its text is compared with texts written by hand, and on seven images of real firmware
-and every set of tests/rows with what rebuilder.py makes of it. Each new image is checked, shown and rebuilt again.
+"""Runs the built program's `rebuild`. Its text is compared with texts written by hand, and on seven images of real firmware and every
+known set with that of a second program, rebuilt.py of tests/acpi_images. Each new image is checked, shown and rebuilt again.
 
 usage: run.py PROGRAM; the last line is 'rebuild: N passed, M failed'."""
 
 import re
 import sys
+from pathlib import Path
 
-from rebuilder import Refused, rebuilt, runs_read
+sys.path.insert(0, str(Path(__file__).resolve().parents[1]))
 
-from cases import FIRMWARE, IMAGES, Cases, text_in
-from many import MANY
-from rows import FULL, ROWS, WINDOW
-from tables import *
+from acpi_images.known.many import MANY
+from acpi_images.known.rows import FULL, ROWS, WINDOW
+from acpi_images.program import IMAGES, firmware_text, main
+from acpi_images.rebuilt import NotRebuilt, read_back, rebuilt
+from acpi_images.tables import *
+from acpi_images.text import read, text_of
 
 # Below 1 MiB, below and above 4 GiB.
 BASES = ("e0000", "7ffe0000", "123456780")
@@ -68,27 +71,31 @@ FACS_PLACES = [
 ]
 
 
-def expected_of(text, address, base):
-    """The status and the text that the second rebuilder gives."""
+def expected_of(pieces, address, base):
+    """The status and the text that the second program gives."""
     try:
-        return 0, rebuilt(text, int(address, 16), int(base, 16))
-    except Refused as name:
+        return 0, rebuilt(read(text_of(pieces)), int(address, 16), int(base, 16))
+    except NotRebuilt as name:
         return 1, f"refused {name}\n"
+
+
+def new_pieces(cases, pieces, base):
+    """What the program makes of a set, by address."""
+    image = read_back(cases.run(f"rebuild --rsdp e0000 --base {base}", pieces)[1])
+    return image.pieces() if image else {}
 
 
 def by_hand(cases):
     for name, pieces, words, status, expected in BY_HAND:
-        cases.writes(name, ["rebuild", *words.split()], text_in(pieces), status, expected)
+        cases.writes(name, f"rebuild {words}", pieces, expected, status)
     for name, pieces, base, place in FACS_PLACES:
-        _, text, _ = cases.run(["rebuild", "--rsdp", "e0000", "--base", base], text_of(pieces))
-        starts = [at + data.index(b"FACS") for at, data in runs_read(text)[0] or () if b"FACS" in data]
-        cases.count(name, "" if starts == [place] else f"{text}")
+        starts = [at + data.index(b"FACS") for at, data in new_pieces(cases, pieces, base).items() if b"FACS" in data]
+        cases.same(name, starts, [place])
     last = "ffffffffffffff00"
-    status, expected = expected_of(text_of(REDUCED_SET), "e0000", last)
-    cases.writes("the last base address", ["rebuild", "--base", last], text_of(REDUCED_SET), status, expected)
-    _, text, _ = cases.run(["rebuild", "--rsdp", "e0000", "--base", "e0000"], text_of(LISTED_TWICE))
-    places = [f"{at:x} {len(data)}" for at, data in runs_read(text)[0] or ()]
-    cases.count("a table in two slots", "" if places == ["e0000 36", "e0040 52", "e0080 116", "e0100 116"] else f"{places}")
+    status, expected = expected_of(REDUCED_SET, "e0000", last)
+    cases.writes("the last base address", f"rebuild --base {last}", REDUCED_SET, expected, status)
+    places = [f"{at:x} {len(data)}" for at, data in new_pieces(cases, LISTED_TWICE, "e0000").items()]
+    cases.same("a table in two slots", places, ["e0000 36", "e0040 52", "e0080 116", "e0100 116"])
 
 
 # ---- a new image
@@ -111,55 +118,54 @@ def contents(lines):
         yield line
 
 
-def new_image(cases, name, text, old_words, base, settings):
+def new_image(cases, name, pieces, old_words, base, settings):
     """What the program makes of its own new image: a clean set that says the same, and the same text again."""
-    _, told, _ = cases.run(["rebuild", *old_words, "--base", base, *settings], text)
-    runs, wrong = runs_read(told)
-    cases.count(f"{name}, its form", wrong)
-    if wrong:
+    _, told, _ = cases.run(["rebuild", *old_words, "--base", base, *settings], pieces)
+    image, text = read_back(told), told.encode()
+    cases.count(f"{name}, its form", "" if image else told)
+    if not image:
         return
     at = ["--rsdp", base]
-    cases.count(f"{name}, its first address", "" if runs[0][0] == int(base, 16) else f"{runs[0][0]:x}")
-    cases.writes(f"{name}, checked", ["check", *at, *settings], told.encode(), 0, "yes\n")
-    cases.writes(f"{name}, rebuilt again", ["rebuild", *at, "--base", base, *settings], told.encode(), 0, told)
-    _, before, _ = cases.run(["show", *old_words], text)
-    _, after, _ = cases.run(["show", *at], told.encode())
+    cases.same(f"{name}, its first address", image.starts[0], int(base, 16))
+    cases.writes(f"{name}, checked", ["check", *at, *settings], text, ["yes"])
+    cases.writes(f"{name}, rebuilt again", ["rebuild", *at, "--base", base, *settings], text, told, 0)
+    _, before, _ = cases.run(["show", *old_words], pieces)
+    _, after, _ = cases.run(["show", *at], text)
     same = list(contents(before)) == list(contents(after))
     cases.count(f"{name}, shown", "" if same else f"{before}and\n{after}")
+
+
+def rebuilds(cases, name, pieces, old_words, base, settings):
+    """The program rebuilds a clean set as the second program does, and its new image."""
+    status, expected = expected_of(pieces, old_words[1], base)
+    cases.writes(f"{name}, rebuilt at {base}", ["rebuild", *old_words, "--base", base, *settings], pieces, expected, status)
+    if status == 0:
+        new_image(cases, f"{name} at {base}", pieces, old_words, base, settings)
 
 
 def firmware(cases):
     """A set of SeaBIOS has a FADT of 116 bytes on the older machine: there it needs a FACS below 4 GiB."""
     for name, address in IMAGES.items():
-        text = (FIRMWARE / f"{name}.img.txt").read_bytes()
-        settings = APART if name == "sb-pc-nvdimm-numa" else []
         for base in BASES:
-            words = ["--rsdp", address]
-            status, expected = expected_of(text, address, base)
-            cases.writes(f"{name} at {base}", ["rebuild", *words, "--base", base, *settings], text, status, expected)
-            if status == 0:
-                new_image(cases, f"{name} at {base}", text, words, base, settings)
-    words = ["rebuild", "--rsdp", IMAGES["sb-pc-nvdimm-numa"], "--base", "e0000"]
-    text = (FIRMWARE / "sb-pc-nvdimm-numa.img.txt").read_bytes()
-    cases.writes("sb-pc-nvdimm-numa, counted", words, text, 1, "no 10 Overlap 0x90 0xb8 0x100000000\n")
-    words[-1] = "123456780"
-    cases.writes("sb-pc-nvdimm-numa, above 4 GiB", [*words, *APART], text, 1, "refused NeedsLow\n")
+            rebuilds(cases, name, firmware_text(name), ["--rsdp", address], base, APART if name == "sb-pc-nvdimm-numa" else [])
+    words, text = ["rebuild", "--rsdp", IMAGES["sb-pc-nvdimm-numa"], "--base"], firmware_text("sb-pc-nvdimm-numa")
+    cases.writes("sb-pc-nvdimm-numa, counted", [*words, "e0000"], text, ["no 10 Overlap 0x90 0xb8 0x100000000"])
+    cases.writes("sb-pc-nvdimm-numa, above 4 GiB", [*words, "123456780", *APART], text, ["refused NeedsLow"])
 
 
 # ---- all sets that are checked
 
 
 def rows(cases):
-    """Each set of tests/rows that a check judges whole: rebuilt as the second rebuilder does it, or the line of the check."""
+    """Each known set that a check judges whole: rebuilt as the second program does it, or the line of the check."""
     for row in [*ROWS, *MANY]:
         command, *words = row.words.split()
         if command != "check" or words[:1] != ["--rsdp"] or "--through" in words:
             continue
-        text = text_in(row.pieces)
-        status, expected = expected_of(text, words[1], "e0000") if row.answer == "yes" else (1, row.answer + "\n")
-        cases.writes(f"{row.name}, rebuilt", ["rebuild", *words, "--base", "e0000"], text, status, expected)
-        if status == 0:
-            new_image(cases, row.name, text, words[:2], "e0000", words[2:])
+        if row.answer == "yes":
+            rebuilds(cases, row.name, text_of(row.pieces), words[:2], "e0000", words[2:])
+        else:
+            cases.writes(f"{row.name}, rebuilt", ["rebuild", *words, "--base", "e0000"], row.pieces, [row.answer])
 
 
 # ---- arguments
@@ -184,12 +190,11 @@ REFUSED = [
 
 def arguments(cases):
     for message, words in REFUSED:
-        status, out, err = cases.run(["rebuild", *words], text_of(REDUCED_SET))
-        told = (status, out, err.split("\n")[0])
-        cases.count(f"arguments {words}", "" if told == (2, "", f"acpiset: {message}") else f"{told}")
+        status, out, err = cases.run(["rebuild", *words], REDUCED_SET)
+        cases.same(f"arguments {words}", (status, out, err.split("\n")[0]), (2, "", f"acpiset: {message}"))
     for base in ("0xE0000", "00000000000e0000", "E0000"):
-        words = ["rebuild", "--rsdp", "0xe0000", f"--base={base}", "--default-inputs", "16", "fec00000=32", "--processors", "usable"]
-        cases.writes(f"base address {base}", words, text_of(REDUCED_SET), 0, REDUCED_TEXT)
+        words = f"rebuild --rsdp 0xe0000 --base={base} --default-inputs 16 fec00000=32 --processors usable"
+        cases.writes(f"base address {base}", words, REDUCED_SET, REDUCED_TEXT, 0)
 
 
 # ---- many tables
@@ -198,22 +203,10 @@ def arguments(cases):
 def many(cases):
     """Ten thousand tables, and one of a MiB."""
     slots = [TABLES_AT, *[0x8000] * 10_000, 0x1000000]
-    others = {0x8000: hpet(), 0x1000000: table(b"OEM1", bytes(range(256)) * 4096)}
-    pieces = image_of(fadt(), slots=slots, others=others)
-    pieces[RSDP_AT] = rsdp(0x2000000)
-    pieces[0x2000000] = pieces.pop(RSDT_AT)
-    text = text_of(pieces)
+    listed = {TABLES_AT: fadt(), 0x8000: hpet(), 0x1000000: table(b"OEM1", bytes(range(256)) * 4096)}
+    text = text_of({RSDP_AT: rsdp(0x2000000), 0x2000000: rsdt(*slots), **listed})
     status, expected = expected_of(text, "e0000", "100000000000")
-    cases.writes("ten thousand tables", ["rebuild", "--rsdp", "e0000", "--base", "100000000000"], text, status, expected)
+    cases.writes("ten thousand tables", "rebuild --rsdp e0000 --base 100000000000", text, expected, status)
 
 
-def main():
-    _, program = sys.argv
-    cases = Cases(program)
-    for test in (by_hand, firmware, rows, arguments, many):
-        test(cases)
-    print(f"rebuild: {cases.passed} passed, {cases.failed} failed")
-    sys.exit(1 if cases.failed else 0)
-
-
-main()
+main("rebuild", by_hand, firmware, rows, arguments, many)

@@ -11,8 +11,14 @@ import re
 import subprocess
 import sys
 import tempfile
+from pathlib import Path
 
-TOP = os.path.join(os.path.dirname(os.path.abspath(__file__)), "..", "..")
+sys.path.insert(0, str(Path(__file__).resolve().parents[1]))
+
+from acpi_images.program import FIRMWARE, TESTS, main
+from acpi_images.text import Image, read, text_of
+
+TOP = TESTS.parent
 PART = re.compile(r"^### (\d+) (\w+)$(.*?)(?=^##|\Z)", re.M | re.S)
 EXAMPLE = re.compile(r"^- Example: (.*?): `([^`]*)`\.$", re.M | re.S)
 CHANGE = re.compile(r"`@([0-9a-f]+) ([-0-9a-f\s]+)`")
@@ -20,36 +26,13 @@ ADVICE = re.compile(r"^### Examples of advice$(.*?)^##", re.M | re.S)
 FIRST_RULE = 101
 
 
-def image_of(text):
-    """The bytes of an image text, by address."""
-    image = {}
-    at = 0
-    for line in text.splitlines():
-        line = line.partition("#")[0].strip()
-        if line.startswith("@"):
-            at = int(line[1:], 16)
-            continue
-        for byte in bytes.fromhex(line):
-            image[at] = byte
-            at += 1
-    return image
-
-
-def text_of(image):
-    """Image text with a line for each byte."""
-    return "".join(f"@{at:x}\n{byte:02x}\n" for at, byte in image.items()).encode()
-
-
 def changed(image, changes):
     """The image with the bytes of `@ADDRESS BYTES` put instead of those there; -- takes one out."""
-    image = dict(image)
+    image = Image(image.pieces())
     for address, words in CHANGE.findall(changes):
-        for place, word in enumerate(words.split()):
-            at = int(address, 16) + place
-            if word == "--":
-                del image[at]
-            else:
-                image[at] = int(word, 16)
+        for at, word in enumerate(words.split(), int(address, 16)):
+            image.drop(at, 1)
+            image.put(at, b"" if word == "--" else bytes.fromhex(word))
     return image
 
 
@@ -68,13 +51,7 @@ def unexplained(program, line, text):
     return "" if is_found and is_asked and "s this the image" not in found else f"explain: {run.stderr.decode()}{found}"
 
 
-def told(program, command, text):
-    """What the program says of an image: its status, and what it writes to standard output and standard error."""
-    run = subprocess.run([program, command, "--rsdp", "e0000"], input=text, capture_output=True, timeout=60)
-    return run.returncode, run.stdout.decode(), run.stderr.decode()
-
-
-def wrong(program, image, name, part, command):
+def wrong(cases, image, name, part, command):
     """What is wrong with a part's example, a fault of `check` or advice of `lint`; nothing where it is right."""
     example = EXAMPLE.search(part)
     if not example:
@@ -82,36 +59,22 @@ def wrong(program, image, name, part, command):
     changes, line = example.groups()
     if name not in line.split()[1:3]:
         return f"the example's line is '{line}'"
-    text = text_of(changed(image, changes))
-    found = told(program, command, text)
+    text = text_of(changed(image, changes).pieces())
+    found = cases.run([command, "--rsdp", "e0000"], text)
     due = (1, line + "\n", "") if command == "check" else (0, f"yes\n{line}\n", "")
-    return unexplained(program, line, text) if found == due else f"{found}, not {line}"
+    return unexplained(cases.program, line, text) if found == due else f"{found}, not {line}"
 
 
-def main():
-    _, program = sys.argv
-    with open(f"{TOP}/tests/images/example.img.txt") as file:
-        image = image_of(file.read())
-    with open(f"{TOP}/docs/FAULTS.md") as file:
-        document = file.read()
+def examples(cases):
+    image = read((FIRMWARE / "example.img.txt").read_bytes())
+    document = (TOP / "docs" / "FAULTS.md").read_text()
     advised = changed(image, ADVICE.search(document).group(1))
-    faults = {}
     for number, name, part in PART.findall(document):
-        if int(number) < FIRST_RULE:
-            faults[f"{number} {name}"] = wrong(program, image, name, part, "check")
-        else:
-            faults[f"{number} {name}"] = wrong(program, advised, name, part, "lint")
-    found = told(program, "lint", text_of(advised))
-    faults["the set of the examples of advice"] = "" if found == (0, "yes\n", "") else str(found)
-    run = subprocess.run([program, "check"], input=text_of(image), capture_output=True, timeout=60)
-    faults["the set itself"] = "" if run.stdout == b"yes\n" else run.stdout.decode()
-    for name, fault in faults.items():
-        if fault:
-            print(f"{name}: {fault}")
-    failed = sum(fault != "" for fault in faults.values())
-    print(f"examples: {len(faults) - failed} passed, {failed} failed")
-    sys.exit(1 if failed else 0)
+        is_fault = int(number) < FIRST_RULE
+        cases.count(f"{number} {name}", wrong(cases, image if is_fault else advised, name, part, "check" if is_fault else "lint"))
+    cases.writes("the set of the examples of advice", "lint --rsdp e0000", advised.pieces(), ["yes"])
+    cases.writes("the set itself", "check", image.pieces(), ["yes"])
 
 
 if __name__ == "__main__":
-    main()
+    main("examples", examples)

@@ -6,11 +6,14 @@ usage: many_slots.py PROGRAM; the last line is 'many slots: N passed, M failed'.
 
 import random
 import resource
-import subprocess
 import sys
-from concurrent.futures import ThreadPoolExecutor
+from pathlib import Path
 
-from tables import RSDP_AT, apic_domain, extended_rsdp, fadt, lapic, madt, rsdp, srat, table, text_of, x2apic_domain
+sys.path.insert(0, str(Path(__file__).resolve().parents[1]))
+
+from acpi_images.program import answer, main
+from acpi_images.tables import RSDP_AT, apic_domain, extended_rsdp, fadt, lapic, madt, rsdp, srat, table, x2apic_domain
+from acpi_images.text import text_of
 
 SLOTS = 100_000
 TABLES = 5_000
@@ -20,7 +23,6 @@ LOW, LOWER_STILL, OTHERS, HIGH, FADT_AT = 0x18_0000, 0x17_0000, 0x20_0000, 0x80_
 CHOSEN = (0, 1, 4_095, 32_766, 32_767, 32_768, 40_000, 65_535, 65_536, 98_303, 98_304, SLOTS - 2)
 FADT_SLOT = 50_000
 BASE = 0x4000_0000
-SECONDS = 60
 # Each run has this much stack.
 STACK = 1 << 20
 
@@ -70,49 +72,43 @@ def broken(whole):
     return whole[:10] + bytes([whole[10] ^ 1]) + whole[11:]
 
 
-def told(program, words, text):
-    run = subprocess.run([program, *words], input=text, capture_output=True, timeout=SECONDS)
-    return (run.returncode, run.stdout.decode(), run.stderr.decode())
-
-
-def asked(program, words, text, line):
+def asked(cases, words, text, line):
     """What is wrong with the one line that the program prints; nothing where it is right."""
-    expected = (0 if line in ("yes", "true") else 1, line + "\n", "")
-    answer = told(program, [words[0], "--rsdp", f"{RSDP_AT:x}", *words[1:]], text)
-    return "" if answer == expected else f"{' '.join(words)}: {answer}, not {expected}"
+    found = cases.run([words[0], "--rsdp", f"{RSDP_AT:x}", *words[1:]], text)
+    return "" if found == answer(line) else f"{' '.join(words)}: {found}, not {answer(line)}"
 
 
 # ---- check and confirm
 
 
-def one_fault(program, slot):
+def one_fault(cases, slot):
     """A wrong sum, and then one more in the next slot, at a lower address: the first slot counts."""
     line = f"3 TableSum {slot:#x} {HIGH:#x} 0x0"
     later = f"3 TableSum {slot + 1:#x} {LOW:#x} 0x0"
     for wide in (False, True):
         case = Set(slot, wide).put(slot, HIGH, broken(other(3)))
-        yield asked(program, ["check"], case.text(), f"no {line}")
+        yield asked(cases, ["check"], case.text(), f"no {line}")
         text = case.put(slot + 1, LOW, broken(other(4))).text()
-        yield asked(program, ["check"], text, f"no {line}")
-        yield asked(program, ["confirm", "--witness", line], text, "true")
-        yield asked(program, ["confirm", "--witness", later], text, "true")
-        yield asked(program, ["confirm", "--witness", f"3 TableSum {slot:#x} {LOW:#x} 0x0"], text, "false")
+        yield asked(cases, ["check"], text, f"no {line}")
+        yield asked(cases, ["confirm", "--witness", line], text, "true")
+        yield asked(cases, ["confirm", "--witness", later], text, "true")
+        yield asked(cases, ["confirm", "--witness", f"3 TableSum {slot:#x} {LOW:#x} 0x0"], text, "false")
 
 
-def first_of_kind(program, slot):
+def first_of_kind(cases, slot):
     """Two MADTs in neighbouring slots, the second at a lower address: only the first one counts."""
     good, bad = madt(lapic(0, 0)), madt(b"\0\1")
     fault = "6 MadtEntryCut 0x2c 0x0 0x0"
     for wide in (False, True):
         text = Set(slot, wide).put(slot, HIGH, bad).put(slot + 1, LOW, good).text()
-        yield asked(program, ["check"], text, f"no {fault}")
-        yield asked(program, ["confirm", "--witness", fault], text, "true")
+        yield asked(cases, ["check"], text, f"no {fault}")
+        yield asked(cases, ["confirm", "--witness", fault], text, "true")
         text = Set(slot, wide).put(slot, HIGH, good).put(slot + 1, LOW, bad).text()
-        yield asked(program, ["check"], text, "yes")
-        yield asked(program, ["confirm", "--witness", fault], text, "false")
+        yield asked(cases, ["check"], text, "yes")
+        yield asked(cases, ["confirm", "--witness", fault], text, "false")
 
 
-def first_of_two_kinds(program, slot):
+def first_of_two_kinds(cases, slot):
     """A fault between a MADT and an SRAT, in slots that are in different blocks or in the same one. A later SRAT, without the fault,
     has the lowest address."""
     fault = "16 TwoDomains 0x40 0x30 0x5"
@@ -120,26 +116,26 @@ def first_of_two_kinds(program, slot):
     two = srat(apic_domain(5, 0), x2apic_domain(5, 1))
     for madt_slot, srat_slot in ((slot, SLOTS - 3), (3, slot), (slot + 1, 3)):
         case = Set(slot).put(SLOTS - 1, LOWER_STILL, srat()).put(madt_slot, HIGH, one).put(srat_slot, LOW, two)
-        yield asked(program, ["check"], case.text(), f"no {fault}")
-        yield asked(program, ["confirm", "--witness", fault], case.text(), "true")
+        yield asked(cases, ["check"], case.text(), f"no {fault}")
+        yield asked(cases, ["confirm", "--witness", fault], case.text(), "true")
         alone = case.put(srat_slot, LOW, other(1))
-        yield asked(program, ["check"], alone.text(), "yes")
-        yield asked(program, ["confirm", "--witness", fault], alone.text(), "false")
+        yield asked(cases, ["check"], alone.text(), "yes")
+        yield asked(cases, ["confirm", "--witness", fault], alone.text(), "false")
 
 
-def last_of(program, count):
+def last_of(cases, count):
     """What is in the last slot of this many counts as in any other."""
     last = count - 1
     case = Set(count, count=count)
     cut = madt(lapic(0, 0), b"\0\1")
     for fault, whole in ((f"3 TableSum {last:#x} {HIGH:#x} 0x0", broken(other(3))), ("6 MadtEntryCut 0x34 0x0 0x0", cut)):
         text = case.put(last, HIGH, whole).text()
-        yield asked(program, ["check"], text, f"no {fault}")
-        yield asked(program, ["confirm", "--witness", fault], text, "true")
-        yield asked(program, ["lint"], text, f"no {fault}\n{case.listed_twice()}")
+        yield asked(cases, ["check"], text, f"no {fault}")
+        yield asked(cases, ["confirm", "--witness", fault], text, "true")
+        yield asked(cases, ["lint"], text, f"no {fault}\n{case.listed_twice()}")
     text = case.put(last, HIGH, madt(lapic(0, 0))).text()
-    yield asked(program, ["check"], text, "yes")
-    yield difference(f"show, {count} slots", slot_lines(program, RSDP_AT, text), list(case.slot_lines()))
+    yield asked(cases, ["check"], text, "yes")
+    yield difference(f"show, {count} slots", slot_lines(cases, RSDP_AT, text), list(case.slot_lines()))
 
 
 # ---- show and rebuild
@@ -149,21 +145,21 @@ def shown(whole):
     return f"{whole[:4].decode()} length {len(whole)} revision {whole[8]}"
 
 
-def slot_lines(program, rsdp_at, text):
-    status, output, complaint = told(program, ["show", "--rsdp", f"{rsdp_at:x}"], text)
+def slot_lines(cases, rsdp_at, text):
+    status, output, complaint = cases.run(["show", "--rsdp", f"{rsdp_at:x}"], text)
     lines = [line for line in output.splitlines() if line.startswith("slot ")]
     return lines if (status, complaint) == (0, "") else (status, complaint)
 
 
-def written(program, seed):
+def written(cases, seed):
     """The line of each slot, and the lines of the rebuilt set: its slots list the same tables in the same order, without the zeros."""
     case = Set(seed, wide=seed % 2 == 1).put(SLOTS - 1, LOW, madt(lapic(0, 0)))
     text = case.text()
-    yield difference(f"show, seed {seed}", slot_lines(program, RSDP_AT, text), list(case.slot_lines()))
-    status, rebuilt, complaint = told(program, ["rebuild", "--rsdp", f"{RSDP_AT:x}", "--base", f"{BASE:x}"], text)
+    yield difference(f"show, seed {seed}", slot_lines(cases, RSDP_AT, text), list(case.slot_lines()))
+    status, rebuilt, complaint = cases.run(["rebuild", "--rsdp", f"{RSDP_AT:x}", "--base", f"{BASE:x}"], text)
     yield "" if (status, complaint) == (0, "") else f"rebuild, seed {seed}: {status} {complaint}"
     listed = [case.tables[address] for address in case.slots if address]
-    lines = slot_lines(program, BASE, rebuilt.encode())
+    lines = slot_lines(cases, BASE, rebuilt.encode())
     tails = [line.split(" ", 3)[3] for line in lines]
     yield difference(f"rebuild, seed {seed}", tails, [shown(whole) for whole in listed])
 
@@ -178,19 +174,12 @@ def difference(name, lines, expected):
     return f"{name}: {next(pairs, f'{len(lines)} lines, not {len(expected)}')}"
 
 
-def main():
-    _, program = sys.argv
+def many_slots(cases):
     resource.setrlimit(resource.RLIMIT_STACK, (STACK, resource.getrlimit(resource.RLIMIT_STACK)[1]))
-    cases = [(part, slot) for slot in CHOSEN for part in (one_fault, first_of_kind, first_of_two_kinds)]
-    cases += [(last_of, count) for count in (65_535, 65_536, 65_537)]
-    cases += [(written, seed) for seed in range(4)]
-    with ThreadPoolExecutor() as pool:
-        answers = list(pool.map(lambda case: list(case[0](program, case[1])), cases))
-    faults = [f"{part.__name__}, {number}: {wrong}" for (part, number), found in zip(cases, answers) for wrong in found if wrong]
-    count = sum(map(len, answers))
-    print(*faults, sep="\n", end="\n" if faults else "")
-    print(f"many slots: {count - len(faults)} passed, {len(faults)} failed")
-    sys.exit(1 if faults else 0)
+    asked_about = [(part, slot) for slot in CHOSEN for part in (one_fault, first_of_kind, first_of_two_kinds)]
+    asked_about += [(last_of, count) for count in (65_535, 65_536, 65_537)]
+    asked_about += [(written, seed) for seed in range(4)]
+    cases.beside(lambda it: ((f"{it[0].__name__}, {it[1]}", wrong) for wrong in it[0](cases, it[1])), asked_about)
 
 
-main()
+main("many slots", many_slots)

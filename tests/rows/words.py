@@ -6,17 +6,21 @@ usage: words.py PROGRAM; the last line is 'words: N passed, M failed'."""
 
 import subprocess
 import sys
+from pathlib import Path
 
-from tables import *
+sys.path.insert(0, str(Path(__file__).resolve().parents[1]))
+
+from acpi_images.program import main
+from acpi_images.tables import *
+from acpi_images.text import text_of
 
 SECONDS = 20
 
 # ---- the address of the RSDP, and the last stage
-LEAF = node(0, IS_ID_VALID | IS_LEAF, 7)
 LAST_FAULT = "no 18 LeafUnknown 0x24 0x0 0x7"
 # Sets whose first fault is of the last stage, and of stages 2, 3 and 4.
 FAULTY = {
-    18: (image_of(fadt(), madt(lapic(5, 0)), pptt(LEAF)), LAST_FAULT),
+    18: (listed(madt(lapic(5, 0)), pptt(leaf(7))), LAST_FAULT),
     2: ({RSDP_AT: rsdp()}, "no 2 RootHeaderOut 0x1000 0x0 0x0"),
     3: ({RSDP_AT: rsdp(), RSDT_AT: rsdt(TABLES_AT)}, "no 3 TableHeaderOut 0x0 0x2000 0x0"),
     4: ({RSDP_AT: rsdp(), RSDT_AT: rsdt()}, "no 4 NoFadt 0x0 0x0 0x0"),
@@ -24,23 +28,14 @@ FAULTY = {
 
 # Lines that are read, with the address and the number of the last stage that they give.
 READ = [
-    ("acpiset check --rsdp e0000", 0xE0000, 18),
-    ("acpiset check --rsdp 0xe0000", 0xE0000, 18),
-    ("acpiset check --rsdp E0000", 0xE0000, 18),
-    ("acpiset check --rsdp=e0000", 0xE0000, 18),
-    ("acpiset check --rsdp 0", 0, 18),
-    ("a check --rsdp 0", 0, 18),
-    ("acpiset check --rsdp ffffffffffffffff", 2**64 - 1, 18),
-    ("acpiset check --rsdp 0x0123456789aBcDeF", 0x0123456789ABCDEF, 18),
-    ("acpiset check --rsdp e0000 --through 1", 0xE0000, 1),
-    ("acpiset check --through 2 --rsdp e0000", 0xE0000, 2),
-    ("acpiset check --rsdp e0000 --through 3", 0xE0000, 3),
-    ("acpiset check --rsdp e0000 --through 03", 0xE0000, 3),
-    ("acpiset check --rsdp e0000 --through 18", 0xE0000, 18),
-    ("acpiset check --rsdp e0000 --through 17", 0xE0000, 17),
+    ("acpiset check --rsdp e0000", 0xE0000, 18), ("acpiset check --rsdp 0xe0000", 0xE0000, 18), ("acpiset check --rsdp E0000", 0xE0000, 18),
+    ("acpiset check --rsdp=e0000", 0xE0000, 18), ("acpiset check --rsdp 0", 0, 18), ("a check --rsdp 0", 0, 18),
+    ("acpiset check --rsdp ffffffffffffffff", 2**64 - 1, 18), ("acpiset check --rsdp 0x0123456789aBcDeF", 0x0123456789ABCDEF, 18),
+    ("acpiset check --rsdp e0000 --through 1", 0xE0000, 1), ("acpiset check --through 2 --rsdp e0000", 0xE0000, 2),
+    ("acpiset check --rsdp e0000 --through 3", 0xE0000, 3), ("acpiset check --rsdp e0000 --through 03", 0xE0000, 3),
+    ("acpiset check --rsdp e0000 --through 18", 0xE0000, 18), ("acpiset check --rsdp e0000 --through 17", 0xE0000, 17),
     # The address that is found.
-    ("acpiset check", 0xE0000, 18),
-    ("acpiset check --through 3", 0xE0000, 3),
+    ("acpiset check", 0xE0000, 18), ("acpiset check --through 3", 0xE0000, 3),
 ]
 
 
@@ -59,32 +54,22 @@ def read_cases():
 # ---- how many inputs an I/O APIC has
 # Lines that are read, with the address of an I/O APIC and the number of inputs that it then has.
 INPUTS = [
-    ("acpiset check", 0xFEC00000, 24),
-    ("acpiset check --default-inputs 1", 0xFEC00000, 1),
-    ("acpiset check --default-inputs 256", 0xFEC00000, 256),
-    ("acpiset check --default-inputs 016", 0xFEC00000, 16),
-    ("acpiset check fec00000=32", 0xFEC00000, 32),
-    ("acpiset check fec00000=32", 0xFEC01000, 24),
-    ("acpiset check fec00000=1", 0xFEC00000, 1),
-    ("acpiset check fec00000=256", 0xFEC00000, 256),
-    ("acpiset check fec00000=007", 0xFEC00000, 7),
-    ("acpiset check FEC0ABCD=32", 0xFEC0ABCD, 32),
-    ("acpiset check 0xFeC0aBcD=32", 0xFEC0ABCD, 32),
-    ("acpiset check 0=32", 0, 32),
-    ("acpiset check 0xffffffff=32", 0xFFFFFFFF, 32),
-    ("acpiset check fec00000=32 fec00000=8", 0xFEC00000, 32),
-    ("acpiset check FEC00000=24 0xfec00000=32", 0xFEC00000, 24),
-    ("acpiset check fec00000=32 fec01000=8", 0xFEC01000, 8),
-    ("acpiset check fec00000=32 --default-inputs 16 fec01000=8", 0xFEC01000, 8),
-    ("acpiset check fec00000=32 --default-inputs 16 fec01000=8", 0xFEC02000, 16),
-    ("acpiset check -- fec00000=32", 0xFEC00000, 32),
+    ("acpiset check", 0xFEC00000, 24), ("acpiset check --default-inputs 1", 0xFEC00000, 1),
+    ("acpiset check --default-inputs 256", 0xFEC00000, 256), ("acpiset check --default-inputs 016", 0xFEC00000, 16),
+    ("acpiset check fec00000=32", 0xFEC00000, 32), ("acpiset check fec00000=32", 0xFEC01000, 24),
+    ("acpiset check fec00000=1", 0xFEC00000, 1), ("acpiset check fec00000=256", 0xFEC00000, 256),
+    ("acpiset check fec00000=007", 0xFEC00000, 7), ("acpiset check FEC0ABCD=32", 0xFEC0ABCD, 32),
+    ("acpiset check 0xFeC0aBcD=32", 0xFEC0ABCD, 32), ("acpiset check 0=32", 0, 32), ("acpiset check 0xffffffff=32", 0xFFFFFFFF, 32),
+    ("acpiset check fec00000=32 fec00000=8", 0xFEC00000, 32), ("acpiset check FEC00000=24 0xfec00000=32", 0xFEC00000, 24),
+    ("acpiset check fec00000=32 fec01000=8", 0xFEC01000, 8), ("acpiset check fec00000=32 --default-inputs 16 fec01000=8", 0xFEC01000, 8),
+    ("acpiset check fec00000=32 --default-inputs 16 fec01000=8", 0xFEC02000, 16), ("acpiset check -- fec00000=32", 0xFEC00000, 32),
 ]
 
 
 def input_cases(line, address, count):
     """The last input is served, and the one after it is not."""
     for gsi in (count - 1, count):
-        pieces = image_of(fadt(), madt(io_apic(address, 0), override(9, gsi)))
+        pieces = listed(madt(io_apic(address, 0), override(9, gsi)))
         yield line, text_of(pieces), "yes" if gsi < count else f"no 17 GsiNowhere 0x38 0x0 {gsi:#x}"
 
 
@@ -102,24 +87,22 @@ def many_counts():
         entries += [io_apic(address, base), nmi_source(base + count - 1)]
         base += count
     entries.append(io_apic(65_000, base))
-    pieces = image_of(fadt(), slots=[TABLES_AT, HIGH_AT], others={HIGH_AT: madt(*entries)})
+    pieces = listed(slots=[TABLES_AT, HIGH_AT], others={HIGH_AT: madt(*entries)})
     return " ".join(["acpiset check", *words]), text_of(pieces), "yes"
 
 
 # ---- the settings
 # Lines that are read, with the settings that they give, and the number of inputs of the I/O APIC at 0xFEC00000.
 SETTINGS = [
-    ("acpiset check", "counted", "enabled", 24),
-    ("acpiset check --hotplug counted --processors enabled", "counted", "enabled", 24),
-    ("acpiset check --hotplug apart", "apart", "enabled", 24),
-    ("acpiset check --hotplug=apart", "apart", "enabled", 24),
+    ("acpiset check", "counted", "enabled", 24), ("acpiset check --hotplug counted --processors enabled", "counted", "enabled", 24),
+    ("acpiset check --hotplug apart", "apart", "enabled", 24), ("acpiset check --hotplug=apart", "apart", "enabled", 24),
     ("acpiset check --processors usable", "counted", "usable", 24),
     ("acpiset check --processors usable --hotplug apart", "apart", "usable", 24),
     ("acpiset check fec00000=32 --hotplug apart --default-inputs 16", "apart", "enabled", 32),
 ]
 # A hot-pluggable range over another one, and two domains of a processor that is not enabled, and online capable.
-HOT_PLUG = image_of(fadt(), srat(memory(0, 0x80000000), memory(0, 0x100000000, 3)))
-CAPABLE = image_of(fadt(), madt(lapic(0, 5, 0b10)), srat(apic_domain(5, 0), x2apic_domain(5, 1)))
+HOT_PLUG = listed(srat(memory(0, 0x80000000), memory(0, 0x100000000, 3)))
+CAPABLE = listed(madt(lapic(0, 5, 0b10)), srat(apic_domain(5, 0), x2apic_domain(5, 1)))
 
 
 def setting_cases():
@@ -132,16 +115,12 @@ def setting_cases():
 # ---- all findings
 # Lines that are read, and whether advice counts.
 LINTED = [
-    ("acpiset lint", False),
-    ("acpiset lint --rsdp e0000", False),
-    ("acpiset lint --strict", True),
-    ("acpiset lint --strict --rsdp e0000", True),
-    ("acpiset lint --rsdp=0xe0000 --processors usable --strict", True),
-    ("acpiset lint fec00000=8 --strict --default-inputs 1", True),
-    ("acpiset lint --hotplug apart -- fec00000=8", False),
+    ("acpiset lint", False), ("acpiset lint --rsdp e0000", False), ("acpiset lint --strict", True),
+    ("acpiset lint --strict --rsdp e0000", True), ("acpiset lint --rsdp=0xe0000 --processors usable --strict", True),
+    ("acpiset lint fec00000=8 --strict --default-inputs 1", True), ("acpiset lint --hotplug apart -- fec00000=8", False),
 ]
 # Two I/O APICs with one ID and no processor, in a table that slots 1 and 2 list: advice, and no fault.
-ADVISED = image_of(fadt(), madt(io_apic(0xFEC00000, 0), io_apic(0xFEC01000, 24)), slots=[0x2000, 0x3000, 0x3000])
+ADVISED = listed(madt(io_apic(0xFEC00000, 0), io_apic(0xFEC01000, 24)), slots=[0x2000, 0x3000, 0x3000])
 ADVICE = "advice ListedTwice 0x2 0x1 0x3000\nadvice SameIoApicId 0x38 0x2c 0x0\nadvice NoProcessor 0x0 0x0 0x0"
 
 
@@ -152,109 +131,38 @@ def lint_cases():
         pieces, fault = FAULTY[4]
         yield line, text_of(pieces), fault, 1
     for line, least in (("acpiset lint", 24), ("acpiset lint --default-inputs 16", 16), ("acpiset lint fec00000=32", 32)):
-        pieces = image_of(fadt(), madt(io_apic(0xFEC00000, 0), override(9, least), lapic(0, 0)))
+        pieces = listed(madt(io_apic(0xFEC00000, 0), override(9, least), lapic(0, 0)))
         yield line, text_of(pieces), f"no 17 GsiNowhere 0x38 0x0 {least:#x}", 1
 
 
 # ---- lines that are refused
-REFUSED = """acpiset
-acpiset --help
-acpiset -h
-acpiset help
-acpiset check --help
-acpiset judge --rsdp e0000
-acpiset Check --rsdp e0000
-acpiset chec --rsdp e0000
-acpiset --rsdp e0000
-acpiset find --rsdp e0000
-acpiset find find
-acpiset check --rsdp
-acpiset check --rsdp 0x
-acpiset check --rsdp g
-acpiset check --rsdp 0Xe0000
-acpiset check --rsdp 0x0x1
-acpiset check --rsdp +1
-acpiset check --rsdp -1
-acpiset check --rsdp e_0000
-acpiset check --rsdp 10000000000000000
-acpiset check --rsdp 0x00000000000000001
-acpiset check --rsdp e0000 --rsdp e0000
-acpiset check --rsd e0000
-acpiset check -rsdp e0000
-acpiset check e0000
-acpiset check --rsdp e0000 --through
-acpiset check --rsdp e0000 --through 0
-acpiset check --rsdp e0000 --through 00
-acpiset check --rsdp e0000 --through 19
-acpiset check --rsdp e0000 --through 003
-acpiset check --rsdp e0000 --through 0x3
-acpiset check --rsdp e0000 --through a
-acpiset check --rsdp e0000 --through +3
-acpiset check --rsdp e0000 --through 3 --through 3
-acpiset fec00000=24
-acpiset find fec00000=24
-acpiset find --default-inputs 24
-acpiset check help
-acpiset check fec00000
-acpiset check fec00000=
-acpiset check fec00000=0
-acpiset check fec00000=257
-acpiset check fec00000=024 fec00000=0024
-acpiset check fec00000=+24
-acpiset check fec00000=0x18
-acpiset check fec00000=18h
-acpiset check fec00000==24
-acpiset check fec00000=24=24
-acpiset check fec00000=24,fec01000=24
-acpiset check fec00000 = 24
-acpiset check =24
-acpiset check 0x=24
-acpiset check 0Xfec00000=24
-acpiset check fec0000h=24
-acpiset check 1fec00000=24
-acpiset check 0x0fec00000=24
-acpiset check -fec00000=24
-acpiset check --fec00000=24
-acpiset check fec00000=24 fec01000=0
-acpiset check --default-inputs
-acpiset check --default-inputs 0
-acpiset check --default-inputs 257
-acpiset check --default-inputs 0024
-acpiset check --default-inputs 24 --default-inputs 24
-acpiset check --hotplug
-acpiset check --hotplug Apart
-acpiset check --hotplug apar
-acpiset check --hotplug aparts
-acpiset check --hotplug counted,apart
-acpiset check --hotplug apart --hotplug counted
-acpiset find --hotplug apart
-acpiset check --processors
-acpiset check --processors Usable
-acpiset check --processors apart
-acpiset check --processors usable --processors usable
-acpiset find --processors usable
-acpiset Lint
-acpiset lint --strict --strict
-acpiset lint --strict=true
-acpiset lint --strict true
-acpiset lint -strict
-acpiset lint --through 3
-acpiset lint --rsdp
-acpiset lint --rsdp g --strict
-acpiset lint --default-inputs 0
-acpiset lint fec00000
-acpiset lint --hotplug both
-acpiset lint --processors online
-acpiset --strict lint
-acpiset check --strict
-acpiset confirm --strict
-acpiset show --strict
-acpiset rebuild --rsdp e0000
-acpiset rebuild --base
-acpiset rebuild --base 10000000000000000
-acpiset rebuild --base e0000 --base e0000
-acpiset rebuild --base e0000 --through 3
-acpiset check --base e0000""".split("\n")
+# Lines that are refused: of each command the words after it, with bars between two lines.
+REFUSED_WORDS = {
+    "acpiset": (
+        "--help | -h | help | judge --rsdp e0000 | Check --rsdp e0000 | chec --rsdp e0000 | --rsdp e0000 | fec00000=24 | Lint | "
+        "--strict lint | confirm --strict | show --strict"
+    ),
+    "acpiset check": (
+        "--help | --rsdp | --rsdp 0x | --rsdp g | --rsdp 0Xe0000 | --rsdp 0x0x1 | --rsdp +1 | --rsdp -1 | --rsdp e_0000 | "
+        "--rsdp 10000000000000000 | --rsdp 0x00000000000000001 | --rsdp e0000 --rsdp e0000 | --rsd e0000 | -rsdp e0000 | e0000 | "
+        "--rsdp e0000 --through | --rsdp e0000 --through 0 | --rsdp e0000 --through 00 | --rsdp e0000 --through 19 | "
+        "--rsdp e0000 --through 003 | --rsdp e0000 --through 0x3 | --rsdp e0000 --through a | --rsdp e0000 --through +3 | "
+        "--rsdp e0000 --through 3 --through 3 | help | fec00000 | fec00000= | fec00000=0 | fec00000=257 | "
+        "fec00000=024 fec00000=0024 | fec00000=+24 | fec00000=0x18 | fec00000=18h | fec00000==24 | fec00000=24=24 | "
+        "fec00000=24,fec01000=24 | fec00000 = 24 | =24 | 0x=24 | 0Xfec00000=24 | fec0000h=24 | 1fec00000=24 | 0x0fec00000=24 | "
+        "-fec00000=24 | --fec00000=24 | fec00000=24 fec01000=0 | --default-inputs | --default-inputs 0 | --default-inputs 257 | "
+        "--default-inputs 0024 | --default-inputs 24 --default-inputs 24 | --hotplug | --hotplug Apart | --hotplug apar | "
+        "--hotplug aparts | --hotplug counted,apart | --hotplug apart --hotplug counted | --processors | --processors Usable | "
+        "--processors apart | --processors usable --processors usable | --strict | --base e0000"
+    ),
+    "acpiset find": "--rsdp e0000 | find | fec00000=24 | --default-inputs 24 | --hotplug apart | --processors usable",
+    "acpiset lint": (
+        "--strict --strict | --strict=true | --strict true | -strict | --through 3 | --rsdp | --rsdp g --strict | "
+        "--default-inputs 0 | fec00000 | --hotplug both | --processors online"
+    ),
+    "acpiset rebuild": "--rsdp e0000 | --base | --base 10000000000000000 | --base e0000 --base e0000 | --base e0000 --through 3",
+}
+REFUSED = ["acpiset", *(f"{command} {words}" for command, lines in REFUSED_WORDS.items() for words in lines.split(" | "))]
 # Lines whose last argument is empty.
 REFUSED += [f"{line} " for line in ("acpiset", "acpiset check --rsdp", "acpiset check --rsdp e0000 --through", "acpiset check --hotplug")]
 
@@ -263,27 +171,20 @@ COUNT = "from 1 to 256, in at most 3 decimal digits"
 NO_COUNT = "expected ADDRESS=COUNT, as in fec00000=24"
 # Lines that are refused, and what for.
 MESSAGES = [
-    ("acpiset judge", "unrecognized subcommand 'judge'"),
-    ("acpiset check --fix", "unexpected argument '--fix' found"),
+    ("acpiset judge", "unrecognized subcommand 'judge'"), ("acpiset check --fix", "unexpected argument '--fix' found"),
     ("acpiset check --rsdp f59e0h", f"--rsdp 'f59e0h': expected {ADDRESS}"),
     ("acpiset check --through 19", "--through '19': expected a stage from 1 to 18, in at most 2 decimal digits"),
     ("acpiset check --default-inputs 0", f"--default-inputs '0': expected a number of inputs {COUNT}"),
     ("acpiset check fec00000=257", f"'fec00000=257': expected a COUNT {COUNT}"),
-    ("acpiset check fec00000=", f"'fec00000=': expected a COUNT {COUNT}"),
-    ("acpiset check fec00000", f"'fec00000': {NO_COUNT}"),
-    (
-        "acpiset check 1fec00000=257",
-        "'1fec00000=257': expected an ADDRESS of 1 to 8 hex digits, with or without 0x before them",
-    ),
+    ("acpiset check fec00000=", f"'fec00000=': expected a COUNT {COUNT}"), ("acpiset check fec00000", f"'fec00000': {NO_COUNT}"),
+    ("acpiset check 1fec00000=257", "'1fec00000=257': expected an ADDRESS of 1 to 8 hex digits, with or without 0x before them"),
     ("acpiset check --hotplug both", "--hotplug 'both': expected counted or apart"),
     ("acpiset check --processors online", "--processors 'online': expected enabled or usable"),
     ("acpiset lint --strict --strict", "the argument '--strict' cannot be used multiple times"),
     ("acpiset lint --strict=true", "unexpected value 'true' for '--strict' found; no more were expected"),
-    ("acpiset lint --rsdp f59e0h", f"--rsdp 'f59e0h': expected {ADDRESS}"),
-    ("acpiset lint strict", f"'strict': {NO_COUNT}"),
+    ("acpiset lint --rsdp f59e0h", f"--rsdp 'f59e0h': expected {ADDRESS}"), ("acpiset lint strict", f"'strict': {NO_COUNT}"),
     ("acpiset check --strict", "unexpected argument '--strict' found"),
-    ("acpiset rebuild --base e0000h", f"--base 'e0000h': expected {ADDRESS}"),
-    ("acpiset rebuild", f"rebuild needs --base HEX: {ADDRESS}"),
+    ("acpiset rebuild --base e0000h", f"--base 'e0000h': expected {ADDRESS}"), ("acpiset rebuild", f"rebuild needs --base HEX: {ADDRESS}"),
     # The first wrong word is named, and an option before any word.
     ("acpiset check fec00000=24 fec01000=0 fec02000", f"'fec01000=0': expected a COUNT {COUNT}"),
     ("acpiset check fec00000 --rsdp g", f"--rsdp 'g': expected {ADDRESS}"),
@@ -297,27 +198,11 @@ CONTROLS = [chr(code) for code in (*range(1, 0x20), *range(0x7F, 0xA0))]
 PRINTING = "a~\u00a0\u07ff\u0800\uffff\U00010000\U0010ffff"
 # Where an argument can stand that is printed.
 PLACES = [
-    ["{}"],
-    ["--{}"],
-    ["-{}"],
-    ["check", "--{}"],
-    ["check", "{}"],
-    ["check", "a/{}"],
-    ["check", "{}=24"],
-    ["check", "fec00000={}"],
-    ["check", "--rsdp", "{}"],
-    ["check", "--rsdp={}"],
-    ["check", "--through", "{}"],
-    ["check", "--default-inputs", "{}"],
-    ["check", "--hotplug", "{}"],
-    ["check", "--processors", "{}"],
-    ["lint", "--strict={}"],
-    ["rebuild", "--base", "{}"],
-    ["confirm", "--witness", "{}"],
-    ["confirm", "--witness", "10 {} 0x30 0x58 0x0"],
-    ["confirm", "--witness", "{} Overlap 0x30 0x58 0x0"],
-    ["confirm", "--witness", "10 Overlap 0x30 0x58 {}"],
-    ["find", "{}"],
+    ["{}"], ["--{}"], ["-{}"], ["check", "--{}"], ["check", "{}"], ["check", "a/{}"], ["check", "{}=24"], ["check", "fec00000={}"],
+    ["check", "--rsdp", "{}"], ["check", "--rsdp={}"], ["check", "--through", "{}"], ["check", "--default-inputs", "{}"],
+    ["check", "--hotplug", "{}"], ["check", "--processors", "{}"], ["lint", "--strict={}"], ["rebuild", "--base", "{}"],
+    ["confirm", "--witness", "{}"], ["confirm", "--witness", "10 {} 0x30 0x58 0x0"], ["confirm", "--witness", "{} Overlap 0x30 0x58 0x0"],
+    ["confirm", "--witness", "10 Overlap 0x30 0x58 {}"], ["find", "{}"],
 ]
 
 
@@ -337,62 +222,51 @@ def has_controls(error):
     return any(it in CONTROLS and it != "\n" for it in text) or not 4 <= text.count("\n") <= 5
 
 
-def printed_cases(program):
+def first_line(run):
+    """The status of a run and the first line of its error message."""
+    return run.returncode, run.stderr.decode().partition("\n")[0]
+
+
+def printed_words(cases):
     """Each control character at each place; and values of which the beginning is printed, never a part of a character."""
     for place in PLACES:
         for control in CONTROLS:
             words = [it.format(f"x{control}y") for it in place]
-            run = subprocess.run(["acpiset", *words], executable=program, input=b"", capture_output=True, timeout=SECONDS)
-            yield repr(words), (run.returncode, run.stdout, has_controls(run.stderr)), (2, b"", False)
+            run = told(cases, ["acpiset", *words], b"")
+            cases.same(repr(words), (run.returncode, run.stdout, has_controls(run.stderr)), (2, b"", False))
     for text in (
-        *("".join(CONTROLS[begin:][:40]) for begin in range(0, len(CONTROLS), 40)),
-        PRINTING,
+        *("".join(CONTROLS[begin:][:40]) for begin in range(0, len(CONTROLS), 40)), PRINTING,
         *(it * count for it in PRINTING for count in (49, 50, 51, 66, 67, 100, 101, 200, 201, 1000)),
-        *("x" * count + it for it in (*PRINTING, "\x1b", "\x9b") for count in range(195, 202)),
-        "\x1b" * 201,
-        "\x9b" * 101,
+        *("x" * count + it for it in (*PRINTING, "\x1b", "\x9b") for count in range(195, 202)), "\x1b" * 201, "\x9b" * 101,
     ):
-        run = subprocess.run(["acpiset", "check", "--hotplug", text], executable=program, input=b"", capture_output=True, timeout=SECONDS)
-        first = run.stderr.decode().partition("\n")[0]
-        yield repr(text), (run.returncode, first), (2, f"acpiset: --hotplug '{printed(text)}': expected counted or apart")
+        run = told(cases, ["acpiset", "check", "--hotplug", text], b"")
+        cases.same(repr(text), first_line(run), (2, f"acpiset: --hotplug '{printed(text)}': expected counted or apart"))
 
 
 # ---- all of them
-def told(program, line, text):
-    """The program's answer where its arguments, the name that it is run by among them, stand a space apart."""
-    return subprocess.run(line.split(" "), executable=program, input=text, capture_output=True, timeout=SECONDS)
 
 
-def cases(program):
-    """Each case with the answer and the expected one."""
-    answers = [*read_cases(), *(case for row in INPUTS for case in input_cases(*row)), *setting_cases(), many_counts()]
-    answers = [(*case, int(case[2] != "yes")) for case in answers]
-    for line, text, answer, status in [*answers, *lint_cases()]:
-        run = told(program, line, text)
-        expected = (status, answer + "\n", "")
-        yield line, (run.returncode, run.stdout.decode(), run.stderr.decode()), expected
+def told(cases, words, text):
+    """The program's run; the first word is the name that it is run by."""
+    return subprocess.run(words, executable=cases.program, input=text, capture_output=True, timeout=SECONDS)
+
+
+def answers(cases):
+    """Each line, whose words stand a space apart, with the answer."""
+    asked = [*read_cases(), *(case for row in INPUTS for case in input_cases(*row)), *setting_cases(), many_counts()]
+    asked = [(*case, int(case[2] != "yes")) for case in asked]
+    for line, text, answer, status in [*asked, *lint_cases()]:
+        run = told(cases, line.split(" "), text)
+        cases.same(line[:100], (run.returncode, run.stdout.decode(), run.stderr.decode()), (status, answer + "\n", ""))
+
+
+def refusals(cases):
     smallest = text_of({RSDP_AT: rsdp(), RSDT_AT: rsdt()})
     for line in REFUSED:
-        run = told(program, line, smallest)
-        yield line, (run.returncode, run.stdout), (2, b"")
+        run = told(cases, line.split(" "), smallest)
+        cases.same(line, (run.returncode, run.stdout), (2, b""))
     for line, message in MESSAGES:
-        run = told(program, line, smallest)
-        first = run.stderr.decode().partition("\n")[0]
-        yield line, (run.returncode, first), (2, f"acpiset: {message}")
-    yield from printed_cases(program)
+        cases.same(line, first_line(told(cases, line.split(" "), smallest)), (2, f"acpiset: {message}"))
 
 
-def main():
-    _, program = sys.argv
-    passed = failed = 0
-    for line, answer, expected in cases(program):
-        if answer == expected:
-            passed += 1
-        else:
-            failed += 1
-            print(f"{line[:100]}: {answer}, not {expected}")
-    print(f"words: {passed} passed, {failed} failed")
-    sys.exit(1 if failed else 0)
-
-
-main()
+main("words", answers, refusals, printed_words)

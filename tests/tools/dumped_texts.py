@@ -5,13 +5,11 @@ import random
 import shutil
 import subprocess
 
-from files import FADT, HPET, MADT, dump_of, image_of_files
-from judge import TOP, module_of
-from tables import *
+from acpi_images.tables import *
+from acpi_images.text import text_of
+from files import FADT, HPET, MADT, TABLES, WHOLE, dump_of, image_of_files
+from tool_cases import TOP, module_of
 
-TABLES = [(0x7FE2000, FADT), (0x7FE3001, MADT), (0x7FE4000, HPET)]
-ROOT = (0x7FE1000, xsdt(*(at for at, _ in TABLES)))
-WHOLE = [(0xF59E0, extended_rsdp(0x7FE1000, 0)), ROOT, *TABLES, (FACS_AT, facs())]
 WHOLE_IMAGE = text_of(dict(WHOLE))
 
 

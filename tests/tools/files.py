@@ -1,20 +1,19 @@
-#!/usr/bin/env python3
-"""Writes files for tests/tools/run.py into a folder: raw tables, texts as acpidump prints them, and the image texts that the
-tools have to make of them. The bytes come from tests/rows/tables.py, and none from the tools.
-
-usage: files.py FOLDER"""
+"""The files of tests/tools/run.py: raw tables, and texts as acpidump prints them. The bytes come from tests/acpi_images/tables.py, and none
+from the tools."""
 
 import os
-import sys
 
-sys.path.insert(0, os.path.join(os.path.dirname(os.path.abspath(__file__)), "..", "rows"))
-from tables import *  # noqa: E402
+from acpi_images.tables import *
+from acpi_images.text import text_of
 
 FADT = full_fadt()
 MADT = madt(lapic(0, 0), io_apic(0xFEC00000, 0), override(0, 2), lapic_nmi(255, 1))
 HPET = hpet()
 DSDT = table(b"DSDT", b"\x5b\x80")
 ROOT_AT = 0x100000
+# The structures of a machine.
+TABLES = [(0x7FE2000, FADT), (0x7FE3001, MADT), (0x7FE4000, HPET)]
+WHOLE = [(0xF59E0, extended_rsdp(0x7FE1000, 0)), (0x7FE1000, xsdt(*dict(TABLES))), *TABLES, (FACS_AT, facs())]
 
 
 def wide_fadt(address):
@@ -44,83 +43,41 @@ def dump_of(pieces, width=16, margin=4, padded=True):
     return "".join(line + "\n" for line in lines).encode()
 
 
-def files():
-    yield "facp.dat", FADT
-    yield "apic.dat", MADT
-    yield "hpet.dat", HPET
-    yield "dsdt.dat", DSDT
-    yield "facs.dat", facs()
-    yield "facs2.dat", facs()
-    yield "rsdp.dat", rsdp()
-    yield "xsdt.dat", xsdt(0x2000)
-    yield "wide.dat", wide_fadt(0x123456789ABC0)
-    yield "last.dat", wide_fadt(2**64 - 64)
-    yield "past.dat", wide_fadt(2**64 - 32)
-    yield "first.dat", full_fadt(RSDP_AT)
-    yield "second.dat", full_fadt(0x101000)
-    yield "named.dat", full_fadt(0)
-    yield "reduced.dat", fadt()
-    yield "longer.dat", MADT + b"\1\2\3"
-    yield "cut.dat", MADT[:-1]
-    yield "short.dat", HPET[:35]
-    yield "huge.dat", HPET[:4] + b"\xff" * 4 + HPET[8:36]
-    yield "empty.dat", b""
-    yield "zeros.dat", bytes(64)
-    yield "packed.dat", b"\x1f\x8b\x08\x00" + bytes(60)
-    yield "old.image", text_of(image_of_files(FADT, MADT, HPET))
-    yield "order.image", text_of(image_of_files(HPET, MADT, FADT))
-    yield "wide.image", text_of(image_of_files(wide_fadt(0x123456789ABC0), facs_at=0x123456789ABC0))
+# What tables2image is given.
+RAW = {
+    "facp.dat": FADT, "apic.dat": MADT, "hpet.dat": HPET, "dsdt.dat": DSDT, "facs.dat": facs(), "facs2.dat": facs(), "rsdp.dat": rsdp(),
+    "xsdt.dat": xsdt(0x2000), "wide.dat": wide_fadt(0x123456789ABC0), "last.dat": wide_fadt(2**64 - 64), "past.dat": wide_fadt(2**64 - 32),
+    "first.dat": full_fadt(RSDP_AT), "second.dat": full_fadt(0x101000), "named.dat": full_fadt(0), "reduced.dat": fadt(),
+    "longer.dat": MADT + b"\1\2\3", "cut.dat": MADT[:-1], "short.dat": HPET[:35], "huge.dat": HPET[:4] + b"\xff" * 4 + HPET[8:36],
+    "empty.dat": b"", "zeros.dat": bytes(64), "packed.dat": b"\x1f\x8b\x08\x00" + bytes(60),
+    "old.image": text_of(image_of_files(FADT, MADT, HPET)),
+}
 
-    tables = [(0x7FE2000, FADT), (0x7FE3001, MADT), (0x7FE4000, HPET)]
-    root = (0x7FE1000, xsdt(*(at for at, _ in tables)))
-    pointer = (0xF59E0, extended_rsdp(0x7FE1000, 0))
-    lock = (FACS_AT, facs())
-    old_root = (0x7FE1000, rsdt(*(at for at, _ in tables)))
-    whole = [pointer, root, *tables, lock]
-    yield "whole.txt", dump_of(whole)
-    yield "whole.image", text_of(dict(whole))
-    yield "narrow.txt", dump_of(whole, width=8, margin=2, padded=False)
-    yield "twice.txt", dump_of([*whole, tables[1]])
-    yield "changed.txt", dump_of([*whole, (0x7FE3001, MADT[:-1] + b"\0")])
-    yield "overlap.txt", dump_of([*whole, (0x7FE3010, HPET)])
-    yield "rootless.txt", dump_of([*tables, lock])
-    yield "pointerless.txt", dump_of([root, *tables, lock])
-    yield "pointerless.image", text_of({0xE0000: extended_rsdp(0x7FE1000, 0), **dict([root, *tables, lock])})
-    yield "rsdt.txt", dump_of([*tables, old_root, lock])
-    yield "rsdt.image", text_of({0xE0000: rsdp(0x7FE1000), **dict([*tables, old_root, lock])})
-    yield "zeros.txt", dump_of([(0, FADT), (0, MADT)])
-    yield "some.txt", dump_of([*whole, (0, HPET)])
-    lines = dump_of(whole).splitlines(keepends=True)
-    yield "lost.txt", b"".join(lines[:2] + lines[3:])
-    yield "returns.txt", dump_of(whole).replace(b"\n", b"\r\n")
-    yield "utf16.txt", dump_of(whole).decode().encode("utf-16")
 
-    # A set with structures at which the stages do not look, and an image without an RSDP.
-    short_gicc, wakeup = bytes([11, 39]) + bytes(37), bytes([16, 16]) + bytes(14)
-    affinity = bytes([3, 18]) + bytes(16)
-    unread = image_of_files(FADT, madt(short_gicc, wakeup), srat(bytes([3, 14]) + bytes(12), affinity, affinity))
-    yield "unread.image", text_of(unread)
-    yield "table.image", text_of({0x2000: FADT})
-
-    # Sets with a wrong sum, and the byte that closes it.
-    clean = {RSDP_AT: extended_rsdp(), XSDT_AT: xsdt(0x2000, 0x3000), 0x2000: FADT, 0x3000: HPET, FACS_AT: facs()}
-    for name, at, place, sums in (
-        ("rsdp", RSDP_AT, 8, ()),
-        ("extended", RSDP_AT, 32, ()),
-        ("root", XSDT_AT, 9, ()),
-        ("table", 0x3000, 9, ()),
-    ):
-        wrong = changed(clean[at], {place: 0x5A}, *sums)
-        yield f"{name}.sum", text_of({**clean, at: wrong})
-        yield f"{name}.byte", f"now 0x5a, has to be 0x{clean[at][place]:x}.\n".encode()
+def dumps():
+    """What acpidump2image is given."""
+    _, root, *tables, lock = WHOLE
+    text = dump_of(WHOLE)
+    lines = text.splitlines(keepends=True)
+    return {
+        "whole.txt": text,
+        "narrow.txt": dump_of(WHOLE, width=8, margin=2, padded=False),
+        "twice.txt": dump_of([*WHOLE, tables[1]]),
+        "changed.txt": dump_of([*WHOLE, (0x7FE3001, MADT[:-1] + b"\0")]),
+        "overlap.txt": dump_of([*WHOLE, (0x7FE3010, HPET)]),
+        "rootless.txt": dump_of([*tables, lock]),
+        "pointerless.txt": dump_of([root, *tables, lock]),
+        "rsdt.txt": dump_of([*tables, (root[0], rsdt(*dict(tables))), lock]),
+        "zeros.txt": dump_of([(0, FADT), (0, MADT)]),
+        "some.txt": dump_of([*WHOLE, (0, HPET)]),
+        "lost.txt": b"".join(lines[:2] + lines[3:]),
+        "returns.txt": text.replace(b"\n", b"\r\n"),
+        "utf16.txt": text.decode().encode("utf-16"),
+    }
 
 
 def write_into(folder):
     os.mkdir(f"{folder}/folder")
-    for name, data in files():
+    for name, data in {**RAW, **dumps()}.items():
         with open(f"{folder}/{name}", "wb") as file:
             file.write(data)
-
-
-if __name__ == "__main__":
-    write_into(sys.argv[1])

@@ -4,29 +4,15 @@ import os
 import re
 import struct
 
-from judge import TOP, module_of
-from many import MANY
-from rows import ROWS
-from tables import *
+from acpi_images.known.many import MANY
+from acpi_images.known.rows import ROWS
+from acpi_images.program import FIRMWARE
+from acpi_images.tables import *
+from acpi_images.text import read, text_of
+from tool_cases import module_of
 
 UEFI = bytes.fromhex("71e86888f1e4d311bc220080c73c8881")
 RAM = 16 << 20
-
-
-def pieces_of(text):
-    """The pieces of an image text, by address; data that goes on is joined."""
-    pieces = {}
-    at = start = None
-    for line in text.decode().splitlines():
-        line = line.partition("#")[0].strip()
-        if line.startswith("@"):
-            at = int(line[1:], 16)
-            start = next((begin for begin, data in pieces.items() if begin + len(data) == at), at)
-        elif line:
-            data = bytes.fromhex(line)
-            pieces[start] = pieces.get(start, b"") + data
-            at += len(data)
-    return pieces
 
 
 def raw_dump(judge, name, pieces, size=RAM, base=0):
@@ -107,12 +93,8 @@ def of_a_set(judge):
 
 def of_real_images(judge):
     """The images of real firmware, in a dump of memory and in an ELF core."""
-    folder = os.path.join(TOP, "tests", "images")
-    for name in sorted(os.listdir(folder)):
-        if not name.endswith(".img.txt"):
-            continue
-        with open(os.path.join(folder, name), "rb") as file:
-            pieces = pieces_of(file.read())
+    for path in sorted(FIRMWARE.glob("*.img.txt")):
+        name, pieces = path.name, read(path.read_bytes()).pieces()
         raw_dump(judge, "ram.bin", pieces, max(at + len(data) for at, data in pieces.items()) + 100)
         judge.write("core", core_of(pieces))
         for dump in ("ram.bin", "core"):
@@ -151,7 +133,7 @@ def of_all_rows(judge):
             told, wanted = judge.answer(asked, text), judge.answer(asked, text_of(row.pieces))
             if told != wanted:
                 wrong.append(f"{row.name}: {asked}: {told}, not {wanted}")
-    judge.count("sets of tests/rows", "\n".join(wrong), count < 100 and f"{count} sets alone")
+    judge.count("known sets", "\n".join(wrong), count < 100 and f"{count} sets alone")
 
 
 # ---- the RSDP

@@ -2,8 +2,9 @@
 
 import os
 
+from acpi_images.tables import *
+from acpi_images.text import text_of
 from files import DSDT, FADT, HPET, MADT, ROOT_AT, image_of_files, wide_fadt
-from tables import *
 
 RESERVED_INTI = madt(lapic(0, 0), io_apic(0xFEC00000, 0), override(0, 2, flags=2))
 OVERLAPPING = srat(memory(0, 0x1000), memory(0x800, 0x1000))
@@ -63,12 +64,9 @@ def of_one_table(judge):
     judge.write("unsummed.one", changed(HPET, {9: 0x5A}))
     for name, data, verdict in (
         ("unsummed.one", changed(HPET, {9: 0x5A}), "no 3 TableSum 0x0 0x101000 0x0"),
-        ("inti.one", RESERVED_INTI, "no 6 ReservedInti 0x40 0x0 0x0"),
-        ("overlapping.one", OVERLAPPING, "no 10 Overlap 0x30 0x58 0x800"),
-        ("wrong.one", WRONG_SLIT, "no 11 SlitDiagonal 0x2c 0x0 0x0"),
-        ("dangling.one", DANGLING, "no 13 DanglingParent 0x24 0x14 0x0"),
-        ("facs.dat", facs(), "yes"),
-        ("misversed.one", b"FACS" + number(63, 4) + bytes(56), "no 5 FacsLength 0x102000 0x0 0x0"),
+        ("inti.one", RESERVED_INTI, "no 6 ReservedInti 0x40 0x0 0x0"), ("overlapping.one", OVERLAPPING, "no 10 Overlap 0x30 0x58 0x800"),
+        ("wrong.one", WRONG_SLIT, "no 11 SlitDiagonal 0x2c 0x0 0x0"), ("dangling.one", DANGLING, "no 13 DanglingParent 0x24 0x14 0x0"),
+        ("facs.dat", facs(), "yes"), ("misversed.one", b"FACS" + number(63, 4) + bytes(56), "no 5 FacsLength 0x102000 0x0 0x0"),
     ):
         judge.write(name, data)
         judge.makes(MADE_FADT, verdict, "tables2image", name)

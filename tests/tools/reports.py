@@ -9,7 +9,7 @@ import subprocess
 import sys
 import xml.etree.ElementTree as xml
 
-from judge import TOP
+from tool_cases import TOP
 
 FORMATS = "json", "tap", "junit", "sarif"
 OVERLAP = "no 10 Overlap 0x90 0xb8 0x100000000"

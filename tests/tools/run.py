@@ -6,27 +6,28 @@ usage: run.py PROGRAM; the last line is 'tools: N passed, M failed'."""
 import os
 import sys
 import tempfile
+from pathlib import Path
 
-from judge import Judge
-import files
+sys.path.insert(0, str(Path(__file__).resolve().parents[1]))
+
 import dumped_texts
+import files
 import memory_dumps
 import raw_tables
 import reports
-
-PARTS = (raw_tables, dumped_texts, memory_dumps, reports)
+from acpi_images.program import finish
+from tool_cases import ToolCases
 
 
 def main():
     _, program = sys.argv
     # A folder whose name has blanks, as a user's may.
     with tempfile.TemporaryDirectory(prefix="acpiset tools ") as folder:
-        judge = Judge(os.path.abspath(program), folder)
+        cases = ToolCases(os.path.abspath(program), folder)
         files.write_into(folder)
-        for part in PARTS:
-            part.cases(judge)
-    print(f"tools: {judge.passed} passed, {judge.failed} failed")
-    sys.exit(1 if judge.failed else 0)
+        for part in (raw_tables, dumped_texts, memory_dumps, reports):
+            part.cases(cases)
+    finish("tools", cases)
 
 
 main()

@@ -1,10 +1,12 @@
 """The edge of each fault: for each code a function that changes a made set so that a value lies just on the wrong side of its
 rule, or just on the right one."""
 
-from layout import nowhere, somewhere
-from made_sets import (
-    FACS_SIZE, HEADER_SIZE, LOW, MADT_TYPES, REDUCED, RESET_REG_SUP, RSDP_SIZE, SRAT_TYPES, TOP, Item, apic_domain,
-    flagged_entries, io_apic, lapic, lapic_address, little, memory_range, nmi_source, override, x2apic, x2apic_domain,
+from ..table_set import MadtEntries, SratEntries
+from ..tables import REDUCED, RESET_REG_SUP, lapic, nmi_source, number, override
+from ..text import TOP
+from .layout import nowhere, somewhere
+from .sets import (
+    FACS_SIZE, HEADER_SIZE, LOW, RSDP_SIZE, Item, apic_domain, flagged_entries, io_apic, lapic_address, memory, x2apic, x2apic_domain,
 )
 
 PM1_EVT_LEN, PM1_CNT_LEN, PM_TMR_LEN, GPE0_BLK_LEN, GPE1_BLK_LEN = 88, 89, 91, 92, 93
@@ -16,9 +18,19 @@ def changed(data, at, values):
     return data[:at] + bytes(values) + data[at + len(values) :]
 
 
-def error(dice):
-    """What a sum that is wrong comes to."""
-    return dice.choice((1, 2, 128, 255))
+# What a sum that is wrong comes to.
+WRONG_SUMS = (1, 2, 128, 255)
+
+
+def value(part, name, wrong, right, is_extended=False):
+    """The edge of one value of the set or of a part of it, sometimes with the extended form of the RSDP."""
+
+    def change(made, is_wrong):
+        if is_extended:
+            extended(made)
+        setattr(getattr(made, part) if part else made, name, made.dice.choice(wrong) if is_wrong else right)
+
+    return change
 
 
 def one_byte_wrong(dice, signature):
@@ -31,57 +43,43 @@ def one_byte_wrong(dice, signature):
 
 def extended(made):
     """Gives the RSDP the extended form."""
-    made.rsdp["revision"] = made.dice.choice((2, 2, 3, 255))
+    made.rsdp.revision = made.dice.choice((2, 2, 3, 255))
 
 
 def rsdp_out(made, is_wrong):
     if not is_wrong:
-        made.rsdp["revision"] = made.dice.randrange(2)
+        made.rsdp.revision = made.dice.randrange(2)
         made.is_xsdt, made.root.signature = False, b"RSDT"
-    made.rsdp["held"] = made.dice.choice((19, 19, 0, 8, 15)) if is_wrong else RSDP_SIZE
+    made.rsdp.held = made.dice.choice((19, 19, 0, 8, 15)) if is_wrong else RSDP_SIZE
 
 
 def rsdp_signature(made, is_wrong):
-    made.rsdp["signature"] = one_byte_wrong(made.dice, b"RSD PTR ") if is_wrong else b"RSD PTR "
-
-
-def rsdp_sum(made, is_wrong):
-    made.rsdp["error"] = error(made.dice) if is_wrong else 0
-
-
-def rsdp_tail_out(made, is_wrong):
-    extended(made)
-    made.rsdp["held"] = made.dice.choice((35, 35, 20, 24, 32)) if is_wrong else 36
-
-
-def rsdp_length(made, is_wrong):
-    extended(made)
-    made.rsdp["length"] = made.dice.choice((35, 35, 20, 0, 33)) if is_wrong else 36
+    made.rsdp.signature = one_byte_wrong(made.dice, b"RSD PTR ") if is_wrong else b"RSD PTR "
 
 
 def rsdp_long_out(made, is_wrong):
     extended(made)
-    made.rsdp["tail"] = bytes(range(made.dice.choice((1, 2, 28))))
-    made.rsdp["length"] = 36 + len(made.rsdp["tail"])
-    made.rsdp["held"] = made.rsdp["length"] - is_wrong
+    made.rsdp.tail = bytes(range(made.dice.choice((1, 2, 28))))
+    made.rsdp.length = 36 + len(made.rsdp.tail)
+    made.rsdp.held = made.rsdp.length - is_wrong
     if is_wrong and made.dice.random() < 0.2:
-        made.rsdp["length"] = LOW - 1
+        made.rsdp.length = LOW - 1
 
 
 def rsdp_extended_sum(made, is_wrong):
     extended(made)
-    made.rsdp["tail"] = bytes(range(made.dice.choice((0, 0, 4))))
-    made.rsdp["length"] = 36 + len(made.rsdp["tail"])
-    made.rsdp["long_error"] = error(made.dice) if is_wrong else 0
+    made.rsdp.tail = bytes(range(made.dice.choice((0, 0, 4))))
+    made.rsdp.length = 36 + len(made.rsdp.tail)
+    made.rsdp.long_error = made.dice.choice(WRONG_SUMS) if is_wrong else 0
 
 
 # ---- root
 
 
 def no_root(made, is_wrong):
-    made.rsdp["rsdt"] = 0
+    made.rsdp.rsdt = 0
     if is_wrong:
-        made.rsdp["xsdt"] = made.dice.choice((0, None)) if made.rsdp["revision"] < 2 else 0
+        made.rsdp.xsdt = made.dice.choice((0, None)) if made.rsdp.revision < 2 else 0
     else:
         extended(made)
         made.is_xsdt, made.root.signature = True, b"XSDT"
@@ -90,16 +88,12 @@ def no_root(made, is_wrong):
 def root_header_out(made, is_wrong):
     made.root.held = made.dice.choice((35, 35, 0, 8)) if is_wrong else HEADER_SIZE
     if is_wrong and made.is_xsdt and made.dice.random() < 0.2:
-        made.root.held, made.rsdp["xsdt"] = None, made.dice.choice((1 << 56, 1, TOP - 1))
+        made.root.held, made.rsdp.xsdt = None, made.dice.choice((1 << 56, 1, TOP - 1))
 
 
 def root_signature(made, is_wrong):
     own, other = (b"XSDT", b"RSDT") if made.is_xsdt else (b"RSDT", b"XSDT")
     made.root.signature = made.dice.choice((other, one_byte_wrong(made.dice, own))) if is_wrong else own
-
-
-def root_length(made, is_wrong):
-    made.root.length = made.dice.choice((35, 35, 0, 9)) if is_wrong else HEADER_SIZE
 
 
 def root_out(made, is_wrong):
@@ -111,10 +105,6 @@ def root_ragged(made, is_wrong):
     made.ragged = b"\1\2\3\4\5\6\7"[: made.dice.choice((1, 3, 4, 7) if made.is_xsdt else (1, 2, 3))] if is_wrong else b""
     if not is_wrong:
         made.extra_slots.append(nowhere)
-
-
-def root_sum(made, is_wrong):
-    made.root.error = error(made.dice) if is_wrong else 0
 
 
 # ---- listed tables
@@ -149,7 +139,7 @@ def table_out(made, is_wrong):
 
 
 def table_sum(made, is_wrong):
-    wrong = error(made.dice) if is_wrong else 0
+    wrong = made.dice.choice(WRONG_SUMS) if is_wrong else 0
     on_a_table(made, lambda table: setattr(table, "error", wrong))
     if made.dice.random() < 0.5:
         made.extra_slots += [nowhere, somewhere]
@@ -172,7 +162,7 @@ def fadt_short(made, is_wrong):
 
 def set_flags(made, bits, is_set):
     flags = int.from_bytes(made.fadt[FLAGS : FLAGS + 4], "little")
-    made.fadt[FLAGS : FLAGS + 4] = little(flags | bits if is_set else flags & ~bits, 4)
+    made.fadt[FLAGS : FLAGS + 4] = number(flags | bits if is_set else flags & ~bits, 4)
 
 
 def block_length(at, wrong, right):
@@ -242,37 +232,33 @@ def put(made, entries, *more):
         entries.insert(made.dice.randrange(len(entries) + 1), entry)
 
 
-def cut_last(made, entries, is_wrong):
-    """Appends bytes that are no entry, or an entry."""
-    kind, size = made.dice.choice((0, 1, 2, 7, 200)), made.dice.choice((3, 8, 12, 255))
-    wrong = (b"\7", bytes([kind, 0]), bytes([kind, 1, 0]), bytes([kind, size]) + bytes(size - 3), bytes([kind, 1]))
-    entries.append(made.dice.choice(wrong) if is_wrong else bytes([7, size]) + bytes(size - 2))
-
-
-def mistyped(made, types, is_wrong):
-    """An entry with a length that is one more or less than its type has, that of another type, or the right one."""
-    kind = made.dice.choice(list(types))
-    size = types[kind]
-    wrong = [it for it in (size - 1, size + 1, *types.values(), 2, 255) if it != size and it >= 2]
-    size = made.dice.choice(wrong) if is_wrong else size
-    return bytes([kind, size]) + bytes(size - 2)
-
-
-def table_cut(name, first):
-    """The edge of a table's fixed part."""
+def last_entry(table):
+    """The edge of a table's last entry: bytes that are no entry, or an entry."""
 
     def change(made, is_wrong):
-        setattr(made, name, made.dice.choice((first - 1, first - 1, 36, first - 4)) if is_wrong else first)
+        kind, size = made.dice.choice((0, 1, 2, 7, 200)), made.dice.choice((3, 8, 12, 255))
+        wrong = (b"\7", bytes([kind, 0]), bytes([kind, 1, 0]), bytes([kind, size]) + bytes(size - 3), bytes([kind, 1]))
+        getattr(made, table).append(made.dice.choice(wrong) if is_wrong else bytes([7, size]) + bytes(size - 2))
 
     return change
 
 
-def madt_entry_cut(made, is_wrong):
-    cut_last(made, made.madt, is_wrong)
+def entry_length(table, types):
+    """The edge of an entry's length: one more or less than its type has, that of another type, or the right one."""
+
+    def change(made, is_wrong):
+        kind = made.dice.choice(list(types))
+        size = types[kind]
+        wrong = [it for it in (size - 1, size + 1, *types.values(), 2, 255) if it != size and it >= 2]
+        size = made.dice.choice(wrong) if is_wrong else size
+        put(made, getattr(made, table), bytes([kind, size]) + bytes(size - 2))
+
+    return change
 
 
-def madt_entry_length(made, is_wrong):
-    put(made, made.madt, mistyped(made, MADT_TYPES, is_wrong))
+def table_cut(name, first):
+    """The edge of a table's fixed part."""
+    return value(None, name, (first - 1, first - 1, 36, first - 4), first)
 
 
 def override_bus(made, is_wrong):
@@ -319,21 +305,13 @@ def override_clash(made, is_wrong):
     put(made, made.madt, *[override(source, gsi) for gsi in (*gsis, gsis[0] + is_wrong * dice.choice((1, 256, 1 << 24)))])
 
 
-def srat_entry_cut(made, is_wrong):
-    cut_last(made, made.srat, is_wrong)
-
-
-def srat_entry_length(made, is_wrong):
-    put(made, made.srat, mistyped(made, SRAT_TYPES, is_wrong))
-
-
 def range_past_end(made, is_wrong):
     dice = made.dice
     length = dice.choice((2, 0x1000, TOP - 1) if is_wrong else (0, 1, 0x1000, TOP - 1))
     base = min(TOP - length + is_wrong, TOP - 1)
-    put(made, made.srat, memory_range(base, length, dice.choice((1, 3, 5))))
+    put(made, made.srat, memory(base, length, dice.choice((1, 3, 5))))
     if dice.random() < 0.3:
-        put(made, made.srat, memory_range(TOP - 1, 0x1000, dice.choice((0, 2))))
+        put(made, made.srat, memory(TOP - 1, 0x1000, dice.choice((0, 2))))
 
 
 def overlap(made, is_wrong):
@@ -342,13 +320,13 @@ def overlap(made, is_wrong):
     dice = made.dice
     base, size, flags = dice.choice((0x10000, LOW - 8, TOP - 0x2000)), dice.choice((1, 8, 0x1000)), dice.choice((1, 3))
     start = base + size - is_wrong * dice.choice((1, 1, size))
-    ranges = [memory_range(base, size, flags), memory_range(start, dice.choice((1, 8, 0x1000)), dice.choice((1, 3, flags, flags)))]
+    ranges = [memory(base, size, flags), memory(start, dice.choice((1, 8, 0x1000)), dice.choice((1, 3, flags, flags)))]
     if dice.random() < 0.4:
         start, is_plain = dice.choice((base, start, max(base - 1, 0))), dice.random() < 0.5
-        ranges.append(memory_range(start, dice.choice((0, 1, 2, 0x1001)), dice.choice((0, 2, 1, 3)) if is_plain else flags))
+        ranges.append(memory(start, dice.choice((0, 1, 2, 0x1001)), dice.choice((0, 2, 1, 3)) if is_plain else flags))
     if is_wrong and dice.random() < 0.5:
         starts = (base, base + dice.choice((-8, 0, 0, 0, 8)))
-        ranges = [memory_range(at, 16, its_flags) for at, its_flags in zip(starts, (1, 3)) for _ in range(2)]
+        ranges = [memory(at, 16, its_flags) for at, its_flags in zip(starts, (1, 3)) for _ in range(2)]
     put(made, made.srat, *ranges)
 
 
@@ -527,7 +505,7 @@ def leaf_unknown(made, is_wrong):
     dice = made.dice
     kept_by = None if is_wrong else dice.choice(("processor", "processor", "flags", "revision", "entry", "cut"))
     uid = dice.choice((7, 255, 256, 0xABCDEF, LOW - 1))
-    made.madt[:] = [entry for entry in made.madt if len(entry) == MADT_TYPES.get(entry[0])]
+    made.madt[:] = [entry for entry in made.madt if len(entry) == MadtEntries.LENGTHS.get(entry[0])]
     made.pptt_revision = dice.choice((1, 1, 0)) if kept_by == "revision" else dice.choice((2, 2, 3, 255))
     if kept_by == "processor":
         flags = dice.choice((1, 0))
@@ -541,15 +519,17 @@ def leaf_unknown(made, is_wrong):
 
 
 EDGES = (
-    rsdp_out, rsdp_signature, rsdp_sum, rsdp_tail_out, rsdp_length, rsdp_long_out, rsdp_extended_sum,
-    no_root, root_header_out, root_signature, root_length, root_out, root_ragged, root_sum,
+    rsdp_out, rsdp_signature, value("rsdp", "error", WRONG_SUMS, 0), value("rsdp", "held", (35, 35, 20, 24, 32), 36, True),
+    value("rsdp", "length", (35, 35, 20, 0, 33), 36, True), rsdp_long_out, rsdp_extended_sum,
+    no_root, root_header_out, root_signature, value("root", "length", (35, 35, 0, 9), HEADER_SIZE), root_out, root_ragged,
+    value("root", "error", WRONG_SUMS, 0),
     table_header_out, table_length, table_out, table_sum,
     no_fadt, fadt_short, block_length(PM1_EVT_LEN, (3, 3, 0), (4, 5, 255)), block_length(PM1_CNT_LEN, (1, 1, 0), (2, 3, 255)),
     block_length(PM_TMR_LEN, (1, 3, 5, 255), (0, 4)), gpe_length, reset_register,
     no_facs, facs_align, facs_header_out, facs_signature, facs_length, facs_out,
-    table_cut("madt_cut", 44), madt_entry_cut, madt_entry_length, override_bus, reserved_inti, second_address, gsi_past_end,
-    gsi_clash, override_clash,
-    table_cut("srat_cut", 48), srat_entry_cut, srat_entry_length, range_past_end, overlap,
+    table_cut("madt_cut", 44), last_entry("madt"), entry_length("madt", MadtEntries.LENGTHS), override_bus, reserved_inti, second_address,
+    gsi_past_end, gsi_clash, override_clash,
+    table_cut("srat_cut", 48), last_entry("srat"), entry_length("srat", SratEntries.LENGTHS), range_past_end, overlap,
     slit_short, slit_size, slit_cell(True, (9, 11, 0, 255), (10,)), slit_cell(False, (9, 0, 9), (10, 255, 11)),
     pptt_entry_cut, pptt_entry_length, dangling_parent, dangling_resource, dangling_cache, cycle(0), cycle(1),
     two_domains, gsi_nowhere, leaf_unknown,

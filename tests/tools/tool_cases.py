@@ -1,29 +1,25 @@
 """Runs a tool in the scratch folder and compares what it does with what a case says. Numbers and texts that cases expect are worked
-out by hand, or come from tests/rows/tables.py, which shares no code with the tools."""
+out by hand, or come from tests/acpi_images/tables.py, which shares no code with the tools."""
 
 import importlib.machinery
 import importlib.util
 import os
 import re
-import resource
 import subprocess
 import sys
 
-HERE = os.path.dirname(os.path.abspath(__file__))
-TOP = os.path.join(HERE, "..", "..")
-sys.path.insert(0, os.path.join(HERE, "..", "rows"))
+from acpi_images.program import TESTS, Cases
 
+TOP = str(TESTS.parent)
 NOT_PRINTED = re.compile(rb"[^ -~\n]")
 
 
-class Judge:
+class ToolCases(Cases):
     """Counts cases. The folder is where tools run, and where files of cases are."""
 
     def __init__(self, program, folder):
-        self.program = program
+        super().__init__(program, seconds=300)
         self.folder = folder
-        self.passed = 0
-        self.failed = 0
 
     def path(self, name):
         return os.path.join(self.folder, name)
@@ -35,12 +31,7 @@ class Judge:
 
     def count(self, name, *problems):
         """Counts a case, which is passed where there is no problem."""
-        problems = [problem for problem in problems if problem]
-        if problems:
-            self.failed += 1
-            print(f"{name}: {'; '.join(problems)}")
-        else:
-            self.passed += 1
+        super().count(name, "; ".join(problem for problem in problems if problem))
 
     def run(self, tool, *arguments, data=b"", **options):
         """A tool's run, with this many bytes on standard input."""
@@ -49,8 +40,8 @@ class Judge:
 
     def answer(self, words, text):
         """What the program says of an image: its status and its line or lines."""
-        run = subprocess.run([self.program, *words], input=text, capture_output=True, timeout=300)
-        return run.returncode, run.stdout.decode().strip() + run.stderr.decode().strip()
+        status, out, err = super().run(words, text)
+        return status, out.strip() + err.strip()
 
     # ---- cases on images
 
@@ -85,14 +76,6 @@ class Judge:
             NOT_PRINTED.search(run.stderr) and "bytes that are not printed",
             b"Traceback" in run.stderr and "a traceback",
         )
-
-
-def seconds_of(words, **options):
-    """The processor's time that a run took, with the run."""
-    before = resource.getrusage(resource.RUSAGE_CHILDREN)
-    run = subprocess.run(words, capture_output=True, timeout=600, **options)
-    after = resource.getrusage(resource.RUSAGE_CHILDREN)
-    return after.ru_utime + after.ru_stime - before.ru_utime - before.ru_stime, run
 
 
 def module_of(tool):

@@ -1,14 +1,15 @@
-"""Lays a made set out in memory: where its structures lie, and how much of each is present. Some lie inside others, or touch."""
+"""Lays a made set out in an image: where its structures lie, and how much of each is present. Some lie inside others, or touch."""
 
-from image_text import TOP, Memory
-from made_sets import HEADER_SIZE, LONG_RSDP_SIZE, LOW, RSDP_SIZE, little, with_sum
+from ..tables import number, summed
+from ..text import TOP, Image
+from .sets import HEADER_SIZE, LONG_RSDP_SIZE, LOW, RSDP_SIZE
 
 BASES = (0x2000, 0x7FFE0000, LOW - 0x400, LOW - 0x1000, LOW + 0x123456)
 
 
 def laid_out(made):
-    """The memory of a set, and the address of its RSDP."""
-    return Layout(made).memory_of_all()
+    """The image of a set, and the address of its RSDP."""
+    return Layout(made).image()
 
 
 class Layout:
@@ -42,7 +43,7 @@ class Layout:
         made, dice = self.made, self.dice
         alone = [table for table in self.tables if not self.inner or table is not self.inner[0]]
         parts = [(table, len(table)) for table in alone] + [(made.root, self.size_of_root()), (made.facs, made.facs.size)]
-        parts += [(made.rsdp, LONG_RSDP_SIZE + len(made.rsdp["tail"]))] if made.rsdp_at is None else []
+        parts += [(made.rsdp, LONG_RSDP_SIZE + len(made.rsdp.tail))] if made.rsdp_at is None else []
         dice.shuffle(parts)
         at, places = 0, []
         alignment = dice.choice((1, 4, 16, 64))
@@ -77,7 +78,7 @@ class Layout:
 
     # ---- the bytes
 
-    def memory_of_all(self):
+    def image(self):
         made, dice = self.made, self.dice
         self.place_all()
         self.name_facs()
@@ -87,12 +88,11 @@ class Layout:
                 pieces.append((table.at, self.bytes_of(table), table.held))
         pieces.append((made.facs.at + made.facs.shift, made.facs.bytes(dice), made.facs.held))
         pieces.append((made.root.at, self.root_bytes(), made.root.held))
-        pieces.append((made.rsdp_at, self.rsdp_bytes(), made.rsdp["held"]))
-        memory = Memory()
+        pieces.append((made.rsdp_at, self.rsdp_bytes(), made.rsdp.held))
+        image = Image()
         for at, data, held in self.decoys(pieces[-1][1]) + pieces:
-            data = data if held is None else data[:held]
-            memory.bytes.update(zip(range(at, min(at + len(data), TOP)), data))
-        return memory, made.rsdp_at
+            image.replace(at, data[:held][: max(TOP - at, 0)])
+        return image, made.rsdp_at
 
     def decoys(self, rsdp):
         """What a search may take for an RSDP: at a multiple of 16 or beside one, with the right sum or another."""
@@ -118,10 +118,10 @@ class Layout:
         is_wide = at >= LOW or dice.random() < 0.5
         has_wide = len(body) >= 140 - HEADER_SIZE
         if has_wide:
-            body[132 - HEADER_SIZE : 140 - HEADER_SIZE] = little(at if is_wide else 0, 8)
+            body[132 - HEADER_SIZE : 140 - HEADER_SIZE] = number(at if is_wide else 0, 8)
         low = dice.choice((0, at, 0x20)) if has_wide and is_wide else at
         if len(body) >= 4:
-            body[0:4] = little(low, 4)
+            body[0:4] = number(low, 4)
         made.fadt_table.body = bytes(body)
 
     def root_bytes(self):
@@ -129,21 +129,21 @@ class Layout:
         addresses = [table.at for table in self.tables]
         for slot in made.extra_slots:
             addresses.insert(self.dice.randrange(len(addresses) + 1), slot(self))
-        made.root.body = b"".join(little(at, width) for at in addresses) + made.ragged
+        made.root.body = b"".join(number(at, width) for at in addresses) + made.ragged
         return made.root.bytes(self.dice)
 
     def rsdp_bytes(self):
         made, rsdp = self.made, self.made.rsdp
         rsdt = 0 if made.is_xsdt and self.dice.random() < 0.5 else made.root.at
-        rsdt = rsdt if rsdp["rsdt"] is None else rsdp["rsdt"]
+        rsdt = rsdt if rsdp.rsdt is None else rsdp.rsdt
         xsdt = made.root.at if made.is_xsdt else 0
-        xsdt = xsdt if rsdp["xsdt"] is None else rsdp["xsdt"]
+        xsdt = xsdt if rsdp.xsdt is None else rsdp.xsdt
         maker = bytes(self.dice.randrange(256) for _ in range(6))
-        first = rsdp["signature"] + b"\0" + maker + bytes([rsdp["revision"]]) + little(rsdt, 4)
-        first = with_sum(first, 8, RSDP_SIZE, rsdp["error"])
-        data = first + little(rsdp["length"], 4) + little(xsdt, 8) + bytes(4) + rsdp["tail"]
-        data = with_sum(data, 32, rsdp["length"], rsdp["long_error"])
-        is_short = rsdp["revision"] < 2 and self.dice.random() < 0.7
+        first = rsdp.signature + b"\0" + maker + bytes([rsdp.revision]) + number(rsdt, 4)
+        first = summed(first, 8, RSDP_SIZE, rsdp.error)
+        data = first + number(rsdp.length, 4) + number(xsdt, 8) + bytes(4) + rsdp.tail
+        data = summed(data, 32, rsdp.length, rsdp.long_error)
+        is_short = rsdp.revision < 2 and self.dice.random() < 0.7
         return data[:RSDP_SIZE] if is_short else data
 
 

@@ -1,14 +1,17 @@
 """Makes the cases: an image text, and what the program is asked about it. A case is made of the seed and its number alone."""
 
+from __future__ import annotations
+
 import random
 from dataclasses import dataclass, field
 
-from edges import EDGES, change_at_edge
-from faults import STAGE_OF, Fault
-from image_text import TOP
-from layout import laid_out
-from made_sets import MadeSet, made_settings
-from made_texts import damaged, lines_of_every_form, longest_text, rendered
+from ..faults import STAGE_OF, Fault
+from ..text import TOP, text_of
+from .changed import changed_set
+from .edges import EDGES, change_at_edge
+from .layout import laid_out
+from .sets import MadeSet, made_settings
+from .texts import damaged, lines_of_every_form, longest_text, rendered
 
 # One of this many cases is about the form of texts, and the others are about sets. One of this many about texts has the maximum size.
 TEXT_EVERY, LONGEST_EVERY = 5, 40
@@ -30,8 +33,8 @@ class Case:
     # The words that say the RSDP and the settings.
     rsdp_words: list = field(default_factory=list)
     setting_words: list = field(default_factory=list)
-    # The memory that the text was written from, if it says nothing else.
-    memory: object = None
+    # What the text was written from, if it says nothing else.
+    image: object = None
 
 
 def hex_word(dice, value, most):
@@ -56,25 +59,27 @@ def words_of(dice, settings):
     return [word for group in groups for word in group]
 
 
-def change_bytes(dice, memory):
+def change_bytes(dice, image):
     """Changes a byte or two, and usually fixes the checksum of the table around each."""
-    held = sorted(memory.bytes)
+    places = [at + place for at, data in image.pieces().items() for place in range(len(data))]
     for _ in range(dice.choice((1, 1, 2))):
-        at = dice.choice(held)
-        memory.bytes[at] = dice.choice((0, 1, 2, 4, 8, 255, dice.randrange(256), memory.bytes[at] ^ 1))
-        starts = [start for start in held if memory.held(start, 4) in SIGNATURES and start <= at]
+        at = dice.choice(places)
+        own = image.held(at, 1).data[0]
+        image.replace(at, bytes([dice.choice((0, 1, 2, 4, 8, 255, dice.randrange(256), own ^ 1))]))
+        signatures = {start: image.held(start, 4) for start in places if start <= at}
+        starts = [start for start, signature in signatures.items() if signature and signature.data in SIGNATURES]
         if starts and dice.random() < 0.8:
-            fix_checksum(memory, starts[-1])
+            fix_checksum(image, starts[-1])
     if dice.random() < 0.1:
-        del memory.bytes[dice.choice(held)]
+        image.drop(dice.choice(places), 1)
 
 
-def fix_checksum(memory, start):
+def fix_checksum(image, start):
     """Makes the bytes of a table sum to 0."""
-    header = memory.held(start, 36)
-    table = memory.held(start, int.from_bytes(header[4:8], "little")) if header else None
+    header = image.held(start, 36)
+    table = image.held(start, header.number(4, 4)) if header else None
     if table:
-        memory.bytes[start + 9] = (memory.bytes[start + 9] - sum(table)) % 256
+        image.replace(start + 9, bytes([(header.data[9] - sum(table.data)) % 256]))
 
 
 def other_code(dice, target):
@@ -92,10 +97,10 @@ def set_case(dice, place):
     change_at_edge(made, target, dice.random() < 0.7)
     for _ in range(dice.choice((0, 0, 1, 1, 1, 2, 4))):
         change_at_edge(made, other_code(dice, target), dice.random() < 0.6)
-    memory, rsdp = laid_out(made)
-    if dice.random() < 0.15 and memory.bytes:
-        change_bytes(dice, memory)
-    case = Case(rendered(dice, memory), rsdp, made.settings, memory=memory)
+    image, rsdp = laid_out(made)
+    if dice.random() < 0.15 and image.runs:
+        change_bytes(dice, image)
+    case = Case(rendered(dice, image), rsdp, made.settings, image=image)
     if dice.random() < 0.05:
         case.rsdp = dice.choice((rsdp + 1, rsdp - 1, 0, TOP - 1, TOP - 20)) % TOP
     if dice.random() < 0.3:
@@ -111,19 +116,15 @@ def text_case(dice, place):
     if place % 2:
         return Case(lines_of_every_form(dice, place // 2), dice.choice((0, 0xE0000, TOP - 20)), made_settings(dice))
     made = MadeSet(dice, dice.randrange(1, 60))
-    memory, rsdp = laid_out(made)
-    text = rendered(dice, memory)
+    image, rsdp = laid_out(made)
+    text = rendered(dice, image)
     for _ in range(dice.choice((1, 1, 1, 2))):
         text = damaged(dice, text)
     return Case(text, rsdp, made.settings)
 
 
-def case_of(seed, place):
-    """The case of this number."""
-    dice = random.Random(f"{seed} {place}")
-    group, of_group = divmod(place, TEXT_EVERY)
-    is_text = of_group == TEXT_EVERY - 1
-    case = text_case(dice, group) if is_text else set_case(dice, group * (TEXT_EVERY - 1) + of_group)
+def completed(dice, case):
+    """The case with the words of a command line, and the dice, for more."""
     case.base, case.is_strict = dice.choice(BASES), dice.random() < 0.2
     case.setting_words = words_of(dice, case.settings)
     if dice.random() < 0.85:
@@ -131,6 +132,21 @@ def case_of(seed, place):
     else:
         case.rsdp = None
     return case, dice
+
+
+def made_case(seed, place):
+    """The case of this number that is made."""
+    dice = random.Random(f"{seed} {place}")
+    group, of_group = divmod(place, TEXT_EVERY)
+    is_text = of_group == TEXT_EVERY - 1
+    return completed(dice, text_case(dice, group) if is_text else set_case(dice, group * (TEXT_EVERY - 1) + of_group))
+
+
+def changed_case(seed, place):
+    """The case of this number that is a known set or a new one, changed."""
+    dice = random.Random(f"{seed} {place} changed")
+    image, rsdp = changed_set(dice)
+    return completed(dice, Case(text_of(image.pieces()), rsdp, made_settings(dice), image=image))
 
 
 # ---- faults to ask `confirm` about

@@ -1,6 +1,6 @@
-"""Writes memory as image text in each form that a text may have, damages such texts, and makes texts of lines of every form."""
+"""Writes images as image text in each form that a text may have, damages such texts, and makes texts of lines of every form."""
 
-from image_text import LONGEST_LINE, LONGEST_TEXT, TOP, runs_of
+from ..text import LONGEST_LINE, LONGEST_TEXT, TOP
 
 # Lines of every form, right and wrong.
 ADDRESSES = (
@@ -62,10 +62,10 @@ class Style:
         return line
 
 
-def pieces_of(style, memory):
-    """Rows of the memory, each with its address, in the order in which they are written."""
+def pieces_of(style, image):
+    """Rows of the image, each with its address, in the order in which they are written."""
     dice, pieces = style.dice, []
-    for start, data in runs_of(memory):
+    for start, data in image.pieces().items():
         whole = dice.random() < 0.5
         size = len(data) if whole else dice.randrange(1, len(data) + 1)
         pieces.extend((start + at, data[at : at + size]) for at in range(0, len(data), size))
@@ -74,10 +74,10 @@ def pieces_of(style, memory):
     return pieces
 
 
-def rendered(dice, memory):
-    """Text of this memory, in a style at random."""
+def rendered(dice, image):
+    """Text of this image, in a style at random."""
     style, lines, next_at = Style(dice), [], None
-    for start, data in pieces_of(style, memory):
+    for start, data in pieces_of(style, image):
         for at in range(0, len(data), style.width):
             if start + at != next_at or style.is_each_addressed:
                 lines.append(style.dressed(style.address(start + at)))

@@ -4,14 +4,16 @@ which shares no code with the program. A fault stands whether or not others do.
 Each function gives all faults of its kind, but of overlaps and cycles only the first one; of those with one name the least by their
 numbers is the first."""
 
+from __future__ import annotations
+
 from bisect import bisect_right
-from itertools import chain
+from functools import cached_property
+from itertools import chain, permutations
 
-from image import (
-    HEADER, Entries, Fadt, Finding, MadtEntries, SratEntries, domain_of, fadt_of, is_enabled, slit_count, whole_table,
+from .table_set import (
+    HEADER, Entries, Fadt, Finding, MadtEntries, SratEntries, TableSet, domain_of, fadt_of, is_enabled, slit_count, whole_table,
 )
-
-TOP = 1 << 64
+from .text import TOP
 
 # The names of the faults by stage, in the order of their codes.
 STAGES = {
@@ -423,20 +425,104 @@ def leaf_faults(tables):
             yield Fault("LeafUnknown", node.offset, 0, node.number(12, 4))
 
 
+def early_faults(tables):
+    """Those of the RSDP, of the root and of listed tables, without which `show` shows nothing."""
+    return chain(rsdp_faults(tables), root_faults(tables), table_faults(tables))
+
+
 def all_faults(tables, policy):
     """All faults, but of overlaps and cycles the first of each name alone."""
-    return chain(
-        rsdp_faults(tables),
-        root_faults(tables),
-        table_faults(tables),
-        fadt_faults(tables),
-        facs_faults(tables),
-        madt_faults(tables, policy),
-        srat_faults(tables, policy),
-        overlap_faults(tables, policy),
-        slit_faults(tables),
-        pptt_faults(tables),
-        domain_faults(tables, policy),
-        gsi_faults(tables, policy),
-        leaf_faults(tables),
-    )
+    for part in (early_faults, fadt_faults, facs_faults):
+        yield from part(tables)
+    for part in (madt_faults, srat_faults, overlap_faults):
+        yield from part(tables, policy)
+    for part in (slit_faults, pptt_faults):
+        yield from part(tables)
+    for part in (domain_faults, gsi_faults):
+        yield from part(tables, policy)
+    yield from leaf_faults(tables)
+
+
+# ---- what `check` and `confirm` answer
+
+# Of the faults of chains that do not end: the type of the entries, and how many bytes each has at least.
+CHAINS = {"ParentCycle": (0, 20), "CacheCycle": (1, 24)}
+
+
+class Judgement:
+    """What is wrong with the set that an RSDP leads to.
+
+    `listed` are all faults, but of overlaps and cycles the first of each name alone, `faults` all of them, save overlaps and cycles, of
+    which each pair and each chain has some."""
+
+    def __init__(self, image, rsdp, policy):
+        tables = TableSet(image, rsdp)
+        self.listed = list(all_faults(tables, policy))
+        self.span_groups = span_groups(tables, policy)
+        self.pptt, self.pptt_table = tables.pptt, tables.table(b"PPTT")
+
+    @cached_property
+    def faults(self):
+        return list(dict.fromkeys([*self.listed, *self.overlaps(), *self.cycles()]))
+
+    def overlaps(self):
+        for name, groups in self.span_groups.items():
+            yield from chain.from_iterable(some_shared(name, spans) for spans in groups)
+
+    def cycles(self):
+        for name in CHAINS if self.pptt else ():
+            yield from some_cycles(name, *self.links(name))
+
+    def links(self, name):
+        """What each entry of a kind names, and the most steps that a fault may have."""
+        kind, least = CHAINS[name]
+        return links_of(self.pptt, kind), len(self.pptt_table) // least
+
+    def verdict(self, last=18):
+        """The fault that `check` reports through the stage `last`, or None."""
+        return min((fault for fault in self.listed if STAGE_OF[fault.name] <= last), key=Fault.order, default=None)
+
+    def stands(self, fault):
+        """Whether the set has this fault."""
+        if fault.name in self.span_groups:
+            return any(have_both(spans, fault) for spans in self.span_groups[fault.name])
+        if fault.name in CHAINS:
+            return self.pptt is not None and is_cycle(*self.links(fault.name), fault)
+        return fault in self.listed
+
+
+def some_shared(name, spans):
+    """Of any two spans the faults with the first and the last number that they share, in both orders of the two."""
+    for one, other in permutations(spans, 2):
+        first, last = max(one[0], other[0]), min(one[1], other[1], TOP) - 1
+        if first <= last:
+            yield from (Fault(name, one[2], other[2], point) for point in sorted({first, last}))
+
+
+def have_both(spans, fault):
+    """Whether the spans at the fault's two offsets are two, and both have its number."""
+    having = [offset for start, end, offset in spans if offset in (fault.at, fault.other) and start <= fault.point < end]
+    return len(having) == 2
+
+
+def some_cycles(name, links, bound):
+    """Of each entry whose chain does not end, the fault with the least counts, and those next to it that the bound allows."""
+    cycles = ((offset, cycle_from(offset, links, set())) for offset in links)
+    for offset, (lead, size) in (it for it in cycles if it[1]):
+        counts = {(lead, size), (lead + 1, size), (lead, 2 * size), (bound - size, size)}
+        yield from (Fault(name, offset, *it) for it in sorted(counts) if it[0] >= lead and sum(it) <= bound)
+
+
+def after(links, at, steps):
+    """Where a chain is after this many steps, or None if it has ended before."""
+    for _ in range(steps):
+        at = links.get(at)
+    return at
+
+
+def is_cycle(links, bound, fault):
+    """Whether there is such a cycle: this many steps lead to an entry, and this many from it to itself."""
+    if fault.point == 0 or fault.other + fault.point > bound:
+        return False
+    reached = after(links, fault.at, fault.other)
+    return reached is not None and after(links, reached, fault.point) == reached

@@ -3,12 +3,15 @@ which shares no code with the program. A rule whose tables or fields are not the
 
 Each function gives findings; of those with one name the least by their numbers is the first."""
 
+from __future__ import annotations
+
+import argparse
 from dataclasses import dataclass
 from functools import cached_property
 from itertools import chain
 
-from faults import Numbers, served
-from image import Finding, TableSet, domain_of, fadt_of, is_enabled, slit_count
+from .faults import STAGE_OF, Numbers, all_faults, served
+from .table_set import BLOCKS, Finding, Policy, TableSet, domain_of, fadt_of, find_rsdp, is_enabled, slit_count
 
 RULES = """
     ListedTwice SecondTable ListedApart FadtOfRevision FacsDiffers DsdtDiffers BlockDiffers SciNowhere
@@ -24,8 +27,6 @@ NAMED_BY_FADT = (b"DSDT", b"FACS")
 LENGTHS = {3: 244, 4: 244, 5: 268}
 LAST_LENGTH = 276
 
-# The register blocks: the offsets of the 4-byte address and of the generic address structure (5.2.9).
-BLOCKS = ((56, 148), (60, 160), (64, 172), (68, 184), (72, 196), (76, 208), (80, 220), (84, 232))
 SYSTEM_IO = 1
 
 # Types of entries of the MADT (5.2.12) and of the SRAT (5.2.16).
@@ -59,27 +60,25 @@ class Affinity:
 
 def processor_of(entry):
     """The processor that an entry of the MADT describes, or None."""
-    n = entry.number
-    match (entry.kind, len(entry)):
-        case (0, 8):
-            return Processor(entry.offset, n(2, 1), n(3, 1), n(4, 4) & 0b11 != 0)
-        case (9, 16):
-            return Processor(entry.offset, n(12, 4), n(4, 4), n(8, 4) & 0b11 != 0)
-        case (11, length) if length >= GICC_LENGTH:
-            return Processor(entry.offset, n(8, 4), None, n(12, 4) & 1 != 0)
+    n, shape = entry.number, (entry.kind, len(entry))
+    if shape == (0, 8):
+        return Processor(entry.offset, n(2, 1), n(3, 1), n(4, 4) & 0b11 != 0)
+    if shape == (9, 16):
+        return Processor(entry.offset, n(12, 4), n(4, 4), n(8, 4) & 0b11 != 0)
+    if entry.kind == GICC and len(entry) >= GICC_LENGTH:
+        return Processor(entry.offset, n(8, 4), None, n(12, 4) & 1 != 0)
     return None
 
 
 def affinity_of(entry):
     """The affinity that an entry of the SRAT describes, or None."""
-    n = entry.number
-    match (entry.kind, len(entry)):
-        case (0, 16) if is_enabled(n(4, 4)):
-            return Affinity(entry.offset, n(3, 1), domain_of(entry), False)
-        case (2, 24) if is_enabled(n(12, 4)):
-            return Affinity(entry.offset, n(8, 4), domain_of(entry), False)
-        case (3, 18) if is_enabled(n(10, 4)):
-            return Affinity(entry.offset, n(6, 4), domain_of(entry), True)
+    n, shape = entry.number, (entry.kind, len(entry))
+    if shape == (0, 16) and is_enabled(n(4, 4)):
+        return Affinity(entry.offset, n(3, 1), domain_of(entry), False)
+    if shape == (2, 24) and is_enabled(n(12, 4)):
+        return Affinity(entry.offset, n(8, 4), domain_of(entry), False)
+    if shape == (GICC_AFFINITY, GICC_AFFINITY_LENGTH) and is_enabled(n(10, 4)):
+        return Affinity(entry.offset, n(6, 4), domain_of(entry), True)
     return None
 
 
@@ -165,7 +164,7 @@ def fadt_advice(facts):
 
 
 def block_advice(fadt):
-    for narrow, wide in BLOCKS:
+    for _, narrow, _, wide in BLOCKS:
         port, address = fadt.field(narrow, 4), fadt.field(wide + 4, 8)
         if 0 != port != address != 0 and fadt.field(wide, 1) == SYSTEM_IO:
             yield Finding("BlockDiffers", narrow, port, address)
@@ -285,7 +284,7 @@ def pptt_advice(facts):
 
 def has_odd_shape(cache):
     flags, sets, line = cache.number(4, 4), cache.number(16, 4), cache.number(22, 2)
-    return (flags >> 1 & 1 == 1 and sets == 0) or (flags >> 6 & 1 == 1 and line.bit_count() != 1)
+    return (flags >> 1 & 1 == 1 and sets == 0) or (flags >> 6 & 1 == 1 and bin(line).count("1") != 1)
 
 
 def leaf_advice(facts):
@@ -319,3 +318,58 @@ def all_advice(tables, policy):
     facts = Facts(tables, policy)
     each = (slot_advice, fadt_advice, madt_advice, srat_advice, slit_advice, pptt_advice, unread)
     return chain.from_iterable(advice(facts) for advice in each)
+
+
+# ---- the lines of `lint`
+
+NO_RSDP = ["no rsdp"]
+
+
+def firsts(findings):
+    """The least finding of each name."""
+    first = {}
+    for finding in findings:
+        first[finding.name] = min(finding, first.get(finding.name, finding))
+    return first
+
+
+def lint_lines(image, rsdp, policy):
+    """The lines of `lint` for an image, with the RSDP at this address, or where it is found."""
+    rsdp = find_rsdp(image) if rsdp is None else rsdp
+    if rsdp is None:
+        return NO_RSDP
+    tables = TableSet(image, rsdp)
+    faults = firsts(all_faults(tables, policy))
+    advice = firsts(all_advice(tables, policy))
+    lines = [f"no {faults[name]}" for name in STAGE_OF if name in faults]
+    return (lines or ["yes"]) + [f"advice {advice[name]}" for name in RULES if name in advice]
+
+
+def lint_status(lines, strict=False):
+    """The status with which `lint` ends after these lines."""
+    is_advised = any(line.startswith("advice ") for line in lines)
+    return 1 if lines[0] != "yes" or (strict and is_advised) else 0
+
+
+def read_words(words):
+    """The RSDP's address or None, the policy, and whether advice counts, from the words after `lint`."""
+    parser = argparse.ArgumentParser()
+    parser.add_argument("--rsdp", type=lambda text: int(text, 16))
+    parser.add_argument("--default-inputs", type=int, default=24)
+    parser.add_argument("--hotplug", choices=("counted", "apart"), default="counted")
+    parser.add_argument("--processors", choices=("enabled", "usable"), default="enabled")
+    parser.add_argument("--strict", action="store_true")
+    parser.add_argument("counts", nargs="*", metavar="ADDRESS=COUNT")
+    said = parser.parse_intermixed_args(words)
+    inputs = {}
+    for text in said.counts:
+        address, count = text.split("=")
+        inputs.setdefault(int(address, 16), int(count))
+    return said.rsdp, Policy(said.default_inputs, inputs, said.hotplug, said.processors), said.strict
+
+
+def linted(words, image):
+    """The lines and the status of `lint` with these words."""
+    rsdp, policy, strict = read_words(words)
+    lines = lint_lines(image, rsdp, policy)
+    return lines, lint_status(lines, strict)

@@ -1,16 +1,20 @@
-"""What the second reading of the rules reads: an image, the policy, the tables that the RSDP leads to, and their entries, from the
+"""What the second programs read: the policy, the tables that the RSDP leads to, and their entries, from the
 layouts of ACPI 6.5, section 5.2, alone. A table is read where its bytes are present, whatever they sum to."""
 
-import sys
+from __future__ import annotations
+
 from dataclasses import dataclass, field
-from pathlib import Path
 from typing import NamedTuple
 
-sys.path += [str(Path(__file__).parent.parent / place) for place in ("rows", "show")]
-
-from reader import Bytes, Image
+from .text import Bytes, Image
 
 HEADER = 36
+# The FADT's register blocks: the name that `show` writes, the offsets of the 4-byte address, of the length and of the generic address
+# structure (5.2.9).
+BLOCKS = (
+    ("PM1a_EVT", 56, 88, 148), ("PM1b_EVT", 60, 88, 160), ("PM1a_CNT", 64, 89, 172), ("PM1b_CNT", 68, 89, 184),
+    ("PM2_CNT", 72, 90, 196), ("PM_TMR", 76, 91, 208), ("GPE0", 80, 92, 220), ("GPE1", 84, 93, 232),
+)
 # Where `find_rsdp` looks (5.2.5.1).
 PLACES = range(0xE0000, 0x100000, 16)
 
@@ -42,9 +46,9 @@ class Finding(NamedTuple):
 
 def find_rsdp(image):
     """The least address at which a search finds an RSDP, or None."""
-    for start, data in image.runs:
-        for address in range(start + -start % 16, start + len(data), 16):
-            head = image.held(address, 20) if address in PLACES else None
+    for start, data in zip(image.starts, image.runs):
+        for address in range(max(start + -start % 16, PLACES.start), min(start + len(data), PLACES.stop), 16):
+            head = image.held(address, 20)
             if head and head.data[:8] == b"RSD PTR " and head.sums_to_0():
                 return address
     return None

@@ -1,28 +1,25 @@
 """Makes sets of tables at random. Nearly all of them are clean; edges.py then changes them. Sections are those of ACPI 6.5. Numbers
 are little-endian."""
 
-from image import Policy
+from functools import partial
+from types import SimpleNamespace
+
+from .. import tables as built
+from ..table_set import Policy
+from ..tables import REDUCED, RESET_REG_SUP, gicc, gicd, lapic, nmi_source, number, override, summed, uid_domain
+from ..text import TOP
 
 RSDP_SIZE, LONG_RSDP_SIZE, HEADER_SIZE, FACS_SIZE = 20, 36, 36, 64
 FADT_SIZE = 320
 FADT_LENGTHS = (116, 117, 128, 129, 131, 132, 139, 140, 147, 148, 159, 160, 232, 243, 244, 268, 276, 277, FADT_SIZE)
-REDUCED, RESET_REG_SUP = 1 << 20, 1 << 10
-TOP = 1 << 64
 LOW = 1 << 32
-# What reserved bytes hold: nothing may depend on it, and a rebuilt set has 0 there.
-RESERVED = b"\xa5" * 12
 
-
-def little(value, size):
-    return (value % (1 << 8 * size)).to_bytes(size, "little")
-
-
-def with_sum(data, at, size, error=0):
-    """The bytes with the one at this offset set so that this many sum to the error."""
-    data = bytearray(data)
-    if at < len(data):
-        data[at] = (error - sum(data[:size]) + (data[at] if at < size else 0)) % 256
-    return bytes(data)
+# Entries whose reserved bytes hold what nothing may depend on: a rebuilt set has 0 there.
+RESERVED = 0xA5
+io_apic, lapic_address, x2apic, x2apic_nmi, x2apic_domain, memory = (
+    partial(make, reserved=RESERVED)
+    for make in (built.io_apic, built.lapic_address, built.x2apic, built.x2apic_nmi, built.x2apic_domain, built.memory)
+)
 
 
 class Table:
@@ -40,8 +37,8 @@ class Table:
         """The bytes, with the checksum over Length of them."""
         length = len(self) if self.length is None else self.length
         maker = bytes(dice.randrange(256) for _ in range(26))
-        data = self.signature + little(length, 4) + bytes([self.revision, 0]) + maker + self.body
-        return with_sum(data, 9, length, self.error)
+        data = self.signature + number(length, 4) + bytes([self.revision, 0]) + maker + self.body
+        return summed(data, 9, length, self.error)
 
 
 class Facs:
@@ -52,88 +49,24 @@ class Facs:
         self.at, self.shift = None, 0
 
     def bytes(self, dice):
-        head = self.signature + little(self.length, 4)
+        head = self.signature + number(self.length, 4)
         return (head + bytes(24) + bytes([dice.randrange(4)]) + bytes(self.size))[: self.size]
 
 
-# ---- MADT (5.2.12)
-
-
-def lapic(uid, apic_id, flags):
-    return bytes([0, 8, uid % 256, apic_id % 256]) + little(flags, 4)
-
-
-def io_apic(address, base, io_apic_id=0):
-    return bytes([1, 12, io_apic_id]) + RESERVED[:1] + little(address, 4) + little(base, 4)
-
-
-def override(source, gsi, flags=0, bus=0):
-    return bytes([2, 10, bus, source]) + little(gsi, 4) + little(flags, 2)
-
-
-def nmi_source(gsi, flags=0):
-    return bytes([3, 8]) + little(flags, 2) + little(gsi, 4)
-
-
-def lapic_nmi(uid, flags=0):
-    return bytes([4, 6, uid % 256]) + little(flags, 2) + b"\1"
-
-
-def lapic_address(address):
-    return bytes([5, 12]) + RESERVED[:2] + little(address, 8)
-
-
-def x2apic(uid, apic_id, flags):
-    return bytes([9, 16]) + RESERVED[:2] + little(apic_id, 4) + little(flags, 4) + little(uid, 4)
-
-
-def x2apic_nmi(uid, flags=0):
-    return bytes([10, 12]) + little(flags, 2) + little(uid, 4) + b"\1" + RESERVED[:3]
+def apic_domain(apic_id, domain, flags):
+    """An affinity whose EID and clock domain, which are not compared, differ where the flags do."""
+    made, own = built.apic_domain(apic_id, domain, flags), number(flags, 4)
+    return made[:8] + own[:1] + made[9:12] + own
 
 
 def flagged_entries(flags):
     """An entry of each kind that has interrupt flags."""
-    return override(201, 0, flags), nmi_source(0, flags), lapic_nmi(255, flags), x2apic_nmi(LOW - 1, flags)
-
-
-MADT_TYPES = {0: 8, 1: 12, 2: 10, 3: 8, 4: 6, 5: 12, 9: 16, 10: 12}
-SRAT_TYPES = {0: 16, 1: 40, 2: 24}
-
-
-def gicc(uid, flags, size):
-    """A GIC CPU interface (5.2.12.14), at which no stage looks."""
-    return (bytes([11, size]) + bytes(6) + little(uid, 4) + little(flags, 4) + bytes(size))[:size]
-
-
-def gicd():
-    return bytes([12, 24]) + bytes(22)
+    return override(201, 0, flags), nmi_source(0, flags), built.lapic_nmi(255, 1, flags), x2apic_nmi(LOW - 1, 1, flags)
 
 
 def other_entry(dice, kinds):
     size = dice.choice((2, 3, 8, 18, 20, 24, 39, 40, 80))
     return bytes([dice.choice(kinds), size]) + bytes(dice.choice((0, 1, 2, 255)) for _ in range(size - 2))
-
-
-# ---- SRAT (5.2.16)
-
-
-def apic_domain(apic_id, domain, flags):
-    # The EID and the clock domain, which are not compared, differ where the flags do.
-    own = little(flags, 4)
-    return bytes([0, 16, domain % 256, apic_id % 256]) + own + own[:1] + little(domain >> 8, 3) + own
-
-
-def x2apic_domain(apic_id, domain, flags):
-    return bytes([2, 24]) + RESERVED[:2] + little(domain, 4) + little(apic_id, 4) + little(flags, 4) + bytes(4) + RESERVED[:4]
-
-
-def memory_range(base, length, flags, domain=0):
-    head = bytes([1, 40]) + little(domain, 4) + RESERVED[:2] + little(base, 8) + little(length, 8)
-    return head + RESERVED[:4] + little(flags, 4) + RESERVED[:8]
-
-
-def gicc_domain(uid, domain, flags):
-    return bytes([3, 18]) + little(domain, 4) + little(uid, 4) + little(flags, 4) + bytes(4)
 
 
 # ---- PPTT (5.2.30)
@@ -154,13 +87,12 @@ class Item:
         return 20 + 4 * len(self.resources) if self.kind == 0 else 24
 
     def bytes(self):
-        count = len(self.resources) if self.count is None else self.count
-        head = bytes([self.kind, len(self)]) + RESERVED[:2] + little(self.flags, 4) + little(offset_of(self.names), 4) + little(self.uid, 4)
+        names, resources = offset_of(self.names), [offset_of(it) for it in self.resources]
         if self.kind == 0:
-            rest = little(count, 4) + b"".join(little(offset_of(it), 4) for it in self.resources)
+            made = built.node(names, self.flags, self.uid, resources, self.count, len(self), reserved=RESERVED)
         else:
-            rest = little(self.uid, 4) + bytes([4, 1, 64, 0]) + little(self.uid, 4)
-        return (head + rest + bytes(len(self)))[: len(self)]
+            made = built.cache(names, 28, self.flags, self.uid, self.uid, 4, 1, 64, self.uid, reserved=RESERVED)
+        return (bytes([self.kind, len(self)]) + made[2:] + bytes(len(self)))[: len(self)]
 
 
 def offset_of(name):
@@ -189,8 +121,8 @@ class MadeSet:
         self.dice = dice
         self.settings = made_settings(dice)
         self.is_xsdt = dice.random() < 0.5
-        self.rsdp = {"signature": b"RSD PTR ", "revision": self.made_revision(), "length": 36, "tail": b"", "size": 36}
-        self.rsdp.update(error=0, long_error=0, rsdt=None, xsdt=None, held=None)
+        self.rsdp = SimpleNamespace(signature=b"RSD PTR ", revision=self.made_revision(), length=36, tail=b"", rsdt=None, xsdt=None)
+        self.rsdp.error, self.rsdp.long_error, self.rsdp.held = 0, 0, None
         self.rsdp_at = dice.choice((0xE0000, 0xE0000 + 16 * dice.randrange(1, 0x2000), 0xFFFF0, None))
         self.root = Table(b"XSDT" if self.is_xsdt else b"RSDT", b"", dice.randrange(3))
         self.ragged, self.extra_slots = b"", [listed_table] * (dice.random() < 0.1)
@@ -218,14 +150,14 @@ class MadeSet:
         body = bytearray(FADT_SIZE)
         body[88], body[89], body[91] = dice.choice((4, 4, 5, 255)), dice.choice((2, 2, 3, 255)), dice.choice((0, 4))
         body[92], body[93] = dice.choice((0, 2, 254)), dice.choice((0, 2, 254))
-        body[112:116] = little(dice.choice((0, 0, REDUCED, RESET_REG_SUP, REDUCED | RESET_REG_SUP, 0xFFEFFFFF)), 4)
+        body[112:116] = number(dice.choice((0, 0, REDUCED, RESET_REG_SUP, REDUCED | RESET_REG_SUP, 0xFFEFFFFF)), 4)
         body[116:119] = bytes([dice.randrange(3), 8, 0])
-        body[46:48] = little(dice.choice((9, 9, 0, 24, 255)), 2)
-        body[40:44] = little(dice.choice((0, 0x9011, 0x7FFE0001)), 4)
+        body[46:48] = number(dice.choice((9, 9, 0, 24, 255)), 2)
+        body[40:44] = number(dice.choice((0, 0x9011, 0x7FFE0001)), 4)
         # A part of X_FIRMWARE_CTRL, which is none if Length ends in it.
         body[132:139] = b"\x55" * 7
         for at in (*range(56, 88, 4), *range(152, 244, 12), 140):
-            body[at : at + 4] = little(dice.choice((0, 0, 0, 0x600, 0x608)), 4)
+            body[at : at + 4] = number(dice.choice((0, 0, 0, 0x600, 0x608)), 4)
         for at in range(148, 244, 12):
             body[at : at + 4] = bytes([dice.choice((0, 1, 1, 127)), dice.choice((8, 16, 32)), 0, dice.randrange(5)])
         return body
@@ -251,8 +183,8 @@ class MadeSet:
             entries.append(override(source, numbers.setdefault(source, served()), inti()))
         more = (
             lambda: nmi_source(served(), inti()),
-            lambda: lapic_nmi(dice.choice((0, 1, 255)), inti()),
-            lambda: x2apic_nmi(dice.choice((0, 256, 0xFFFFFFFF)), inti()),
+            lambda: built.lapic_nmi(dice.choice((0, 1, 255)), 1, inti()),
+            lambda: x2apic_nmi(dice.choice((0, 256, 0xFFFFFFFF)), 1, inti()),
         )
         entries += [dice.choice(more)() for _ in range(dice.choice((0, 1, 2)))]
         entries += [lapic_address(0xFEE00000)] * dice.choice((0, 0, 1))
@@ -273,11 +205,11 @@ class MadeSet:
                 entries.append(x2apic_domain(apic_id, domain, flags) if is_wide else apic_domain(apic_id, domain, flags))
         for _ in range(dice.choice((0, 1, 2, 3, 5))):
             size = dice.choice((0, 1, 0x1000, 0x1000))
-            entries.append(memory_range(base, size, dice.choice((1, 1, 3, 5, 0, 2)), dice.randrange(3)))
+            entries.append(memory(base, size, dice.choice((1, 1, 3, 5, 0, 2)), dice.randrange(3)))
             base += size + dice.choice((0, 0, 1, 0x1000))
         if dice.random() < 0.2:
             entries.append(other_entry(dice, (3, 3, 4, 5, 255)))
-        entries += [gicc_domain(dice.randrange(2), dice.randrange(3), 1) for _ in range(dice.choice((0, 0, 0, 2)))]
+        entries += [uid_domain(dice.randrange(2), dice.randrange(3)) for _ in range(dice.choice((0, 0, 0, 2)))]
         dice.shuffle(entries)
         return entries
 
@@ -318,12 +250,12 @@ class MadeSet:
         self.fadt_table = Table(b"FACP", self.fadt[36 : self.fadt_length], self.dice.choice((1, 3, 5, 6)))
         tables = [self.fadt_table]
         if self.madt is not None:
-            head = little(0xFEE00000, 4) + little(1, 4)
+            head = number(0xFEE00000, 4) + number(1, 4)
             tables.append(Table(b"APIC", cut(head + b"".join(self.madt), self.madt_cut)))
         if self.srat is not None:
-            tables.append(Table(b"SRAT", cut(RESERVED + b"".join(self.srat), self.srat_cut)))
+            tables.append(Table(b"SRAT", cut(bytes([RESERVED]) * 12 + b"".join(self.srat), self.srat_cut)))
         if self.slit is not None:
-            tables.append(Table(b"SLIT", little(self.slit[0], 8) + self.slit[1]))
+            tables.append(Table(b"SLIT", number(self.slit[0], 8) + self.slit[1]))
         if self.pptt is not None:
             tables.append(Table(b"PPTT", cut(placed_items(self.pptt), self.pptt_cut), self.pptt_revision))
         self.dice.shuffle(tables)

@@ -2,8 +2,8 @@
 once without a fault, and once with one among the last entries; and PPTTs of 2 MiB. A stage that gives up on this many is out of
 memory to each contract, so only these sets show it."""
 
-from rows import Row
-from tables import *
+from ..tables import *
+from .rows import Row
 
 COUNT = 10_000
 LAST = COUNT - 1
@@ -13,10 +13,10 @@ PLACES = [0x1000000 * place for place in range(1, 4)]
 MANY = []
 
 
-def many(name, answer, *listed, words="", count=COUNT):
+def many(name, answer, *tables, words="", count=COUNT):
     """The program's line for a FADT and these tables."""
-    others = dict(zip(PLACES, listed))
-    pieces = image_of(fadt(), slots=[TABLES_AT, *others], others=others)
+    others = dict(zip(PLACES, tables))
+    pieces = listed(slots=[TABLES_AT, *others], others=others)
     MANY.append(Row(f"{count} {name}", pieces, f"check --rsdp e0000 {words}".strip(), answer))
 
 
@@ -29,8 +29,7 @@ def at(first, size, place):
 IO_APICS = [io_apic(0xFEC00000, 24 * place) for place in range(COUNT)]
 many("I/O APICs", "yes", madt(*IO_APICS))
 many(
-    "I/O APICs, the last one from one number too low on",
-    f"no 7 GsiClash {at(44, 12, LAST - 1)} {at(44, 12, LAST)} {24 * LAST - 1:#x}",
+    "I/O APICs, the last one from one number too low on", f"no 7 GsiClash {at(44, 12, LAST - 1)} {at(44, 12, LAST)} {24 * LAST - 1:#x}",
     madt(*IO_APICS[:LAST], io_apic(0xFEC00000, 24 * LAST - 1)),
 )
 
@@ -44,15 +43,11 @@ many("ranges", "yes", srat(*RANGES))
 many("ranges, the last one from one address too low on", OVERLAP, srat(*RANGES[:LAST], LOW))
 many("ranges under as many windows", "yes", srat(*RANGES, *WINDOWS), words="--hotplug apart")
 many(
-    "ranges, the last one from one address too low on, under as many windows",
-    OVERLAP,
-    srat(*RANGES[:LAST], LOW, *WINDOWS),
+    "ranges, the last one from one address too low on, under as many windows", OVERLAP, srat(*RANGES[:LAST], LOW, *WINDOWS),
     words="--hotplug apart",
 )
 many(
-    "windows, the last one from one address too low on, over as many ranges",
-    OVERLAP,
-    srat(*WINDOWS[:LAST], LOW_WINDOW, *RANGES),
+    "windows, the last one from one address too low on, over as many ranges", OVERLAP, srat(*WINDOWS[:LAST], LOW_WINDOW, *RANGES),
     words="--hotplug apart",
 )
 
@@ -69,20 +64,17 @@ def owner(place, parent=36):
 OWNERS = [owner(place) for place in range(COUNT)]
 many("nodes with a resource each", "yes", pptt(*OWNERS, *RESOURCES))
 many(
-    "nodes, the last one with a parent inside the first",
-    f"no 13 DanglingParent {at(36, 24, LAST)} 0x25 0x0",
+    "nodes, the last one with a parent inside the first", f"no 13 DanglingParent {at(36, 24, LAST)} 0x25 0x0",
     pptt(*OWNERS[:LAST], owner(LAST, 37), *RESOURCES),
 )
 many(
-    "nodes, the last one with a resource behind the last",
-    f"no 13 DanglingResource {at(36, 24, LAST)} 0x0 {at(RESOURCES_AT, 4, COUNT)}",
+    "nodes, the last one with a resource behind the last", f"no 13 DanglingResource {at(36, 24, LAST)} 0x0 {at(RESOURCES_AT, 4, COUNT)}",
     pptt(*OWNERS[:LAST], node(36, resources=[RESOURCES_AT + 4 * COUNT]), *RESOURCES),
 )
 CACHES = [cache(36 if place else 0) for place in range(COUNT)]
 many("caches", "yes", pptt(*CACHES))
 many(
-    "caches, the last one with a next level inside the first",
-    f"no 13 DanglingCache {at(36, 24, LAST)} 0x25 0x0",
+    "caches, the last one with a next level inside the first", f"no 13 DanglingCache {at(36, 24, LAST)} 0x25 0x0",
     pptt(*CACHES[:LAST], cache(37)),
 )
 
@@ -91,33 +83,24 @@ CHAIN = [node(36 + 20 * (place + 1)) for place in range(LAST)]
 many("nodes in a chain", "yes", pptt(*CHAIN, node()))
 many("nodes in a ring", f"no 14 ParentCycle 0x24 0x0 {COUNT:#x}", pptt(*CHAIN, node(36)))
 many(
-    "nodes, the last one its own parent",
-    f"no 14 ParentCycle {at(36, 20, LAST)} 0x0 0x1",
+    "nodes, the last one its own parent", f"no 14 ParentCycle {at(36, 20, LAST)} 0x0 0x1",
     pptt(node(), *[node(36)] * (COUNT - 2), node(36 + 20 * LAST)),
 )
 LEVELS = [cache(36 + 24 * (place + 1)) for place in range(LAST)]
 many("caches in a chain", "yes", pptt(*LEVELS, cache()))
 many("caches in a ring", f"no 15 CacheCycle 0x24 0x0 {COUNT:#x}", pptt(*LEVELS, cache(36)))
-many(
-    "caches, the last one its own next level",
-    f"no 15 CacheCycle {at(36, 24, LAST)} 0x0 0x1",
-    pptt(*CACHES[:LAST], cache(36 + 24 * LAST)),
-)
+many("caches, the last one its own next level", f"no 15 CacheCycle {at(36, 24, LAST)} 0x0 0x1", pptt(*CACHES[:LAST], cache(36 + 24 * LAST)))
 
 # ---- processors in two domains: entries of 24 bytes in the SRAT
 PROCESSORS = madt(*(x2apic(place, place) for place in range(COUNT)))
 DOMAINS = [x2apic_domain(place, 0) for place in range(COUNT)]
 many("processors in a domain", "yes", PROCESSORS, srat(*DOMAINS))
 many(
-    "processors in a domain, the last one also in another",
-    f"no 16 TwoDomains {at(48, 24, COUNT)} {at(48, 24, LAST)} {LAST:#x}",
-    PROCESSORS,
-    srat(*DOMAINS, x2apic_domain(LAST, 1)),
+    "processors in a domain, the last one also in another", f"no 16 TwoDomains {at(48, 24, COUNT)} {at(48, 24, LAST)} {LAST:#x}",
+    PROCESSORS, srat(*DOMAINS, x2apic_domain(LAST, 1)),
 )
 many(
-    "processors in a domain, and one that the MADT lacks in two",
-    "yes",
-    PROCESSORS,
+    "processors in a domain, and one that the MADT lacks in two", "yes", PROCESSORS,
     srat(*DOMAINS, x2apic_domain(COUNT, 0), x2apic_domain(COUNT, 1)),
 )
 
@@ -125,8 +108,7 @@ many(
 SOURCES = [nmi_source(24 * place + 23) for place in range(COUNT)]
 many("NMI sources", "yes", madt(*IO_APICS, *SOURCES))
 many(
-    "NMI sources, the last one of a number that none serves",
-    f"no 17 GsiNowhere {at(44 + 12 * COUNT, 8, LAST)} 0x0 {24 * COUNT:#x}",
+    "NMI sources, the last one of a number that none serves", f"no 17 GsiNowhere {at(44 + 12 * COUNT, 8, LAST)} 0x0 {24 * COUNT:#x}",
     madt(*IO_APICS, *SOURCES[:LAST], nmi_source(24 * COUNT)),
 )
 
@@ -134,9 +116,7 @@ many(
 LEAVES = [node(0, IS_ID_VALID | IS_LEAF, place) for place in range(COUNT)]
 many("leaves", "yes", PROCESSORS, pptt(*LEAVES))
 many(
-    "leaves, the last one no processor",
-    f"no 18 LeafUnknown {at(36, 20, LAST)} 0x0 {COUNT:#x}",
-    PROCESSORS,
+    "leaves, the last one no processor", f"no 18 LeafUnknown {at(36, 20, LAST)} 0x0 {COUNT:#x}", PROCESSORS,
     pptt(*LEAVES[:LAST], node(0, IS_ID_VALID | IS_LEAF, COUNT)),
 )
 
@@ -154,14 +134,10 @@ def pairs(resource, level):
 
 many("nodes with a cache each", "yes", pairs(CACHE_AT, 0), count=PAIRS)
 many(
-    "nodes with a cache each, the last one with a resource behind the last",
-    f"no 13 DanglingResource {NODE_AT:#x} 0x0 {END:#x}",
-    pairs(END, 0),
-    count=PAIRS,
+    "nodes with a cache each, the last one with a resource behind the last", f"no 13 DanglingResource {NODE_AT:#x} 0x0 {END:#x}",
+    pairs(END, 0), count=PAIRS,
 )
 many(
-    "nodes with a cache each, the last one its own next level",
-    f"no 15 CacheCycle 0x3c {PAIRS - 1:#x} 0x1",
-    pairs(CACHE_AT, CACHE_AT),
+    "nodes with a cache each, the last one its own next level", f"no 15 CacheCycle 0x3c {PAIRS - 1:#x} 0x1", pairs(CACHE_AT, CACHE_AT),
     count=PAIRS,
 )

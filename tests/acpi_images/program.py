@@ -1,0 +1,102 @@
+"""Runs the built program, counts the cases, and has the images of real firmware."""
+
+import resource
+import subprocess
+import sys
+from concurrent.futures import ThreadPoolExecutor
+from pathlib import Path
+
+from .text import text_of
+
+TESTS = Path(__file__).resolve().parent.parent
+FIRMWARE = TESTS / "images"
+# The images, each with the address of its RSDP.
+IMAGES = {
+    "sb-q35-default": "f59e0",
+    "sb-q35-numa4-dist": "f59c0",
+    "sb-pc-nvdimm-numa": "f59d0",
+    "ovmf-q35": "f77e014",
+    "mv-acpi": "f4a10",
+    "q10-efi-virt-smp4": "4f0b0018",
+    "q11-efi-virt-caches": "47fe0000",
+}
+GOOD = ("yes", "rsdp 0x", "true")
+
+
+def firmware_text(name):
+    return (FIRMWARE / f"{name}.img.txt").read_bytes()
+
+
+def status_of(line):
+    """The status with which `check`, `confirm` or `find` ends after its line."""
+    return 0 if line.startswith(GOOD) else 1
+
+
+def answer(line):
+    """What the program tells where it writes this line alone."""
+    return status_of(line), f"{line}\n", ""
+
+
+def refusal(line):
+    """What the program tells of a text that it refuses for this."""
+    return 3, "", f"acpiset: {line}\n"
+
+
+def timed(call):
+    """What a call returns, and the processor time in seconds of the programs that it ran."""
+    before = resource.getrusage(resource.RUSAGE_CHILDREN)
+    returned = call()
+    after = resource.getrusage(resource.RUSAGE_CHILDREN)
+    return returned, after.ru_utime + after.ru_stime - before.ru_utime - before.ru_stime
+
+
+class Cases:
+    """Runs the program, counts the cases, and tells what failed."""
+
+    def __init__(self, program, seconds=60):
+        self.program, self.seconds = program, seconds
+        self.passed = self.failed = 0
+
+    def count(self, name, wrong):
+        """Counts a case, which is passed where nothing is wrong."""
+        if wrong:
+            self.failed += 1
+            print(f"{name}: {wrong}", flush=True)
+        else:
+            self.passed += 1
+
+    def same(self, name, told, expected):
+        self.count(name, "" if told == expected else f"{told}, not {expected}")
+
+    def run(self, words, pieces, **how):
+        """The program's status, standard output and standard error, for pieces or a text on its standard input."""
+        words = [self.program, *(words.split() if isinstance(words, str) else words)]
+        run = subprocess.run(words, input=text_of(pieces), capture_output=True, timeout=self.seconds, **how)
+        return run.returncode, run.stdout.decode(), run.stderr.decode()
+
+    def writes(self, name, words, pieces, expected, status=None):
+        """The program writes these lines, or this text, with this status or that of the first line, and reports nothing else."""
+        text = "".join(f"{line}\n" for line in expected) if isinstance(expected, list) else expected
+        self.same(name, self.run(words, pieces), (status_of(text) if status is None else status, text, ""))
+
+    def beside(self, found, cases):
+        """Counts what is found of cases, beside each other: (name, what is wrong) of each."""
+        with ThreadPoolExecutor() as pool:
+            for told in pool.map(lambda case: list(found(case)), cases):
+                for name, wrong in told:
+                    self.count(name, wrong)
+
+
+def main(title, *parts, **how):
+    """Runs the parts of a test on the program that the command line names, prints how many cases passed, and ends."""
+    if len(sys.argv) != 2:
+        sys.exit(f"usage: {sys.argv[0]} PROGRAM")
+    cases = Cases(sys.argv[1], **how)
+    for part in parts:
+        part(cases)
+    finish(title, cases)
+
+
+def finish(title, cases):
+    print(f"{title}: {cases.passed} passed, {cases.failed} failed")
+    sys.exit(1 if cases.failed else 0)

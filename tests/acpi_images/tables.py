@@ -1,0 +1,268 @@
+"""Tables as bytes, made from what they say. Sections are those of ACPI 6.5.
+
+Numbers are little-endian. What a test does not care about has one value everywhere, and checksums are computed, so that
+a row shows what it is about and nothing else.
+"""
+
+RSDT_AT = 0x1000
+TABLES_AT = 0x2000
+FACS_AT = 0x7000
+RSDP_AT = 0xE0000
+XSDT_AT = 0x1100
+
+
+def number(value, size):
+    """The last bytes of a number."""
+    return (value % (1 << 8 * size)).to_bytes(size, "little")
+
+
+def summed(data, at, size=None, error=0):
+    """The bytes with the one at this offset, if there is one, set so that all, or this many, sum to 0, or to the error."""
+    data = bytearray(data)
+    if at < len(data):
+        own = data[at] if size is None or at < size else 0
+        data[at] = (error - sum(data[:size]) + own) % 256
+    return bytes(data)
+
+
+def changed(data, changes, *sums):
+    """The bytes with some of them changed, by their offsets. Then, for each (offset, size) of `sums`, this many bytes from
+    the start are made to sum to 0 by the one at the offset."""
+    data = bytearray(data)
+    for at, byte in changes.items():
+        data[at] = byte
+    for at, size in sums:
+        data = summed(data, at, size)
+    return bytes(data)
+
+
+def table(signature, body, revision=1):
+    """A header (5.2.6) and a body."""
+    length = number(36 + len(body), 4)
+    maker = b"A" * 6 + b"A" * 8 + number(1, 4) + b"AAAA" + number(1, 4)
+    return summed(signature + length + bytes([revision, 0]) + maker + body, 9)
+
+
+def revised(data, revision):
+    """A table of another Revision."""
+    return changed(data, {8: revision}, (9, len(data)))
+
+
+# ---- RSDP (5.2.5.3)
+
+
+def rsdp(rsdt=RSDT_AT):
+    return summed(b"RSD PTR \0" + b"A" * 6 + b"\0" + number(rsdt, 4), 8)
+
+
+def extended_rsdp(xsdt=XSDT_AT, rsdt=RSDT_AT, length=36):
+    """The extended form. The second sum is over 36 bytes, whatever the Length says."""
+    first = summed(b"RSD PTR \0" + b"A" * 6 + b"\2" + number(rsdt, 4), 8)
+    return summed(first + number(length, 4) + number(xsdt, 8) + bytes(4), 32)
+
+
+# ---- roots (5.2.7, 5.2.8)
+
+
+def rsdt(*addresses):
+    return table(b"RSDT", b"".join(number(address, 4) for address in addresses))
+
+
+def xsdt(*addresses):
+    return table(b"XSDT", b"".join(number(address, 8) for address in addresses))
+
+
+# ---- FADT and FACS (5.2.9, 5.2.10)
+
+REDUCED = 1 << 20
+RESET_REG_SUP = 1 << 10
+
+
+def fadt(flags=REDUCED, length=116, **fields):
+    """A FADT of hardware-reduced ACPI. A field is given as its bytes and its offset, such as _88=b"\\4"."""
+    body = bytearray(length - 36)
+    body[112 - 36 : 116 - 36] = number(flags, 4)
+    for name, value in fields.items():
+        at = int(name[1:]) - 36
+        body[at : at + len(value)] = value
+    return table(b"FACP", bytes(body))
+
+
+def full_fadt(facs=FACS_AT, length=116, **fields):
+    """A FADT of full hardware: a FACS, and register blocks of the least lengths."""
+    blocks = {"_88": b"\4", "_89": b"\2", "_91": b"\4"}
+    return fadt(0, length, _36=number(facs, 4), **{**blocks, **fields})
+
+
+def old_fadt(revision, length):
+    """A FADT of reduced hardware, of this Revision and Length."""
+    return revised(fadt(length=length), revision)
+
+
+def generic_address(address, space=1, width=32, offset=0, access=0):
+    """A register block's structure (5.2.3.2)."""
+    return bytes([space, width, offset, access]) + number(address, 8)
+
+
+def facs():
+    return b"FACS" + number(64, 4) + bytes(24) + b"\1" + bytes(31)
+
+
+def hpet():
+    """A table that only its header, length and sum are checked of."""
+    return table(b"HPET", bytes(20))
+
+
+# ---- MADT (5.2.12). Of entries the reserved bytes are 0, unless another byte is given.
+
+
+def madt(*entries):
+    return table(b"APIC", number(0xFEE00000, 4) + number(1, 4) + b"".join(entries))
+
+
+def lapic(uid, apic_id, flags=1):
+    return bytes([0, 8, uid % 256, apic_id % 256]) + number(flags, 4)
+
+
+def io_apic(address, base, io_apic_id=0, reserved=0):
+    return bytes([1, 12, io_apic_id, reserved]) + number(address, 4) + number(base, 4)
+
+
+def override(source, gsi, flags=0, bus=0):
+    return bytes([2, 10, bus, source]) + number(gsi, 4) + number(flags, 2)
+
+
+def nmi_source(gsi, flags=0):
+    return bytes([3, 8]) + number(flags, 2) + number(gsi, 4)
+
+
+def lapic_nmi(uid, lint, flags=0):
+    return bytes([4, 6, uid % 256]) + number(flags, 2) + bytes([lint])
+
+
+def lapic_address(address, reserved=0):
+    return bytes([5, 12, reserved, reserved]) + number(address, 8)
+
+
+def x2apic(uid, x2apic_id, flags=1, reserved=0):
+    return bytes([9, 16, reserved, reserved]) + number(x2apic_id, 4) + number(flags, 4) + number(uid, 4)
+
+
+def x2apic_nmi(uid, lint, flags=0, reserved=0):
+    return bytes([10, 12]) + number(flags, 2) + number(uid, 4) + bytes([lint, reserved, reserved, reserved])
+
+
+def local_nmis(uid, lint, flags=0):
+    """An NMI of a UID, of which a local APIC has one byte, of each kind."""
+    return lapic_nmi(uid, lint, flags), x2apic_nmi(uid, lint, flags)
+
+
+def gicc(uid, flags=1, length=80):
+    """A GIC CPU Interface (5.2.12.14), of which a shorter one is cut off."""
+    return (bytes([11, length]) + bytes(6) + number(uid, 4) + number(flags, 4) + bytes(240))[:length]
+
+
+def gicd(length=24):
+    """A GIC Distributor (5.2.12.15)."""
+    return bytes([12, length]) + bytes(length - 2)
+
+
+def other(kind, length=8):
+    """An entry of a type, and nothing in it."""
+    return bytes([kind, length]) + bytes(length - 2)
+
+
+# ---- SRAT (5.2.16)
+
+
+def srat(*entries):
+    return table(b"SRAT", number(1, 4) + bytes(8) + b"".join(entries))
+
+
+def apic_domain(apic_id, domain, flags=1):
+    return bytes([0, 16, domain % 256, apic_id % 256]) + number(flags, 4) + b"\0" + number(domain // 256, 3) + bytes(4)
+
+
+def memory(base, length, flags=1, domain=0, reserved=0):
+    blank = bytes([reserved]) * 8
+    head = bytes([1, 40]) + number(domain, 4) + blank[:2] + number(base, 8) + number(length, 8)
+    return head + blank[:4] + number(flags, 4) + blank
+
+
+def memory_of(domain, base=0, length=0, flags=1):
+    return memory(base, length, flags, domain)
+
+
+def x2apic_domain(x2apic_id, domain, flags=1, reserved=0):
+    blank = bytes([reserved]) * 4
+    return bytes([2, 24]) + blank[:2] + number(domain, 4) + number(x2apic_id, 4) + number(flags, 4) + bytes(4) + blank
+
+
+def uid_domain(uid, domain, flags=1, length=18):
+    """A GICC affinity (5.2.16.4), of which a shorter one is cut off."""
+    return (bytes([3, length]) + number(domain, 4) + number(uid, 4) + number(flags, 4) + bytes(240))[:length]
+
+
+# ---- SLIT (5.2.17)
+
+
+def slit(count, cells=()):
+    return table(b"SLIT", number(count, 8) + bytes(cells))
+
+
+def even_cells(count, far=20):
+    """The distances of localities that are all as far apart."""
+    return [10 if row == column else far for row in range(count) for column in range(count)]
+
+
+# ---- PPTT (5.2.30)
+
+IS_ID_VALID = 1 << 1
+IS_LEAF = 1 << 3
+LEAF = IS_ID_VALID | IS_LEAF
+SETS_VALID = 1 << 1
+LINE_VALID = 1 << 6
+CACHE_ID_VALID = 1 << 7
+
+
+def pptt(*entries, revision=2):
+    return table(b"PPTT", b"".join(entries), revision)
+
+
+def node(parent=0, flags=0, uid=0, resources=(), count=None, length=None, reserved=0):
+    """A node. Its number of private resources and its length are those of `resources`, unless others are given."""
+    count = len(resources) if count is None else count
+    length = 20 + 4 * len(resources) if length is None else length
+    head = bytes([0, length, reserved, reserved]) + number(flags, 4) + number(parent, 4) + number(uid, 4) + number(count, 4)
+    return head + b"".join(number(offset, 4) for offset in resources)
+
+
+def leaf(uid, parent=0, flags=LEAF):
+    return node(parent, flags, uid)
+
+
+def cache(next_level=0, length=24, flags=0, size=0, sets=0, ways=0, attributes=0, line=0, cache_id=0, reserved=0):
+    head = bytes([1, length, reserved, reserved]) + number(flags, 4) + number(next_level, 4) + number(size, 4) + number(sets, 4)
+    return (head + bytes([ways, attributes]) + number(line, 2) + number(cache_id, 4) + bytes(length))[:length]
+
+
+def shaped_cache(flags, sets=64, line=64, cache_id=0, length=28):
+    """A cache with these flags, Number of Sets, Line Size and Cache ID."""
+    return cache(0, length, flags, sets=sets, line=line, cache_id=cache_id)
+
+
+# ---- images
+
+
+def image_of(*tables, others=(), slots=None):
+    """An RSDP, an RSDT, and the tables in its slots, 0x1000 bytes apart; `others` are pieces that no slot lists."""
+    listed = [TABLES_AT + 0x1000 * place for place in range(len(tables))]
+    pieces = {RSDP_AT: rsdp(), RSDT_AT: rsdt(*(listed if slots is None else slots))}
+    pieces.update(zip(listed, tables))
+    pieces.update(others)
+    return pieces
+
+
+def listed(*tables, **pieces):
+    """A FADT of reduced hardware at 0x2000, and these tables from 0x3000 on."""
+    return image_of(fadt(), *tables, **pieces)
