@@ -22,12 +22,13 @@ BYTES_OF_A_CHECK = 4_000_000_000
 # processors are shared by these.
 MINUTES = {
     "acpi_graph": 1.5,
-    "acpi_base": 9,
+    "acpi_base": 7,
     "acpi_read": 6,
     "acpi_confirm": 6,
     "acpi_check": 8.5,
     "acpi_write": 6,
-    "acpi_lint": 19,
+    "acpi_lint": 8,
+    "acpi_examples": 1,
     "acpi_c": 6,
     "acpi_arguments": 10,
     "acpi_cli": 12,
