@@ -225,7 +225,7 @@ const REBUILDS: [(&[u8], u64, Outcome, &[u8]); 5] = [
 ];
 
 #[test]
-fn a_clean_set_is_rebuilt_where_it_can_stand(rt: HostRuntime) -> Result<(), Fail> {
+fn a_clean_set_is_rebuilt_where_it_fits(rt: HostRuntime) -> Result<(), Fail> {
     let alloc = rt.alloc();
     for (text, base, outcome, report) in REBUILDS {
         let policy = Policy::new(alloc, 0, 24)?;
@@ -258,7 +258,7 @@ fn a_set_of_valid_tables_is_shown(rt: HostRuntime) -> Result<(), Fail> {
 }
 
 #[test]
-fn an_rsdp_is_found_where_one_stands(rt: HostRuntime) -> Result<(), Fail> {
+fn an_rsdp_is_found_where_there_is_one(rt: HostRuntime) -> Result<(), Fail> {
     let alloc = rt.alloc();
     expect_report(
         &rt,
@@ -374,7 +374,7 @@ fn told_to_three_bytes(alloc: Global, job: Job) -> (Result<Outcome, RunFault>, [
 }
 
 #[test]
-fn each_command_tells_of_a_failed_write_behind_a_prefix(rt: HostRuntime) -> Result<(), Fail> {
+fn each_command_tells_of_a_failed_write_after_a_prefix(rt: HostRuntime) -> Result<(), Fail> {
     let alloc = rt.alloc();
     for (command, prefix) in COMMANDS {
         let told = told_to_three_bytes(alloc, job(alloc, command)?);

@@ -1,5 +1,5 @@
 -- A clean set with each table whose contents are read, worked out by hand from the rules: an image with an RSDP, an XSDT, a
--- FADT with its FACS, a MADT, an SRAT, a SLIT and a PPTT. `acpi_base::laws::clean_set_example` states that it is clean.
+-- FADT with its FACS, a MADT, an SRAT, a SLIT and a PPTT. `acpi_examples::laws::clean_set_example` states that it is clean.
 use Rattle.std.specs.Prelude.{ℕ, List, [], ◌∷◌, ◌++◌, replicate}
 use Rattle.acpi_base.specs.Memory.{Memory}
 use Rattle.acpi_base.specs.Policy.{PolicyValue, new_policy}

@@ -1,4 +1,4 @@
--- What a finder looks for that serves several rules of advice on the same tables.
+-- What the finders that serve several rules of advice look for.
 use Rattle.std.specs.Prelude.{ℕ, List, Option, None}
 use Rattle.acpi_base.specs.Lint.FadtAdvice.{IsFadtOfRevision, IsFacsDiffers, IsDsdtDiffers, IsBlockDiffers}
 use Rattle.acpi_base.specs.Lint.MadtAdvice.{io_apic_id, nonzero_io_apic_address, gicd, IsNmiNowhere, IsNoProcessor}

@@ -34,8 +34,8 @@ fn past_slit(tables: &CompleteTables<'_>) -> Option<Place>
     first_own_place(tables.srat_entries(), |at| domain_past_slit(localities, at))
 }
 
-/// The place of the first finding of a rule: one line for each, in the order of the tables that they check. A rule on a
-/// table finds nothing if the set lists no complete one with all its fields.
+/// The place of the first finding of a rule, by what the rules look at; those on the same tables share a finder. A rule
+/// on a table finds nothing if the set lists no complete one with all its fields.
 fn first_place(
     alloc: Global,
     image: &Image,

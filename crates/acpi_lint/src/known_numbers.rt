@@ -136,7 +136,7 @@ fn is_other_form(bytes: &[u8]) -> bool
     }
 }
 
-/// Some for an entry of a MADT that does.
+/// Some for an entry of a MADT that describes processors in such a form.
 fn other_processor_at(at: &EntryAt<MadtEntry<'_>>) -> Option<()>
     requires { IsCompleteEntry at.now.entry }
     ensures { IsSome result ↔ IsOtherProcessor (madt_value at.now.entry) }

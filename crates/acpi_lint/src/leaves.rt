@@ -9,6 +9,7 @@ ghost use Rattle.acpi_lint.specs.Leaves.{valid_id, said_leaf_id, unnamed_id, IsU
 ghost use Rattle.acpi_lint.specs.Numbered.{at_place, AreNumbersAt};
 
 use crate::numbered::{Numbered, at_place};
+use crate::processors::is_set;
 use acpi_check::{binary_search, collected, sorted_unique};
 use acpi_read::{EntryAt, PpttEntry, Table};
 use std::alloc::{AllocError, Global};
@@ -22,23 +23,21 @@ pub fn revision(pptt: &Table<'_>) -> u8
 }
 
 /// The ID of a node that has a valid one, by bit 1 of its flags.
-#[tactic(auto, unfolding(acpi_base::specs::Number::has_bit))]
 fn valid_id(entry: &PpttEntry<'_>) -> Option<u32>
     ensures { result ≡ valid_id (pptt_value entry.now) }
 {
     match entry {
-        PpttEntry::Node(head, _) => (head.flags >> 1 & 1 == 1).then_some(head.id),
+        PpttEntry::Node(head, _) => is_set(head.flags, 1).then_some(head.id),
         _ => None,
     }
 }
 
 /// The same for a node that is marked as a leaf, by bit 3.
-#[tactic(auto, unfolding(acpi_base::specs::Number::has_bit))]
 fn said_leaf_id(entry: &PpttEntry<'_>) -> Option<u32>
     ensures { result ≡ said_leaf_id (pptt_value entry.now) }
 {
     match entry {
-        PpttEntry::Node(head, _) if head.flags >> 3 & 1 == 1 => valid_id(entry),
+        PpttEntry::Node(head, _) if is_set(head.flags, 3) => valid_id(entry),
         _ => None,
     }
 }

@@ -8,7 +8,6 @@ ghost use Rattle.acpi_base.specs.Lint.MadtAdvice.{IsIoApicAtZero, IsMadtUnread};
 ghost use Rattle.acpi_base.specs.Lint.PpttAdvice.{IsPowerOfTwo, HasOddShape, IsCacheShape};
 ghost use Rattle.acpi_base.specs.Lint.SratAdvice as srat_advice;
 ghost use Rattle.acpi_base.specs.Lint.SratAdvice.{IsDomainPastSlit, IsSratUnread};
-ghost use Rattle.acpi_base.specs.Number.{has_bit};
 ghost use Rattle.acpi_base.specs.Pptt.{Cache, CacheValue};
 ghost use Rattle.acpi_read.specs.Madts as madts;
 ghost use Rattle.acpi_read.specs.Madts.{madt_value};
@@ -21,7 +20,7 @@ ghost use Rattle.acpi_lint.specs.Places.{PicksFirst, FindsOwn};
 
 use crate::passes::first_picked;
 use crate::place::Place;
-use crate::processors::{GICD, any_domain, io_apic_address, is_gicc};
+use crate::processors::{GICD, any_domain, io_apic_address, is_gicc, is_set};
 use acpi_read::{
     Cache24, EntryAt, GICC, GICC_AFFINITY, GICC_AFFINITY_LEN, MadtEntry, PpttEntry, SratEntry,
     TableEntry, TypedEntries,
@@ -127,15 +126,6 @@ fn is_power_of_two(number: u16) -> bool
     ensures { IsTrue result ↔ IsPowerOfTwo number }
 {
     number.is_power_of_two()
-}
-
-/// Whether a bit of flags is set.
-#[tactic(auto, unfolding(acpi_base::specs::Number::has_bit))]
-fn is_set(flags: u32, bit: u32) -> bool
-    requires { bit < 32 }
-    ensures { result ≡ has_bit flags bit }
-{
-    flags >> bit & 1 == 1
 }
 
 /// Whether a valid Number of Sets is 0, or a valid Line Size is not a power of two.

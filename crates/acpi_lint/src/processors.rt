@@ -1,6 +1,6 @@
 //! Numbers in entries: those of processors, and those that are compared with them or looked up.
 
-ghost use Rattle.std.specs.Prelude.{◌≡◌, ◌≤◌, ◌||◌, length, IsTrue};
+ghost use Rattle.std.specs.Prelude.{◌≡◌, ◌<◌, ◌≤◌, ◌||◌, length, IsTrue};
 ghost use Rattle.std.specs.Option.{option_map};
 ghost use Rattle.acpi_base.specs.Lint.MadtAdvice.{io_apic_address, io_apic_id, nonzero_io_apic_address, nmi_uid, gicd};
 ghost use Rattle.acpi_base.specs.Lint.PpttAdvice.{cache_id};
@@ -30,13 +30,20 @@ pub struct Processor {
 /// The type of a GIC distributor (ACPI 6.5, 5.2.12.15).
 pub const GICD: u8 = 12;
 
-/// Whether the flags of a local APIC or a local x2APIC say Enabled or Online Capable.
+/// Whether a bit of flags is set.
 #[tactic(auto, unfolding(acpi_base::specs::Number::has_bit))]
+pub fn is_set(flags: u32, bit: u32) -> bool
+    requires { bit < 32 }
+    ensures { result ≡ has_bit flags bit }
+{
+    flags >> bit & 1 == 1
+}
+
+/// Whether the flags of a local APIC or a local x2APIC say Enabled or Online Capable.
 fn is_on(flags: u32) -> bool
     ensures { result ≡ has_bit flags 0 || has_bit flags 1 }
 {
-    let is_online_capable = flags >> 1 & 1 == 1;
-    is_enabled(flags) || is_online_capable
+    is_set(flags, 0) || is_set(flags, 1)
 }
 
 // ---- the MADT
@@ -223,12 +230,11 @@ pub fn any_domain(entry: &SratEntry<'_>) -> Option<u32>
 // ---- the PPTT
 
 /// The Cache ID of a cache that has a valid one, by bit 7 of its flags.
-#[tactic(auto, unfolding(acpi_base::specs::Number::has_bit))]
 pub fn cache_id(entry: &PpttEntry<'_>) -> Option<u32>
     ensures { result ≡ cache_id (pptt_value entry.now) }
 {
     match entry {
-        PpttEntry::Cache28(cache) => (cache.fields.flags >> 7 & 1 == 1).then_some(cache.id),
+        PpttEntry::Cache28(cache) => is_set(cache.fields.flags, 7).then_some(cache.id),
         _ => None,
     }
 }
