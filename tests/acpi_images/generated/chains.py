@@ -62,14 +62,14 @@ def small_faults(draw, judgement, places):
 
 
 def small_questions():
-    """Name, pieces, witness, and whether it stands."""
+    """Name, pieces, witness, and whether the set has this fault."""
     draw = random.Random(34)
     for turn in range(30):
         whole, places = small_table(draw)
         pieces = listed(whole)
         judgement = Judgement(Image(pieces), RSDP_AT, Policy())
         for fault in small_faults(draw, judgement, places):
-            yield f"small table {turn}", pieces, str(fault), judgement.stands(fault)
+            yield f"small table {turn}", pieces, str(fault), judgement.has(fault)
 
 
 # ---- long chains
@@ -89,11 +89,11 @@ def shuffled(count):
     return random.Random(1).sample(range(count), count)
 
 
-def stretches(count, before, behind):
+def stretches(count, before, after):
     """Stretches of short entries with a node among them, and each node's parent is in the stretch before it."""
-    size = 2 * before + 20 + 2 * behind
+    size = 2 * before + 20 + 2 * after
     at = [FIRST + size * number + 2 * before for number in range(count)]
-    return b"".join(FILLER * before + node(at[number - 1]) + FILLER * behind for number in range(count)), at[-1]
+    return b"".join(FILLER * before + node(at[number - 1]) + FILLER * after for number in range(count)), at[-1]
 
 
 def most_steps(body, around):
@@ -113,7 +113,7 @@ def long_chains():
     body = short + ring(falling(10), first=FIRST + len(short))
     yield "short entries before a ring of 10", body, PARENT, (FIRST + len(short), most_steps(body, 10), 10)
     body, last = stretches(1000, 246, 0)
-    yield "a node behind each 246 short entries", body, PARENT, (last, most_steps(body, 1000), 1000)
+    yield "a node after each 246 short entries", body, PARENT, (last, most_steps(body, 1000), 1000)
     body, last = stretches(2000, 54, 57)
     yield "a node among each 111 short entries", body, PARENT, (last, most_steps(body, 2000), 2000)
     long = bytes([7, 255]) + bytes(253)
