@@ -322,7 +322,7 @@ same 'the commands of its README' "$(cat "$scratch/printed")" "$(sed -n '/^```co
 same 'commands in its README' "$([ "$(wc -l <"$scratch/commands")" -ge 5 ] && echo yes)" yes
 # So does the first use in the complete README.
 whole=$unpacked/share/doc/acpiset/README.md
-blocks=$(awk '/^<!-- recipe session/ { on = 1 } on && /^```/ { inside = !inside; if (!inside) on = 0; next } on && inside' "$whole")
+blocks=$(awk '/^<!-- recipe first-use/ { on = 1 } on && /^```/ { inside = !inside; if (!inside) on = 0; next } on && inside' "$whole")
 if [ -n "$blocks" ]; then
   sed -n 's/^\$ //p' <<<"$blocks" >"$scratch/commands"
   cp -r "$unpacked" "$scratch/used"
