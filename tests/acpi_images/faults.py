@@ -98,10 +98,10 @@ def root_faults(tables):
         return
     if (length - HEADER) % tables.width:
         yield Fault("RootRagged", at)
-    whole = image.present(at, length)
-    if not whole:
+    complete = image.present(at, length)
+    if not complete:
         yield Fault("RootOut", at)
-    elif not whole.sums_to_0():
+    elif not complete.sums_to_0():
         yield Fault("RootSum", at)
 
 
@@ -112,10 +112,10 @@ def table_fault(image, address):
         return "TableHeaderOut"
     if header.number(4, 4) < HEADER:
         return "TableLength"
-    whole = complete_table(image, address)
-    if not whole:
+    complete = complete_table(image, address)
+    if not complete:
         return "TableOut"
-    return None if whole.sums_to_0() else "TableSum"
+    return None if complete.sums_to_0() else "TableSum"
 
 
 def table_faults(tables):

@@ -104,7 +104,7 @@ def made_anew(names, wrong_name=None, wrong_code=None):
     return made
 
 
-# ---- the cases, and what a judge says of them
+# ---- the cases, and what the second programs say of them
 
 
 class Texts:
@@ -181,7 +181,7 @@ def too_long(*_):
 
 
 def is_seen(judged, name, line, code):
-    """Whether an answer differs. A mistake at which the judge stops, or does not end, is seen too."""
+    """Whether an answer differs. A mistake at which a second program stops, or does not end, is seen too."""
     file = sys.modules[f"acpi_images.{name}"].__file__
     signal.alarm(SECONDS)
     try:

@@ -152,7 +152,7 @@ def two_addresses(name, length, fields, *advice, flags=0):
 
 
 two_addresses("two addresses of the FACS", 244, {"_132": number(0x8000, 8)}, "FacsDiffers 0x24 0x7000 0x8000")
-two_addresses("two addresses of the FACS, the second one whole", 140, {"_132": number(0x8000, 8)}, "FacsDiffers 0x24 0x7000 0x8000")
+two_addresses("two addresses of the FACS, the second one complete", 140, {"_132": number(0x8000, 8)}, "FacsDiffers 0x24 0x7000 0x8000")
 two_addresses("an X_FIRMWARE_CTRL that is cut", 139, {"_132": number(0x8000, 7)})
 two_addresses("one address of the FACS twice", 244, {"_132": number(0x7000, 8)})
 two_addresses("an X_FIRMWARE_CTRL of 0", 244, {})
@@ -165,7 +165,7 @@ two_addresses(
 
 TWO_DSDTS = {"_40": number(0xA020000, 4), "_140": number(0xA010000, 8)}
 two_addresses("two addresses of the DSDT", 244, TWO_DSDTS, "DsdtDiffers 0x28 0xa020000 0xa010000")
-two_addresses("two addresses of the DSDT, the second one whole", 148, TWO_DSDTS, "DsdtDiffers 0x28 0xa020000 0xa010000")
+two_addresses("two addresses of the DSDT, the second one complete", 148, TWO_DSDTS, "DsdtDiffers 0x28 0xa020000 0xa010000")
 two_addresses("an X_DSDT that is cut", 147, {"_40": number(0xA020000, 4), "_140": number(0xA010000, 7)})
 two_addresses("one address of the DSDT twice", 244, {"_40": number(0xA020000, 4), "_140": number(0xA020000, 8)})
 two_addresses("a DSDT of 0", 244, {"_140": number(0xA010000, 8)})
@@ -184,7 +184,7 @@ for name, narrow, wide in (
     ports = {f"_{narrow}": number(0x600, 4), f"_{wide}": generic_address(0x604)}
     cut = {f"_{narrow}": number(0x600, 4), f"_{wide}": generic_address(0x604)[:11]}
     two_addresses(f"two addresses of {name}", 244, ports, f"BlockDiffers {narrow:#x} 0x600 0x604")
-    two_addresses(f"two addresses of {name}, the second one whole", wide + 12, ports, f"BlockDiffers {narrow:#x} 0x600 0x604")
+    two_addresses(f"two addresses of {name}, the second one complete", wide + 12, ports, f"BlockDiffers {narrow:#x} 0x600 0x604")
     two_addresses(f"a structure of {name} that is cut", wide + 11, cut)
     two_addresses(f"one address of {name} twice", 244, {**ports, f"_{wide}": generic_address(0x600)})
     two_addresses(f"two addresses of {name}, of reduced hardware", 244, ports, flags=REDUCED)

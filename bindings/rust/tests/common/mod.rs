@@ -58,7 +58,11 @@ impl Image {
         let has_them = |(address, old): &&mut (u64, Vec<u8>)| {
             *address <= at && at - *address + bytes.len() as u64 <= old.len() as u64
         };
-        let (address, old) = self.0.iter_mut().find(has_them).expect("the bytes are present");
+        let (address, old) = self
+            .0
+            .iter_mut()
+            .find(has_them)
+            .expect("the bytes are present");
         let from = (at - *address) as usize;
         old[from..from + bytes.len()].copy_from_slice(bytes);
     }
