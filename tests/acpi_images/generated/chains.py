@@ -65,8 +65,8 @@ def small_questions():
     """Name, pieces, witness, and whether the set has this fault."""
     draw = random.Random(34)
     for turn in range(30):
-        whole, places = small_table(draw)
-        pieces = listed(whole)
+        data, places = small_table(draw)
+        pieces = listed(data)
         judgement = Judgement(Image(pieces), RSDP_AT, Policy())
         for fault in small_faults(draw, judgement, places):
             yield f"small table {turn}", pieces, str(fault), judgement.has(fault)
@@ -75,10 +75,10 @@ def small_questions():
 # ---- long chains
 
 
-def ring(order, size=20, first=FIRST, whole=node):
+def ring(order, size=20, first=FIRST, entry=node):
     """Entries of a size of which each leads to the next in this order of their numbers, and the last to the first."""
     leads_to = dict(zip(order, [*order[1:], order[0]]))
-    return b"".join(whole(first + size * leads_to[number]) for number in range(len(order)))
+    return b"".join(entry(first + size * leads_to[number]) for number in range(len(order)))
 
 
 def falling(count):
@@ -108,7 +108,7 @@ def long_chains():
     yield "falling nodes in 500 KB", ring(falling(25_000)), PARENT, (FIRST + 20 * 24_999, 0, 25_000)
     order = shuffled(30_000)
     yield "nodes in no order", ring(order), PARENT, (FIRST + 20 * order[0], 0, 30_000)
-    yield "falling caches", ring(falling(25_000), 24, whole=cache), NEXT_LEVEL, (FIRST + 24 * 24_999, 0, 25_000)
+    yield "falling caches", ring(falling(25_000), 24, entry=cache), NEXT_LEVEL, (FIRST + 24 * 24_999, 0, 25_000)
     short = FILLER * 100_000
     body = short + ring(falling(10), first=FIRST + len(short))
     yield "short entries before a ring of 10", body, PARENT, (FIRST + len(short), most_steps(body, 10), 10)
