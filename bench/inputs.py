@@ -236,13 +236,13 @@ def witness(at, lead, around):
     return f"14 ParentCycle {at:#x} {lead:#x} {around:#x}"
 
 
-def ring(order, whole=node, size=20, first=36):
+def ring(order, entry=node, size=20, first=36):
     """Each of the entries refers to the next one in this order, and the last one to the first. `order` has their numbers in the
     table."""
     leads_to = [0] * len(order)
-    for number, behind in zip(order, [*order[1:], order[0]]):
-        leads_to[number] = first + size * behind
-    return b"".join(map(whole, leads_to))
+    for number, following in zip(order, [*order[1:], order[0]]):
+        leads_to[number] = first + size * following
+    return b"".join(map(entry, leads_to))
 
 
 def ring_of_nodes(order):
@@ -353,10 +353,10 @@ def nested(count):
 SETS = {"one-table": one_table, "nested": nested}
 
 
-def behind(pieces):
+def after(pieces):
     """The first multiple of 64 after the last piece, and after the first MiB."""
-    address, whole = pieces[-1]
-    return max(0x100000, (address + len(whole) + 63) // 64 * 64)
+    address, data = pieces[-1]
+    return max(0x100000, (address + len(data) + 63) // 64 * 64)
 
 
 # of hardware-reduced ACPI
@@ -370,41 +370,41 @@ def rsdt(addresses):
 def set_of(tables, inside=(), text=pieces_text):
     """An RSDP, an RSDT, a FADT, and the tables. `inside` has the offsets in the last one at which further tables begin."""
     pieces = [(0x2000, FADT)]
-    for whole in tables:
-        pieces.append((behind(pieces), whole))
+    for data in tables:
+        pieces.append((after(pieces), data))
     addresses = [address for address, _ in pieces]
     root = rsdt(addresses + [addresses[-1] + offset for offset in inside])
-    return text([(behind(pieces), root), *pieces])
+    return text([(after(pieces), root), *pieces])
 
 
 # ---- shapes that take long beside the reading of their text
 
 
 def slots_before_kinds(addresses, pieces):
-    """An RSDT that lists the addresses, in no order, and behind them a table of each kind, of a machine with one processor."""
+    """An RSDT that lists the addresses, in no order, and after them a table of each kind, of a machine with one processor."""
     tables = [FADT, madt(io_apic(0), x2apic(0)), srat(x2apic_affinity(0)), slit(1), pptt(node(0, flags=0b1010))]
-    kinds = [(0x2000 + 0x1000 * number, whole) for number, whole in enumerate(tables)]
+    kinds = [(0x2000 + 0x1000 * number, data) for number, data in enumerate(tables)]
     root = rsdt(addresses + [address for address, _ in kinds])
     return pieces_text([(0x10000000, root), *kinds, *pieces])
 
 
 def slots_of_scattered_tables(count):
-    """Slots that list tables of 36 bytes, with a hole behind each. There is a table for each 25 slots."""
+    """Slots that list tables of 36 bytes, with a hole after each. There is a table for each 25 slots."""
     addresses = range(LISTED_AT, LISTED_AT + 64 * (count // 25), 64)
     pieces = [(address, table(b"DATA", b"")) for address in addresses]
     return slots_before_kinds(random.Random(1).choices(addresses, k=count), pieces)
 
 
 def slots_of_nested_tables(count):
-    """Slots that list tables of which each begins 64 bytes behind the one before it. There is a table for each 48 slots."""
+    """Slots that list tables of which each begins 64 bytes after the one before it. There is a table for each 48 slots."""
     addresses = range(LISTED_AT, LISTED_AT + 64 * (count // 48), 64)
     pieces = [(LISTED_AT, nested_tables(len(addresses)))]
     return slots_before_kinds(random.Random(1).choices(addresses, k=count), pieces)
 
 
-def spanning(whole, shared):
-    """A table behind an entry that ends where the table's bytes are shared."""
-    return bytes((12, 2 + len(whole) - len(shared))) + whole
+def spanning(data, shared):
+    """A table after an entry that ends where the table's bytes are shared."""
+    return bytes((12, 2 + len(data) - len(shared))) + data
 
 
 def entry_of_each_type():
@@ -580,9 +580,9 @@ def text_of(what):
     if kind in ORDERS:
         return many_rows(kind, *map(int, numbers))
     if kind in CHAINS:
-        whole, fault = CHAINS[kind](*map(int, numbers))
+        data, fault = CHAINS[kind](*map(int, numbers))
         print(fault)
-        return set_of([whole])
+        return set_of([data])
     return set_of(KINDS[kind](*map(int, numbers)))
 
 

@@ -60,7 +60,7 @@ def closed(image, old):
     return Image({at: piece if piece == old.get(at) else with_sum(piece) for at, piece in image.pieces().items()})
 
 
-def sound_image():
+def valid_image():
     """The set of tables that the examples begin with. Its FADT names no ports and no DSDT, and its Revision does not match its
     length, about which these tools complain: here it has all of these."""
     with open(f"{TOP}/tests/images/example.img.txt", "rb") as file:
@@ -154,15 +154,15 @@ def table(rows):
 
 def main():
     program = sys.argv[-1]
-    sound = sound_image()
-    usual = {tool: told(tool, sound) for tool in (iasl, acpiexec)}
+    valid = valid_image()
+    usual = {tool: told(tool, valid) for tool in (iasl, acpiexec)}
     with open(f"{TOP}/docs/FAULTS.md") as file:
         faults = faults_of(file.read())
     rows = []
     for stage, name, example in faults:
-        image = changed(sound, example)
+        image = changed(valid, example)
         if not name.endswith("Sum"):
-            image = closed(image, sound.pieces())
+            image = closed(image, valid.pieces())
         news = [acpiset(program, image, name)]
         news += [sorted(told(tool, image) - usual[tool]) for tool in (iasl, acpiexec)]
         rows.append((stage, [lines != [] for lines in news]))

@@ -41,8 +41,8 @@ class Shape:
         count = self.count // divisor
         chain, in_rows, _ = self.name.partition("-in-rows")
         if chain in CHAINS:
-            whole, fault = CHAINS[chain](count)
-            return set_of([whole], text=rows_text if in_rows else pieces_text), (f"confirm --witness '{fault}'", *self.commands)
+            data, fault = CHAINS[chain](count)
+            return set_of([data], text=rows_text if in_rows else pieces_text), (f"confirm --witness '{fault}'", *self.commands)
         if self.size:
             return many_rows(self.name, self.size, count), self.commands
         return text_of([self.name, str(count)]), self.commands

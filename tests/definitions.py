@@ -1,7 +1,7 @@
 #!/usr/bin/env python3
 """Compares the tables of definitions in docs/PROOF.md with what public contracts rest on: each file of definitions that the
-contract of a public call names, and each that such a file imports, stands in one of these tables with its number of
-lines, and no other file does. The first table has exactly those of the headline, a file stands after those that it
+contract of a public call names, and each that such a file imports, is in one of these tables with its number of
+lines, and no other file does. The first table has exactly those of the headline, a file comes after those that it
 imports, and none names a private type of a library.
 
 usage: tests/definitions.py [--write]; prints what differs and what to write in its place, and nothing where all agrees.
@@ -28,9 +28,9 @@ HEADLINE = {"acpi_check::check", "acpi_confirm::confirm", "acpi_cli::check_and_c
 IMPORT = re.compile(r"^ *(?:ghost |pub )?use Rattle\.(\w+)\.specs\.([\w.]+?)(?:\.\{(.*)\}| as (\w+))?;?$", re.M)
 # An item at the left margin, up to the line that ends it.
 ITEM = re.compile(r'^(?:pub )?(?:extern "C" )?(?:fn|impl|struct|trait)\b(?:[^\n]*(?:;|\{\})$|.*?^(?:\}|\{\})$)', re.M | re.S)
-# A function's name and what stands before its body.
+# A function's name and what comes before its body.
 HEAD = re.compile(r'^ *(pub )?(?:extern "C" )?fn (\w+)(.*?)(?:^ *\{\}?$|;$| \{$)', re.M | re.S)
-# What a trait, an impl or a struct says in ghost code, save proofs: what they prove stands in the trait.
+# What a trait, an impl or a struct says in ghost code, save proofs: what they prove is said in the trait.
 GHOST = re.compile(r"^ *(?:pub )?ghost (?!use|counted =|one_value =|laid =)(\w+)(.*?)[;,]$", re.M | re.S)
 
 
@@ -215,7 +215,7 @@ def differences(lines):
     for file in sorted(set(listed) - needed.keys()):
         yield f"a row for {name_of(file)}, on which no public contract rests"
     for file in sorted({file for file in listed if listed.count(file) > 1}):
-        yield f"{name_of(file)} stands in two rows"
+        yield f"{name_of(file)} is in two rows"
     for file in sorted(headline.keys() ^ set(told[0])):
         where = "asked for by " + headline[file] if file in headline else "not asked for by the headline"
         yield f"the first table and {name_of(file)}, {where}"
@@ -224,10 +224,10 @@ def differences(lines):
     for file, place in places.items():
         for imported, _ in imports(file.read_text()):
             if places.get(imported, 0) > place:
-                yield f"{name_of(file)} stands before {name_of(imported)}, which it imports"
+                yield f"{name_of(file)} comes before {name_of(imported)}, which it imports"
     for file in sorted(needed):
         for name in sorted(set(private_types(file))):
-            yield f"{name_of(file)} names the private type {name}: what names it is to stand apart from what contracts name"
+            yield f"{name_of(file)} names the private type {name}: what names it is to be apart from what contracts name"
     for place, line in right_lines(lines).items():
         yield f"line {place + 1} has to be\n{line}"
 

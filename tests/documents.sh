@@ -186,7 +186,7 @@ for head in crates/*/src/lib.rt; do
   for file in $(grep -rlF "$(tail -n 1 <<<"$example")" crates/*/src); do
     [[ $'\n'$(grep -v '^//!' "$file" | bare)$'\n' != *$'\n'"$example"$'\n'* ]] || found=$file
   done
-  count "$head: its example stands in no code" "$([ -n "$found" ] && [ -n "$example" ] || printf '%s\n' "${example:-no example}")"
+  count "$head: its example is in no code" "$([ -n "$found" ] && [ -n "$example" ] || printf '%s\n' "${example:-no example}")"
 done
 
 # ---- the documents

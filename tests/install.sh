@@ -149,7 +149,7 @@ run install "$given" DESTDIR="$scratch/filed" PREFIX=/usr
 same 'a file in the place of a folder' "$? $(grep -c '/filed/usr/bin is no folder$' "$scratch/log") $(files_in "$scratch/filed")" '2 1 usr/bin'
 mkdir -p "$scratch/kept/usr/bin/acpiset"
 run uninstall DESTDIR="$scratch/kept" PREFIX=/usr
-same 'uninstall where a folder stands' "$? $(grep -c '/kept/usr/bin/acpiset is a folder: it stays$' "$scratch/log") $(find "$scratch/kept" -name acpiset)" "2 1 $scratch/kept/usr/bin/acpiset"
+same 'uninstall where there is a folder' "$? $(grep -c '/kept/usr/bin/acpiset is a folder: it stays$' "$scratch/log") $(find "$scratch/kept" -name acpiset)" "2 1 $scratch/kept/usr/bin/acpiset"
 
 # ---- what is built, and from which sources: with a fake toolchain that records its calls
 stand_in=$scratch/stand-in
@@ -322,7 +322,7 @@ same 'the commands of its README' "$(cat "$scratch/printed")" "$(sed -n '/^```co
 same 'commands in its README' "$([ "$(wc -l <"$scratch/commands")" -ge 5 ] && echo yes)" yes
 # So does the first use in the complete README.
 whole=$unpacked/share/doc/acpiset/README.md
-blocks=$(awk '/^<!-- recipe session/ { on = 1 } on && /^```/ { inside = !inside; if (!inside) on = 0; next } on && inside' "$whole")
+blocks=$(awk '/^<!-- recipe first-use/ { on = 1 } on && /^```/ { inside = !inside; if (!inside) on = 0; next } on && inside' "$whole")
 if [ -n "$blocks" ]; then
   sed -n 's/^\$ //p' <<<"$blocks" >"$scratch/commands"
   cp -r "$unpacked" "$scratch/used"

@@ -1,6 +1,6 @@
 #!/usr/bin/env bash
-# What each test in bash begins with, by sourcing it: then it is in the folder of the sources, has a scratch folder that is removed at
-# its end, and counts its cases. If it has a `program`, its path has to be whole by then.
+# Each test in bash sources this first: then it is in the folder of the sources, has a scratch folder that is removed at its end, and
+# counts its cases. If it has a `program`, that is an absolute path by then.
 # shellcheck disable=SC2034 # the scripts use them
 set -u
 umask 022

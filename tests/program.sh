@@ -15,7 +15,7 @@ told() {
   [ "$got" = "$1" ] || wrong="status $got, not $1"
 }
 
-# has_written FILE WHAT TEXT: adds to `wrong` where the file has another text. An x stands after the text, which keeps its line ends.
+# has_written FILE WHAT TEXT: adds to `wrong` where the file has another text. An x after the text keeps its line ends.
 has_written() { [ "$(cat "$scratch/$1"; printf x)" = "$3" ] || wrong="$wrong; $2 $(cat "$scratch/$1")"; }
 
 # runs NAME STATUS STDOUT STDERR INPUT ARGUMENTS..: runs the program on the file INPUT. STDOUT and STDERR are
@@ -304,12 +304,12 @@ refuses "--default-inputs '0': $inputs" check 0=0 --processors x --hotplug x --d
 refuses "--hotplug 'x': expected counted or apart" check 0=0 --processors x --hotplug x --default-inputs 1
 refuses "--processors 'x': expected enabled or usable" check 0=0 --processors x --hotplug apart
 for text in '--processors x --hotplug x --default-inputs 0' '--hotplug x' '--processors x' '0=0'; do
-  read -ra behind <<<"$text"
-  refuses "--rsdp 'g': $hex" rebuild "${behind[@]}" --base g --rsdp g
-  refuses "--base 'g': $hex" rebuild "${behind[@]}" --base g --rsdp 0
-  refuses "--rsdp 'g': $hex" lint "${behind[@]}" --rsdp g
-  refuses "--rsdp 'g': $hex" confirm "${behind[@]}" --witness '' --rsdp g
-  refuses "--witness '': expected a fault as check prints it after no, as in '10 Overlap 0x30 0x58 0x0'" confirm "${behind[@]}" --witness ''
+  read -ra after <<<"$text"
+  refuses "--rsdp 'g': $hex" rebuild "${after[@]}" --base g --rsdp g
+  refuses "--base 'g': $hex" rebuild "${after[@]}" --base g --rsdp 0
+  refuses "--rsdp 'g': $hex" lint "${after[@]}" --rsdp g
+  refuses "--rsdp 'g': $hex" confirm "${after[@]}" --witness '' --rsdp g
+  refuses "--witness '': expected a fault as check prints it after no, as in '10 Overlap 0x30 0x58 0x0'" confirm "${after[@]}" --witness ''
 done
 
 # Input counts.

@@ -1,17 +1,17 @@
 /* Preloaded into a process, refuses what it asks for. The environment says what:
 
    REFUSE_AT=N    its request for memory with the number N, counted from 1
-   REFUSE_FROM=N  this request and each one behind it
+   REFUSE_FROM=N  this request and each one after it
    READ_MOST=N    a read of standard input brings at most N bytes
    READ_FAILS=N   the read of standard input with the number N fails
    WRITE_MOST=N   a write to standard output takes at most N bytes
    WRITE_FAILS=N  the write to standard output with the number N fails
    WRITE_EMPTY=N  it takes nothing instead
    READ_INTERRUPTED=N, WRITE_INTERRUPTED=N            a signal interrupts the call with the number N
-   READ_INTERRUPTED_FROM=N, WRITE_INTERRUPTED_FROM=N  this call and each one behind it
+   READ_INTERRUPTED_FROM=N, WRITE_INTERRUPTED_FROM=N  this call and each one after it
 
    The file REFUSED is made where any of this was refused or failed. It holds a byte where standard input had been read by
-   then. All this stands without the C library's headers, so that a compiler alone can build it. */
+   then. All this is without the C library's headers, so that a compiler alone can build it. */
 typedef __SIZE_TYPE__ size_t;
 char *getenv(const char *name);
 long atol(const char *text);

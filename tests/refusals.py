@@ -3,7 +3,7 @@
 
 A run in which a request for memory was refused ends with status 4, writes nothing, and reports that it is out of memory;
 the usual answer comes only where none was refused, or where SPARED_AFTER says so. A run in which a read failed reports the device and writes nothing,
-save where a fault of the text stood before. A run in which a write failed reports the device, and what went out is a
+save where the text had a fault before that. A run in which a write failed reports the device, and what went out is a
 prefix.
 
 usage: refusals.py PROGRAM; the last line is 'refusals: N passed, M failed'. The object that is preloaded into the program is
@@ -27,7 +27,7 @@ sys.path.insert(0, str(HERE))
 
 from acpi_images.advice import linted
 from acpi_images.known.linted import EXPECTED
-from acpi_images.known.rows import OVERLAP, ROWS, SMALLEST, WHOLE
+from acpi_images.known.rows import COMPLETE, OVERLAP, ROWS, SMALLEST
 from acpi_images.program import Cases, finish, firmware_text
 from acpi_images.rebuilt import rebuilt
 from acpi_images.shown import shown
@@ -64,7 +64,7 @@ def device(out=""):
 # ---- what the program is asked
 
 # A set with all tables that stages look into, and entries of each kind: two domains, of two processors and a cache each. The
-# caches stand at 36 and 60, and the node above the processors' at 84.
+# caches are at 36 and 60, and the node above the processors' at 84.
 CACHES = [cache(), cache()]
 NODES = [node(flags=1), *(node(84, IS_ID_VALID | IS_LEAF, uid, [36 + 24 * (uid // 2)]) for uid in range(4))]
 ENTRIES = image_of(
@@ -93,7 +93,7 @@ def lint_run(name, text, words):
 
 
 def clean_runs(name, text, address, found, lines, anew):
-    """Each command on a clean set whose RSDP stands at this address, in hex: what a search says of it, what is shown, and the
+    """Each command on a clean set whose RSDP is at this address, in hex: what a search says of it, what is shown, and the
     set rebuilt. A line added here puts a command to all tests."""
     rsdp = ["--rsdp", address]
     return [
@@ -117,9 +117,9 @@ def firmware(name, address, found):
     return clean_runs(name, text, address, found, lines, rebuilt(read(text), int(address, 16), BASE))
 
 
-WHOLE_RUNS = made("a whole set", WHOLE)
+COMPLETE_RUNS = made("a complete set", COMPLETE)
 CLEAN_RUNS = [
-    *WHOLE_RUNS, *made("a set of entries of each kind", ENTRIES), *firmware("sb-q35-numa4-dist", "f59c0", "0xf59c0"),
+    *COMPLETE_RUNS, *made("a set of entries of each kind", ENTRIES), *firmware("sb-q35-numa4-dist", "f59c0", "0xf59c0"),
     *firmware("q11-efi-virt-caches", "47fe0000", "none"),
 ]
 
@@ -151,7 +151,7 @@ def faulty_runs():
 
 def early_runs():
     """Checks through stages that take no memory, of a clean set and of one with a later fault."""
-    for name, pieces in (("a whole set", WHOLE), ("two ranges that share an address", OVERLAP)):
+    for name, pieces in (("a complete set", COMPLETE), ("two ranges that share an address", OVERLAP)):
         for stage in range(1, 7):
             words = ["check", "--rsdp", "e0000", "--through", str(stage)]
             yield Run(f"check through {stage}, {name}", text_of(pieces), words, 0, "yes\n")
@@ -413,9 +413,9 @@ READ_SIZE = 7
 WRITE_SIZE = 3
 
 
-def failing_reads(program, run, stands=None, most=READ_SIZE):
-    """Each read fails in its turn. In the text a fault stands as soon as this many bytes have come, or none does."""
-    faulty = lambda number: stands is not None and most * (number - 1) >= stands
+def failing_reads(program, run, fault_at=None, most=READ_SIZE):
+    """Each read fails in its turn. The text has its fault as soon as this many bytes have come, or has none."""
+    faulty = lambda number: fault_at is not None and most * (number - 1) >= fault_at
     return failing(program, run, "READ_FAILS", most, lambda number: run.answer() if faulty(number) else device())
 
 
@@ -440,7 +440,7 @@ def interrupted(program, run, call, limit, most):
     yield f"{run.name}, each {call} is interrupted", wrong_answer(told.answer, device())
 
 
-# A text, the number of its bytes after which its fault stands, if it ever does before the end, and what is said of it.
+# A text, the number of its bytes after which it has its fault, if it ever has one before the end, and what is said of it.
 GOOD_TEXT = text_of(SMALLEST)
 GOOD_LINES = GOOD_TEXT.count(b"\n")
 BAD_TEXTS = [
@@ -456,11 +456,11 @@ BAD_TEXTS.append(("a line that is too long", b"#" * (LONGEST_LINE + 100), LONGES
 def bad_text_tasks():
     """Reads of bad texts that fail, and requests for memory that are refused: of each text in a check, and of the first one
     by each command."""
-    for place, (name, text, stands, message) in enumerate(BAD_TEXTS):
+    for place, (name, text, fault_at, message) in enumerate(BAD_TEXTS):
         most = LONGEST_LINE // 4 if len(text) > LONGEST_LINE else READ_SIZE
-        for asked in WHOLE_RUNS[:1] if place else WHOLE_RUNS:
+        for asked in COMPLETE_RUNS[:1] if place else COMPLETE_RUNS:
             run = Run(f"{asked.words[0]}, {name}", text, asked.words, 3, "", f"acpiset: {message}\n")
-            yield failing_reads, run, stands, most
+            yield failing_reads, run, fault_at, most
             yield starved, run, "REFUSE_AT"
 
 
@@ -516,8 +516,8 @@ def fed(program, words, pieces):
     return answer
 
 
-# The whole set's text up to its root, and what commands write of it that do not write the verdict.
-STOPS = text_of({RSDP_AT: WHOLE[RSDP_AT]})
+# The complete set's text up to its root, and what commands write of it that do not write the verdict.
+STOPS = text_of({RSDP_AT: COMPLETE[RSDP_AT]})
 NO_ROOT = "no 2 RootHeaderOut 0x1000 0x0 0x0\n"
 STOPPED = {"confirm": "false\n", "find": "rsdp 0xe0000\n"}
 
@@ -536,11 +536,11 @@ def pipes(program, run):
 
 # An image of 8 MiB, and sizes of memory, in MiB: those up to 8 do not hold it, and the last one is far more than is needed.
 LARGE_SIZE = 8
-LARGE_TEXT = text_of(WHOLE) + b"@1000000\n" + (b"00" * 16384 + b"\n") * (LARGE_SIZE << 6)
+LARGE_TEXT = text_of(COMPLETE) + b"@1000000\n" + (b"00" * 16384 + b"\n") * (LARGE_SIZE << 6)
 SIZES = (5, 6, 7, 8, 10, 12, 14, 16, 20, 24, 80)
-WHOLE_IMAGE = read(text_of(WHOLE))
+COMPLETE_IMAGE = read(text_of(COMPLETE))
 LARGE_RUNS = clean_runs(
-    "an image of 8 MiB", LARGE_TEXT, "e0000", "0xe0000", shown(WHOLE_IMAGE, RSDP_AT), rebuilt(WHOLE_IMAGE, RSDP_AT, BASE)
+    "an image of 8 MiB", LARGE_TEXT, "e0000", "0xe0000", shown(COMPLETE_IMAGE, RSDP_AT), rebuilt(COMPLETE_IMAGE, RSDP_AT, BASE)
 )
 
 
@@ -571,7 +571,7 @@ def tasks():
     for run in CLEAN_RUNS:
         for setting, most in (("READ_MOST", 1), ("READ_MOST", READ_SIZE), ("WRITE_MOST", 1), ("WRITE_MOST", WRITE_SIZE)):
             yield in_pieces, run, setting, most
-    for run in [*WHOLE_RUNS, row_run(next(row for row in ROWS if row.pieces == OVERLAP))]:
+    for run in [*COMPLETE_RUNS, row_run(next(row for row in ROWS if row.pieces == OVERLAP))]:
         yield failing_reads, run
         yield failing_writes, run, "WRITE_FAILS"
         yield failing_writes, run, "WRITE_EMPTY"
@@ -586,7 +586,7 @@ def cases(program):
         for told in pool.map(lambda task: list(task[0](program, *task[1:])), tasks()):
             yield from told
     for test in (failing_input, failing_output, pipes, little_memory):
-        for run in LARGE_RUNS if test == little_memory else WHOLE_RUNS:
+        for run in LARGE_RUNS if test == little_memory else COMPLETE_RUNS:
             for name, answer, expected in test(program, run):
                 yield f"{run.name}, {name}", wrong_answer(answer, expected)
 

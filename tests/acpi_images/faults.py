@@ -1,5 +1,5 @@
 """The faults of an image, by the rules of docs/TABLES.md and the sections of ACPI 6.5 that are named below: a second reading,
-which shares no code with the program. A fault stands whether or not others do.
+which shares no code with the program. A fault counts whether or not there are others.
 
 Each function gives all faults of its kind, but of overlaps and cycles only the first one; of those with one name the least by their
 numbers is the first."""
@@ -11,7 +11,7 @@ from functools import cached_property
 from itertools import chain, permutations
 
 from .table_set import (
-    HEADER, Entries, Fadt, Finding, MadtEntries, SratEntries, TableSet, domain_of, fadt_of, is_enabled, slit_count, whole_table,
+    HEADER, Entries, Fadt, Finding, MadtEntries, SratEntries, TableSet, complete_table, domain_of, fadt_of, is_enabled, slit_count,
 )
 from .text import TOP
 
@@ -58,7 +58,7 @@ class Fault(Finding):
 
 def rsdp_faults(tables):
     image, at = tables.image, tables.rsdp
-    head = image.held(at, 20)
+    head = image.present(at, 20)
     if not head:
         yield Fault("RsdpOut", at)
         return
@@ -68,14 +68,14 @@ def rsdp_faults(tables):
         yield Fault("RsdpSum", at)
     if head.number(15, 1) < 2:
         return
-    long = image.held(at, 36)
+    long = image.present(at, 36)
     if not long:
         yield Fault("RsdpTailOut", at)
     elif long.number(20, 4) < 36:
         yield Fault("RsdpLength", at)
-    elif not image.held(at, long.number(20, 4)):
+    elif not image.present(at, long.number(20, 4)):
         yield Fault("RsdpLongOut", at)
-    elif not image.held(at, long.number(20, 4)).sums_to_0():
+    elif not image.present(at, long.number(20, 4)).sums_to_0():
         yield Fault("RsdpExtendedSum", at)
 
 
@@ -86,7 +86,7 @@ def root_faults(tables):
     if at == 0:
         yield Fault("NoRoot", tables.rsdp)
         return
-    header = image.held(at, HEADER)
+    header = image.present(at, HEADER)
     if not header:
         yield Fault("RootHeaderOut", at)
         return
@@ -98,24 +98,24 @@ def root_faults(tables):
         return
     if (length - HEADER) % tables.width:
         yield Fault("RootRagged", at)
-    whole = image.held(at, length)
-    if not whole:
+    complete = image.present(at, length)
+    if not complete:
         yield Fault("RootOut", at)
-    elif not whole.sums_to_0():
+    elif not complete.sums_to_0():
         yield Fault("RootSum", at)
 
 
 def table_fault(image, address):
     """The name of what is wrong with the table at this address, or None (5.2.6)."""
-    header = image.held(address, HEADER)
+    header = image.present(address, HEADER)
     if not header:
         return "TableHeaderOut"
     if header.number(4, 4) < HEADER:
         return "TableLength"
-    whole = whole_table(image, address)
-    if not whole:
+    complete = complete_table(image, address)
+    if not complete:
         return "TableOut"
-    return None if whole.sums_to_0() else "TableSum"
+    return None if complete.sums_to_0() else "TableSum"
 
 
 def table_faults(tables):
@@ -169,7 +169,7 @@ def facs_faults(tables):
         return
     if at % 64:
         yield Fault("FacsAlign", at)
-    head = tables.image.held(at, 8)
+    head = tables.image.present(at, 8)
     if not head:
         yield Fault("FacsHeaderOut", at)
         return
@@ -178,7 +178,7 @@ def facs_faults(tables):
     length = head.number(4, 4)
     if length < 64:
         yield Fault("FacsLength", at)
-    elif not tables.image.held(at, length):
+    elif not tables.image.present(at, length):
         yield Fault("FacsOut", at)
 
 
@@ -203,7 +203,7 @@ def short_fault(tables, name, signature, least):
 
 
 def entry_faults(table, entries: Entries | None):
-    """Where no entry stands, and entries of a type of the table with another length."""
+    """The cut, and entries of a known type with another length."""
     if not entries:
         return
     if entries.cut is not None:
@@ -482,7 +482,7 @@ class Judgement:
         """The fault that `check` reports through the stage `last`, or None."""
         return min((fault for fault in self.listed if STAGE_OF[fault.name] <= last), key=Fault.order, default=None)
 
-    def stands(self, fault):
+    def has(self, fault):
         """Whether the set has this fault."""
         if fault.name in self.span_groups:
             return any(have_both(spans, fault) for spans in self.span_groups[fault.name])

@@ -33,7 +33,7 @@ def status_of(line):
 
 
 def answer(line):
-    """What the program tells where it writes this line alone."""
+    """What the program answers if it writes only this line."""
     return status_of(line), f"{line}\n", ""
 
 
@@ -79,8 +79,8 @@ class Cases:
         text = "".join(f"{line}\n" for line in expected) if isinstance(expected, list) else expected
         self.same(name, self.run(words, pieces), (status_of(text) if status is None else status, text, ""))
 
-    def beside(self, found, cases):
-        """Counts what is found of cases, beside each other: (name, what is wrong) of each."""
+    def in_parallel(self, found, cases):
+        """Runs the cases in parallel, and counts each (name, what is wrong) that `found` gives."""
         with ThreadPoolExecutor() as pool:
             for told in pool.map(lambda case: list(found(case)), cases):
                 for name, wrong in told:

@@ -1,7 +1,7 @@
 """The set of tables of an image rebuilt at another address, from the layouts of ACPI 6.5, section 5.2, and from what docs/REBUILD.md
 says, alone: a second program, to compare the first with. It is for clean sets."""
 
-from .table_set import TableSet, fadt_of, whole_table
+from .table_set import TableSet, complete_table, fadt_of
 from .tables import number, summed
 from .text import TOP, Image, Refused, read, text_of
 
@@ -21,11 +21,11 @@ X_LENGTH = 140
 
 
 class NotRebuilt(Exception):
-    """The set cannot stand at this address; the name is the one that the program writes."""
+    """The set cannot be placed at this address; the name is the one that the program writes."""
 
 
 def placed(sizes, base):
-    """Where pieces of these sizes stand from the base address on."""
+    """The addresses of pieces of these sizes, from the base address on."""
     places = []
     for size in sizes:
         base += -base % ALIGNMENT
@@ -82,7 +82,7 @@ def xsdt_of(root, places):
 
 def facs_of(tables):
     at = fadt_of(tables).facs
-    return tables.image.held(at, tables.image.held(at, 8).number(4, 4)).data if at else b""
+    return tables.image.present(at, tables.image.present(at, 8).number(4, 4)).data if at else b""
 
 
 def rebuilt(image, rsdp, base):
@@ -90,7 +90,7 @@ def rebuilt(image, rsdp, base):
     if base % ALIGNMENT:
         raise NotRebuilt("Unaligned")
     tables = TableSet(image, rsdp)
-    listed = {slot: whole_table(image, address).data for slot, address in tables.slots.items()}
+    listed = {slot: complete_table(image, address).data for slot, address in tables.slots.items()}
     for signature, slot in tables.first_slots.items():
         listed[slot] = retyped(signature, listed[slot])
     facs = facs_of(tables)
@@ -99,7 +99,7 @@ def rebuilt(image, rsdp, base):
     new_facs = places.pop(0) if facs else 0
     fadt = tables.first_slots[b"FACP"]
     listed[fadt] = fadt_at(listed[fadt], new_facs)
-    new = {new_rsdp: rsdp_at(image.held(rsdp, 20).data[9:15], new_root), new_root: xsdt_of(tables.root.data, places)}
+    new = {new_rsdp: rsdp_at(image.present(rsdp, 20).data[9:15], new_root), new_root: xsdt_of(tables.root.data, places)}
     new.update({new_facs: facs} if facs else {})
     new.update(zip(places, listed.values()))
     return text_of(Image(new).pieces()).decode()

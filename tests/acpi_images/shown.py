@@ -4,7 +4,7 @@ the first with."""
 import re
 
 from .faults import early_faults
-from .table_set import BLOCKS, HEADER, TableSet, domain_of, fadt_of, slit_count, whole_table
+from .table_set import BLOCKS, HEADER, TableSet, complete_table, domain_of, fadt_of, slit_count
 
 # The lines of entries by their types: {OFFSET:SIZE} is a number of the entry, with an x in hex (5.2.12, 5.2.16, 5.2.30).
 MADT_LINES = {
@@ -41,7 +41,7 @@ def shown(image, rsdp):
 
 
 def root_lines(tables):
-    yield f"rsdp {tables.rsdp:#x} revision {tables.image.held(tables.rsdp, 20).number(15, 1)}"
+    yield f"rsdp {tables.rsdp:#x} revision {tables.image.present(tables.rsdp, 20).number(15, 1)}"
     yield f"root {tables.root_at:#x} {tables.signature.decode()} length {len(tables.root)} slots {slot_count(tables)}"
 
 
@@ -92,9 +92,9 @@ def fadt_lines(tables):
 
 
 def facs_line(image, address):
-    head = image.held(address, 8)
+    head = image.present(address, 8)
     if not address % 64 and head and head.data[:4] == b"FACS" and head.number(4, 4) >= 64:
-        facs = image.held(address, head.number(4, 4))
+        facs = image.present(address, head.number(4, 4))
         if facs:
             return f"facs {address:#x} length {len(facs)} version {facs.number(32, 1)}"
     return f"facs {address:#x} bad"

@@ -48,7 +48,7 @@ def find_rsdp(image):
     """The least address at which a search finds an RSDP, or None."""
     for start, data in zip(image.starts, image.runs):
         for address in range(max(start + -start % 16, PLACES.start), min(start + len(data), PLACES.stop), 16):
-            head = image.held(address, 20)
+            head = image.present(address, 20)
             if head and head.data[:8] == b"RSD PTR " and head.sums_to_0():
                 return address
     return None
@@ -68,8 +68,7 @@ class Entry(Bytes):
 
 @dataclass
 class Entries:
-    """The entries that stand one after another from the first place on, and where the next one does not stand, if one does
-    not."""
+    """The entries, one after another, and the cut: the offset at which no further entry can begin, or None."""
 
     entries: list[Entry]
     cut: int | None
@@ -130,29 +129,29 @@ def domain_of(entry):
 # ---- the tables
 
 
-def whole_table(image, address):
+def complete_table(image, address):
     """A table's bytes, where its header and all of its Length, of at least 36, are present; else None (5.2.6)."""
-    header = image.held(address, HEADER)
+    header = image.present(address, HEADER)
     length = header.number(4, 4) if header else 0
-    return image.held(address, length) if length >= HEADER else None
+    return image.present(address, length) if length >= HEADER else None
 
 
 class TableSet:
     """What an RSDP leads to, as far as it is there.
 
-    `root_at` is None if the RSDP cannot be read and 0 where it names no root, `root` None if that is not whole;
+    `root_at` is None if the RSDP cannot be read and 0 where it names no root, `root` None if that is not complete;
     `slots` are the addresses that it lists, by slot, without those of 0; `headers` the headers that are present there."""
 
     def __init__(self, image, rsdp):
         self.image, self.rsdp = image, rsdp
         self.root_at, self.width = self.root_place()
         self.signature = b"XSDT" if self.width == 8 else b"RSDT"
-        self.root = whole_table(image, self.root_at) if self.root_at else None
+        self.root = complete_table(image, self.root_at) if self.root_at else None
         if self.root and self.root.data[:4] != self.signature:
             self.root = None
         self.slots = self.listed()
-        held = {address: image.held(address, HEADER) for address in set(self.slots.values())}
-        self.headers = {slot: held[address] for slot, address in self.slots.items() if held[address]}
+        present = {address: image.present(address, HEADER) for address in set(self.slots.values())}
+        self.headers = {slot: present[address] for slot, address in self.slots.items() if present[address]}
         self.first_slots = {}
         for slot, header in self.headers.items():
             self.first_slots.setdefault(header.data[:4], slot)
@@ -162,11 +161,11 @@ class TableSet:
 
     def root_place(self):
         """The root's address and the width of its slots (5.2.5.3)."""
-        head = self.image.held(self.rsdp, 20)
+        head = self.image.present(self.rsdp, 20)
         if not head:
             return None, 0
         if head.number(15, 1) >= 2:
-            long = self.image.held(self.rsdp, 36)
+            long = self.image.present(self.rsdp, 36)
             if not long:
                 return None, 0
             if long.number(24, 8):
@@ -182,9 +181,9 @@ class TableSet:
         return {slot: address for slot, address in enumerate(addresses) if address}
 
     def table(self, signature):
-        """The first listed table with the signature, where it is whole; else None."""
+        """The first listed table with the signature, where it is complete; else None."""
         slot = self.first_slots.get(signature)
-        return None if slot is None else whole_table(self.image, self.slots[slot])
+        return None if slot is None else complete_table(self.image, self.slots[slot])
 
 
 class Fadt:

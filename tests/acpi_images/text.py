@@ -39,7 +39,7 @@ class Image:
             self.put(at, data)
 
     def put(self, at, data):
-        """Adds bytes, none of which may be held already. Where they touch others they make one run with them."""
+        """Adds bytes, none of which may be present already. Where they touch others they make one run with them."""
         if not data:
             return
         place = bisect_right(self.starts, at)
@@ -60,7 +60,7 @@ class Image:
             del self.starts[place + 1]
 
     def drop(self, address, size):
-        """Takes away what is held of this many bytes from this address on."""
+        """Takes away what is present of this many bytes from this address on."""
         pieces, end = self.pieces(), address + size
         self.starts, self.runs = [], []
         for at, data in pieces.items():
@@ -68,7 +68,7 @@ class Image:
             self.put(max(at, end), data[max(end - at, 0) :])
 
     def replace(self, address, data):
-        """Puts bytes in the place of what is held of their addresses."""
+        """Puts bytes in the place of what is present at their addresses."""
         self.drop(address, len(data))
         self.put(address, data)
 
@@ -76,7 +76,7 @@ class Image:
         """The runs by their addresses."""
         return {at: bytes(data) for at, data in zip(self.starts, self.runs)}
 
-    def held(self, address, size):
+    def present(self, address, size):
         """This many bytes from this address on, or None if one of them is not present."""
         place = bisect_right(self.starts, address) - 1
         if place < 0 or address + size > self.starts[place] + len(self.runs[place]):

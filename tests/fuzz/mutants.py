@@ -1,5 +1,5 @@
 #!/usr/bin/env python3
-"""Shows what the cases of the fuzzer are able to see: plants one mistake at a time in the second judge (text.py, table_set.py and
+"""Shows what the cases of the fuzzer are able to see: plants one mistake at a time in the second programs (text.py, table_set.py and
 faults.py of tests/acpi_images), such as another number, `<` for `<=`, or `and` for `or`, and judges the same cases with it. A mistake at
 which no answer differs is printed: it changes no answer at all, or the cases have a hole. It needs no program, and some minutes.
 
@@ -104,11 +104,11 @@ def made_anew(names, wrong_name=None, wrong_code=None):
     return made
 
 
-# ---- the cases, and what a judge says of them
+# ---- the cases, and what the second programs say of them
 
 
 class Texts:
-    """Image texts, judged by text.py: what is held, and what is not beside it, and what is left where a byte is dropped."""
+    """Image texts, judged by text.py: what is present, what beside it is not, and what is left where a byte is dropped."""
 
     modules = planted = ("text",)
 
@@ -126,11 +126,11 @@ class Texts:
         except modules["text"].Refused as refusal:
             return str(refusal)
         pieces = image.pieces()
-        held = [image.held(at + shift, len(data)) for at, data in pieces.items() for shift in (-1, 0, 1)]
-        held = [it and (it.data, it.number(0, len(it)), it.sums_to_0()) for it in held]
+        present = [image.present(at + shift, len(data)) for at, data in pieces.items() for shift in (-1, 0, 1)]
+        present = [it and (it.data, it.number(0, len(it)), it.sums_to_0()) for it in present]
         for at in pieces:
             image.drop(at + 1, 2)
-        return pieces, modules["text"].text_of(pieces), held, image.pieces()
+        return pieces, modules["text"].text_of(pieces), present, image.pieces()
 
 
 class Sets:
@@ -171,9 +171,9 @@ class Sets:
             return found
         settings = modules["table_set"].Policy(**vars(case.settings))
         judgement = modules["faults"].Judgement(image, rsdp, settings)
-        stands = [(str(fault), judgement.stands(fault)) for fault in (*judgement.faults, *faults)]
+        confirmed = [(str(fault), judgement.has(fault)) for fault in (*judgement.faults, *faults)]
         lines, text = modules["advice"].lint_lines(image, rsdp, settings), modules["shown"].shown(image, rsdp)
-        return found, str(judgement.verdict(case.last)), lines, text, stands
+        return found, str(judgement.verdict(case.last)), lines, text, confirmed
 
 
 def too_long(*_):
@@ -181,7 +181,7 @@ def too_long(*_):
 
 
 def is_seen(judged, name, line, code):
-    """Whether an answer differs. A mistake at which the judge stops, or does not end, is seen too."""
+    """Whether an answer differs. A mistake at which a second program stops, or does not end, is seen too."""
     file = sys.modules[f"acpi_images.{name}"].__file__
     signal.alarm(SECONDS)
     try:

@@ -115,9 +115,9 @@ class Judged:
         yield ["show", *case.rsdp_words], self.line_of(self.fault) if text is None else (0, text, "")
         yield ["rebuild", *self.base, *self.words], self.rebuilt(image, rsdp)
         for fault in asked(self.dice, judgement):
-            stands = judgement.stands(fault)
-            self.asked += [fault.name] if stands else []
-            yield ["confirm", "--witness", str(fault), *self.words], answer("true" if stands else "false")
+            has_it = judgement.has(fault)
+            self.asked += [fault.name] if has_it else []
+            yield ["confirm", "--witness", str(fault), *self.words], answer("true" if has_it else "false")
 
     def line_of(self, fault):
         """What `check` answers."""

@@ -3,7 +3,7 @@
 import shutil
 
 from acpi_images.program import IMAGES, firmware_text
-from acpi_images.table_set import TableSet, fadt_of, whole_table
+from acpi_images.table_set import TableSet, complete_table, fadt_of
 from acpi_images.tables import changed
 from acpi_images.text import read
 from builds import HEADER, TOP, counted, run
@@ -15,12 +15,12 @@ def tables_of(text, rsdp):
     tables = TableSet(image, rsdp)
     found = {}
     for slot, address in tables.slots.items():
-        data = whole_table(image, address).data
+        data = complete_table(image, address).data
         name = data[:4].decode()
         found[name if name not in found else f"{name}{slot}"] = data
     facs = fadt_of(tables).facs
     if facs:
-        found["FACS"] = image.held(facs, 64).data
+        found["FACS"] = image.present(facs, 64).data
     return found
 
 

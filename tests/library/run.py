@@ -21,7 +21,7 @@ sys.path.insert(0, str(HERE.parent))
 
 from acpi_images.generated.chains import falling, ring, shuffled
 from acpi_images.known.linted import EXPECTED
-from acpi_images.known.rows import ROWS, WHOLE
+from acpi_images.known.rows import COMPLETE, ROWS
 from acpi_images.program import FIRMWARE, IMAGES, Cases, finish
 from acpi_images.tables import *
 from acpi_images.text import text_of
@@ -78,7 +78,7 @@ class Subject:
 def subjects(scratch):
     """Images of firmware; a clean set; a fault of each stage; the sets with the most findings; and many pieces in falling order.
     None is so large that it cannot be asked a thousand times."""
-    made = [("a whole set", WHOLE), *((f"stage {row.answer.split()[1]}", row.pieces) for row in one_of_each_stage())]
+    made = [("a complete set", COMPLETE), *((f"stage {row.answer.split()[1]}", row.pieces) for row in one_of_each_stage())]
     with_most = sorted((it for it in EXPECTED if it.words == "--rsdp e0000"), key=lambda it: -len(it.lines))[:6]
     made += [(f"findings {place}", it.pieces) for place, it in enumerate(with_most)]
     made += [("scattered", {address: b"\0" for address in range(1000, 0, -2)})]

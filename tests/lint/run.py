@@ -85,7 +85,7 @@ def compared():
 
 
 def linted_sets(cases):
-    cases.beside(lambda case: ((case.name, wrong) for wrong in lints(cases, case)), [*by_hand(), *compared()])
+    cases.in_parallel(lambda case: ((case.name, wrong) for wrong in lints(cases, case)), [*by_hand(), *compared()])
 
 
 def lints(cases, case):
@@ -138,14 +138,14 @@ def mistakes(cases):
 
 
 def judged_by_hand(cases):
-    """The faults that stand in the sets of known/judged.py, and those that do not."""
+    """The faults that the sets of known/judged.py have, and those that they do not have."""
     for name, pieces, words, rows in JUDGED:
         lines, _ = linted(["--rsdp", "e0000", *words.split()], read(text_of(pieces)))
-        for kind, *numbers, stands in rows:
+        for kind, *numbers, is_fault in rows:
             line = " ".join((f"no {kind}", *map(hex, numbers)))
             is_of_kind = any(it.startswith(f"no {kind} ") for it in lines)
-            wrong = not is_of_kind if stands else line in lines
-            cases.count(name, f"{line} stands: {stands}, judged {lines}" if wrong else "")
+            wrong = not is_of_kind if is_fault else line in lines
+            cases.count(name, f"{line} is a fault: {is_fault}, judged {lines}" if wrong else "")
 
 
 main("lint", linted_sets, strict, refused, mistakes, judged_by_hand, many_entries, many_slots)

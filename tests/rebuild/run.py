@@ -157,7 +157,7 @@ def firmware(cases):
 
 
 def rows(cases):
-    """Each known set that a check judges whole: rebuilt as the second program does it, or the line of the check."""
+    """Each known set that a check judges completely: rebuilt as the second program does it, or the line of the check."""
     for row in [*ROWS, *MANY]:
         command, *words = row.words.split()
         if command != "check" or words[:1] != ["--rsdp"] or "--through" in words:

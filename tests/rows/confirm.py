@@ -24,7 +24,7 @@ def confirmed(cases):
         found, due = cases.run(["confirm", "--witness", it.witness, *it.words], texts[id(it.pieces)]), answer(it.answer)
         yield f"{it.name}: {it.witness} {it.words}", "" if found == due else f"{found}, not {due}"
 
-    cases.beside(told, questions)
+    cases.in_parallel(told, questions)
     # each fault of the list above is one that was asked
     true = {(it.name, it.witness) for it in questions if it.answer == "true"}
     for name, witness in ((name, witness) for name, also in ALSO.items() for witness in also):

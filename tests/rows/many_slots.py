@@ -68,7 +68,7 @@ class Set:
 
 
 def broken(whole):
-    """The table with another byte behind its checksum, so that its sum is wrong."""
+    """The table with another byte after its checksum, so that its sum is wrong."""
     return whole[:10] + bytes([whole[10] ^ 1]) + whole[11:]
 
 
@@ -179,7 +179,7 @@ def many_slots(cases):
     asked_about = [(part, slot) for slot in CHOSEN for part in (one_fault, first_of_kind, first_of_two_kinds)]
     asked_about += [(last_of, count) for count in (65_535, 65_536, 65_537)]
     asked_about += [(written, seed) for seed in range(4)]
-    cases.beside(lambda it: ((f"{it[0].__name__}, {it[1]}", wrong) for wrong in it[0](cases, it[1])), asked_about)
+    cases.in_parallel(lambda it: ((f"{it[0].__name__}, {it[1]}", wrong) for wrong in it[0](cases, it[1])), asked_about)
 
 
 main("many slots", many_slots)

@@ -66,7 +66,7 @@ def small_texts():
     whole = small_text()
     yield "a good text", whole, answer("yes")
     yield "half a pair at the end", whole[:-1], refusal("line 9: bad line")
-    yield "a bad line, and worse behind it", whole.replace("#\n", "0g\n1\n"), refusal("line 8: bad line")
+    yield "a bad line, and worse after it", whole.replace("#\n", "0g\n1\n"), refusal("line 8: bad line")
     yield "an address twice", whole + f"\n@{RSDP_AT:x}\r\n00", refusal("address 0xe0000 twice")
     yield "a CR before the line's end", whole.replace("#\n", "\r\r\n"), refusal("line 8: bad line")
 
@@ -131,19 +131,19 @@ def row(address, data):
 
 def in_order(cases):
     """A table a row: all valid, then one with a wrong sum, then one that comes again."""
-    sound = table(b"HPET", b"")
-    wrong = sound[:10] + bytes([sound[10] ^ 1]) + sound[11:]
+    valid = table(b"HPET", b"")
+    wrong = valid[:10] + bytes([valid[10] ^ 1]) + valid[11:]
     for name, (distance, order) in ORDERS.items():
         addresses = [TABLES_AT + number * distance for number in range(COUNT)]
         head, broken_at = front(addresses), addresses[BROKEN]
-        rows = [row(addresses[number], sound) for number in order]
+        rows = [row(addresses[number], valid) for number in order]
         is_told(cases, name, head + b"".join(rows), answer("yes"))
         is_told(cases, f"{name}, a row again", head + b"".join([*rows, row(broken_at, b"\0")]), refusal(f"address {broken_at:#x} twice"))
         rows[list(order).index(BROKEN)] = row(broken_at, wrong)
         is_told(cases, f"{name}, a wrong sum", head + b"".join(rows), answer(f"no 3 TableSum {BROKEN:#x} {broken_at:#x} 0x0"))
 
 
-# A table a row, apart, and the RSDT behind them. The last table that is listed has a wrong sum.
+# A table a row, apart, and the RSDT after them. The last table that is listed has a wrong sum.
 PIECES = 250_000
 ROOT_AT = 0x2000000
 
@@ -151,9 +151,9 @@ ROOT_AT = 0x2000000
 def many_pieces(cases):
     """The pieces in three orders."""
     addresses = [TABLES_AT + 64 * number for number in range(PIECES)]
-    sound = table(b"HPET", b"")
-    rows = [row(address, sound) for address in addresses]
-    rows[-1] = row(addresses[-1], changed(sound, {10: 0}))
+    valid = table(b"HPET", b"")
+    rows = [row(address, valid) for address in addresses]
+    rows[-1] = row(addresses[-1], changed(valid, {10: 0}))
     expected = answer(f"no 3 TableSum {PIECES - 1:#x} {addresses[-1]:#x} 0x0")
     head = front(addresses, ROOT_AT)
     for name, order in (("rising", range(PIECES)), ("falling", range(PIECES - 1, -1, -1)), ("shuffled", shuffled(PIECES))):
@@ -173,17 +173,17 @@ def sums(cases):
     count = 60_000
     slots, memory = [TABLES_AT + 64 * number for number in range(count)], nested(count)
     at = 64 * 40_000 - 1
-    held = memory[:at] + b"\1" + memory[at + 1 :]
+    wrong = memory[:at] + b"\1" + memory[at + 1 :]
     first = answer(f"no 3 TableSum 0x0 {TABLES_AT:#x} 0x0")
-    for name, listed, held_there, expected in (
+    for name, listed, data, expected in (
         ("one table of FFh bytes", [TABLES_AT], full, answer("yes")),
         ("100,000 slots, one table", [TABLES_AT] * COUNT, full, answer("yes")),
         ("nested tables", slots, memory, answer("yes")),
         ("nested tables, the last byte wrong", slots, memory[:-1] + b"\1", first),
-        ("nested tables, a byte wrong in the midst", slots, held, first),
-        ("the tables behind it", slots[40_000:], held, answer("yes")),
+        ("nested tables, a byte wrong in the midst", slots, wrong, first),
+        ("the tables after it", slots[40_000:], wrong, answer("yes")),
     ):
-        is_told(cases, name, front(listed) + text_of({TABLES_AT: held_there}, width=16_384, blank=""), expected)
+        is_told(cases, name, front(listed) + text_of({TABLES_AT: data}, width=16_384, blank=""), expected)
 
 
 main("texts", in_pieces, long_rows, in_order, many_pieces, sums, seconds=SECONDS)

@@ -40,7 +40,7 @@ READ = [
 
 
 def read_cases():
-    """Without any bytes the RSDP is missed at the address. Where it stands there, a fault of the last stage is reported, and
+    """Without any bytes the RSDP is missed at the address. Where it is there, a fault of the last stage is reported, and
     one of the stage after it is not."""
     for line, address, last in READ:
         if "--rsdp" in line:
@@ -196,7 +196,7 @@ MESSAGES = [
 CONTROLS = [chr(code) for code in (*range(1, 0x20), *range(0x7F, 0xA0))]
 # Characters that print, of one to four bytes.
 PRINTING = "a~\u00a0\u07ff\u0800\uffff\U00010000\U0010ffff"
-# Where an argument can stand that is printed.
+# Where an argument can be that is printed.
 PLACES = [
     ["{}"], ["--{}"], ["-{}"], ["check", "--{}"], ["check", "{}"], ["check", "a/{}"], ["check", "{}=24"], ["check", "fec00000={}"],
     ["check", "--rsdp", "{}"], ["check", "--rsdp={}"], ["check", "--through", "{}"], ["check", "--default-inputs", "{}"],
@@ -252,7 +252,7 @@ def told(cases, words, text):
 
 
 def answers(cases):
-    """Each line, whose words stand a space apart, with the answer."""
+    """Each line, whose words are a space apart, with the answer."""
     asked = [*read_cases(), *(case for row in INPUTS for case in input_cases(*row)), *setting_cases(), many_counts()]
     asked = [(*case, int(case[2] != "yes")) for case in asked]
     for line, text, answer, status in [*asked, *lint_cases()]:

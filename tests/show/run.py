@@ -22,14 +22,14 @@ HERE = Path(__file__).parent
 
 # Sets of which nothing is shown, with what is written of them instead.
 WRONG_RSDP = rsdp().replace(b"A", b"B", 1)
-UNSOUND = [
+NOT_SHOWN = [
     ("nothing to show", b"", "", "no rsdp"),
     ("no RSDP with a right sum", {RSDP_AT: WRONG_RSDP}, "", "no rsdp"),
-    ("an RSDP that is not held", b"", "--rsdp e0000", "no 1 RsdpOut 0xe0000 0x0 0x0"),
+    ("an RSDP that is not present", b"", "--rsdp e0000", "no 1 RsdpOut 0xe0000 0x0 0x0"),
     ("an RSDP whose sum is wrong", {RSDP_AT: WRONG_RSDP}, "--rsdp e0000", "no 1 RsdpSum 0xe0000 0x0 0x0"),
     ("an RSDP that names no root", {RSDP_AT: rsdp(0)}, "--rsdp e0000", "no 2 NoRoot 0xe0000 0x0 0x0"),
     ("a root with a part of a slot", {RSDP_AT: rsdp(), RSDT_AT: table(b"RSDT", b"\0\0")}, "", "no 2 RootRagged 0x1000 0x0 0x0"),
-    ("a listed table that is not held", {RSDP_AT: rsdp(), RSDT_AT: rsdt(0, 0x2000)}, "", "no 3 TableHeaderOut 0x1 0x2000 0x0"),
+    ("a listed table that is not present", {RSDP_AT: rsdp(), RSDT_AT: rsdt(0, 0x2000)}, "", "no 3 TableHeaderOut 0x1 0x2000 0x0"),
     ("a listed table whose sum is wrong", image_of(fadt(), hpet().replace(b"A", b"B", 1)), "", "no 3 TableSum 0x1 0x3000 0x0"),
 ]
 
@@ -51,8 +51,8 @@ def firmware(cases):
         both(cases, name, f"--rsdp {address}", firmware_text(name), (HERE / "images" / f"{name}.txt").read_text())
 
 
-def unsound(cases):
-    for name, pieces, words, line in UNSOUND:
+def not_shown(cases):
+    for name, pieces, words, line in NOT_SHOWN:
         cases.writes(name, f"show {words}", pieces, [line])
 
 
@@ -108,4 +108,4 @@ def large(cases):
     cases.count("time with the number of entries", f"{few} and {most} seconds" if most > 8 * 3 * max(few, 0.1) else "")
 
 
-main("show", by_hand, firmware, unsound, rows, large, seconds=600)
+main("show", by_hand, firmware, not_shown, rows, large, seconds=600)

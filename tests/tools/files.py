@@ -13,7 +13,7 @@ DSDT = table(b"DSDT", b"\x5b\x80")
 ROOT_AT = 0x100000
 # The structures of a machine.
 TABLES = [(0x7FE2000, FADT), (0x7FE3001, MADT), (0x7FE4000, HPET)]
-WHOLE = [(0xF59E0, extended_rsdp(0x7FE1000, 0)), (0x7FE1000, xsdt(*dict(TABLES))), *TABLES, (FACS_AT, facs())]
+COMPLETE = [(0xF59E0, extended_rsdp(0x7FE1000, 0)), (0x7FE1000, xsdt(*dict(TABLES))), *TABLES, (FACS_AT, facs())]
 
 
 def wide_fadt(address):
@@ -56,20 +56,20 @@ RAW = {
 
 def dumps():
     """What acpidump2image is given."""
-    _, root, *tables, lock = WHOLE
-    text = dump_of(WHOLE)
+    _, root, *tables, lock = COMPLETE
+    text = dump_of(COMPLETE)
     lines = text.splitlines(keepends=True)
     return {
         "whole.txt": text,
-        "narrow.txt": dump_of(WHOLE, width=8, margin=2, padded=False),
-        "twice.txt": dump_of([*WHOLE, tables[1]]),
-        "changed.txt": dump_of([*WHOLE, (0x7FE3001, MADT[:-1] + b"\0")]),
-        "overlap.txt": dump_of([*WHOLE, (0x7FE3010, HPET)]),
+        "narrow.txt": dump_of(COMPLETE, width=8, margin=2, padded=False),
+        "twice.txt": dump_of([*COMPLETE, tables[1]]),
+        "changed.txt": dump_of([*COMPLETE, (0x7FE3001, MADT[:-1] + b"\0")]),
+        "overlap.txt": dump_of([*COMPLETE, (0x7FE3010, HPET)]),
         "rootless.txt": dump_of([*tables, lock]),
         "pointerless.txt": dump_of([root, *tables, lock]),
         "rsdt.txt": dump_of([*tables, (root[0], rsdt(*dict(tables))), lock]),
         "zeros.txt": dump_of([(0, FADT), (0, MADT)]),
-        "some.txt": dump_of([*WHOLE, (0, HPET)]),
+        "some.txt": dump_of([*COMPLETE, (0, HPET)]),
         "lost.txt": b"".join(lines[:2] + lines[3:]),
         "returns.txt": text.replace(b"\n", b"\r\n"),
         "utf16.txt": text.decode().encode("utf-16"),

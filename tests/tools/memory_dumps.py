@@ -15,9 +15,9 @@ UEFI = bytes.fromhex("71e86888f1e4d311bc220080c73c8881")
 RAM = 16 << 20
 
 
-def raw_dump(judge, name, pieces, size=RAM, base=0):
+def raw_dump(cases, name, pieces, size=RAM, base=0):
     """A raw dump of so much memory, of which the rest is 0."""
-    with open(judge.path(name), "wb") as file:
+    with open(cases.path(name), "wb") as file:
         file.truncate(size)
         for at, data in pieces.items():
             file.seek(at - base)
@@ -64,11 +64,11 @@ def small_set():
     return read, {**read, 0x1000: rsdt(0x2000), 0x9000: table(b"DSDT", bytes(100)), 0x3000: hpet()}
 
 
-def of_a_set(judge):
+def of_a_set(cases):
     """What the set reaches, and nothing else; each table is written once."""
     read, whole = small_set()
     text = text_of(read)
-    raw_dump(judge, "ram.bin", whole)
+    raw_dump(cases, "ram.bin", whole)
     for name, data in (
         ("core64", core_of(whole)),
         ("core32", core_of(whole, 32)),
@@ -77,43 +77,43 @@ def of_a_set(judge):
         ("many32", core_of(whole, 32, is_many=True)),
         ("twice64", core_of({**whole, 0xF0000: bytes(16) + whole[0xF0010]})),
     ):
-        judge.write(name, data)
-        judge.makes("the RSDP is where acpiset find looks", "yes", "memory2image", name, image=text)
-    run = judge.makes("RSDP at 0xf0010: check it with --rsdp f0010", "yes", "memory2image", "ram.bin", image=text)
+        cases.write(name, data)
+        cases.makes("the RSDP is where acpiset find looks", "yes", "memory2image", name, image=text)
+    run = cases.makes("RSDP at 0xf0010: check it with --rsdp f0010", "yes", "memory2image", "ram.bin", image=text)
     told = b"slot 0: APIC at 0x2100, 52 bytes", b"slot 1: empty", b"slot 2: FACP at 0x2000, 244 bytes", b"slot 3: APIC at 0x2100, as an earlier slot"
-    judge.count("slots that are told", *(f"{line} in {run.stderr.decode()}" for line in told if line not in run.stderr))
-    judge.makes("RSDP at 0xf0010", "yes", "memory2image", "--rsdp", "0xf0010", "ram.bin", image=text)
-    raw_dump(judge, "low.bin", {0: whole[0x2000], 0x100: whole[0x2100], 0x5000: facs()}, 0x6000)
-    raw_dump(judge, "high.bin", {0x10: whole[0xF0010], 0x10000: whole[0x100000]}, 0x20000)
-    judge.makes("RSDP at 0xf0010", "yes", "memory2image", "--base", "2000", "low.bin", "--base", "0xF0000", "high.bin", image=text)
+    cases.count("slots that are told", *(f"{line} in {run.stderr.decode()}" for line in told if line not in run.stderr))
+    cases.makes("RSDP at 0xf0010", "yes", "memory2image", "--rsdp", "0xf0010", "ram.bin", image=text)
+    raw_dump(cases, "low.bin", {0: whole[0x2000], 0x100: whole[0x2100], 0x5000: facs()}, 0x6000)
+    raw_dump(cases, "high.bin", {0x10: whole[0xF0010], 0x10000: whole[0x100000]}, 0x20000)
+    cases.makes("RSDP at 0xf0010", "yes", "memory2image", "--base", "2000", "low.bin", "--base", "0xF0000", "high.bin", image=text)
     # A table whose signature a terminal would obey.
     odd = rsdp(0xE0100).ljust(0x100, b"\0") + rsdt(0xE0200).ljust(0x100, b"\0") + b"\x1b[2J" + number(36, 4) + bytes(28)
-    judge.makes("slot 0: ?[2J at 0xe0200", "no 3 TableSum 0x0 0xe0200 0x0", "memory2image", "--base", "e0000", judge.write("odd.bin", odd))
+    cases.makes("slot 0: ?[2J at 0xe0200", "no 3 TableSum 0x0 0xe0200 0x0", "memory2image", "--base", "e0000", cases.write("odd.bin", odd))
 
 
-def of_real_images(judge):
+def of_real_images(cases):
     """The images of real firmware, in a dump of memory and in an ELF core."""
     for path in sorted(FIRMWARE.glob("*.img.txt")):
         name, pieces = path.name, read(path.read_bytes()).pieces()
-        raw_dump(judge, "ram.bin", pieces, max(at + len(data) for at, data in pieces.items()) + 100)
-        judge.write("core", core_of(pieces))
+        raw_dump(cases, "ram.bin", pieces, max(at + len(data) for at, data in pieces.items()) + 100)
+        cases.write("core", core_of(pieces))
         for dump in ("ram.bin", "core"):
-            run = judge.run("memory2image", dump)
-            judge.count(f"{name} as {dump}", run.returncode and run.stderr.decode(), kept(judge, pieces, run.stdout))
+            run = cases.run("memory2image", dump)
+            cases.count(f"{name} as {dump}", run.returncode and run.stderr.decode(), kept(cases, pieces, run.stdout))
 
 
-def kept(judge, pieces, text):
+def kept(cases, pieces, text):
     """What acpiset says otherwise of the text than of all pieces."""
     address = re.search(rb"^# the RSDP\n@([0-9a-f]+)$", text, re.M)[1].decode()
     for command in ("check", "lint", "show"):
         words = [command, "--rsdp", address]
-        told, wanted = judge.answer(words, text), judge.answer(words, text_of(pieces))
+        told, wanted = cases.answer(words, text), cases.answer(words, text_of(pieces))
         if told != wanted:
             return f"{' '.join(words)}: {told}, not {wanted}"
     return ""
 
 
-def of_all_rows(judge):
+def of_all_rows(cases):
     """Sets with each fault: acpiset says of what is written what it says of all of the memory."""
     tool = module_of("memory2image")
     wrong = []
@@ -122,7 +122,7 @@ def of_all_rows(judge):
         words = row.words.split()
         if isinstance(row.pieces, bytes) or words[:2] != ["check", "--rsdp"] or sum(map(len, row.pieces.values())) > 1 << 20:
             continue
-        memory = tool.Memory(tool.parts_of(judge.path(judge.write("core", core_of(row.pieces))), None))
+        memory = tool.Memory(tool.parts_of(cases.path(cases.write("core", core_of(row.pieces))), None))
         try:
             text = tool.image_of(memory, int(words[2], 16))
         except tool.Refusal as refusal:
@@ -130,16 +130,16 @@ def of_all_rows(judge):
             continue
         count += 1
         for asked in (words, ["lint", *words[1:3]]):
-            told, wanted = judge.answer(asked, text), judge.answer(asked, text_of(row.pieces))
+            told, wanted = cases.answer(asked, text), cases.answer(asked, text_of(row.pieces))
             if told != wanted:
                 wrong.append(f"{row.name}: {asked}: {told}, not {wanted}")
-    judge.count("known sets", "\n".join(wrong), count < 100 and f"{count} sets alone")
+    cases.count("known sets", "\n".join(wrong), count < 100 and f"{count} sets alone")
 
 
 # ---- the RSDP
 
 
-def of_the_search(judge):
+def of_the_search(cases):
     """Which RSDP is taken."""
     # An RSDT at 0x1000 and an XSDT at 0x1100, each with a FADT alone.
     tables = {0x1000: rsdt(0x2000), 0x1100: xsdt(0x2000), 0x2000: fadt()}
@@ -160,47 +160,47 @@ def of_the_search(judge):
         ("one that leads to no root", "0x20", {0x20: lost}),
         ("one at the end", "0xffffdc", {0xFFFFDC: new}),
     ):
-        run = judge.run("memory2image", raw_dump(judge, "ram.bin", {**tables, **pieces}))
-        judge.count(f"the RSDP: {name}", f"RSDP at {told}: check".encode() not in run.stderr and run.stderr.decode(), run.returncode and "its status")
-    run = judge.run("memory2image", raw_dump(judge, "ram.bin", {**tables, 0x20: new, 0x60: old}))
-    judge.count("other RSDPs are told", b"another RSDP at 0x60: if it is that one, give --rsdp 60" not in run.stderr and run.stderr.decode())
+        run = cases.run("memory2image", raw_dump(cases, "ram.bin", {**tables, **pieces}))
+        cases.count(f"the RSDP: {name}", f"RSDP at {told}: check".encode() not in run.stderr and run.stderr.decode(), run.returncode and "its status")
+    run = cases.run("memory2image", raw_dump(cases, "ram.bin", {**tables, 0x20: new, 0x60: old}))
+    cases.count("other RSDPs are told", b"another RSDP at 0x60: if it is that one, give --rsdp 60" not in run.stderr and run.stderr.decode())
     halves = {**tables, 0x700000: bytes(16) + new[:5], 0x700015: new[5:]}
-    judge.write("halves", core_of(halves))
-    judge.makes("RSDP at 0x700010", "yes", "memory2image", "halves")
-    judge.refuses("no RSDP is found; 2 places have its signature", "memory2image", raw_dump(judge, "ram.bin", {0x20: wrong, 0x60: broken}))
-    judge.refuses("no RSDP is found; 0 places have its signature", "memory2image", raw_dump(judge, "ram.bin", tables))
-    many = judge.write("signatures", b"RSD PTR " * 1_000_100)
-    judge.refuses("more than 1000000 places have the signature of an RSDP: those from 0x7a1200 on are not looked at", "memory2image", "--base", "0", many)
+    cases.write("halves", core_of(halves))
+    cases.makes("RSDP at 0x700010", "yes", "memory2image", "halves")
+    cases.refuses("no RSDP is found; 2 places have its signature", "memory2image", raw_dump(cases, "ram.bin", {0x20: wrong, 0x60: broken}))
+    cases.refuses("no RSDP is found; 0 places have its signature", "memory2image", raw_dump(cases, "ram.bin", tables))
+    many = cases.write("signatures", b"RSD PTR " * 1_000_100)
+    cases.refuses("more than 1000000 places have the signature of an RSDP: those from 0x7a1200 on are not looked at", "memory2image", "--base", "0", many)
 
 
 # ---- what is wrong with dumps
 
 
-def of_lengths(judge):
+def of_lengths(cases):
     """Lengths beyond the dump, and beyond what an image holds."""
     def dump(name, **more):
         read, _ = small_set()
-        return raw_dump(judge, name, {**read, **{int(at[1:], 16): data for at, data in more.items()}}, 64 << 20)
+        return raw_dump(cases, name, {**read, **{int(at[1:], 16): data for at, data in more.items()}}, 64 << 20)
 
     long = hpet()[:4] + number(0x3000000, 4) + hpet()[8:]
     told = "slot 0: HPET at 0x2100, 50331648 bytes, more than an image holds: only 36 are put, and check will say TableOut"
-    judge.makes(told, "no 3 TableOut 0x0 0x2100 0x0", "memory2image", dump("long.bin", _2100=long))
+    cases.makes(told, "no 3 TableOut 0x0 0x2100 0x0", "memory2image", dump("long.bin", _2100=long))
     longer = hpet()[:4] + b"\xff" * 4 + hpet()[8:]
     held = (64 << 20) - 0x2100
     told = f"slot 0: HPET at 0x2100, 4294967295 bytes, of which the dump holds {held}: check will say TableOut"
-    judge.makes(told, "no 3 TableOut 0x0 0x2100 0x0", "memory2image", dump("longer.bin", _2100=longer))
+    cases.makes(told, "no 3 TableOut 0x0 0x2100 0x0", "memory2image", dump("longer.bin", _2100=longer))
     short = hpet()[:4] + number(35, 4) + hpet()[8:]
-    judge.makes("slot 0: HPET at 0x2100", "no 3 TableLength 0x0 0x2100 0x0", "memory2image", dump("short.bin", _2100=short))
+    cases.makes("slot 0: HPET at 0x2100", "no 3 TableLength 0x0 0x2100 0x0", "memory2image", dump("short.bin", _2100=short))
     outside = xsdt(0x2000, 2**64 - 36, 2**63)
     told = "slot 2:  at 0x8000000000000000: the dump holds 0 of the header's 36 bytes: check will say TableHeaderOut"
-    judge.makes(told, "no 3 TableHeaderOut 0x1 0xffffffffffffffdc 0x0", "memory2image", dump("outside.bin", _100000=outside))
-    judge.makes("has another signature: check will say RootSignature", "no 2 RootSignature 0x100000 0x0 0x0", "memory2image", dump("root.bin", _100000=hpet()))
-    judge.makes("the RSDP names no root: check will say NoRoot", "no 2 NoRoot 0xf0010 0x0 0x0", "memory2image", dump("none.bin", _F0010=extended_rsdp(0, 0)))
+    cases.makes(told, "no 3 TableHeaderOut 0x1 0xffffffffffffffdc 0x0", "memory2image", dump("outside.bin", _100000=outside))
+    cases.makes("has another signature: check will say RootSignature", "no 2 RootSignature 0x100000 0x0 0x0", "memory2image", dump("root.bin", _100000=hpet()))
+    cases.makes("the RSDP names no root: check will say NoRoot", "no 2 NoRoot 0xf0010 0x0 0x0", "memory2image", dump("none.bin", _F0010=extended_rsdp(0, 0)))
 
 
-def refused(judge):
+def refused(cases):
     read, whole = small_set()
-    refuses, write = judge.refuses, judge.write
+    refuses, write = cases.refuses, cases.write
     for words in ([], ["--help"], ["--base", "0"], ["ram.bin", "--base", "0"], [""]):
         refuses("usage: memory2image [--rsdp HEX] [--base HEX] FILE", "memory2image", *words, status=2)
     for word in ("", "g", "0x", "1" * 17, "-1", "1_0", " 1"):
@@ -220,14 +220,14 @@ def refused(judge):
     core = core_of(whole)
     refuses("an ELF file, but no core", "memory2image", write("program", core_of(whole, kind=2)))
     for size in (16, 40, 63):
-        refuses("an ELF file without a whole header", "memory2image", write("cut", core[:size]))
-    refuses("an ELF core without whole program headers: is it cut?", "memory2image", write("cut", core[:200]))
+        refuses("an ELF file without a complete header", "memory2image", write("cut", core[:size]))
+    refuses("an ELF core without complete program headers: is it cut?", "memory2image", write("cut", core[:200]))
     refuses("an ELF core that holds no memory: is it cut?", "memory2image", write("cut", core[: len(core) - sum(map(len, whole.values()))]))
     refuses("an ELF core whose parts all lie at 0: is it of a process?", "memory2image", write("process", process()))
     refuses("an ELF core of more than 1000000 parts", "memory2image", write("parts", parts_of_none()))
-    judge.makes("fewer bytes than the program headers say, the first time from 0x30", "yes", "memory2image", write("cut", core[:-20]))
+    cases.makes("fewer bytes than the program headers say, the first time from 0x30", "yes", "memory2image", write("cut", core[:-20]))
     paged = core_of(whole, memory_sizes=[(0, 0x1000)])
-    judge.makes("is it cut, or dumped with -p?", "yes", "memory2image", write("paged", paged))
+    cases.makes("is it cut, or dumped with -p?", "yes", "memory2image", write("paged", paged))
 
 
 def process():
@@ -246,9 +246,9 @@ def parts_of_none():
     return bytes(core) + bytes(56 * 1_000_001)
 
 
-def cases(judge):
+def all_cases(cases):
     for part in (of_a_set, of_real_images, of_all_rows, of_the_search, of_lengths, refused):
-        part(judge)
-    for name in os.listdir(judge.folder):
-        if os.path.isfile(judge.path(name)) and os.path.getsize(judge.path(name)) > 1 << 24:
-            os.remove(judge.path(name))
+        part(cases)
+    for name in os.listdir(cases.folder):
+        if os.path.isfile(cases.path(name)) and os.path.getsize(cases.path(name)) > 1 << 24:
+            os.remove(cases.path(name))

@@ -10,7 +10,7 @@ RESERVED_INTI = madt(lapic(0, 0), io_apic(0xFEC00000, 0), override(0, 2, flags=2
 OVERLAPPING = srat(memory(0, 0x1000), memory(0x800, 0x1000))
 WRONG_SLIT = slit(1, [11])
 DANGLING = pptt(node(parent=20))
-SOUND = {
+VALID = {
     "APIC": MADT,
     "SRAT": srat(memory(0, 0x1000)),
     "SLIT": slit(2, [10, 20, 20, 10]),
@@ -23,9 +23,9 @@ MADE_FADT = "no file has a FADT: one of reduced hardware is made by this tool, a
 USAGE = "usage: tables2image FILE.., as tables2image /sys/firmware/acpi/tables/*"
 
 
-def of_files(judge):
+def of_files(cases):
     """Files with a FADT."""
-    makes = judge.makes
+    makes = cases.makes
     old, order = text_of(image_of_files(FADT, MADT, HPET)), text_of(image_of_files(HPET, MADT, FADT))
     wide = text_of(image_of_files(wide_fadt(0x123456789ABC0), facs_at=0x123456789ABC0))
     files = "facp.dat", "apic.dat", "hpet.dat", "facs.dat"
@@ -46,31 +46,31 @@ def of_files(judge):
     makes("no file has it: check will say FacsHeaderOut", "no 5 FacsHeaderOut 0x7000 0x0 0x0", "tables2image", "facp.dat")
     makes("names no FACS: check will say NoFacs", "no 5 NoFacs 0x0 0x0 0x0", "tables2image", "named.dat")
     told = "second.srat: a second SRAT: only first.srat is read, and of this one header, length and sum"
-    judge.write("first.srat", SOUND["SRAT"])
-    judge.write("second.srat", OVERLAPPING)
+    cases.write("first.srat", VALID["SRAT"])
+    cases.write("second.srat", OVERLAPPING)
     makes(told, "yes", "tables2image", "reduced.dat", "first.srat", "second.srat")
     makes("first.srat: a second SRAT", "no 10 Overlap 0x30 0x58 0x800", "tables2image", "reduced.dat", "second.srat", "first.srat")
     run = makes(OWN, "yes", "tables2image", "reduced.dat", "hpet.dat", "hpet.dat")
-    judge.count("two HPETs, of which none is read", b"a second" in run.stderr and "a note on the second")
+    cases.count("two HPETs, of which none is read", b"a second" in run.stderr and "a note on the second")
 
 
-def of_one_table(judge):
+def of_one_table(cases):
     """One table alone: what is made beside it keeps every rule, and breaks no rule of advice."""
-    for name, data in SOUND.items():
-        judge.write(f"{name}.one", data)
+    for name, data in VALID.items():
+        cases.write(f"{name}.one", data)
         image = text_of(image_of_files(data, fadt(), facs_at=None))
-        judge.makes(MADE_FADT, "yes", "tables2image", f"{name}.one", image=image)
-    judge.makes(MADE_FADT, "yes", "tables2image", "HPET.one", command="lint")
-    judge.write("unsummed.one", changed(HPET, {9: 0x5A}))
+        cases.makes(MADE_FADT, "yes", "tables2image", f"{name}.one", image=image)
+    cases.makes(MADE_FADT, "yes", "tables2image", "HPET.one", command="lint")
+    cases.write("unsummed.one", changed(HPET, {9: 0x5A}))
     for name, data, verdict in (
         ("unsummed.one", changed(HPET, {9: 0x5A}), "no 3 TableSum 0x0 0x101000 0x0"),
         ("inti.one", RESERVED_INTI, "no 6 ReservedInti 0x40 0x0 0x0"), ("overlapping.one", OVERLAPPING, "no 10 Overlap 0x30 0x58 0x800"),
         ("wrong.one", WRONG_SLIT, "no 11 SlitDiagonal 0x2c 0x0 0x0"), ("dangling.one", DANGLING, "no 13 DanglingParent 0x24 0x14 0x0"),
         ("facs.dat", facs(), "yes"), ("misversed.one", b"FACS" + number(63, 4) + bytes(56), "no 5 FacsLength 0x102000 0x0 0x0"),
     ):
-        judge.write(name, data)
-        judge.makes(MADE_FADT, verdict, "tables2image", name)
-    judge.makes("FACS at 0x103000, where the FADT says, from facs.dat", "yes", "tables2image", "facs.dat", "hpet.dat")
+        cases.write(name, data)
+        cases.makes(MADE_FADT, verdict, "tables2image", name)
+    cases.makes("FACS at 0x103000, where the FADT says, from facs.dat", "yes", "tables2image", "facs.dat", "hpet.dat")
 
 
 # ---- a kernel's log
@@ -93,8 +93,8 @@ def log_of(*places):
 RSDP_PLACE, ROOT_PLACE, FADT_PLACE, MADT_PLACE, HPET_PLACE = 0xF0010, 0xBFFE0000, 0xBFFE1234, 0xBFFE2001, 0x1BFFE4000
 ROOT = xsdt(FADT_PLACE, MADT_PLACE, HPET_PLACE)
 PLACES = [(FADT_PLACE, FADT), (0xBFFE9000, DSDT), (FACS_AT, facs()), (MADT_PLACE, MADT), (HPET_PLACE, HPET)]
-WHOLE_LOG = log_of((RSDP_PLACE, extended_rsdp(), "RSDP"), (ROOT_PLACE, ROOT), *PLACES)
-WHOLE_IMAGE = {
+COMPLETE_LOG = log_of((RSDP_PLACE, extended_rsdp(), "RSDP"), (ROOT_PLACE, ROOT), *PLACES)
+COMPLETE_IMAGE = {
     RSDP_PLACE: extended_rsdp(ROOT_PLACE, 0),
     ROOT_PLACE: ROOT,
     FADT_PLACE: FADT,
@@ -104,28 +104,28 @@ WHOLE_IMAGE = {
 }
 
 
-def of_a_log(judge):
+def of_a_log(cases):
     """Real addresses, and the order of the log, whatever that of the files is."""
-    makes, refuses, write = judge.makes, judge.refuses, judge.write
-    write("log.txt", WHOLE_LOG)
+    makes, refuses, write = cases.makes, cases.refuses, cases.write
+    write("log.txt", COMPLETE_LOG)
     files = "hpet.dat", "dsdt.dat", "apic.dat", "facs.dat", "facp.dat"
     words = "tables2image", "--dmesg", "log.txt"
-    makes("slot 0: FACP at 0xbffe1234, from facp.dat", "yes", *words, *files, image=text_of(WHOLE_IMAGE))
+    makes("slot 0: FACP at 0xbffe1234, from facp.dat", "yes", *words, *files, image=text_of(COMPLETE_IMAGE))
     own = extended_rsdp(ROOT_PLACE, 0x1234)
     write("own_rsdp.dat", own)
     write("own_xsdt.dat", ROOT)
-    makes("are those of the files", "yes", *words, "own_rsdp.dat", "own_xsdt.dat", *files, image=text_of({**WHOLE_IMAGE, RSDP_PLACE: own}))
-    makes("own_rsdp.dat: an RSDP, left out", "yes", *words, "own_rsdp.dat", *files, image=text_of(WHOLE_IMAGE))
+    makes("are those of the files", "yes", *words, "own_rsdp.dat", "own_xsdt.dat", *files, image=text_of({**COMPLETE_IMAGE, RSDP_PLACE: own}))
+    makes("own_rsdp.dat: an RSDP, left out", "yes", *words, "own_rsdp.dat", *files, image=text_of(COMPLETE_IMAGE))
     # A table that the machine's own root lists has no file.
     makes("own_xsdt.dat: an XSDT, left out", "yes", *words, "own_rsdp.dat", "own_xsdt.dat", "reduced.dat", "hpet.dat")
     makes("HPET at 0x1bffe4000, 56 bytes: in the log, and no file has it", "yes", *words, *files[1:])
-    write("SSDT.one", SOUND["SSDT"])
+    write("SSDT.one", VALID["SSDT"])
     makes("SSDT.one: not in the log", "yes", *words, *files, "SSDT.one")
     old_root = rsdt(0x2000)
     write("old.log", b"<6>ACPI: RSDP 00000000000f0490 00014 (v00 AAAAAA)\nACPI: RSDT 00001000 %06X (v01 AAAAAA AAAAAAAA 00000001 AAAA 00000001)\n"
           b"ACPI: FACP 0000000000002000 00074 (v01 AAAAAA AAAAAAAA 00000001 AAAA 00000001)\n" % len(old_root))
     makes("an RSDT, are made", "yes", "tables2image", "--dmesg", "old.log", "reduced.dat", image=text_of({0xF0490: rsdp(), 0x1000: old_root, 0x2000: fadt()}))
-    write("twins.log", log_of((0x2000, fadt()), (0x3000, SOUND["SSDT"]), (0x4000, SOUND["SSDT"]), (0xFFFF888000000000, SOUND["HPET"])))
+    write("twins.log", log_of((0x2000, fadt()), (0x3000, VALID["SSDT"]), (0x4000, VALID["SSDT"]), (0xFFFF888000000000, VALID["HPET"])))
     makes("the log has 2 such tables: the order of the files decides", "yes", "tables2image", "--dmesg", "twins.log", "reduced.dat", "SSDT.one", "SSDT.one")
     makes("hpet.dat: not in the log", "yes", "tables2image", "--dmesg", "twins.log", "reduced.dat", "hpet.dat")
     write("other.log", log_of((0x2000, fadt()), (0x2040, HPET)))
@@ -137,8 +137,8 @@ def of_a_log(judge):
     refuses("usage: ", "tables2image", "--dmesg", status=2)
 
 
-def refused(judge):
-    refuses = judge.refuses
+def refused(cases):
+    refuses = cases.refuses
     refuses(USAGE, "tables2image", status=2)
     for words in (["--help"], ["-h"], [""], ["--dmesg", "log.txt"], ["--other", "facp.dat"]):
         refuses(USAGE, "tables2image", *words, status=2)
@@ -155,17 +155,17 @@ def refused(judge):
     refuses("facs.dat: from 0xffffffffffffffe0 on the FACS goes past the last address", "tables2image", "facs.dat", "past.dat")
     refuses("no table to list among the files", "tables2image", "folder", "dsdt.dat")
     for name, size in (("large.dat", 20_000_000), ("larger.dat", 20_000_001)):
-        with open(judge.path(name), "wb") as file:
+        with open(cases.path(name), "wb") as file:
             file.write(b"SSDT" + number(size, 4))
             file.truncate(size)
     refuses("larger.dat: larger than any table", "tables2image", "larger.dat")
     refuses("the image would have 120000348 bytes of text, and acpiset reads 67108864 at most", "tables2image", "large.dat", "large.dat")
     if os.getuid() != 0:
-        os.chmod(judge.path("hpet.dat"), 0)
+        os.chmod(cases.path("hpet.dat"), 0)
         refuses("hpet.dat: may not be read", "tables2image", "hpet.dat")
-        os.chmod(judge.path("hpet.dat"), 0o644)
+        os.chmod(cases.path("hpet.dat"), 0o644)
 
 
-def cases(judge):
+def all_cases(cases):
     for part in (of_files, of_one_table, of_a_log, refused):
-        part(judge)
+        part(cases)

@@ -93,23 +93,23 @@ def read(form, text):
 # ---- cases
 
 
-def reported(judge, lines, *words, status, **forms):
+def reported(cases, lines, *words, status, **forms):
     """Each format's report of these lines ends with the status, and its reader reads this."""
     for form, wanted in forms.items():
         data = "".join(line + "\n" for line in lines).encode()
-        run = judge.run("report", "--format", form, *words, data=data)
+        run = cases.run("report", "--format", form, *words, data=data)
         try:
             got = read(form, run.stdout.decode("ascii"))
         except (ValueError, LookupError, xml.ParseError) as error:
             got = f"{error!r}: {run.stdout.decode()}"
-        judge.count(
+        cases.count(
             f"report --format {form} {' '.join(words)} of {lines}",
             run.returncode != status and f"status {run.returncode}, not {status}: {run.stderr.decode()}",
             got != wanted and f"{got}, not {wanted}",
         )
 
 
-def verdicts(judge):
+def verdicts(cases):
     overlap = "Two enabled memory ranges overlap."
     numbers = (
         "at and other are the offsets of their structures, point is an address in both ranges: the lowest address that two ranges cover. "
@@ -118,40 +118,40 @@ def verdicts(judge):
     message = f"{overlap} Line of acpiset: {OVERLAP}. Numbers: {numbers}"
     finding = {"kind": "fault", "name": "Overlap", "code": 45, "stage": 10, "at": "0x90", "other": "0xb8", "point": "0x100000000", "level": "error", "text": overlap}
     reported(
-        judge, [OVERLAP], "--image", "tables/a b.txt", status=1,
+        cases, [OVERLAP], "--image", "tables/a b.txt", status=1,
         json={"verdict": "no", "passed": False, "image": "tables/a b.txt", "findings": [finding]},
         tap=[(False, f"{OVERLAP}: {overlap}", None)],
         junit=[("Overlap", "failure", f"{OVERLAP}: {overlap}")],
         sarif=[("Overlap", "error", message, ["tables/a%20b.txt"])],
     )
-    reported(judge, ["yes"], status=0, json={"verdict": "yes", "passed": True, "findings": []}, tap=[(True, "yes", None)], junit=[("yes", None, None)], sarif=[])
+    reported(cases, ["yes"], status=0, json={"verdict": "yes", "passed": True, "findings": []}, tap=[(True, "yes", None)], junit=[("yes", None, None)], sarif=[])
     for line in ("true", "rsdp 0xf59e0"):
-        reported(judge, [line], status=0, json={"verdict": line, "passed": True, "findings": []}, tap=[(True, line, None)], junit=[(line, None, None)], sarif=[])
+        reported(cases, [line], status=0, json={"verdict": line, "passed": True, "findings": []}, tap=[(True, line, None)], junit=[(line, None, None)], sarif=[])
     listed, shape = "A slot holds the same address as an earlier slot.", "A cache says that its Number of sets is valid, but that is 0; or that its Line size is valid"
-    run = judge.run("report", "--format", "sarif", data=f"yes\n{LISTED}\n{SHAPE}\n{UNREAD}\n".encode())
+    run = cases.run("report", "--format", "sarif", data=f"yes\n{LISTED}\n{SHAPE}\n{UNREAD}\n".encode())
     told = sarif_of(run.stdout.decode())
-    judge.count("levels of advice", [one[:2] for one in told] != [("ListedTwice", "warning"), ("CacheShape", "note"), ("MadtUnread", "note")] and f"{told}", run.returncode and "its status")
+    cases.count("levels of advice", [one[:2] for one in told] != [("ListedTwice", "warning"), ("CacheShape", "note"), ("MadtUnread", "note")] and f"{told}", run.returncode and "its status")
     reported(
-        judge, ["yes", LISTED], status=0,
+        cases, ["yes", LISTED], status=0,
         tap=[(True, "yes", None), (False, f"{LISTED}: {listed}", "TODO")],
         junit=[("yes", None, None), ("ListedTwice", "skipped", f"{LISTED}: {listed}")],
     )
     reported(
-        judge, ["yes", LISTED], "--strict", status=1,
+        cases, ["yes", LISTED], "--strict", status=1,
         tap=[(True, "yes", None), (False, f"{LISTED}: {listed}", None)],
         junit=[("yes", None, None), ("ListedTwice", "failure", f"{LISTED}: {listed}")],
     )
     for line in ("false", "rsdp none", "no rsdp", "refused Unaligned"):
         for form in FORMATS:
-            run = judge.run("report", "--format", form, data=f"{line}\n".encode())
+            run = cases.run("report", "--format", form, data=f"{line}\n".encode())
             told = read(form, run.stdout.decode())
-            judge.count(f"{form} of {line}", run.returncode != 1 and f"status {run.returncode}", not (told["findings"] if form == "json" else told) and f"{told}")
-    run = judge.run("report", "--format", "json", data=f"{TOP_NUMBERS}\n".encode())
+            cases.count(f"{form} of {line}", run.returncode != 1 and f"status {run.returncode}", not (told["findings"] if form == "json" else told) and f"{told}")
+    run = cases.run("report", "--format", "json", data=f"{TOP_NUMBERS}\n".encode())
     told = json.loads(run.stdout)["findings"][0]
-    judge.count("numbers of 64 bits", (told["other"], told["point"]) != ("0xffffffff", "0xffffffffffffffff") and f"{told}")
+    cases.count("numbers of 64 bits", (told["other"], told["point"]) != ("0xffffffff", "0xffffffffffffffff") and f"{told}")
 
 
-def each_name(judge):
+def each_name(cases):
     """The line of each fault's and each rule's example: its code and its first sentence are those of the document."""
     with open(os.path.join(TOP, "docs", "FAULTS.md"), encoding="utf-8") as file:
         page = file.read()
@@ -161,7 +161,7 @@ def each_name(judge):
         line = EXAMPLE.search(part)[1]
         lines = line if line.startswith("no") else f"yes\n{line}"
         for form in FORMATS:
-            run = judge.run("report", "--format", form, "--strict", data=lines.encode() + b"\n")
+            run = cases.run("report", "--format", form, "--strict", data=lines.encode() + b"\n")
             told = read(form, run.stdout.decode("ascii"))
             wrong += [f"{form} of {line}: {told} {run.stderr.decode()}"] if run.returncode != 1 or isinstance(told, str) else []
             if form != "json":
@@ -170,24 +170,24 @@ def each_name(judge):
             words = " ".join(re.search(r"^- (?:Wrong|Found): (.*?)(?=^- )", part, re.M | re.S)[1].replace("`", "").split())
             if (finding["code"], finding["name"]) != (int(number), name) or words[1:].find(" ".join(finding["text"].split())[1:]) != 0:
                 wrong.append(f"{line}: {finding}")
-    judge.count("the examples of FAULTS.md", "\n".join(wrong), len(parts) < 87 and f"{len(parts)} parts")
+    cases.count("the examples of FAULTS.md", "\n".join(wrong), len(parts) < 87 and f"{len(parts)} parts")
 
 
-def no_verdicts(judge):
+def no_verdicts(cases):
     """A verdict that is missing never passes."""
     for words, status in (((), 3), (("--status", "3"), 3), (("--status", "4"), 4), (("--status", "127"), 127), (("--status", "0"), 3), (("--status", "1"), 3)):
         for form in FORMATS:
-            run = judge.run("report", "--format", form, *words)
+            run = cases.run("report", "--format", form, *words)
             told = read(form, run.stdout.decode("ascii"))
             is_told = b"acpiset gave no verdict" in run.stdout and b"acpiset gave no verdict" in run.stderr
             is_passed = told["verdict"] is not None if form == "json" else told != [("verdict", "error", told[0][2])] if form == "junit" else told != []
-            judge.count(f"{form} of nothing {words}", run.returncode != status and f"status {run.returncode}", not is_told and f"{run}", is_passed and f"{told}")
-    judge.count("a cut line with its status", judge.run("report", "--format", "tap", "--status", "4", data=b"yes").returncode != 4 and "its status")
-    judge.count("yes with status 1", judge.run("report", "--format", "tap", "--status", "1", data=b"yes\n").returncode != 1 and "its status")
-    judge.count("no with status 0", judge.run("report", "--format", "tap", "--status", "0", data=b"no rsdp\n").returncode != 1 and "its status")
+            cases.count(f"{form} of nothing {words}", run.returncode != status and f"status {run.returncode}", not is_told and f"{run}", is_passed and f"{told}")
+    cases.count("a cut line with its status", cases.run("report", "--format", "tap", "--status", "4", data=b"yes").returncode != 4 and "its status")
+    cases.count("yes with status 1", cases.run("report", "--format", "tap", "--status", "1", data=b"yes\n").returncode != 1 and "its status")
+    cases.count("no with status 0", cases.run("report", "--format", "tap", "--status", "0", data=b"no rsdp\n").returncode != 1 and "its status")
 
 
-def refused(judge):
+def refused(cases):
     for lines in (
         "ye", "yes\nyes", f"yes\n{OVERLAP}", f"{OVERLAP}\nyes", LISTED, f"no rsdp\n{LISTED}", f"{LISTED}\n{OVERLAP}", f"{OVERLAP}\n{LISTED}\n{OVERLAP}",
         "no 10 Overlap 0x90 0xb8", "no 10 Overlap 0x90 0xb8 0x1 0x2", "no 10 Overlap 90 b8 0", "no 010 Overlap 0x0 0x0 0x0", "no 10 Over-lap 0x0 0x0 0x0",
@@ -196,50 +196,50 @@ def refused(judge):
         "rsdp 0xf59e0 revision 0\nrow 0 10", "rsdp 0xf59e0 revision 0\nblock GPE0 gas 1", "rsdp 0xf59e0 revision 0\nmadt 0x1 lapic 0x0 flags",
     ):
         told = "no line"
-        judge.refuses(told, "report", "--format", "json", data=lines.encode() + b"\n", status=3)
+        cases.refuses(told, "report", "--format", "json", data=lines.encode() + b"\n", status=3)
     show = b"rsdp 0xf59e0 revision 0\nroot 0x1000 RSDT length 36 slots 0\n"
     for form in FORMATS[1:]:
-        judge.refuses("--format json alone takes them", "report", "--format", form, data=show, status=2)
+        cases.refuses("--format json alone takes them", "report", "--format", form, data=show, status=2)
     for words in ([], ["--format"], ["--format", "xml"], ["--help"], ["--format", "tap", "x"], ["--format", "tap", "--image", ""]):
-        judge.refuses("usage: report --format json|tap|junit|sarif", "report", *words, data=b"yes\n", status=2)
+        cases.refuses("usage: report --format json|tap|junit|sarif", "report", *words, data=b"yes\n", status=2)
     for word in ("256", "-1", "", "1e1", "0x1", "\x1b[2J"):
-        judge.refuses("no status from 0 to 255", "report", "--format", "tap", "--status", word, data=b"yes\n", status=2)
-    judge.refuses("more than 67108864 bytes of lines", "report", "--format", "tap", data=b"y" * (1 << 26 | 1), status=3)
+        cases.refuses("no status from 0 to 255", "report", "--format", "tap", "--status", word, data=b"yes\n", status=2)
+    cases.refuses("more than 67108864 bytes of lines", "report", "--format", "tap", data=b"y" * (1 << 26 | 1), status=3)
 
 
-def names_of_images(judge):
+def names_of_images(cases):
     """A file's name as a terminal, XML, JSON and a URI take it."""
     name = b"a \x1b[31m<&\xc3\xa4\xff#%.txt"
     for form in FORMATS:
-        run = judge.run("report", "--format", form, "--image", name, data=f"{OVERLAP}\n".encode())
+        run = cases.run("report", "--format", form, "--image", name, data=f"{OVERLAP}\n".encode())
         read(form, run.stdout.decode("ascii"))
-        judge.count(f"{form} of an image with an odd name", re.search(rb"[^ -~\n]", run.stdout) and "bytes that are not printed", run.returncode != 1 and "its status")
+        cases.count(f"{form} of an image with an odd name", re.search(rb"[^ -~\n]", run.stdout) and "bytes that are not printed", run.returncode != 1 and "its status")
         if form == "sarif":
             uri = sarif_of(run.stdout.decode())[0][3]
-            judge.count("its URI", uri != ["a%20%1B%5B31m%3C%26%C3%A4%FF%23%25.txt"] and f"{uri}")
-    uri = sarif_of(judge.run("report", "--format", "sarif", "--image", "/tmp/a b", data=f"{OVERLAP}\n".encode()).stdout.decode())[0][3]
-    judge.count("the URI of a whole path", uri != ["file:///tmp/a%20b"] and f"{uri}")
+            cases.count("its URI", uri != ["a%20%1B%5B31m%3C%26%C3%A4%FF%23%25.txt"] and f"{uri}")
+    uri = sarif_of(cases.run("report", "--format", "sarif", "--image", "/tmp/a b", data=f"{OVERLAP}\n".encode()).stdout.decode())[0][3]
+    cases.count("the URI of a whole path", uri != ["file:///tmp/a%20b"] and f"{uri}")
 
 
-def prove(judge):
+def prove(cases):
     """perl's reader of TAP."""
     if not shutil.which("prove"):
         print("left out: TAP read by prove, which is not on this machine")
         return
     for lines, words, status in ((f"yes\n{LISTED}\n", [], 0), (f"yes\n{LISTED}\n", ["--strict"], 1), (f"{OVERLAP}\n", [], 1), ("", [], 1), ("yes\n", [], 0)):
-        run = judge.run("report", "--format", "tap", *words, data=lines.encode())
-        judge.write("report.tap", run.stdout)
-        told = subprocess.run(["prove", "report.tap"], capture_output=True, cwd=judge.folder, timeout=60)
-        judge.count(f"prove of {lines!r} {words}", (told.returncode != 0) != status and f"{told}")
+        run = cases.run("report", "--format", "tap", *words, data=lines.encode())
+        cases.write("report.tap", run.stdout)
+        told = subprocess.run(["prove", "report.tap"], capture_output=True, cwd=cases.folder, timeout=60)
+        cases.count(f"prove of {lines!r} {words}", (told.returncode != 0) != status and f"{told}")
 
 
-def beside_no_document(judge):
+def beside_no_document(cases):
     """The tool alone, without FAULTS.md."""
-    shutil.copy(os.path.join(TOP, "tools", "report"), judge.path("alone"))
+    shutil.copy(os.path.join(TOP, "tools", "report"), cases.path("alone"))
     for form in FORMATS:
-        run = subprocess.run([sys.executable, judge.path("alone"), "--format", form], input=f"{OVERLAP}\n{LISTED}\n".encode(), capture_output=True, timeout=60)
+        run = subprocess.run([sys.executable, cases.path("alone"), "--format", form], input=f"{OVERLAP}\n{LISTED}\n".encode(), capture_output=True, timeout=60)
         told = read(form, run.stdout.decode())
-        judge.count(f"{form} without FAULTS.md", run.returncode != 1 and f"{run}", isinstance(told, str) and told, len(told["findings"] if form == "json" else told) != 2 and f"{told}")
+        cases.count(f"{form} without FAULTS.md", run.returncode != 1 and f"{run}", isinstance(told, str) and told, len(told["findings"] if form == "json" else told) != 2 and f"{told}")
 
 
 # ---- show
@@ -283,7 +283,7 @@ def words_of_show(told):
     return lines
 
 
-def shown_sets(judge):
+def shown_sets(cases):
     """Of the lines of show nothing is lost: they can be written anew from the report."""
     for folder in (os.path.join(TOP, "tests", "images"), os.path.join(TOP, "tests", "show", "images")):
         for name in sorted(os.listdir(folder)):
@@ -292,12 +292,12 @@ def shown_sets(judge):
             with open(os.path.join(folder, name), "rb") as file:
                 text = file.read()
             rsdp = re.search(r"^\| `?" + name.partition(".")[0] + r"`? .*\| ([0-9a-f]+) \|$", images_page(), re.M)
-            _, lines = judge.answer(["show", *(["--rsdp", rsdp[1]] if rsdp else [])], text)
+            _, lines = cases.answer(["show", *(["--rsdp", rsdp[1]] if rsdp else [])], text)
             if not lines.startswith("rsdp 0x"):
                 continue
-            run = judge.run("report", "--format", "json", data=lines.encode() + b"\n")
+            run = cases.run("report", "--format", "json", data=lines.encode() + b"\n")
             told = words_of_show(json.loads(run.stdout))
-            judge.count(f"show of {name}", run.returncode and f"{run}", told != lines.splitlines() and f"{told}, not {lines}")
+            cases.count(f"show of {name}", run.returncode and f"{run}", told != lines.splitlines() and f"{told}, not {lines}")
 
 
 def images_page():
@@ -305,7 +305,7 @@ def images_page():
         return file.read()
 
 
-def shown_by_hand(judge):
+def shown_by_hand(cases):
     """Lines of each kind, and what JSON they are."""
     lines = [
         "rsdp 0xe0000 revision 2", "root 0x1000 XSDT length 52 slots 2", "slot 0 empty", "slot 1 0xffffffffffffffc0 A  . length 4294967295 revision 255",
@@ -346,9 +346,9 @@ def shown_by_hand(judge):
             ],
         },
     }
-    reported(judge, lines, status=0, json=wanted)
+    reported(cases, lines, status=0, json=wanted)
 
 
-def cases(judge):
+def all_cases(cases):
     for part in (verdicts, each_name, no_verdicts, refused, names_of_images, prove, beside_no_document, shown_sets, shown_by_hand):
-        part(judge)
+        part(cases)

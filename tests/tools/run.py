@@ -26,7 +26,7 @@ def main():
         cases = ToolCases(os.path.abspath(program), folder)
         files.write_into(folder)
         for part in (raw_tables, dumped_texts, memory_dumps, reports):
-            part.cases(cases)
+            part.all_cases(cases)
     finish("tools", cases)
 
 

@@ -45,10 +45,10 @@ impl fmt::Display for Refusal {
 
 /// Rows as they come, and at the end an image.
 trait Rows: Default {
-    /// Puts bytes in at an address. On an `Err` an address is held already.
+    /// Puts bytes in at an address. On an `Err` an address is present already.
     fn add(&mut self, base: u64, bytes: &[u8]) -> Result<(), u64>;
 
-    /// The runs of bytes between which an address is not held, in rising order. On an `Err` an address is held twice.
+    /// The runs of bytes between which an address is not present, in rising order. On an `Err` an address is there twice.
     fn finish(self) -> Result<Image, u64>;
 }
 
@@ -60,7 +60,7 @@ struct Image {
 }
 
 impl Image {
-    /// Appends bytes behind all others. On an `Err` the address is held already.
+    /// Appends bytes after all others. On an `Err` the address is present already.
     fn append(&mut self, base: u64, bytes: &[u8]) -> Result<(), u64> {
         let end = self.runs.last().map(|(base, start)| *base as u128 + (self.bytes.len() - start) as u128);
         match end {
@@ -73,7 +73,7 @@ impl Image {
     }
 }
 
-/// Rows in the order in which they come, which are sorted at the end: what is held twice is found only then.
+/// Rows in the order in which they come, which are sorted at the end: what is there twice is found only then.
 #[derive(Default)]
 struct SortedAtTheEnd {
     bytes: Vec<u8>,

@@ -1,5 +1,5 @@
 //! Models of reading one run: what an engineer would write in plain and portable Rust to read a text of an address,
-//! and behind it rows of 16 pairs of digits, as fast as possible. They read it in pieces, as `acpiset` does, append the
+//! and after it rows of 16 pairs of digits, as fast as possible. They read it in pieces, as `acpiset` does, append the
 //! bytes to one vector, and refuse any other text.
 //!
 //! What they leave out: all other lines, rows at other addresses, a running sum for each 128 bytes, and judging tables.
@@ -10,7 +10,7 @@ use std::io::Read;
 /// How many bytes of the text are read at once.
 const PIECE: usize = 64 << 10;
 
-/// How many bytes a row has in the text: 16 pairs, a blank behind each but the last one, and a line feed at its end.
+/// How many bytes a row has in the text: 16 pairs, a blank after each but the last one, and a line feed at its end.
 const ROW: usize = 48;
 
 /// How the line feed of a row is found.
@@ -110,7 +110,7 @@ impl Rows {
         Ok(())
     }
 
-    /// Reads all whole lines, and returns the rest.
+    /// Reads all complete lines, and returns the rest.
     fn take_lines<'a>(&mut self, text: &'a [u8]) -> Result<&'a [u8], Refusal> {
         let mut rest = text;
         while let Some(at) = line_feed(rest) {
@@ -145,20 +145,20 @@ struct Source<R> {
     input: R,
     buffer: Vec<u8>,
     /// How many bytes of the buffer are text that was not taken yet.
-    held: usize,
+    filled: usize,
     /// How many bytes of the text were read.
     through: usize,
 }
 
 impl<R: Read> Source<R> {
     fn new(input: R) -> Self {
-        Source { input, buffer: vec![0; PIECE], held: 0, through: 0 }
+        Source { input, buffer: vec![0; PIECE], filled: 0, through: 0 }
     }
 
     /// Reads the next piece. False at the end of the text, and if the buffer has no room, since no line is that long.
     fn read(&mut self) -> Result<bool, Refusal> {
-        let count = self.input.read(&mut self.buffer[self.held..]).map_err(|_| Refusal::Device)?;
-        self.held += count;
+        let count = self.input.read(&mut self.buffer[self.filled..]).map_err(|_| Refusal::Device)?;
+        self.filled += count;
         self.through += count;
         if self.through > MOST_TEXT {
             return Err(Refusal::TooLong);
@@ -167,13 +167,13 @@ impl<R: Read> Source<R> {
     }
 
     fn text(&self) -> &[u8] {
-        &self.buffer[..self.held]
+        &self.buffer[..self.filled]
     }
 
     /// Takes all but this many bytes.
     fn keep(&mut self, count: usize) {
-        self.buffer.copy_within(self.held - count..self.held, 0);
-        self.held = count;
+        self.buffer.copy_within(self.filled - count..self.filled, 0);
+        self.filled = count;
     }
 }
 
@@ -183,7 +183,7 @@ fn read_address<R: Read>(source: &mut Source<R>) -> Result<u64, Refusal> {
     let at = line_feed(source.text()).ok_or(Refusal::NoAddress(1))?;
     let address = source.text()[..at].strip_prefix(b"@").ok_or(Refusal::NoAddress(1))?;
     let base = parse_address(address).ok_or(Refusal::BadLine(1))?;
-    source.keep(source.held - at - 1);
+    source.keep(source.filled - at - 1);
     Ok(base)
 }
 
@@ -199,7 +199,7 @@ pub fn read_one_run(input: impl Read, line_feed: LineFeed) -> Result<Image, Refu
             break;
         }
     }
-    if source.held > 0 || rows.bytes.is_empty() {
+    if source.filled > 0 || rows.bytes.is_empty() {
         return Err(Refusal::NotARow(rows.line()));
     }
     if base as u128 + rows.bytes.len() as u128 > 1 << 64 {

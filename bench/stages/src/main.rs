@@ -47,12 +47,12 @@ fn u32_at(bytes: &[u8], at: usize) -> u32 {
     u32::from_le_bytes(bytes[at..at + 4].try_into().unwrap())
 }
 
-/// The table at an address, if it is whole and sums to 0.
+/// The table at an address, if it is complete and sums to 0.
 fn table(pieces: &[Piece], address: u32) -> Option<&[u8]> {
     let piece = pieces.iter().find(|piece| piece.base == address)?;
-    let whole = piece.bytes.get(..u32_at(&piece.bytes, 4) as usize)?;
-    let sum = whole.iter().fold(0u8, |sum, byte| sum.wrapping_add(*byte));
-    (sum == 0).then_some(whole)
+    let bytes = piece.bytes.get(..u32_at(&piece.bytes, 4) as usize)?;
+    let sum = bytes.iter().fold(0u8, |sum, byte| sum.wrapping_add(*byte));
+    (sum == 0).then_some(bytes)
 }
 
 /// A stage and the offset of a fault in its table.
@@ -216,8 +216,8 @@ fn answer(text: &[u8], read_only: bool) -> Option<String> {
     if read_only {
         return Some("yes".into());
     }
-    let madt = tables.iter().find(|whole| whole.starts_with(b"APIC"));
-    let pptt = tables.iter().find(|whole| whole.starts_with(b"PPTT"));
+    let madt = tables.iter().find(|table| table.starts_with(b"APIC"));
+    let pptt = tables.iter().find(|table| table.starts_with(b"PPTT"));
     let fault = madt.and_then(|madt| madt_fault(madt)).or_else(|| pptt.and_then(|pptt| pptt_fault(pptt)));
     Some(fault.map_or("yes".into(), |(stage, at)| format!("no {stage} at {at:#x}")))
 }

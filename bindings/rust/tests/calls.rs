@@ -46,7 +46,7 @@ fn the_library_has_the_version_of_the_crate() {
 // ---- answers
 
 #[test]
-fn a_sound_set_has_no_fault() {
+fn a_valid_set_has_no_fault() {
     let image = example();
     let settings = Settings::new(RSDP);
     assert_eq!(check(&image.pieces(), &settings), Ok(None));

@@ -105,7 +105,7 @@ fn slit(machine: &Machine) -> Vec<u8> {
     table(b"SLIT", 1, &body)
 }
 
-/// What the monitor writes: the tables one behind the other, then the XSDT, and the RSDP where a BIOS puts it.
+/// What the monitor writes: the tables one after the other, then the XSDT, and the RSDP where a BIOS puts it.
 fn acpi_tables(machine: &Machine) -> Vec<Write> {
     let mut writes = Vec::new();
     let mut address = 0xe_1000;

@@ -64,9 +64,9 @@ def change_bytes(dice, image):
     places = [at + place for at, data in image.pieces().items() for place in range(len(data))]
     for _ in range(dice.choice((1, 1, 2))):
         at = dice.choice(places)
-        own = image.held(at, 1).data[0]
+        own = image.present(at, 1).data[0]
         image.replace(at, bytes([dice.choice((0, 1, 2, 4, 8, 255, dice.randrange(256), own ^ 1))]))
-        signatures = {start: image.held(start, 4) for start in places if start <= at}
+        signatures = {start: image.present(start, 4) for start in places if start <= at}
         starts = [start for start, signature in signatures.items() if signature and signature.data in SIGNATURES]
         if starts and dice.random() < 0.8:
             fix_checksum(image, starts[-1])
@@ -76,8 +76,8 @@ def change_bytes(dice, image):
 
 def fix_checksum(image, start):
     """Makes the bytes of a table sum to 0."""
-    header = image.held(start, 36)
-    table = image.held(start, header.number(4, 4)) if header else None
+    header = image.present(start, 36)
+    table = image.present(start, header.number(4, 4)) if header else None
     if table:
         image.replace(start + 9, bytes([(header.data[9] - sum(table.data)) % 256]))
 
@@ -170,9 +170,9 @@ def near(dice, fault):
 
 
 def asked(dice, judgement):
-    """Faults that stand: all of them, if they are not too many; and faults that are near some of these, or that may be anywhere."""
-    stands = judgement.faults
-    asked_about = stands if len(stands) <= MOST_ASKED else dice.sample(stands, MOST_ASKED)
+    """Faults of the set: all of them, if they are not too many; and faults that are near some of these, or that may be anywhere."""
+    faults = judgement.faults
+    asked_about = faults if len(faults) <= MOST_ASKED else dice.sample(faults, MOST_ASKED)
     any_numbers = [dice.choice((0, 0, 36, 44, 48, 88, 116)) for _ in range(3)]
     misses = [near(dice, fault) for fault in dice.sample(asked_about, min(len(asked_about), MOST_MISSED))]
     return [*asked_about, *misses, Fault(dice.choice(NAMES), *any_numbers)]

@@ -62,23 +62,23 @@ def small_faults(draw, judgement, places):
 
 
 def small_questions():
-    """Name, pieces, witness, and whether it stands."""
+    """Name, pieces, witness, and whether the set has this fault."""
     draw = random.Random(34)
     for turn in range(30):
-        whole, places = small_table(draw)
-        pieces = listed(whole)
+        data, places = small_table(draw)
+        pieces = listed(data)
         judgement = Judgement(Image(pieces), RSDP_AT, Policy())
         for fault in small_faults(draw, judgement, places):
-            yield f"small table {turn}", pieces, str(fault), judgement.stands(fault)
+            yield f"small table {turn}", pieces, str(fault), judgement.has(fault)
 
 
 # ---- long chains
 
 
-def ring(order, size=20, first=FIRST, whole=node):
+def ring(order, size=20, first=FIRST, entry=node):
     """Entries of a size of which each leads to the next in this order of their numbers, and the last to the first."""
     leads_to = dict(zip(order, [*order[1:], order[0]]))
-    return b"".join(whole(first + size * leads_to[number]) for number in range(len(order)))
+    return b"".join(entry(first + size * leads_to[number]) for number in range(len(order)))
 
 
 def falling(count):
@@ -89,11 +89,11 @@ def shuffled(count):
     return random.Random(1).sample(range(count), count)
 
 
-def stretches(count, before, behind):
+def stretches(count, before, after):
     """Stretches of short entries with a node among them, and each node's parent is in the stretch before it."""
-    size = 2 * before + 20 + 2 * behind
+    size = 2 * before + 20 + 2 * after
     at = [FIRST + size * number + 2 * before for number in range(count)]
-    return b"".join(FILLER * before + node(at[number - 1]) + FILLER * behind for number in range(count)), at[-1]
+    return b"".join(FILLER * before + node(at[number - 1]) + FILLER * after for number in range(count)), at[-1]
 
 
 def most_steps(body, around):
@@ -108,12 +108,12 @@ def long_chains():
     yield "falling nodes in 500 KB", ring(falling(25_000)), PARENT, (FIRST + 20 * 24_999, 0, 25_000)
     order = shuffled(30_000)
     yield "nodes in no order", ring(order), PARENT, (FIRST + 20 * order[0], 0, 30_000)
-    yield "falling caches", ring(falling(25_000), 24, whole=cache), NEXT_LEVEL, (FIRST + 24 * 24_999, 0, 25_000)
+    yield "falling caches", ring(falling(25_000), 24, entry=cache), NEXT_LEVEL, (FIRST + 24 * 24_999, 0, 25_000)
     short = FILLER * 100_000
     body = short + ring(falling(10), first=FIRST + len(short))
     yield "short entries before a ring of 10", body, PARENT, (FIRST + len(short), most_steps(body, 10), 10)
     body, last = stretches(1000, 246, 0)
-    yield "a node behind each 246 short entries", body, PARENT, (last, most_steps(body, 1000), 1000)
+    yield "a node after each 246 short entries", body, PARENT, (last, most_steps(body, 1000), 1000)
     body, last = stretches(2000, 54, 57)
     yield "a node among each 111 short entries", body, PARENT, (last, most_steps(body, 2000), 2000)
     long = bytes([7, 255]) + bytes(253)

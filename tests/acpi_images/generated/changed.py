@@ -8,7 +8,7 @@ from ..known.linted import EXPECTED
 from ..known.mistakes import MISTAKES, UNCHANGED
 from ..known.rows import ROWS
 from ..program import IMAGES, firmware_text
-from ..table_set import MadtEntries, PpttEntries, SratEntries, TableSet, entries_of, whole_table
+from ..table_set import MadtEntries, PpttEntries, SratEntries, TableSet, complete_table, entries_of
 from ..tables import *
 from ..text import Image, read
 
@@ -171,7 +171,7 @@ class Change:
 
     def put_byte(self, at, *values):
         """Puts one of these values, or any, to an address whose byte is present."""
-        if self.image.held(at, 1):
+        if self.image.present(at, 1):
             self.image.replace(at, bytes([self.dice.choice((*values, self.dice.randrange(256)))]))
 
     def change_byte(self):
@@ -186,10 +186,10 @@ class Change:
         if not places:
             return
         address = self.dice.choice(places)
-        whole = whole_table(self.image, address) or b"\0" * 60
+        whole = complete_table(self.image, address) or b"\0" * 60
         offset = self.dice.choice((self.dice.randrange(len(whole)), self.dice.randrange(min(len(whole), 60)), LENGTH_AT, REVISION_AT))
         self.put_byte(address + offset, 0, 1, 2, 3, 4, 5, 6, 255)
-        changed_one = whole_table(self.image, address)
+        changed_one = complete_table(self.image, address)
         if changed_one and self.dice.random() < 0.8:
             self.image.replace(address, summed(changed_one.data, SUM_AT))
 

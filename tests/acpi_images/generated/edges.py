@@ -50,7 +50,7 @@ def rsdp_out(made, is_wrong):
     if not is_wrong:
         made.rsdp.revision = made.dice.randrange(2)
         made.is_xsdt, made.root.signature = False, b"RSDT"
-    made.rsdp.held = made.dice.choice((19, 19, 0, 8, 15)) if is_wrong else RSDP_SIZE
+    made.rsdp.present = made.dice.choice((19, 19, 0, 8, 15)) if is_wrong else RSDP_SIZE
 
 
 def rsdp_signature(made, is_wrong):
@@ -61,7 +61,7 @@ def rsdp_long_out(made, is_wrong):
     extended(made)
     made.rsdp.tail = bytes(range(made.dice.choice((1, 2, 28))))
     made.rsdp.length = 36 + len(made.rsdp.tail)
-    made.rsdp.held = made.rsdp.length - is_wrong
+    made.rsdp.present = made.rsdp.length - is_wrong
     if is_wrong and made.dice.random() < 0.2:
         made.rsdp.length = LOW - 1
 
@@ -86,9 +86,9 @@ def no_root(made, is_wrong):
 
 
 def root_header_out(made, is_wrong):
-    made.root.held = made.dice.choice((35, 35, 0, 8)) if is_wrong else HEADER_SIZE
+    made.root.present = made.dice.choice((35, 35, 0, 8)) if is_wrong else HEADER_SIZE
     if is_wrong and made.is_xsdt and made.dice.random() < 0.2:
-        made.root.held, made.rsdp.xsdt = None, made.dice.choice((1 << 56, 1, TOP - 1))
+        made.root.present, made.rsdp.xsdt = None, made.dice.choice((1 << 56, 1, TOP - 1))
 
 
 def root_signature(made, is_wrong):
@@ -98,7 +98,7 @@ def root_signature(made, is_wrong):
 
 def root_out(made, is_wrong):
     made.others.append(made.made_other())
-    made.root.held = made.dice.choice((36, 37, 39)) if is_wrong else None
+    made.root.present = made.dice.choice((36, 37, 39)) if is_wrong else None
 
 
 def root_ragged(made, is_wrong):
@@ -119,8 +119,8 @@ def table_header_out(made, is_wrong):
     if is_wrong and made.dice.random() < 0.5:
         made.extra_slots.append(somewhere)
     else:
-        held = made.dice.choice((35, 35, 0, 4, 8)) if is_wrong else HEADER_SIZE
-        on_a_table(made, lambda table: setattr(table, "held", held))
+        present = made.dice.choice((35, 35, 0, 4, 8)) if is_wrong else HEADER_SIZE
+        on_a_table(made, lambda table: setattr(table, "present", present))
 
 
 def table_length(made, is_wrong):
@@ -130,10 +130,10 @@ def table_length(made, is_wrong):
 
 def table_out(made, is_wrong):
     def change(table):
-        table.held = len(table) - is_wrong
+        table.present = len(table) - is_wrong
         if is_wrong and made.dice.random() < 0.5:
             longer = (LOW - 1, 0x80000000, 0x80000000, len(table) + (1 << 24), len(table) + 4096)
-            table.length, table.held = made.dice.choice(longer), None
+            table.length, table.present = made.dice.choice(longer), None
 
     on_a_table(made, change)
 
@@ -201,7 +201,7 @@ def facs_align(made, is_wrong):
 
 
 def facs_header_out(made, is_wrong):
-    made.facs.held = made.dice.choice((7, 7, 0, 4)) if is_wrong else 8
+    made.facs.present = made.dice.choice((7, 7, 0, 4)) if is_wrong else 8
     if is_wrong and made.dice.random() < 0.3:
         made.facs_at = made.dice.choice((LOW - 64, 0x40, TOP - 64))
 
@@ -213,12 +213,12 @@ def facs_signature(made, is_wrong):
 def facs_length(made, is_wrong):
     made.facs.length = made.dice.choice((63, 63, 0, 32)) if is_wrong else FACS_SIZE
     # Too short, and not all present: the first alone is said.
-    made.facs.held = made.dice.choice((8, 62)) if is_wrong and made.dice.random() < 0.4 else None
+    made.facs.present = made.dice.choice((8, 62)) if is_wrong and made.dice.random() < 0.4 else None
 
 
 def facs_out(made, is_wrong):
     made.facs.size = made.facs.length = made.dice.choice((64, 64, 65, 128))
-    made.facs.held = made.facs.size - is_wrong
+    made.facs.present = made.facs.size - is_wrong
     if is_wrong and made.dice.random() < 0.3:
         made.facs.length = made.dice.choice((LOW - 1, 1 << 24))
 
@@ -519,7 +519,7 @@ def leaf_unknown(made, is_wrong):
 
 
 EDGES = (
-    rsdp_out, rsdp_signature, value("rsdp", "error", WRONG_SUMS, 0), value("rsdp", "held", (35, 35, 20, 24, 32), 36, True),
+    rsdp_out, rsdp_signature, value("rsdp", "error", WRONG_SUMS, 0), value("rsdp", "present", (35, 35, 20, 24, 32), 36, True),
     value("rsdp", "length", (35, 35, 20, 0, 33), 36, True), rsdp_long_out, rsdp_extended_sum,
     no_root, root_header_out, root_signature, value("root", "length", (35, 35, 0, 9), HEADER_SIZE), root_out, root_ragged,
     value("root", "error", WRONG_SUMS, 0),

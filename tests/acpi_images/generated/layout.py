@@ -85,13 +85,13 @@ class Layout:
         pieces = []
         for table in self.tables:
             if not self.inner or table is not self.inner[0]:
-                pieces.append((table.at, self.bytes_of(table), table.held))
-        pieces.append((made.facs.at + made.facs.shift, made.facs.bytes(dice), made.facs.held))
-        pieces.append((made.root.at, self.root_bytes(), made.root.held))
-        pieces.append((made.rsdp_at, self.rsdp_bytes(), made.rsdp.held))
+                pieces.append((table.at, self.bytes_of(table), table.present))
+        pieces.append((made.facs.at + made.facs.shift, made.facs.bytes(dice), made.facs.present))
+        pieces.append((made.root.at, self.root_bytes(), made.root.present))
+        pieces.append((made.rsdp_at, self.rsdp_bytes(), made.rsdp.present))
         image = Image()
-        for at, data, held in self.decoys(pieces[-1][1]) + pieces:
-            image.replace(at, data[:held][: max(TOP - at, 0)])
+        for at, data, present in self.decoys(pieces[-1][1]) + pieces:
+            image.replace(at, data[:present][: max(TOP - at, 0)])
         return image, made.rsdp_at
 
     def decoys(self, rsdp):

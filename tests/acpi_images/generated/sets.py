@@ -23,11 +23,11 @@ io_apic, lapic_address, x2apic, x2apic_nmi, x2apic_domain, memory = (
 
 
 class Table:
-    """A table (5.2.6): `length` is its Length where it is not that of its bytes, `held` how many of its bytes are present."""
+    """A table (5.2.6): `length` is its Length where it is not that of its bytes, `present` how many of its bytes are."""
 
     def __init__(self, signature, body, revision=1):
         self.signature, self.body, self.revision = signature, bytes(body), revision
-        self.length, self.held, self.error = None, None, 0
+        self.length, self.present, self.error = None, None, 0
         self.at = None
 
     def __len__(self):
@@ -45,7 +45,7 @@ class Facs:
     """A FACS (5.2.10)."""
 
     def __init__(self):
-        self.signature, self.length, self.size, self.held = b"FACS", FACS_SIZE, FACS_SIZE, None
+        self.signature, self.length, self.size, self.present = b"FACS", FACS_SIZE, FACS_SIZE, None
         self.at, self.shift = None, 0
 
     def bytes(self, dice):
@@ -122,7 +122,7 @@ class MadeSet:
         self.settings = made_settings(dice)
         self.is_xsdt = dice.random() < 0.5
         self.rsdp = SimpleNamespace(signature=b"RSD PTR ", revision=self.made_revision(), length=36, tail=b"", rsdt=None, xsdt=None)
-        self.rsdp.error, self.rsdp.long_error, self.rsdp.held = 0, 0, None
+        self.rsdp.error, self.rsdp.long_error, self.rsdp.present = 0, 0, None
         self.rsdp_at = dice.choice((0xE0000, 0xE0000 + 16 * dice.randrange(1, 0x2000), 0xFFFF0, None))
         self.root = Table(b"XSDT" if self.is_xsdt else b"RSDT", b"", dice.randrange(3))
         self.ragged, self.extra_slots = b"", [listed_table] * (dice.random() < 0.1)

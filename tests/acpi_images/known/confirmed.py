@@ -24,13 +24,13 @@ ALSO = {
     "the piece at 2000 with 92: 01, 93: 01, sums ((9, 116),)": {"4 GpeLength 0x5d 0x0 0x0": BOTH_GPE_LENGTHS},
     "a table without a sum in two slots": {"3 TableSum 0x2 0x3000 0x0": "the next slot lists the same table"},
     "two I/O APICs, the first one with 32 inputs": {"7 GsiClash 0x2c 0x38 0x19": BOTH_SERVE},
-    "the first count of an address stands": {"7 GsiClash 0x2c 0x38 0x19": BOTH_SERVE},
+    "the first count of an address is used": {"7 GsiClash 0x2c 0x38 0x19": BOTH_SERVE},
     "I/O APICs from (100, 0, 110) on": {"7 GsiClash 0x2c 0x44 0x6f": BOTH_SERVE},
     "I/O APICs from (10, 8, 9) on": {"7 GsiClash 0x38 0x44 0xa": BOTH_SERVE},
     "I/O APICs from (5, 5, 5) on": {"7 GsiClash 0x2c 0x38 0x6": BOTH_SERVE},
     "I/O APICs from (20, 20, 0) on": {"7 GsiClash 0x44 0x2c 0x15": BOTH_SERVE},
     "the least address of three overlaps": {"10 Overlap 0x58 0x30 0x1001": BOTH_COVER},
-    "a range inside the first, behind another": {"10 Overlap 0x30 0x80 0x9": BOTH_COVER},
+    "a range inside the first, after another": {"10 Overlap 0x30 0x80 0x9": BOTH_COVER},
     "a hot-plug window over another, apart": {"10 Overlap 0x58 0x80 0x80000001": BOTH_COVER},
     "overlaps of both kinds at one address, apart": {"10 Overlap 0x80 0xa8 0x1": BOTH_COVER},
     # the bound is Length / 20, rounded down: 2, 6, 3, 3, 3 and 1,001
@@ -48,7 +48,7 @@ for window in ("a hot-plug window over a range", "a hot-plug window over another
     for setting in ("all counted", "counted"):
         ALSO[f"{window}, {setting}"] = {"10 Overlap 0x30 0x58 0x1": BOTH_COVER}
 
-# The faults whose two offsets may stand in either order.
+# The faults whose two offsets may be in either order.
 UNORDERED = ("GsiClash", "Overlap")
 
 
@@ -101,7 +101,7 @@ asked("no RSDP to start from", b"", "1 RsdpOut 0xe0000 0x0 0x0", "no rsdp", "")
 asked("the RSDP found", SMALLEST, "4 NoFadt 0x0 0x0 0x0", "true", "")
 asked("an RSDP at another address", SMALLEST, "1 RsdpOut 0x1000 0x0 0x0", "false")
 asked("a number that is not used", SMALLEST, "4 NoFadt 0x0 0x0 0x1", "false")
-asked("a fault of a sound set", FULL, "5 FacsAlign 0x7000 0x0 0x0", "false")
+asked("a fault of a valid set", FULL, "5 FacsAlign 0x7000 0x0 0x0", "false")
 asked("the last number that both serve", TWO_IO_APICS, "7 GsiClash 0x38 0x2c 0x1f", "true", "--rsdp e0000 fec00000=32")
 asked("a number that one serves", TWO_IO_APICS, "7 GsiClash 0x38 0x2c 0x20", "false", "--rsdp e0000 fec00000=32")
 asked("a clash under other counts", TWO_IO_APICS, "7 GsiClash 0x2c 0x38 0x18", "false")
@@ -145,17 +145,17 @@ asked("the second of three addresses", THREE, "6 SecondAddressOverride 0x44 0x38
 asked("an address before the other", THREE, "6 SecondAddressOverride 0x38 0x44 0x0", "false")
 for at, due in ((TOP, "false"), ("0x100000000", "false"), ("0x2c", "true")):
     asked(f"an entry at {at}", listed(madt(override(9, 9, bus=1))), f"6 OverrideBus {at} 0x0 0x0", due)
-# inside the entry of the unknown type stands what looks like an override of another bus
+# inside the entry of the unknown type is what looks like an override of another bus
 INSIDE = listed(madt(bytes([11, 12]) + override(9, 9, bus=1)))
 asked("an entry inside another", INSIDE, "6 OverrideBus 0x2e 0x0 0x0", "false")
 
 for name, pieces, words, rows in JUDGED:
-    for kind, *numbers, stands in rows:
-        asked(name, pieces, written(*kind.split(), numbers), "true" if stands else "false", f"--rsdp e0000 {words}")
+    for kind, *numbers, is_fault in rows:
+        asked(name, pieces, written(*kind.split(), numbers), "true" if is_fault else "false", f"--rsdp e0000 {words}")
 
 
-for name, pieces, witness, stands in small_questions():
-    asked(name, pieces, witness, "true" if stands else "false")
+for name, pieces, witness, is_fault in small_questions():
+    asked(name, pieces, witness, "true" if is_fault else "false")
 
 
 def all_questions():

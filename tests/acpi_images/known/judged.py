@@ -1,7 +1,7 @@
 """Images and faults of them, true and false, which `confirm.py` asks about. They are worked out by hand.
 
 Tables have a checksum of 0, since only the faults of sums ask for it. Nothing but the tables that a row is about is
-valid, and a fault stands whether or not others do."""
+valid, and a fault counts whether or not there are others."""
 
 from ..tables import *
 
@@ -11,7 +11,7 @@ POINTER = rsdp()
 
 
 def judged(name, pieces, *rows, words=""):
-    """Rows of a fault's stage and name, its three numbers, and whether it stands."""
+    """Rows of a fault's stage and name, its three numbers, and whether the set has it."""
     JUDGED.append((name, pieces, words, rows))
 
 
@@ -158,7 +158,7 @@ for body, *rows in (
 
 # ---- the PPTT
 # A node that is its own Parent, a cache that is its own Next Level, a node that names two offsets at which no such thing
-# stands, and a node of another length. At most 120 / 20 steps of parents, and 120 / 24 of caches.
+# begins, and a node of another length. At most 120 / 20 steps of parents, and 120 / 24 of caches.
 PPTT = [
     node(36),  # 36
     cache(56),  # 56
@@ -191,10 +191,10 @@ def processor(flags=1, uid=5, kind=1, first=0):
     return raw(b"APIC", bytes(8) + lapic(uid, 5, flags) + served + override(9, 24))
 
 
-# The flags of the Local APIC, the domain of the second entry, and whether the fault stands for enabled and for usable
+# The flags of the Local APIC, the domain of the second entry, and whether there is a fault for enabled and for usable
 # processors.
-for flags, domain, *stands in ((0b00, 1, False, False), (0b01, 1, True, True), (0b10, 1, False, True), (0b01, 0, False, False)):
-    for setting, is_fault in zip(("enabled", "usable"), stands):
+for flags, domain, *faults in ((0b00, 1, False, False), (0b01, 1, True, True), (0b10, 1, False, True), (0b01, 0, False, False)):
+    for setting, is_fault in zip(("enabled", "usable"), faults):
         judged(
             f"a processor with flags {flags:02b} in the domains 0 and {domain}, {setting}",
             listing(processor(flags), raw(b"SRAT", bytes(12) + apic_domain(5, 0) + x2apic_domain(5, domain))),
@@ -206,7 +206,7 @@ for kind, first, is_fault in ((1, 0, True), (1, 1, False), (7, 1, False)):
         ("17 GsiNowhere", 64, 0, 24, is_fault), ("17 GsiNowhere", 64, 1, 24, False),
     )
 LEAF = node(0, IS_ID_VALID | IS_LEAF, 7)
-# The last byte of a whole MADT is not there.
+# The last byte of a complete MADT is not there.
 CUT = raw(b"APIC", processor()[36:-1])
 for name, table_of_processors, revision, is_fault in (
     ("a leaf that is no processor", processor(), 2, True), ("a leaf, and a MADT that is cut", CUT, 2, False),

@@ -1,14 +1,14 @@
 """Sets of tables, and the lines that `lint` has to write of each. Each line is worked out by hand from the rules in
 docs/TABLES.md and docs/FAULTS.md, and none is taken from a program. Numbers of 0 at the end of a line are left out.
 
-A set is kept as small as its rule lets it, so other rules are often broken beside it: they stand there too."""
+A set is kept as small as its rule lets it, so other rules are often broken beside it: their lines are there too."""
 
 from __future__ import annotations
 
 from dataclasses import dataclass
 
 from ..tables import *
-from .rows import whole
+from .rows import with_numbers
 
 
 @dataclass
@@ -24,7 +24,7 @@ EXPECTED = []
 
 def expected(name, pieces, *lines, words="--rsdp e0000"):
     """The program's lines, with these words after `lint`."""
-    EXPECTED.append(Expected(name, pieces, list(map(whole, lines)), words))
+    EXPECTED.append(Expected(name, pieces, list(map(with_numbers, lines)), words))
 
 
 def advised(name, pieces, *advice, words="--rsdp e0000"):
@@ -49,7 +49,7 @@ SMALLEST = {RSDP_AT: rsdp(), RSDT_AT: rsdt()}
 expected("a set that lists nothing", SMALLEST, "no 4 NoFadt", words="")
 TWICE = {RSDP_AT: rsdp(), RSDT_AT: rsdt(0x2000, 0x3000, 0x3000), 0x2000: fadt(), 0x3000: hpet()}
 CUT_ROOT = {**TWICE, RSDT_AT: rsdt(0x2000, 0x3000, 0x3000)[:47]}
-expected("a root of which the last byte is not held", CUT_ROOT, "no 2 RootOut 0x1000")
+expected("a root of which the last byte is not present", CUT_ROOT, "no 2 RootOut 0x1000")
 OTHER_ROOT = {**TWICE, RSDT_AT: changed(rsdt(0x2000, 0x3000, 0x3000), {0: ord("X")})}
 expected("a root of another signature", OTHER_ROOT, "no 2 RootSignature 0x1000", "no 2 RootSum 0x1000")
 RAGGED = {**TWICE, RSDT_AT: changed(rsdt(0x2000, 0x3000, 0x3000), {4: 47}, (9, 47))}
@@ -68,11 +68,11 @@ for name, slots, *advice in (
     ("a table in three slots", (0x2000, 0x3000, 0x3000, 0x3000), "ListedTwice 0x2 0x1 0x3000"),
     ("two tables in two slots each", (0x2000, 0x3000, 0x3000, 0x2000), "ListedTwice 0x2 0x1 0x3000"),
     ("slots of 0", (0, 0x2000, 0, 0x3000, 0)),
-    ("a table in two slots behind slots of 0", (0, 0x2000, 0x3000, 0, 0x2000), "ListedTwice 0x4 0x1 0x2000"),
+    ("a table in two slots after slots of 0", (0, 0x2000, 0x3000, 0, 0x2000), "ListedTwice 0x4 0x1 0x2000"),
 ):
     advised(name, listed(hpet(), slots=slots), *advice)
 expected(
-    "an address in two slots at which nothing is held", listed(slots=(0x2000, 0x9000, 0x9000)), "no 3 TableHeaderOut 0x1 0x9000",
+    "an address in two slots at which nothing is present", listed(slots=(0x2000, 0x9000, 0x9000)), "no 3 TableHeaderOut 0x1 0x9000",
     "advice ListedTwice 0x2 0x1 0x9000",
 )
 WIDE = {RSDP_AT: extended_rsdp(), XSDT_AT: xsdt(0x2000, 0x100002000), 0x2000: fadt(), 0x100002000: hpet()}
@@ -94,17 +94,17 @@ for signature, body, *lines in (
     expected(f"two tables {signature.decode()}", listed(*tables), *lines)
 for name, slots, *advice in (
     ("one SRAT in two slots", (0x2000, 0x3000, 0x3000), "ListedTwice 0x2 0x1 0x3000"),
-    ("two SRATs behind slots of 0", (0x2000, 0, 0x3000, 0, 0x4000), "SecondTable 0x4 0x2 0x4000"),
+    ("two SRATs after slots of 0", (0x2000, 0, 0x3000, 0, 0x4000), "SecondTable 0x4 0x2 0x4000"),
     ("an SRAT twice, and another", (0x2000, 0x3000, 0x3000, 0x4000), "ListedTwice 0x2 0x1 0x3000", "SecondTable 0x3 0x1 0x4000"),
     ("two SRATs twice", (0x2000, 0x3000, 0x4000, 0x3000, 0x4000), "ListedTwice 0x3 0x1 0x3000", "SecondTable 0x2 0x1 0x4000"),
-    ("an SRAT behind another at a higher address", (0x2000, 0x4000, 0x3000), "SecondTable 0x2 0x1 0x3000"),
+    ("an SRAT after another at a higher address", (0x2000, 0x4000, 0x3000), "SecondTable 0x2 0x1 0x3000"),
 ):
     advised(name, listed(srat(), srat(), slots=slots), *advice)
 for size, *lines in (
     (35, "no 3 TableHeaderOut 0x2 0x4000"), (36, "no 3 TableOut 0x2 0x4000", "advice SecondTable 0x2 0x1 0x4000"),
     (48, "yes", "advice SecondTable 0x2 0x1 0x4000"),
 ):
-    expected(f"a second SRAT of which {size} bytes are held", listed(srat(), srat()[:size]), *lines)
+    expected(f"a second SRAT of which {size} bytes are present", listed(srat(), srat()[:size]), *lines)
 expected("a first SRAT whose header is cut", listed(srat()[:35], srat(memory(0, 1))), "no 3 TableHeaderOut 0x1 0x3000")
 expected(
     "a first SRAT that is cut: no other is read in its place", listed(srat(memory(0, 1))[:87], srat(memory(0, 2), memory(1, 2))),
@@ -152,7 +152,7 @@ def two_addresses(name, length, fields, *advice, flags=0):
 
 
 two_addresses("two addresses of the FACS", 244, {"_132": number(0x8000, 8)}, "FacsDiffers 0x24 0x7000 0x8000")
-two_addresses("two addresses of the FACS, the second one whole", 140, {"_132": number(0x8000, 8)}, "FacsDiffers 0x24 0x7000 0x8000")
+two_addresses("two addresses of the FACS, the second one complete", 140, {"_132": number(0x8000, 8)}, "FacsDiffers 0x24 0x7000 0x8000")
 two_addresses("an X_FIRMWARE_CTRL that is cut", 139, {"_132": number(0x8000, 7)})
 two_addresses("one address of the FACS twice", 244, {"_132": number(0x7000, 8)})
 two_addresses("an X_FIRMWARE_CTRL of 0", 244, {})
@@ -165,7 +165,7 @@ two_addresses(
 
 TWO_DSDTS = {"_40": number(0xA020000, 4), "_140": number(0xA010000, 8)}
 two_addresses("two addresses of the DSDT", 244, TWO_DSDTS, "DsdtDiffers 0x28 0xa020000 0xa010000")
-two_addresses("two addresses of the DSDT, the second one whole", 148, TWO_DSDTS, "DsdtDiffers 0x28 0xa020000 0xa010000")
+two_addresses("two addresses of the DSDT, the second one complete", 148, TWO_DSDTS, "DsdtDiffers 0x28 0xa020000 0xa010000")
 two_addresses("an X_DSDT that is cut", 147, {"_40": number(0xA020000, 4), "_140": number(0xA010000, 7)})
 two_addresses("one address of the DSDT twice", 244, {"_40": number(0xA020000, 4), "_140": number(0xA020000, 8)})
 two_addresses("a DSDT of 0", 244, {"_140": number(0xA010000, 8)})
@@ -184,7 +184,7 @@ for name, narrow, wide in (
     ports = {f"_{narrow}": number(0x600, 4), f"_{wide}": generic_address(0x604)}
     cut = {f"_{narrow}": number(0x600, 4), f"_{wide}": generic_address(0x604)[:11]}
     two_addresses(f"two addresses of {name}", 244, ports, f"BlockDiffers {narrow:#x} 0x600 0x604")
-    two_addresses(f"two addresses of {name}, the second one whole", wide + 12, ports, f"BlockDiffers {narrow:#x} 0x600 0x604")
+    two_addresses(f"two addresses of {name}, the second one complete", wide + 12, ports, f"BlockDiffers {narrow:#x} 0x600 0x604")
     two_addresses(f"a structure of {name} that is cut", wide + 11, cut)
     two_addresses(f"one address of {name} twice", 244, {**ports, f"_{wide}": generic_address(0x600)})
     two_addresses(f"two addresses of {name}, of reduced hardware", 244, ports, flags=REDUCED)
@@ -250,7 +250,7 @@ sci(
 )
 sci("an SCI of 200, and an I/O APIC that is too long", 200, [changed(SERVED + bytes(2), {1: 14})], "no 6 MadtEntryLength 0x34")
 sci(
-    "an SCI of 200, and an override behind the cut", 200, [SERVED, b"\2\0", override(200, 5)], "no 6 MadtEntryCut 0x40",
+    "an SCI of 200, and an override after the cut", 200, [SERVED, b"\2\0", override(200, 5)], "no 6 MadtEntryCut 0x40",
     "advice SciNowhere 0x2e 0x0 0xc8",
 )
 
@@ -278,7 +278,7 @@ expected(
     "no 6 MadtEntryLength 0x34",
 )
 expected(
-    "one UID of two local APICs, one of them behind the cut", listed(madt(lapic(1, 0), b"\7\0", lapic(1, 1))), "no 6 MadtEntryCut 0x34",
+    "one UID of two local APICs, one of them after the cut", listed(madt(lapic(1, 0), b"\7\0", lapic(1, 1))), "no 6 MadtEntryCut 0x34",
 )
 processors("a thousand processors of one UID", [x2apic(5, place) for place in range(1000)], "SameUid 0x3c 0x2c 0x5")
 
@@ -349,7 +349,7 @@ expected(
     "no 6 MadtEntryLength 0x34",
 )
 expected(
-    "a local APIC NMI of no processor, and what would be an entry of type 7 behind the cut",
+    "a local APIC NMI of no processor, and what would be an entry of type 7 after the cut",
     listed(madt(ON, lapic_nmi(48, 1), b"\1\0", other(7))), "no 6 MadtEntryCut 0x3a", "advice NmiNowhere 0x34 0x0 0x30",
 )
 
@@ -370,7 +370,7 @@ processors("a GICC with all flags but one", [gicc(0, 0xFFFFFFFE)], "NoProcessor"
 processors("a GICC of 40 bytes alone", [gicc(0, length=40)])
 processors("a GICC of 39 bytes alone", [gicc(0, length=39)], "MadtUnread 0x2c 0xb")
 processors("an entry of type 7 alone", [other(7)], "MadtUnread 0x2c 0x7")
-processors("an entry of type 24 behind a processor that is off", [lapic(0, 0, 0), other(24)], "MadtUnread 0x34 0x18")
+processors("an entry of type 24 after a processor that is off", [lapic(0, 0, 0), other(24)], "MadtUnread 0x34 0x18")
 expected("a MADT of 43 bytes", listed(table(b"APIC", bytes(7))), "no 6 MadtShort")
 expected(
     "a MADT that does not sum to 0 is read", listed(changed(madt(lapic(0, 0, 0)), {9: 0})), "no 3 TableSum 0x1 0x3000",
@@ -394,13 +394,13 @@ for name, entries, *advice in (
         "TwoUidDomains 0x30 0x66 0x7",
     ),
     (
-        "two UIDs in two domains, one behind the other",
+        "two UIDs in two domains, one after the other",
         [uid_domain(1, 0), uid_domain(7, 0), uid_domain(5, 0), uid_domain(5, 1), uid_domain(7, 1)], "TwoUidDomains 0x42 0x78 0x7",
     ),
     ("a UID in two domains, the first one not enabled", [uid_domain(5, 0, 0), uid_domain(5, 1)]),
     ("a UID in two domains, the second one not enabled", [uid_domain(5, 0), uid_domain(5, 1, 2)]),
     (
-        "a UID in two domains behind one that is not enabled", [uid_domain(5, 0, 0), uid_domain(5, 1), uid_domain(5, 0)],
+        "a UID in two domains after one that is not enabled", [uid_domain(5, 0, 0), uid_domain(5, 1), uid_domain(5, 0)],
         "TwoUidDomains 0x42 0x54 0x5",
     ),
     ("two domains, the high bits apart", [uid_domain(5, 0), uid_domain(5, 0x1000000)], "TwoUidDomains 0x30 0x42 0x5"),
@@ -469,7 +469,7 @@ expected(
     "no 9 SratEntryLength 0x30",
 )
 expected(
-    "a second affinity behind the cut", listed(madt(lapic(0, 6)), srat(apic_domain(6, 0), b"\5\1", apic_domain(7, 0))),
+    "a second affinity after the cut", listed(madt(lapic(0, 6)), srat(apic_domain(6, 0), b"\5\1", apic_domain(7, 0))),
     "no 9 SratEntryCut 0x40",
 )
 
@@ -553,7 +553,7 @@ expected(
     listed(pptt(named(3), named(3), node(36, length=24) + bytes(4), revision=1)), "no 12 PpttEntryLength 0x4c",
     "advice SameLeaf 0x38 0x24 0x3",
 )
-expected("a second leaf of one ID behind the cut", listed(pptt(leaf(3), b"\1\1", leaf(3))), "no 12 PpttEntryCut 0x38")
+expected("a second leaf of one ID after the cut", listed(pptt(leaf(3), b"\1\1", leaf(3))), "no 12 PpttEntryCut 0x38")
 TWO_PROCESSORS = (lapic(0, 0), lapic(1, 1))
 hierarchy("a leaf of each processor", [leaf(1), leaf(0)], processors=TWO_PROCESSORS)
 hierarchy("a processor that is no leaf", [leaf(0)], "NoLeaf 0x34 0x0 0x1", processors=TWO_PROCESSORS)
@@ -621,7 +621,7 @@ caches("one Cache ID three times", [shaped_cache(CACHE_ID_VALID, cache_id=1), ID
 caches("one Cache ID twice, in Revision 2", [ID_5, ID_5], revision=2)
 caches("one Cache ID twice, in Revision 4", [ID_5, ID_5], "SameCacheId 0x40 0x24 0x5", revision=4)
 caches("one Cache ID twice, one of them not valid", [ID_5, shaped_cache(0x7F, cache_id=5)])
-caches("one Cache ID twice, behind one that is not valid", [shaped_cache(0x7F, cache_id=5), ID_5, ID_5], "SameCacheId 0x5c 0x40 0x5")
+caches("one Cache ID twice, after one that is not valid", [shaped_cache(0x7F, cache_id=5), ID_5, ID_5], "SameCacheId 0x5c 0x40 0x5")
 caches("the Cache ID 0 twice", [shaped_cache(CACHE_ID_VALID)] * 2, "SameCacheId 0x40 0x24")
 caches("caches of 24 bytes with the flag of a Cache ID", [shaped_cache(CACHE_ID_VALID, length=24)] * 2)
 caches("a Cache ID and a cache of 24 bytes", [shaped_cache(CACHE_ID_VALID, length=24), ID_5, ID_5], "SameCacheId 0x58 0x3c 0x5")
@@ -636,7 +636,7 @@ for kind in (6, 7, 8, 13, 14, 15, 16, 17, 24, 128, 255):
     processors(f"an entry of type {kind}", [ON, other(kind, 2)], f"MadtUnread 0x34 {kind:#x} 0x0")
 processors("entries of types 13 to 16", [ON, gicc(1), *map(other, range(13, 17))], "MadtUnread 0x84 0xd")
 processors("an entry of type 11 of 39 bytes before others", [ON, gicc(1, length=39), other(13)], "MadtUnread 0x34 0xb")
-expected("an entry of type 13 behind the cut", listed(madt(ON, b"\1\1", other(13))), "no 6 MadtEntryCut 0x34")
+expected("an entry of type 13 after the cut", listed(madt(ON, b"\1\1", other(13))), "no 6 MadtEntryCut 0x34")
 for kind in (0, 1, 2):
     expected(f"an SRAT entry of type {kind} of 200 bytes", listed(srat(other(kind, 200))), "no 9 SratEntryLength 0x30")
 for length, *advice in ((2, "SratUnread 0x30 0x3"), (17, "SratUnread 0x30 0x3"), (18,), (19, "SratUnread 0x30 0x3")):

@@ -7,7 +7,7 @@ from .rows import Row
 
 COUNT = 10_000
 LAST = COUNT - 1
-# Where the tables after the FADT stand: each has room for 16 MiB.
+# Where the tables after the FADT begin: each has room for 16 MiB.
 PLACES = [0x1000000 * place for place in range(1, 4)]
 
 MANY = []
@@ -21,7 +21,7 @@ def many(name, answer, *tables, words="", count=COUNT):
 
 
 def at(first, size, place):
-    """The offset of the entry in this place, where entries of one size stand after `first` bytes, in hex."""
+    """The offset of the entry in this place, where entries of one size come after `first` bytes, in hex."""
     return f"{first + size * place:#x}"
 
 
@@ -68,7 +68,7 @@ many(
     pptt(*OWNERS[:LAST], owner(LAST, 37), *RESOURCES),
 )
 many(
-    "nodes, the last one with a resource behind the last", f"no 13 DanglingResource {at(36, 24, LAST)} 0x0 {at(RESOURCES_AT, 4, COUNT)}",
+    "nodes, the last one with a resource after the last", f"no 13 DanglingResource {at(36, 24, LAST)} 0x0 {at(RESOURCES_AT, 4, COUNT)}",
     pptt(*OWNERS[:LAST], node(36, resources=[RESOURCES_AT + 4 * COUNT]), *RESOURCES),
 )
 CACHES = [cache(36 if place else 0) for place in range(COUNT)]
@@ -134,7 +134,7 @@ def pairs(resource, level):
 
 many("nodes with a cache each", "yes", pairs(CACHE_AT, 0), count=PAIRS)
 many(
-    "nodes with a cache each, the last one with a resource behind the last", f"no 13 DanglingResource {NODE_AT:#x} 0x0 {END:#x}",
+    "nodes with a cache each, the last one with a resource after the last", f"no 13 DanglingResource {NODE_AT:#x} 0x0 {END:#x}",
     pairs(END, 0), count=PAIRS,
 )
 many(

@@ -7,10 +7,10 @@ from __future__ import annotations
 from dataclasses import dataclass, field
 
 from ..program import IMAGES, firmware_text
-from ..table_set import TableSet, whole_table
+from ..table_set import TableSet, complete_table
 from ..tables import *
 from ..text import read
-from .rows import whole
+from .rows import with_numbers
 
 # What each set deserves as it is, with the words after `lint` and the address of its RSDP.
 UNCHANGED = [
@@ -48,7 +48,7 @@ class Mistake:
         tables = TableSet(image, int(IMAGES[self.image], 16))
         is_root = self.signature == tables.signature
         address = tables.root_at if is_root else tables.slots[tables.first_slots[self.signature]]
-        table = bytearray(whole_table(image, address).data)
+        table = bytearray(complete_table(image, address).data)
         for offset, new in self.changes.items():
             table[offset : offset + len(new)] = new
         image.replace(address, summed(table, 9) if self.closes else table)
@@ -61,15 +61,15 @@ MISTAKES = []
 def of_pc(name, signature, changes, *lines, **more):
     """A mistake in the set of a PC with 8 processors in 4 domains: local APICs from 0x2C on, the I/O APIC at 0x6C, overrides from
     0x78 on and a local APIC NMI at 0xAA; affinities from 0x30 on and memory from 0xB0 on; the distances of 4 localities."""
-    MISTAKES.append(Mistake(name, "sb-q35-numa4-dist", signature, changes, list(map(whole, lines)), **more))
+    MISTAKES.append(Mistake(name, "sb-q35-numa4-dist", signature, changes, list(map(with_numbers, lines)), **more))
 
 
 def of_arm(name, signature, changes, *lines, **more):
     """A mistake in the set of an Arm machine, whose PPTT is listed in two slots and has caches and 8 leaves, and whose MADT has
-    a GICC for each from 0x44 on, and entries that nothing reads. What the set deserves as it is stands after `lines`."""
+    a GICC for each from 0x44 on, and entries that nothing reads. What the set deserves as it is comes after `lines`."""
     before, *advice = lines
     slots, unread = "advice ListedTwice 0x3 0x2 0x47fc198e", "advice MadtUnread 0x2c4 0xe"
-    MISTAKES.append(Mistake(name, "q11-efi-virt-caches", signature, changes, list(map(whole, (before, slots, *advice, unread))), **more))
+    MISTAKES.append(Mistake(name, "q11-efi-virt-caches", signature, changes, list(map(with_numbers, (before, slots, *advice, unread))), **more))
 
 
 # ---- what check sees

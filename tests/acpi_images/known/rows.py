@@ -31,7 +31,7 @@ def words_of(row):
     return without_stage(row.words.split()[1:])
 
 
-def whole(line):
+def with_numbers(line):
     """A line with its three numbers."""
     words = line.split()
     count = 0 if line == "no rsdp" else {"no": 6, "advice": 5}.get(words[0], 0)
@@ -40,7 +40,7 @@ def whole(line):
 
 def row(name, pieces, answer, words="", command="check --rsdp e0000"):
     """The program's line for these pieces, or for this text, with these words after the command's own."""
-    ROWS.append(Row(name, pieces, f"{command} {words}".strip(), whole(answer)))
+    ROWS.append(Row(name, pieces, f"{command} {words}".strip(), with_numbers(answer)))
 
 
 # ---- the RSDP and the root
@@ -51,7 +51,7 @@ row("an empty text", b"", "no 1 RsdpOut 0xe0000")
 row("an RSDP whose bytes do not sum to 0", {**SMALLEST, RSDP_AT: rsdp().replace(b"A", b"B", 1)}, "no 1 RsdpSum 0xe0000")
 row("an RSDT in two pieces that touch", {RSDP_AT: rsdp(), RSDT_AT + 20: rsdt()[20:], RSDT_AT: rsdt()[:20]}, "yes", "--through 3")
 row("an XSDT", {RSDP_AT: extended_rsdp(), XSDT_AT: xsdt()}, "yes", "--through 3")
-row("an RSDT with two bytes behind its slots", {RSDP_AT: rsdp(), RSDT_AT: table(b"RSDT", b"\0\0")}, "no 2 RootRagged 0x1000")
+row("an RSDT with two bytes after its slots", {RSDP_AT: rsdp(), RSDT_AT: table(b"RSDT", b"\0\0")}, "no 2 RootRagged 0x1000")
 row("an extended RSDP of Length 2^32 - 1", {RSDP_AT: extended_rsdp(length=2**32 - 1), XSDT_AT: xsdt()}, "no 1 RsdpLongOut 0xe0000")
 row("no RSDP at the top of the addresses", SMALLEST, "no 1 RsdpOut 0xfffffffffffffff0", command="check --rsdp fffffffffffffff0")
 
@@ -170,9 +170,9 @@ facs_row("no 5 FacsOut 0x7000", {4: 65})
 # ---- the MADT's entries
 row("a MADT of its fixed fields", listed(madt()), "yes")
 row("a MADT of 40 bytes", listed(table(b"APIC", bytes(4))), "no 6 MadtShort")
-row("one byte behind the last entry", listed(madt(lapic(0, 0), b"\7")), "no 6 MadtEntryCut 0x34")
+row("one byte after the last entry", listed(madt(lapic(0, 0), b"\7")), "no 6 MadtEntryCut 0x34")
 row("an entry of length 0", listed(madt(b"\0\0")), "no 6 MadtEntryCut 0x2c")
-row("an entry of length 0 behind another", listed(madt(lapic(0, 0), b"\7\0")), "no 6 MadtEntryCut 0x34")
+row("an entry of length 0 after another", listed(madt(lapic(0, 0), b"\7\0")), "no 6 MadtEntryCut 0x34")
 row("an entry that goes past the table", listed(madt(lapic(0, 0), b"\0\11" + bytes(6))), "no 6 MadtEntryCut 0x34")
 row("an entry of length 1", listed(madt(b"\0\1")), "no 6 MadtEntryCut 0x2c")
 row("a local APIC of 12 bytes", listed(madt(bytes([0, 12]) + bytes(10))), "no 6 MadtEntryLength 0x2c")
@@ -200,7 +200,7 @@ row("a MADT of every kind", listed(EVERY_KIND), "yes")
 TWO_IO_APICS = listed(madt(io_apic(0xFEC00000, 0), io_apic(0xFEC01000, 24)))
 row("two I/O APICs", TWO_IO_APICS, "yes")
 row("two I/O APICs, the first one with 32 inputs", TWO_IO_APICS, "no 7 GsiClash 0x2c 0x38 0x18", "fec00000=32")
-row("the first count of an address stands", TWO_IO_APICS, "no 7 GsiClash 0x2c 0x38 0x18", "fec00000=32 fec00000=24")
+row("the first count of an address is used", TWO_IO_APICS, "no 7 GsiClash 0x2c 0x38 0x18", "fec00000=32 fec00000=24")
 TOUCHING = madt(io_apic(0xFEC10000, 144), io_apic(0xFEC80000, 24), io_apic(0xFEC00000, 0))
 row("interrupt numbers that touch", listed(TOUCHING), "yes", "fec80000=120")
 row("the last interrupt numbers", listed(madt(io_apic(0xFEC00000, 2**32 - 24), io_apic(0xFEC10000, 2**32 - 48))), "yes")
@@ -230,7 +230,7 @@ row("ranges that are apart, one of them empty", listed(srat(*RANGES)), "yes")
 row("an SRAT of 44 bytes", listed(table(b"SRAT", bytes(8))), "no 9 SratShort")
 row("half an SRAT entry", listed(srat(memory(0, 0)[:20])), "no 9 SratEntryCut 0x30")
 row("a range of 24 bytes", listed(srat(bytes([1, 24]) + bytes(22))), "no 9 SratEntryLength 0x30")
-row("a byte behind the last SRAT entry", listed(srat(b"\3\2", b"\0")), "no 9 SratEntryCut 0x32")
+row("a byte after the last SRAT entry", listed(srat(b"\3\2", b"\0")), "no 9 SratEntryCut 0x32")
 row("the first of two wrong lengths", listed(srat(x2apic_domain(0, 0), other(3, 3), other(0, 15), other(1, 2))), "no 9 SratEntryLength 0x4b")
 row("an SRAT entry of a type that no rule names", listed(srat(bytes([3, 20]) + bytes(18))), "yes")
 row("a range up to 2^64", listed(srat(memory(0xFFFFFFFFFFFFF000, 0x1000))), "yes")
@@ -246,7 +246,7 @@ row("two ranges that share an address", OVERLAP, "no 10 Overlap 0x80 0xa8 0x3fff
 THREE = srat(memory(0x1000, 0x2000), memory(0, 0x2000), memory(0x1000, 0x800))
 row("the least address of three overlaps", listed(THREE), "no 10 Overlap 0x58 0x30 0x1000")
 row("ranges that touch, in no order", listed(srat(memory(16, 16), memory(0, 16), memory(32, 8))), "yes")
-row("a range inside the first, behind another", listed(srat(memory(0, 64), memory(100, 1), memory(8, 4))), "no 10 Overlap 0x30 0x80 0x8")
+row("a range inside the first, after another", listed(srat(memory(0, 64), memory(100, 1), memory(8, 4))), "no 10 Overlap 0x30 0x80 0x8")
 row("ranges that are not enabled", listed(srat(memory(0, 16), memory(0, 16, 0), memory(0, 16, 2))), "yes")
 row("empty ranges inside another", listed(srat(memory(0, 16), memory(8, 0), memory(8, 0))), "yes")
 row("the last and the first addresses", listed(srat(memory(2**64 - 0x1000, 0x1000), memory(0, 0x1000))), "yes")
@@ -289,14 +289,14 @@ row("a cell too few", listed(slit(2, [10, 20, 20])), "no 11 SlitSize 0x24")
 row("a distance of 9", listed(slit(2, [10, 9, 20, 10])), "no 11 SlitLow 0x2d")
 row("a locality at 9 from itself", listed(slit(2, [9, 20, 20, 10])), "no 11 SlitDiagonal 0x2c")
 row("a SLIT of 43 bytes", listed(table(b"SLIT", bytes(7))), "no 11 SlitShort")
-row("a byte behind no localities", listed(slit(0, [0])), "no 11 SlitSize 0x24")
+row("a byte after no localities", listed(slit(0, [0])), "no 11 SlitSize 0x24")
 row("a distance of 9 before a locality at 11 from itself", listed(slit(2, [10, 9, 20, 11])), "no 11 SlitLow 0x2d")
 row("a locality at 9 from itself before a distance of 9", listed(slit(2, [9, 9, 20, 10])), "no 11 SlitDiagonal 0x2c")
 row("a locality out of reach", listed(slit(2, [10, 255, 255, 10])), "yes")
 
 # ---- the PPTT
 row("a PPTT with no entries", listed(pptt()), "yes")
-row("a byte behind the last node", listed(pptt(node(), b"\0")), "no 12 PpttEntryCut 0x38")
+row("a byte after the last node", listed(pptt(node(), b"\0")), "no 12 PpttEntryCut 0x38")
 row("a node of 24 bytes with no resources", listed(pptt(node(count=0, length=24) + bytes(4))), "no 12 PpttEntryLength 0x24")
 row("a node of 2^32 - 1 resources", listed(pptt(node(count=2**32 - 1, length=20))), "no 12 PpttEntryLength 0x24")
 row("a cache of 26 bytes", listed(pptt(cache(length=26))), "no 12 PpttEntryLength 0x24")
@@ -359,14 +359,14 @@ row("a leaf, and a MADT entry of a type that no rule names", listed(madt(lapic(5
 row("a leaf whose ID is not valid", listed(madt(lapic(5, 0)), pptt(node(0, IS_LEAF, 7))), "yes")
 row("a node that is no leaf", listed(madt(lapic(5, 0)), pptt(node(0, IS_ID_VALID, 7))), "yes")
 
-# ---- a whole set, and parts of it
-WHOLE = image_of(
+# ---- a complete set, and parts of it
+COMPLETE = image_of(
     full_fadt(_92=b"\4"),
     madt(lapic(0, 0), io_apic(0xFEC00000, 0), override(0, 2), lapic_nmi(255, 1)),
     hpet(),
     others={FACS_AT: facs()},
 )
-row("a whole set", WHOLE, "yes")
+row("a complete set", COMPLETE, "yes")
 # The number that an override names, the second domain of a processor, and the ID of a leaf. All stages up to the fault's take
 # the memory that they need.
 for gsi, domain, uid, answer in (
@@ -382,31 +382,31 @@ for gsi, domain, uid, answer in (
 
 
 def part(address, size):
-    """The whole set, of whose piece at this address only the first bytes are present."""
-    pieces = {**WHOLE, address: WHOLE[address][:size]}
+    """The complete set, of whose piece at this address only the first bytes are present."""
+    pieces = {**COMPLETE, address: COMPLETE[address][:size]}
     return {at: data for at, data in pieces.items() if data}
 
 
 for size in range(20):
-    row(f"an RSDP of which {size} bytes are held", part(RSDP_AT, size), "no 1 RsdpOut 0xe0000")
+    row(f"an RSDP of which {size} bytes are present", part(RSDP_AT, size), "no 1 RsdpOut 0xe0000")
 for size in range(48):
     fault = "RootHeaderOut" if size < 36 else "RootOut"
-    row(f"an RSDT of which {size} bytes are held", part(RSDT_AT, size), f"no 2 {fault} 0x1000 0x0 0x0")
+    row(f"an RSDT of which {size} bytes are present", part(RSDT_AT, size), f"no 2 {fault} 0x1000 0x0 0x0")
 for size in range(80):
     fault = "TableHeaderOut" if size < 36 else "TableOut"
-    row(f"a MADT of which {size} bytes are held", part(0x3000, size), f"no 3 {fault} 0x1 0x3000 0x0")
+    row(f"a MADT of which {size} bytes are present", part(0x3000, size), f"no 3 {fault} 0x1 0x3000 0x0")
 for size in range(64):
     fault = "FacsHeaderOut" if size < 8 else "FacsOut"
-    row(f"a FACS of which {size} bytes are held", part(FACS_AT, size), f"no 5 {fault} 0x7000 0x0 0x0")
+    row(f"a FACS of which {size} bytes are present", part(FACS_AT, size), f"no 5 {fault} 0x7000 0x0 0x0")
 
 
 def madt_of_length(length):
-    """The whole set with another Length of the MADT, whose checksum closes the sum where a header fits."""
-    whole = WHOLE[0x3000]
-    whole = whole[:4] + number(length, 4) + whole[8:]
+    """The complete set with another Length of the MADT, whose checksum closes the sum where a header fits."""
+    data = COMPLETE[0x3000]
+    data = data[:4] + number(length, 4) + data[8:]
     if length >= 36:
-        whole = summed(whole[:length], 9) + whole[length:]
-    return {**WHOLE, 0x3000: whole}
+        data = summed(data[:length], 9) + data[length:]
+    return {**COMPLETE, 0x3000: data}
 
 
 ENTRY_ENDS = (44, 52, 64, 74, 80)

@@ -40,7 +40,7 @@ def beside_fadt(name, second, lines):
     shown(name, listed(second), text)
 
 
-# ---- whole sets
+# ---- complete sets
 
 shown("hardware-reduced ACPI", image_of(fadt()), """
 rsdp 0xe0000 revision 0
@@ -195,7 +195,7 @@ block PM1a_EVT gas 1 32 0 0 0x604
 facs 0x7000 length 64 version 1
 """, x7000=facs())
 with_fadt(
-    "the FADT of PC firmware, cut behind Flags",
+    "the FADT of PC firmware, cut after Flags",
     fadt(
         0x84A5, 116, _36=number(0x7000, 4) + number(0x7FE0040, 4), _46=number(9, 2), _56=number(0x600, 4), _64=number(0x604, 4),
         _76=number(0x608, 4) + number(0x620, 4), _88=bytes([4, 2, 0, 4, 16]),
@@ -274,9 +274,9 @@ LONG_FACS = b"FACS" + number(80, 4) + bytes(24) + b"\2" + bytes(47)
 with_fadt("a FACS of 80 bytes", full_fadt(), FADT_LINES + "facs 0x7000 length 80 version 2\n", x7000=LONG_FACS)
 with_fadt("no FACS", full_fadt(0), FADT_LINES)
 with_fadt("a FACS at no multiple of 64", full_fadt(0x7020), FADT_LINES + "facs 0x7020 bad\n", x7020=facs())
-with_fadt("a FACS that is not held", full_fadt(), FADT_LINES + "facs 0x7000 bad\n")
-with_fadt("a FACS of which 63 bytes are held", full_fadt(), FADT_LINES + "facs 0x7000 bad\n", x7000=facs()[:63])
-with_fadt("a FACS of which 7 bytes are held", full_fadt(), FADT_LINES + "facs 0x7000 bad\n", x7000=facs()[:7])
+with_fadt("a FACS that is not present", full_fadt(), FADT_LINES + "facs 0x7000 bad\n")
+with_fadt("a FACS of which 63 bytes are present", full_fadt(), FADT_LINES + "facs 0x7000 bad\n", x7000=facs()[:63])
+with_fadt("a FACS of which 7 bytes are present", full_fadt(), FADT_LINES + "facs 0x7000 bad\n", x7000=facs()[:7])
 with_fadt("a FACS with another signature", full_fadt(), FADT_LINES + "facs 0x7000 bad\n", x7000=b"facs" + facs()[4:])
 with_fadt("a FACS of length 63", full_fadt(), FADT_LINES + "facs 0x7000 bad\n", x7000=b"FACS" + number(63, 4) + bytes(56))
 with_fadt("a FACS of reduced hardware, by X_FIRMWARE_CTRL", fadt(length=140, _36=number(0x7020, 4), _132=number(0x7000, 8)), """
@@ -320,7 +320,7 @@ madt 0x3000 lapic 0xfee00000 flags 0x1
 0x13e entry type 2 length 2
 0x140 entry type 9 length 12
 """)
-# What stands after the MADT's own fields, and the lines of it, up to where it is cut.
+# What comes after the MADT's own fields, and the lines of it, up to where it is cut.
 for body, lines in (
     ("", ""), ("c1 03 a1 c2 02 c3 04 a2 a3", "0x2c entry type 193 length 3\n0x2f entry type 194 length 2\n0x31 entry type 195 length 4"),
     ("07", "0x2c cut"), ("c1 03 a1 07", "0x2c entry type 193 length 3\n0x2f cut"),
@@ -335,7 +335,7 @@ madt 0x3000 lapic 0xfee00000 flags 0x1
 0x2c lapic uid 0 id 0 flags 0x1
 0x34 cut
 """)
-beside_fadt("a MADT with an entry of length 1, and entries behind it", madt(b"\0\1", lapic(0, 0)), """
+beside_fadt("a MADT with an entry of length 1, and entries after it", madt(b"\0\1", lapic(0, 0)), """
 madt 0x3000 lapic 0xfee00000 flags 0x1
 0x2c cut
 """)
@@ -376,7 +376,7 @@ srat 0x3000
 """)
 beside_fadt("an SRAT of 47 bytes", table(b"SRAT", bytes(11)), "srat 0x3000 short")
 
-beside_fadt("an SRAT that is cut behind an entry of a type of its own", srat(bytes.fromhex("c1 03 a1 07")), """
+beside_fadt("an SRAT that is cut after an entry of a type of its own", srat(bytes.fromhex("c1 03 a1 07")), """
 srat 0x3000
 0x30 entry type 193 length 3
 0x33 cut

@@ -55,10 +55,14 @@ impl Image {
 
     /// Puts bytes in place of those that are there.
     pub fn set(&mut self, at: u64, bytes: &[u8]) {
-        let held = |(address, old): &&mut (u64, Vec<u8>)| {
+        let has_them = |(address, old): &&mut (u64, Vec<u8>)| {
             *address <= at && at - *address + bytes.len() as u64 <= old.len() as u64
         };
-        let (address, old) = self.0.iter_mut().find(held).expect("the bytes are held");
+        let (address, old) = self
+            .0
+            .iter_mut()
+            .find(has_them)
+            .expect("the bytes are present");
         let from = (at - *address) as usize;
         old[from..from + bytes.len()].copy_from_slice(bytes);
     }
