@@ -1,4 +1,4 @@
--- A finder that serves several rules finds the first place of each: what it looks for is what the rule's definition says.
+-- A finder that serves several rules finds the first place of each: it looks for what the rule's definition says.
 use Rattle.std.proofs.Common.{◌≡◌, ℕ, Result, inl, inr}
 use Rattle.std.specs.Prelude.{◌⊎◌, IfOk, Option}
 use Rattle.acpi_base.specs.Contents.{HasPptt}
