@@ -76,7 +76,7 @@ fn read_inputs(
 
 /// In this policy each I/O APIC has the first count that the arguments give for its address, otherwise the default.
 /// They change nothing else in a policy.
-pub fn first_counts_stand()
+pub fn first_counts_win()
     ensures inputs { (default_inputs address : ℕ) (counts : List Inputs) →
         inputs_of (with_inputs (new_policy 0 default_inputs) counts) address
         ≡ unwrap_or (first_count counts address) default_inputs }

@@ -10,7 +10,7 @@ use Rattle.std.proofs.lemmas.List.Elements.{All-from_recursion, recursion_from_A
 use Rattle.std.proofs.lemmas.List.Sums.{sum_by-cons}
 use Rattle.acpi_base.specs.Entries.{IsEntry, PlacedEntry, Stands, first_entry, entries_from, entries_of, end_of_entries, cut_of, IsCut, IsStart, StandsAt, OneCut, CutsWhereAllStand, EntriesStand, CutIsStart, NoCutFault, NoneInShort}
 use Rattle.acpi_base.proofs.Elements.{first_or_later}
-use Rattle.acpi_base.proofs.Images.PresentBytes.{cases_Option, none_and_some, same_value}
+use Rattle.acpi_base.proofs.Options.{cases_Option, none_and_some, same_value}
 
 -- ---- the first entry
 

@@ -8,7 +8,7 @@ use Rattle.std.proofs.lemmas.List.Sums.{sum_by-cons}
 use Rattle.std.proofs.lemmas.Option.{cond_some}
 use Rattle.acpi_base.specs.Entries.{PlacedEntry, Stands, StandsWith, first_entry, entries_from, entries_of, end_of_entries, cut_of, entries_read_by, EntryType, IsTypeOf, AreUnused}
 use Rattle.acpi_base.proofs.Faults.Deciding.{Decided, decided_as, both, either, same}
-use Rattle.acpi_base.proofs.Images.PresentBytes.{cases_Option}
+use Rattle.acpi_base.proofs.Options.{cases_Option}
 use Rattle.acpi_base.proofs.Elements.{no_element, first_or_later, element_of_map, element_decided, bounded}
 
 -- ---- entries do not overlap

@@ -6,7 +6,7 @@ use Rattle.std.proofs.lemmas.List.{drop-drop, length-take-le, get_or-take}
 use Rattle.std.proofs.lemmas.List.Sums.{sum_by-cons}
 use Rattle.std.proofs.lemmas.Option.{cond_some}
 use Rattle.acpi_base.specs.Entries.{IsEntry, PlacedEntry, first_entry, entries_from, entries_of, end_of_entries}
-use Rattle.acpi_base.proofs.Images.PresentBytes.{cases_Option}
+use Rattle.acpi_base.proofs.Options.{cases_Option}
 
 -- the entry that bytes begin with is an entry, and fits them
 record BeginsWith (left e : List ℕ) : Type 0 where

@@ -15,7 +15,8 @@ use Rattle.acpi_base.specs.declared.code.Code.{Code}
 use Rattle.acpi_base.specs.declared.code.Code.TheVariants as code
 use Rattle.acpi_base.specs.declared.frame.Question.TheVariants as question
 use Rattle.acpi_base.specs.declared.stage.Stage.TheVariants as stage
-use Rattle.acpi_base.proofs.Images.PresentBytes.{cases_Option, present_field_below}
+use Rattle.acpi_base.proofs.Options.{cases_Option}
+use Rattle.acpi_base.proofs.Images.PresentBytes.{present_field_below}
 use Rattle.acpi_base.proofs.Faults.Deciding.{Decided, decided_as, all3, same, differs, is_false, not_other, not_false}
 use Rattle.acpi_base.proofs.Frames as frame
 use Rattle.acpi_base.proofs.Frames.{stands_wrong}

@@ -10,7 +10,8 @@ use Rattle.acpi_base.specs.declared.frame.Frame.{Frame}
 use Rattle.acpi_base.specs.declared.frame.Question.{Question}
 use Rattle.acpi_base.specs.declared.frame.Question.TheVariants as question
 use Rattle.acpi_base.proofs.Images.ByteRuns.{run_of-take}
-use Rattle.acpi_base.proofs.Images.PresentBytes.{none_and_some, same_value, length-bytes_at, field-take}
+use Rattle.acpi_base.proofs.Options.{none_and_some, same_value}
+use Rattle.acpi_base.proofs.Images.PresentBytes.{length-bytes_at, field-take}
 use Rattle.acpi_base.proofs.Faults.Deciding.{Decided, decided_as, both, below, at_most, differs, is_false, is_none, is_some_with, not_below, not_other, not_none}
 
 pub decided : (f : Frame) (m : Memory) (a : ℕ) (q : Question) → Decided (FrameFault f m a q)

@@ -8,11 +8,12 @@ pub mod EntrySteps
 pub mod Facs
 pub mod Fadt
 pub mod Faults
+pub mod FirstOfCode
 pub mod Frames
 pub mod Images
 pub mod Layouts
-pub mod Lint
 pub mod Madt
+pub mod Options
 pub mod Overlaps
 pub mod Policies
 pub mod Pptt

@@ -1,6 +1,6 @@
 -- Proofs about image text, and about the texts of faults.
 pub mod ByteMachine
-pub mod DataImages
+pub mod ByteSearch
 pub mod DataLines
 pub mod DataPlaces
 pub mod DigitTable
@@ -9,7 +9,6 @@ pub mod GoodTexts
 pub mod HexTexts
 pub mod Judging
 pub mod LineBuffers
-pub mod ByteSearch
 pub mod LineParsing
 pub mod LineSplitting
 pub mod PlacedData

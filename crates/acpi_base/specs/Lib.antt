@@ -7,13 +7,13 @@ pub mod Entries
 pub mod Facs
 pub mod Fadt
 pub mod Faults
+pub mod FirstOfCode
 pub mod Frames
 pub mod Header
 pub mod Image
 pub mod KindLayouts
 pub mod Laws
 pub mod Layouts
-pub mod Lint
 pub mod Listed
 pub mod Madt
 pub mod Memory
@@ -26,6 +26,7 @@ pub mod Pptt
 pub mod Root
 pub mod Rsdp
 pub mod RsdpSearch
+pub mod Rules
 pub mod Signature
 pub mod Slit
 pub mod Srat

@@ -3,8 +3,7 @@
 ghost use Rattle.std.specs.Prelude.{◌≡◌, ℕ, ◌↔◌, List, Some, IsSome};
 ghost use Rattle.acpi_base.specs.Memory.{Memory, bytes_at, Has, AreBytes};
 ghost use Rattle.acpi_base.specs.Entries.{OneCut, EntriesStand, CutIsStart, NoCutFault, CutsWhereAllStand, NoneInShort};
-ghost use Rattle.acpi_base.specs.Laws.{FaultsExcludeClean, FaultsFit, CleanOrFaulty, CleanOrFirstFault, OneFirstFault, OneVerdict, RootsListSlots, TextsDiffer};
-ghost use Rattle.acpi_base.specs.Lint.Laws.{CleanWithoutFaults, CleanWithoutFirsts, FirstIsFirstOfCode, OneFirstOfCode, OneFirstAdvice, NoneReportedOfClean, FirstIsReported, ReportedAreFaults};
+ghost use Rattle.acpi_base.specs.Laws.{FaultsExcludeClean, FaultsFit, CleanOrFaulty, CleanOrFirstFault, OneFirstFault, OneVerdict, RootsListSlots, TextsDiffer, CleanWithoutFaults, CleanWithoutFirsts, FirstIsFirstOfCode, OneFirstOfCode, NoneReportedOfClean, FirstIsReported, ReportedAreFaults};
 ghost use Rattle.acpi_base.specs.Pptt.{ParentsEndOrGoRound, CachesEndOrGoRound};
 ghost use Rattle.acpi_base.specs.Text.WrittenText.{WrittenIsText, OneWritten};
 ghost use Rattle.acpi_base.specs.Text.TextLaws.{RunReadsText, RunReadsPrefix, RunStopsAtFaults, RunGoesOn, PrefixDecides, TextMeans, TextOrFault, NeverBoth, OneImage, OneTextFault, RefusalsAreOwn, LinesMean};
@@ -54,21 +53,15 @@ pub fn reported_faults()
 {}
 
 /// The first fault of an image, which is reported as its verdict, is the first of its code.
-#[tactic(auto, using(crate::proofs::Lint::first_is_first_of_code))]
+#[tactic(auto, using(crate::proofs::FirstOfCode::first_is_first_of_code))]
 pub fn first_is_first_of_code()
     ensures first { FirstIsFirstOfCode }
 {}
 
 /// A code has at most one first fault; this includes the two codes of overlaps.
-#[tactic(auto, using(crate::proofs::Lint::one_first_of_code))]
+#[tactic(auto, using(crate::proofs::FirstOfCode::one_first_of_code))]
 pub fn one_first_of_code()
     ensures one { OneFirstOfCode }
-{}
-
-/// A rule of advice has at most one first finding.
-#[tactic(auto, using(crate::proofs::Lint::one_first_advice))]
-pub fn one_first_advice()
-    ensures one { OneFirstAdvice }
 {}
 
 /// There is at most one right verdict on the same stages of an image.

@@ -1,7 +1,7 @@
 //! Advice: what breaks none of the statements, but is probably wrong.
 
 ghost use Rattle.std.specs.Prelude.{◌≡◌, ◌+◌, ◌<◌, ◌≤◌, ◌↔◌, length, IsSome, IfSome};
-ghost use Rattle.acpi_base.specs.Lint.Rules.{all_rules, rule_name, rule_number};
+ghost use Rattle.acpi_base.specs.Rules.{all_rules, rule_name, rule_number};
 
 /// A rule of advice. A set of tables may have a reason to break a rule, so none is a fault. A processor is usable if it
 /// is Enabled or Online Capable. Sections are those of ACPI 6.5.

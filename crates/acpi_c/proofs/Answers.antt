@@ -5,7 +5,7 @@ use Rattle.std.specs.FinMap.{empty}
 use Rattle.std.specs.Option.{option_or}
 use Rattle.acpi_base.specs.Codes.{code_number, stage_number}
 use Rattle.acpi_base.specs.Faults.{Fault, IsVerdict}
-use Rattle.acpi_base.specs.Lint.Findings.{AreFindings}
+use Rattle.acpi_lint.specs.Rules.Findings.{AreFindings}
 use Rattle.acpi_base.specs.Image.Adding.{add_refusal}
 use Rattle.acpi_base.specs.Memory.{Memory, with_bytes}
 use Rattle.acpi_base.specs.Policy.{PolicyValue}

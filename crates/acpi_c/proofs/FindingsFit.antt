@@ -2,8 +2,8 @@
 use Rattle.std.proofs.Common.{◌<◌, ◌≤◌, ◌+◌, ◌-◌, ℕ, zero, suc, List, [], ◌∷◌, length, arith}
 use Rattle.std.specs.List.{AllPairs, slice_index_or}
 use Rattle.acpi_base.specs.Codes.{all_codes, code_number}
-use Rattle.acpi_base.specs.Lint.Findings.{AreFindings}
-use Rattle.acpi_base.specs.Lint.Rules.{all_rules, rule_number}
+use Rattle.acpi_lint.specs.Rules.Findings.{AreFindings}
+use Rattle.acpi_base.specs.Rules.{all_rules, rule_number}
 use Rattle.acpi_base.specs.Memory.{Memory}
 use Rattle.acpi_base.specs.Policy.{PolicyValue}
 use Rattle.acpi_base.specs.declared.rule.Advice.{Advice}

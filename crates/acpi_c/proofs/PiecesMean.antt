@@ -11,7 +11,7 @@ use Rattle.acpi_base.specs.declared.image.ImageFault.{ImageFault}
 use Rattle.acpi_base.proofs.Images.RunBytes.{byte_of-with_bytes, present_from, present_inside}
 use Rattle.acpi_base.proofs.Images.RunMemory.{fits_unless, same_memory}
 use Rattle.acpi_base.proofs.Images.Searches.{nothing_present}
-use Rattle.acpi_base.proofs.Texts.GoodTexts.{same_options}
+use Rattle.acpi_base.proofs.Options.{same_options}
 use Rattle.acpi_c.specs.Laws.{PiecesMean, OneImage, HaveByte, HasByte}
 use Rattle.acpi_c.specs.Pieces.{unless_refused, with_pieces}
 use Rattle.acpi_c.specs.declared.pieces.Piece.{Piece}

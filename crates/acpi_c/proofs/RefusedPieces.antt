@@ -13,7 +13,7 @@ use Rattle.acpi_base.specs.declared.image.ImageFault.TheVariants.{PastEnd, Twice
 use Rattle.acpi_base.specs.declared.image.ImageFault.TheVariants as image
 use Rattle.acpi_base.proofs.Images.ByteRuns.{first_of_at}
 use Rattle.acpi_base.proofs.Images.RunBytes.{present_inside, present_some}
-use Rattle.acpi_base.proofs.Texts.GoodTexts.{a_value}
+use Rattle.acpi_base.proofs.Options.{a_value}
 use Rattle.acpi_c.specs.Laws.{StandsBehind, IsPastEnd, IsOverlap, HasByte, HaveByte, PastEndMeans, OverlapMeans}
 use Rattle.acpi_c.specs.Pieces.{piece_refusal, unless_refused, with_pieces}
 use Rattle.acpi_c.specs.declared.pieces.Piece.{Piece}

@@ -3,7 +3,7 @@ use Rattle.std.specs.Prelude.{◌≡◌, ◌↔◌, ℕ, ◌⊎◌, Bool, IsTrue
 use Rattle.std.specs.Option.{option_or}
 use Rattle.acpi_base.specs.Codes.{code_number, stage_number}
 use Rattle.acpi_base.specs.Faults.{Fault, IsVerdict}
-use Rattle.acpi_base.specs.Lint.Findings.{AreFindings}
+use Rattle.acpi_lint.specs.Rules.Findings.{AreFindings}
 use Rattle.acpi_base.specs.Memory.{Memory}
 use Rattle.acpi_base.specs.Policy.{PolicyValue}
 use Rattle.acpi_base.specs.RsdpSearch.{IsFound, IsNowhere}

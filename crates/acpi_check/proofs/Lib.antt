@@ -3,5 +3,5 @@ pub mod EntryPasses
 pub mod ListedSets
 pub mod NodeLinks
 mod ProcessorNumbers
+mod SetFaults
 mod Spans
-mod WholeSets

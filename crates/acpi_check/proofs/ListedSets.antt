@@ -1,7 +1,7 @@
 -- Sets of listed tables.
 use Rattle.std.proofs.Common.{ℕ, sym, subst}
 use Rattle.acpi_base.specs.Memory.{Memory}
-use Rattle.acpi_check.specs.HandedOn.{IsListedSet, IsListedSetOf}
+use Rattle.acpi_check.specs.StageSets.{IsListedSet, IsListedSetOf}
 use Rattle.acpi_check.specs.declared.set.ListedSet.{ListedSet}
 
 pub listed_itself : {m : Memory} {p : ℕ} (set : ListedSet) → IsListedSetOf m p set → IsListedSet set

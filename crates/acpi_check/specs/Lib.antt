@@ -5,7 +5,6 @@ pub mod CollectedValues
 pub mod EntryPlaces
 pub mod FirstBelow
 pub mod FirstSeen
-pub mod HandedOn
 pub mod Headline
 pub mod NamedNumbers
 pub mod OffsetSets
@@ -15,4 +14,5 @@ pub mod RangeSpans
 pub mod ServedGsis
 pub mod Set
 pub mod StageResults
+pub mod StageSets
 pub mod TableResults

@@ -6,7 +6,7 @@ use Rattle.acpi_base.specs.Fadt.{IsFadt}
 use Rattle.acpi_base.specs.Statements.{CleanBefore, CleanTo}
 use Rattle.acpi_base.specs.declared.stage.Stage.{Stage}
 use Rattle.acpi_base.specs.declared.stage.Stage.TheVariants as stage
-use Rattle.acpi_check.specs.HandedOn.{IsFacsNamed, IsListedSetOf}
+use Rattle.acpi_check.specs.StageSets.{IsFacsNamed, IsListedSetOf}
 use Rattle.acpi_check.specs.StageResults.{IsStageResult}
 use Rattle.acpi_check.specs.declared.refusal.Refusal.{Refusal}
 use Rattle.acpi_check.specs.declared.set.Set.{Set}

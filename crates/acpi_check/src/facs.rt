@@ -4,7 +4,7 @@ ghost use Rattle.acpi_base.specs.Fadt.{IsFadt};
 ghost use Rattle.acpi_base.specs.Policy.{PolicyValue};
 ghost use Rattle.acpi_base.specs.Statements.{CleanBefore};
 ghost use Rattle.acpi_base.specs.declared.stage.Stage.{Stage};
-ghost use Rattle.acpi_check.specs.HandedOn.{IsFacsNamed};
+ghost use Rattle.acpi_check.specs.StageSets.{IsFacsNamed};
 ghost use Rattle.acpi_check.specs.StageResults.{Reads};
 
 use acpi_base::{Image, Witness};

@@ -3,7 +3,7 @@
 ghost use Rattle.std.specs.Prelude.{◌≡◌, ◌<◌, ◌+◌, ◌*◌, IfSome, IsNone};
 ghost use Rattle.acpi_base.specs.Number.{field};
 ghost use Rattle.acpi_read.specs.Roots.{slots_of};
-ghost use Rattle.acpi_check.specs.HandedOn.{IsListedSet, IsListedIn};
+ghost use Rattle.acpi_check.specs.StageSets.{IsListedSet, IsListedIn};
 
 use acpi_base::{Image, Policy};
 use acpi_read::{Facs, Fadt, FirstTables, Listed, Root, Rsdp, Table};

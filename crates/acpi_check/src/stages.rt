@@ -9,7 +9,7 @@ ghost use Rattle.acpi_base.specs.declared.stage.Stage.{Stage};
 ghost use Rattle.acpi_base.specs.declared.verdict.Verdict.{Verdict};
 ghost use Rattle.acpi_check.specs.StageResults.{ReadsTo, IsResultTo};
 ghost use Rattle.acpi_check.specs.Headline.{IfNo};
-ghost use Rattle.acpi_check.specs.HandedOn.{IsListedSetOf, IsCleanSetOf};
+ghost use Rattle.acpi_check.specs.StageSets.{IsListedSetOf, IsCleanSetOf};
 ghost use Rattle.acpi_check.specs.Set.{IsSetOf, IsSet};
 
 use crate::facs::check_facs;

@@ -9,7 +9,7 @@ use Rattle.acpi_base.specs.Text.TextReading.{CountsRead, IsFaultlessPrefix, IsRe
 use Rattle.acpi_base.specs.Tally.{CountedDevice, CountsFailure}
 use Rattle.acpi_base.specs.RsdpSearch.{IsFound, IsNowhere}
 use Rattle.acpi_base.specs.Faults.{Fault, IsVerdict}
-use Rattle.acpi_base.specs.Lint.Findings.{AreFindings}
+use Rattle.acpi_lint.specs.Rules.Findings.{AreFindings}
 use Rattle.acpi_base.specs.Statements.{CleanTo}
 use Rattle.acpi_base.specs.Text.WitnessText.{advice_line, hex_text, verdict_line}
 use Rattle.acpi_base.specs.Text.WrittenText.{IsWritten}

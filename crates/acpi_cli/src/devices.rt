@@ -44,14 +44,14 @@ pub fn write_output<W: Write>(
     let Ok(output) = output else {
         return Err(RunFault::Memory);
     };
-    match write_whole(writer, &output.bytes) {
+    match write_all(writer, &output.bytes) {
         Ok(()) => Ok(output.outcome),
         Err(DeviceFailed) => Err(RunFault::Device),
     }
 }
 
 /// Writes all the bytes, with as many writes as it takes.
-fn write_whole<W: Write>(writer: &mut Tally<W>, bytes: &[u8]) -> Result<(), DeviceFailed>
+fn write_all<W: Write>(writer: &mut Tally<W>, bytes: &[u8]) -> Result<(), DeviceFailed>
     ensures ok { OnOk result
         (Appends (W.contents writer.old.inner) (W.contents writer.new.inner) bytes.now) }
     ensures valid { OnOk result (writer.new.failures ≡ writer.old.failures) }

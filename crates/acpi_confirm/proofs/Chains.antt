@@ -5,9 +5,9 @@ use Rattle.std.proofs.lemmas.Option.{same_Some}
 use Rattle.acpi_base.specs.Chains.{IsStep, LeadsTo, IsCycle}
 use Rattle.acpi_base.specs.Entries.{PlacedEntry, Stands, first_entry, entries_of}
 use Rattle.acpi_base.proofs.Elements.{first_or_later, no_element}
-use Rattle.acpi_base.proofs.Images.PresentBytes.{cases_Option, none_and_some}
+use Rattle.acpi_base.proofs.Options.{cases_Option, none_and_some}
 use Rattle.acpi_base.proofs.EntryOffsets.{entry_within}
-use Rattle.acpi_confirm.specs.Links.{IsStepTo}
+use Rattle.acpi_confirm.specs.References.{IsStepTo}
 use Rattle.acpi_confirm.specs.Walks.{IsOnWay, IsOnly}
 use Rattle.acpi_confirm.proofs.Walks.{is_end, is_next, at_first, at_next}
 

@@ -6,7 +6,7 @@ use Rattle.std.specs.Option.{option_map, option_zip, is_some, MatchOption}
 use Rattle.std.proofs.lemmas.Option.{same_Some}
 use Rattle.acpi_base.specs.Entries.{PlacedEntry, Stands, StandsWith, entries_read_by}
 use Rattle.acpi_base.proofs.Elements.{first_element, later_element, first_or_later, no_element}
-use Rattle.acpi_base.proofs.Images.PresentBytes.{none_and_some}
+use Rattle.acpi_base.proofs.Options.{none_and_some}
 use Rattle.acpi_base.proofs.EntryOffsets.{said_from}
 use Rattle.acpi_confirm.specs.Walks.{IsThere, IsOnly, FindsAny}
 

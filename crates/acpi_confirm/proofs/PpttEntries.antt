@@ -8,7 +8,7 @@ use Rattle.acpi_base.specs.Number.{field}
 use Rattle.acpi_base.specs.Entries.{StandsWith, has_form, cut_of}
 use Rattle.acpi_base.specs.Pptt.{pptt_entry, pptt_type, has_node_form, has_cache_form, resource_count, resources_of, PpttContents, pptt_contents}
 use Rattle.acpi_base.proofs.Pptt.Places.{size_is}
-use Rattle.acpi_confirm.specs.Links.{Names, named_offset}
+use Rattle.acpi_confirm.specs.References.{Names, named_offset}
 use Rattle.acpi_confirm.specs.Walks.{IsOnly}
 use Rattle.acpi_confirm.specs.declared.pptt.Chain.{Chain}
 use Rattle.acpi_confirm.specs.declared.pptt.Chain.TheVariants.{Parents, NextLevels}

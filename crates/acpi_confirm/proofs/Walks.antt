@@ -7,7 +7,7 @@ use denote.Ref.{Bor}
 use Rattle.std.specs.Option.{option_map, MatchOption}
 use Rattle.acpi_base.specs.Entries.{PlacedEntry, Stands, first_entry, entries_of}
 use Rattle.acpi_base.proofs.Elements.{first_element, later_element, first_or_later, no_element}
-use Rattle.acpi_base.proofs.Images.PresentBytes.{none_and_some}
+use Rattle.acpi_base.proofs.Options.{none_and_some}
 use Rattle.acpi_base.proofs.EntryOffsets.{entry_within}
 use Rattle.acpi_base.proofs.EntrySteps as step
 use Rattle.acpi_confirm.specs.Walks.{IsThere, IsEnd, IsNext, IsOnWay}

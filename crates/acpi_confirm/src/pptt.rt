@@ -10,7 +10,7 @@ ghost use Rattle.acpi_base.specs.Codes.{stage_of};
 ghost use Rattle.acpi_base.specs.Entries.{IsEntry};
 ghost use Rattle.acpi_base.specs.Pptt.{PpttFaultAt, PpttFault, ReferenceFault, HasOtherPpttLength, NamesResource, IsResourceAt, has_node_form, has_cache_form, pptt_contents, pptt_entry, resource_of};
 ghost use Rattle.acpi_confirm.specs.Conditions.{PpttCondition};
-ghost use Rattle.acpi_confirm.specs.Links.{Names, named_offset};
+ghost use Rattle.acpi_confirm.specs.References.{Names, named_offset};
 ghost use Rattle.acpi_confirm.specs.Walks.{IsOnly};
 
 use crate::entries::{cut, entry_at};

@@ -5,8 +5,8 @@ use Rattle.std.specs.List.{AllByRecursion}
 use Rattle.std.proofs.lemmas.Option.{same_Some}
 use Rattle.acpi_base.specs.Entries.{PlacedEntry, Stands}
 use Rattle.acpi_base.specs.Madt.{MadtContents}
-use Rattle.acpi_base.specs.Lint.Numbered.{NamesAt, IsNamed, IsLater}
-use Rattle.acpi_base.specs.Lint.Processors.{AreProcessorsRead, IsOtherProcessor}
+use Rattle.acpi_lint.specs.Rules.Numbered.{NamesAt, IsNamed, IsLater}
+use Rattle.acpi_lint.specs.Rules.Processors.{AreProcessorsRead, IsOtherProcessor}
 use Rattle.acpi_examples.specs.Tables.{placed_entry}
 use Rattle.acpi_examples.specs.Advice.{IsKept}
 use Rattle.acpi_examples.proofs.NamedEntries.{each_entry, none_stands}

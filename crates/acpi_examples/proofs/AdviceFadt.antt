@@ -9,7 +9,7 @@ use Rattle.acpi_base.specs.Entries.{Stands, StandsWith}
 use Rattle.acpi_base.specs.Fadt.{has_flag, gas_at}
 use Rattle.acpi_base.specs.Madt.{Override, MadtContents, ServesFrom}
 use Rattle.acpi_base.specs.Policy.{PolicyValue, inputs_of}
-use Rattle.acpi_base.specs.Lint.FadtAdvice.{DoFieldsDiffer, IsBlockDiffers, IsOverrideOf, IsGsiOf}
+use Rattle.acpi_lint.specs.Rules.FadtAdvice.{DoFieldsDiffer, IsBlockDiffers, IsOverrideOf, IsGsiOf}
 use Rattle.acpi_examples.specs.Advice.{one_entry, processor}
 use Rattle.acpi_examples.specs.AdviceFadt.{facs_fadt, dsdt_fadt, block_fadt, io_apic_entry, overridden, twice_overridden, AreOfRevision, AreAddressesOdd, AreBlocksOdd, AreScisNowhere, IsFadtAdvised}
 use Rattle.acpi_examples.proofs.NamedEntries.{each_entry, none_stands, never}

@@ -4,9 +4,9 @@ use Rattle.std.specs.Prelude.{◌-◌, ◌^◌, List, Some}
 use Rattle.std.proofs.lemmas.Option.{none-some, same_Some}
 use Rattle.acpi_base.specs.Number.{field, has_bit}
 use Rattle.acpi_base.specs.Madt.{Opaque}
-use Rattle.acpi_base.specs.Lint.MadtAdvice.{nmi_uid, io_apic_id, nonzero_io_apic_address, gicd, IsIoApicAtZero, IsUnreadEntry, IsMadtUnread}
-use Rattle.acpi_base.specs.Lint.Numbered.{IsNamed, NamesAt}
-use Rattle.acpi_base.specs.Lint.Processors.{uid_of, uid_on, apic_id_on}
+use Rattle.acpi_lint.specs.Rules.MadtAdvice.{nmi_uid, io_apic_id, nonzero_io_apic_address, gicd, IsIoApicAtZero, IsUnreadEntry, IsMadtUnread}
+use Rattle.acpi_lint.specs.Rules.Numbered.{IsNamed, NamesAt}
+use Rattle.acpi_lint.specs.Rules.Processors.{uid_of, uid_on, apic_id_on}
 use Rattle.acpi_examples.specs.Madts.{said_madt}
 use Rattle.acpi_examples.specs.Advice.{one_entry, processor}
 use Rattle.acpi_examples.specs.AdviceMadt.{three_processors, local_nmi, x2apic_nmi, with_nmi, io_apics, distributor, read_entries, AreSameProcessors, AreNoProcessors, AreNmisNowhere, AreControllers, AreMadtUnread, IsMadtAdvised}

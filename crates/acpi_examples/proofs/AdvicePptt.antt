@@ -7,9 +7,9 @@ use Rattle.std.proofs.lemmas.Nat.{pow_pos}
 use Rattle.std.proofs.lemmas.Option.{none-some, same_Some}
 use Rattle.acpi_base.specs.Number.{field, has_bit}
 use Rattle.acpi_base.specs.Pptt.{Node, CacheValue, Cache, parent_of}
-use Rattle.acpi_base.specs.Lint.Processors.{uid_of, uid_on, IsGicc, IsParent, IsLeafAt, IsLeafId}
-use Rattle.acpi_base.specs.Lint.Numbered.{IsNamed}
-use Rattle.acpi_base.specs.Lint.PpttAdvice.{IsPowerOfTwo, HasOddShape, IsCacheShape, cache_id}
+use Rattle.acpi_lint.specs.Rules.Processors.{uid_of, uid_on, IsGicc, IsParent, IsLeafAt, IsLeafId}
+use Rattle.acpi_lint.specs.Rules.Numbered.{IsNamed}
+use Rattle.acpi_lint.specs.Rules.PpttAdvice.{IsPowerOfTwo, HasOddShape, IsCacheShape, cache_id}
 use Rattle.acpi_examples.specs.Advice.{one_entry, processor, gicc}
 use Rattle.acpi_examples.specs.AdvicePptt.{two_nodes, one_node, one_cache, AreSameLeaves, AreCacheShapes, AreSameCacheIds, AreNoLeaves, AreLeavesNowhere, IsPpttAdvised}
 use Rattle.acpi_examples.proofs.NamedEntries.{each_entry, none_stands, never}

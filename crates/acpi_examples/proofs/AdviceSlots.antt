@@ -11,7 +11,7 @@ use Rattle.acpi_base.specs.Rsdp.{addresses_at}
 use Rattle.acpi_base.specs.Root.{chosen_root, IsRoot, IsRootTable, HasSlot, IsSlot}
 use Rattle.acpi_base.specs.TableKinds.{signature_of}
 use Rattle.acpi_base.specs.Tables.{IsSigned}
-use Rattle.acpi_base.specs.Lint.Slots.{IsSecondTable, ListsSigned, dsdt_signature}
+use Rattle.acpi_lint.specs.Rules.Slots.{IsSecondTable, ListsSigned, dsdt_signature}
 use Rattle.acpi_examples.specs.Madts.{two_io_apics_bytes}
 use Rattle.acpi_examples.specs.Sets.{rsdp_at, rsdp_bytes, rsdt_bytes, named_bytes, uid_bytes, new_leaf_bytes, leaf_set}
 use Rattle.acpi_examples.specs.ExampleSet.{facs_bytes}
@@ -19,7 +19,7 @@ use Rattle.acpi_examples.specs.AdviceSlots.{twice_bytes, twice_set, dsdt_bytes, 
 use Rattle.acpi_base.specs.declared.table_kind.TableKind.{TableKind}
 use Rattle.acpi_base.specs.declared.table_kind.TableKind.TheVariants as kind
 use Rattle.acpi_examples.proofs.Sets.{bytes_of_runs, root, root_table, slot_0, slot_1, madt_tables, leaf_tables}
-use Rattle.acpi_base.proofs.Images.PresentBytes.{same_value}
+use Rattle.acpi_base.proofs.Options.{same_value}
 use Rattle.acpi_base.proofs.Images.RunBytes.{byte_of_memory_of}
 use Rattle.acpi_base.proofs.Root.Slots.{one_slot, root_slot, slot_of_root}
 

@@ -7,9 +7,9 @@ use Rattle.acpi_base.specs.Number.{field, has_bit}
 use Rattle.acpi_base.specs.Madt.{MadtEntry, MadtContents}
 use Rattle.acpi_base.specs.Srat.{SratEntry, Opaque, SratContents}
 use Rattle.acpi_base.specs.Slit.{distance}
-use Rattle.acpi_base.specs.Lint.Numbered.{NamesAt, IsNamed}
-use Rattle.acpi_base.specs.Lint.Processors.{uid_of, apic_id_of, apic_id_on, gicc_uid_on, placed_apic_id, placed_uid, processor_domain}
-use Rattle.acpi_base.specs.Lint.SratAdvice.{IsTwoUidDomains, IsAffinityNowhere, IsNoDomain, IsDomainPastSlit, IsUnreadEntry, IsSratUnread}
+use Rattle.acpi_lint.specs.Rules.Numbered.{NamesAt, IsNamed}
+use Rattle.acpi_lint.specs.Rules.Processors.{uid_of, apic_id_of, apic_id_on, gicc_uid_on, placed_apic_id, placed_uid, processor_domain}
+use Rattle.acpi_lint.specs.Rules.SratAdvice.{IsTwoUidDomains, IsAffinityNowhere, IsNoDomain, IsDomainPastSlit, IsUnreadEntry, IsSratUnread}
 use Rattle.acpi_examples.specs.Slits.{low_diagonal}
 use Rattle.acpi_examples.specs.Advice.{IsKept, one_entry, processor, gicc}
 use Rattle.acpi_examples.specs.AdviceSrat.{one_affinity, apic_affinity, x2apic_affinity, gicc_affinity, empty_range, two_giccs, read_affinities, AreTwoUidDomains, AreAffinitiesNowhere, AreNoDomains, AreDomainsPastSlit, AreSratUnread, AreSlitsAdvised, IsSratAdvised}

@@ -36,7 +36,7 @@ use Rattle.acpi_examples.proofs.Sets.{inputs_are, leaf}
 use Rattle.acpi_examples.proofs.Slits.{one}
 use Rattle.acpi_examples.proofs.ExampleSet as set
 use Rattle.acpi_examples.proofs.ExampleSet.{bytes_at_example_set, example_has_root, root_of_present, root_table_of, each_slot, tables, listed, said, madt, srat, slit}
-use Rattle.acpi_base.proofs.Images.PresentBytes.{none_and_some}
+use Rattle.acpi_base.proofs.Options.{none_and_some}
 use Rattle.acpi_base.proofs.Images.RunMemory.{image_of}
 use Rattle.acpi_base.proofs.Root.Slots.{slot_of_root}
 use Rattle.acpi_base.proofs.Tables.Listed.{one_listed}

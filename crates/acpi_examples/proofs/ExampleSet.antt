@@ -23,7 +23,7 @@ use Rattle.acpi_examples.specs.Madts.{said_madt}
 use Rattle.acpi_examples.specs.Srats.{said_srat}
 use Rattle.acpi_examples.specs.Slits.{said_slit, one_locality_bytes}
 use Rattle.acpi_examples.proofs.Sets.{leaf}
-use Rattle.acpi_base.proofs.Images.PresentBytes.{same_value}
+use Rattle.acpi_base.proofs.Options.{same_value}
 use Rattle.acpi_base.proofs.Images.RunBytes.{byte_of_memory_of}
 use Rattle.acpi_base.proofs.Tables.Listed.{listed_in_root}
 

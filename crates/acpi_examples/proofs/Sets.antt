@@ -30,7 +30,7 @@ use Rattle.acpi_base.specs.declared.policy.Processors.TheVariants.{Enabled, Usab
 use Rattle.acpi_base.specs.declared.code.Code.TheVariants as code
 use Rattle.acpi_examples.proofs.NamedEntries.{each_entry, none_stands, never, all_below}
 use Rattle.acpi_examples.proofs.Srats.{srat_said}
-use Rattle.acpi_base.proofs.Images.PresentBytes.{same_value}
+use Rattle.acpi_base.proofs.Options.{same_value}
 use Rattle.acpi_base.proofs.Images.RunBytes.{byte_of_memory_of}
 use Rattle.acpi_base.proofs.Images.RunMemory.{image_of}
 use Rattle.acpi_base.proofs.Tables.Listed.{one_listed, listed_in_root}

@@ -1,9 +1,9 @@
 -- Examples of advice on the MADT: each rule broken, and kept (ACPI 6.5, 5.2.12).
 use Rattle.std.specs.Prelude.{ℕ, ◌-◌, ◌^◌, [], ◌∷◌, replicate}
 use Rattle.acpi_base.specs.Madt.{MadtEntry, IoApic, LocalNmi, X2apic, X2apicNmi, Opaque, MadtContents}
-use Rattle.acpi_base.specs.Lint.MadtAdvice.{io_apic_id, nonzero_io_apic_address, gicd, IsIoApicAtZero, IsNmiNowhere, IsNoProcessor, IsMadtUnread}
-use Rattle.acpi_base.specs.Lint.Numbered.{OnEntry, Repeats}
-use Rattle.acpi_base.specs.Lint.Processors.{uid_on, apic_id_on}
+use Rattle.acpi_lint.specs.Rules.MadtAdvice.{io_apic_id, nonzero_io_apic_address, gicd, IsIoApicAtZero, IsNmiNowhere, IsNoProcessor, IsMadtUnread}
+use Rattle.acpi_lint.specs.Rules.Numbered.{OnEntry, Repeats}
+use Rattle.acpi_lint.specs.Rules.Processors.{uid_on, apic_id_on}
 use Rattle.acpi_examples.specs.Tables.{placed_entry}
 use Rattle.acpi_examples.specs.Madts.{said_madt}
 use Rattle.acpi_examples.specs.Advice.{IsKept, one_entry, two_entries, processor, gicc, short_gicc, sapic}

@@ -2,8 +2,8 @@
 use Rattle.std.specs.Prelude.{ℕ, List, [], ◌∷◌, Option, Some, None}
 use Rattle.acpi_base.specs.Entries.{PlacedEntry}
 use Rattle.acpi_base.specs.Pptt.{PpttEntry, Node, Cache, PpttContents}
-use Rattle.acpi_base.specs.Lint.Numbered.{OnEntry}
-use Rattle.acpi_base.specs.Lint.PpttAdvice.{IsSameLeaf, IsCacheShape, IsSameCacheId, IsNoLeaf, IsLeafNowhere}
+use Rattle.acpi_lint.specs.Rules.Numbered.{OnEntry}
+use Rattle.acpi_lint.specs.Rules.PpttAdvice.{IsSameLeaf, IsCacheShape, IsSameCacheId, IsNoLeaf, IsLeafNowhere}
 use Rattle.acpi_examples.specs.Tables.{placed_entry}
 use Rattle.acpi_examples.specs.Advice.{IsKept, one_entry, two_entries, processor, gicc, short_gicc, sapic}
 

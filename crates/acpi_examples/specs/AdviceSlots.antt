@@ -3,7 +3,7 @@ use Rattle.std.specs.Prelude.{List, ℕ, [], ◌∷◌}
 use Rattle.std.specs.FinMap.{empty}
 use Rattle.acpi_base.specs.Memory.{Memory, with_bytes}
 use Rattle.acpi_base.specs.Signature.{rsdt_signature}
-use Rattle.acpi_base.specs.Lint.Slots.{IsListedTwice, IsSecondTable, IsListedApart, dsdt_signature}
+use Rattle.acpi_lint.specs.Rules.Slots.{IsListedTwice, IsSecondTable, IsListedApart, dsdt_signature}
 use Rattle.acpi_examples.specs.Tables.{table}
 use Rattle.acpi_examples.specs.Advice.{IsKept}
 use Rattle.acpi_examples.specs.Sets.{rsdp_at, rsdp_bytes, set_of, two_madts, leaf_set}

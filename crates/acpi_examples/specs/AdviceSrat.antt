@@ -1,9 +1,9 @@
 -- Examples of advice on the SRAT and the SLIT: each rule broken, and kept (ACPI 6.5, 5.2.16, 5.2.17).
 use Rattle.std.specs.Prelude.{ℕ, ◌+◌, [], ◌∷◌, replicate}
 use Rattle.acpi_base.specs.Srat.{SratEntry, ApicDomain, MemoryRange, X2apicDomain, Opaque, SratContents}
-use Rattle.acpi_base.specs.Lint.Numbered.{OnEntry}
-use Rattle.acpi_base.specs.Lint.SratAdvice.{IsTwoUidDomains, IsAffinityNowhere, IsNoDomain, IsDomainPastSlit, IsSratUnread}
-use Rattle.acpi_base.specs.Lint.SlitAdvice.{IsSlitDiffers}
+use Rattle.acpi_lint.specs.Rules.Numbered.{OnEntry}
+use Rattle.acpi_lint.specs.Rules.SratAdvice.{IsTwoUidDomains, IsAffinityNowhere, IsNoDomain, IsDomainPastSlit, IsSratUnread}
+use Rattle.acpi_lint.specs.Rules.SlitAdvice.{IsSlitDiffers}
 use Rattle.acpi_examples.specs.Tables.{placed_entry}
 use Rattle.acpi_examples.specs.Srats.{said_srat}
 use Rattle.acpi_examples.specs.Slits.{two_localities, low_diagonal}

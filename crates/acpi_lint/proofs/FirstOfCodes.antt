@@ -5,7 +5,7 @@ use Rattle.acpi_base.specs.Codes.{code_number, stage_number, stage_of}
 use Rattle.acpi_base.specs.Memory.{Memory}
 use Rattle.acpi_base.specs.Policy.{PolicyValue}
 use Rattle.acpi_base.specs.Faults.{Fault, FaultCondition, NotAfter}
-use Rattle.acpi_base.specs.Lint.FirstOfCode.{IsLeastOfCode}
+use Rattle.acpi_base.specs.FirstOfCode.{IsLeastOfCode}
 use Rattle.acpi_base.specs.declared.code.Code.{Code}
 use Rattle.acpi_base.specs.declared.code.Code.TheVariants as code
 use Rattle.acpi_base.specs.declared.stage.Stage.{Stage}

@@ -7,8 +7,8 @@ use Rattle.std.proofs.lemmas.List.Folds.{list_any_at, list_any_none}
 use Rattle.std.proofs.lemmas.List.Elements.{Contains-get_or}
 use Rattle.std.proofs.lemmas.Option.{cond_some}
 use Rattle.acpi_base.specs.Entries.{PlacedEntry}
-use Rattle.acpi_base.specs.Lint.Numbered.{NamesAt}
-use Rattle.acpi_base.specs.Lint.Processors.{IsParent, IsLeafAt}
+use Rattle.acpi_lint.specs.Rules.Numbered.{NamesAt}
+use Rattle.acpi_lint.specs.Rules.Processors.{IsParent, IsLeafAt}
 use Rattle.acpi_base.specs.Number.{has_bit}
 use Rattle.acpi_base.specs.Pptt.{PpttEntry, Node, Cache, Opaque, NodeValue, PpttContents, parent_of}
 use Rattle.acpi_check.proofs.EntryPasses.Kept.{kept_has, kept_from}

@@ -13,6 +13,7 @@ mod ListedSlots
 mod NamedPlaces
 mod OfSets
 mod OfTables
+mod OneAdvice
 mod OneCodes
 mod PowersOfTwo
 mod Reported

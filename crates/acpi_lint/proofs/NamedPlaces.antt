@@ -9,7 +9,7 @@ use Rattle.acpi_base.specs.Entries.{PlacedEntry, Stands, StandsWith}
 use Rattle.acpi_base.specs.Number.{field}
 use Rattle.acpi_base.specs.Pptt.{PpttEntry, Node, NodeValue, PpttContents, pptt_contents, Says, IsResourceAt, ReferenceFault}
 use Rattle.acpi_base.specs.declared.code.Code.TheVariants as code
-use Rattle.acpi_base.proofs.Images.PresentBytes.{cases_Option}
+use Rattle.acpi_base.proofs.Options.{cases_Option}
 use Rattle.acpi_check.specs.Chains.{named_offset}
 use Rattle.acpi_check.specs.OffsetSets.{IsIn}
 use Rattle.acpi_check.specs.declared.nodes.Chain.{Chain}

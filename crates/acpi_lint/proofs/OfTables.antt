@@ -6,14 +6,14 @@ use Rattle.std.proofs.lemmas.Option.{same_Some}
 use denote.Ref.{Bor}
 use Rattle.acpi_base.specs.Contents.{HasPptt}
 use Rattle.acpi_base.specs.Entries.{PlacedEntry}
-use Rattle.acpi_base.specs.Lint.Numbered.{OnEntry, Repeats}
-use Rattle.acpi_base.specs.Lint.Sets.{OfFadt, OfMadt, OfSrat, OfSlit}
+use Rattle.acpi_lint.specs.Rules.Numbered.{OnEntry, Repeats}
+use Rattle.acpi_lint.specs.Rules.Sets.{OfFadt, OfMadt, OfSrat, OfSlit}
 use Rattle.acpi_base.specs.Listed.{fadt_signature, madt_signature, srat_signature, slit_signature, pptt_signature, HasListed}
 use Rattle.acpi_base.specs.Madt.{MadtEntry, madt_contents}
 use Rattle.acpi_base.specs.Memory.{Memory}
 use Rattle.acpi_base.specs.Policy.{PolicyValue}
 use Rattle.acpi_base.specs.Pptt.{PpttEntry, pptt_contents}
-use Rattle.acpi_base.specs.Lint.SratAdvice.{IsDomainPastSlit}
+use Rattle.acpi_lint.specs.Rules.SratAdvice.{IsDomainPastSlit}
 use Rattle.acpi_base.specs.Slit.{SlitContents, slit_contents, HasSlitSize}
 use Rattle.acpi_base.specs.Srat.{SratEntry, srat_contents}
 use Rattle.acpi_base.specs.declared.table_kind.TableKind.TheVariants as kind

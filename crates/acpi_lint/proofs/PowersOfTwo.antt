@@ -6,7 +6,7 @@ use Rattle.std.proofs.Math.Nat.{pow-suc}
 use Rattle.std.proofs.lemmas.Nat.{zero_from_ones, ones_le_self}
 use lib.Count.{ones_step}
 use Rattle.std.proofs.lemmas.Bool.{cases_eq, eqb-true, eq-eqb}
-use Rattle.acpi_base.specs.Lint.PpttAdvice.{IsPowerOfTwo}
+use Rattle.acpi_lint.specs.Rules.PpttAdvice.{IsPowerOfTwo}
 
 one_bit : (d n : ℕ) → n ≤ d → count_ones n ≡ 1 → IsPowerOfTwo n
 one_bit zero n less one = absurd (omega (arith, less, one, ones_le_self n))

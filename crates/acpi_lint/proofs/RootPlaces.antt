@@ -6,7 +6,7 @@ use Rattle.acpi_base.specs.Memory.{Memory}
 use Rattle.acpi_base.specs.Root.{chosen_root, IsRoot, RootTableFault, RootFault}
 use Rattle.acpi_base.specs.Rsdp.{addresses_at}
 use Rattle.acpi_base.specs.declared.code.Code.{Code}
-use Rattle.acpi_base.proofs.Images.PresentBytes.{cases_Option, none_and_some}
+use Rattle.acpi_base.proofs.Options.{cases_Option, none_and_some}
 use Rattle.acpi_base.proofs.Root.Named.{no_root_and_root, one_root}
 
 pub root_of_read : {m : Memory} {p r d : ℕ}

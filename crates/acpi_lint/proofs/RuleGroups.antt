@@ -2,9 +2,9 @@
 use Rattle.std.proofs.Common.{◌≡◌, ℕ, Result, inl, inr}
 use Rattle.std.specs.Prelude.{◌⊎◌, IfOk, Option}
 use Rattle.acpi_base.specs.Contents.{HasPptt}
-use Rattle.acpi_base.specs.Lint.Numbered.{Repeats}
-use Rattle.acpi_base.specs.Lint.Rules.{IsBroken}
-use Rattle.acpi_base.specs.Lint.Sets.{OfFadt, OfMadt, OfSrat}
+use Rattle.acpi_lint.specs.Rules.Numbered.{Repeats}
+use Rattle.acpi_lint.specs.Rules.Broken.{IsBroken}
+use Rattle.acpi_lint.specs.Rules.Sets.{OfFadt, OfMadt, OfSrat}
 use Rattle.acpi_base.specs.Memory.{Memory}
 use Rattle.acpi_base.specs.Policy.{PolicyValue}
 use Rattle.acpi_base.specs.declared.rule.Rule.{Rule}

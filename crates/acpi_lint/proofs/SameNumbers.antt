@@ -3,7 +3,7 @@
 use Rattle.std.proofs.Common.{◌≡◌, ℕ, ◌<◌, ◌≤◌, List, Option, sym, ◌∙◌, ap, subst, refl, inl, inr, arith}
 use Rattle.std.specs.Prelude.{Contains}
 use Rattle.std.proofs.Math.Nat.{eq-or-lt_of_le}
-use Rattle.acpi_base.specs.Lint.Numbered.{IsLater}
+use Rattle.acpi_lint.specs.Rules.Numbered.{IsLater}
 use Rattle.acpi_lint.specs.Numbered.{IsNoLater, IsUnlikeAt, HasAt}
 use Rattle.acpi_lint.specs.Places.{FindsLeast}
 use Rattle.acpi_lint.specs.declared.numbered.Numbered.{Numbered}

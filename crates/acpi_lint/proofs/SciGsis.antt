@@ -4,7 +4,7 @@ use Rattle.std.specs.Bool.{then_some}
 use Rattle.std.specs.Prelude.{◌↔◌, IsTrue, Bool}
 use Rattle.acpi_base.specs.Across.{IsServed}
 use Rattle.acpi_base.specs.Entries.{Stands, StandsWith}
-use Rattle.acpi_base.specs.Lint.FadtAdvice.{IsOverrideOf, IsFirstOverride, IsGsiOf, IsSciNowhere}
+use Rattle.acpi_lint.specs.Rules.FadtAdvice.{IsOverrideOf, IsFirstOverride, IsGsiOf, IsSciNowhere}
 use Rattle.acpi_base.specs.Madt.{MadtEntry, IoApic, Override, OverrideValue, ServesFrom, MadtContents, madt_entry, madt_contents}
 use Rattle.acpi_base.specs.Number.{field}
 use Rattle.acpi_base.specs.Policy.{PolicyValue}

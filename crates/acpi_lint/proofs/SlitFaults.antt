@@ -5,7 +5,7 @@ use Rattle.std.proofs.lemmas.Bool.{cases_order}
 use Rattle.std.proofs.Math.Nat.{mul-le-mul_left, div-add-mod, div-lt_iff_lt-mul, mod-lt}
 use Rattle.acpi_base.specs.Number.{field}
 use Rattle.acpi_base.specs.Slit.{SlitContents, slit_contents, distance, HasSlitSize, IsCell, SlitFault}
-use Rattle.acpi_base.specs.Lint.SlitAdvice.{IsSlitDiffers}
+use Rattle.acpi_lint.specs.Rules.SlitAdvice.{IsSlitDiffers}
 use Rattle.acpi_base.specs.declared.code.Code.TheVariants as code
 use Rattle.acpi_base.proofs.Slit.{slit_size, slit_count, slit_distance}
 use Rattle.acpi_read.specs.Slits.{HasRows}

@@ -6,8 +6,8 @@ use Rattle.std.specs.Option.{option_and_then}
 use Rattle.std.proofs.Math.Nat.{eq-or-lt_of_le}
 use Rattle.std.proofs.lemmas.Option.{same_Some, cond_some}
 use Rattle.acpi_base.specs.Entries.{Stands}
-use Rattle.acpi_base.specs.Lint.Processors.{is_gicc_affinity, placed_uid, processor_domain}
-use Rattle.acpi_base.specs.Lint.SratAdvice.{PlacesUid, IsTwoUidDomains}
+use Rattle.acpi_lint.specs.Rules.Processors.{is_gicc_affinity, placed_uid, processor_domain}
+use Rattle.acpi_lint.specs.Rules.SratAdvice.{PlacesUid, IsTwoUidDomains}
 use Rattle.acpi_base.specs.Number.{field}
 use Rattle.acpi_base.specs.Srat.{SratEntry, ApicDomain, MemoryRange, X2apicDomain, Opaque, SratContents, srat_entry, srat_contents}
 use Rattle.acpi_base.proofs.EntryOffsets.{AreOnes, one_said}

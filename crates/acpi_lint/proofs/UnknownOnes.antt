@@ -7,8 +7,8 @@ use Rattle.std.proofs.lemmas.List.Elements.{Contains-get_or}
 use Rattle.std.proofs.lemmas.List.{get_or_default}
 use Rattle.std.proofs.lemmas.Option.{none-some, same_Some}
 use Rattle.acpi_base.specs.Entries.{PlacedEntry}
-use Rattle.acpi_base.specs.Lint.Numbered.{NamesAt}
-use Rattle.acpi_base.specs.Lint.Processors.{Processor, is_gicc, apic_id_on, gicc_uid_on, placed_apic_id, placed_uid, AreProcessorsRead}
+use Rattle.acpi_lint.specs.Rules.Numbered.{NamesAt}
+use Rattle.acpi_lint.specs.Rules.Processors.{Processor, is_gicc, apic_id_on, gicc_uid_on, placed_apic_id, placed_uid, AreProcessorsRead}
 use Rattle.acpi_base.specs.Madt as madt
 use Rattle.acpi_base.specs.Number.{field, has_bit}
 use Rattle.acpi_base.specs.Srat as srat

@@ -1,10 +1,10 @@
 -- What the finders that serve several rules of advice look for.
 use Rattle.std.specs.Prelude.{ℕ, List, Option, None}
-use Rattle.acpi_base.specs.Lint.FadtAdvice.{IsFadtOfRevision, IsFacsDiffers, IsDsdtDiffers, IsBlockDiffers}
-use Rattle.acpi_base.specs.Lint.MadtAdvice.{io_apic_id, nonzero_io_apic_address, gicd, IsNmiNowhere, IsNoProcessor}
-use Rattle.acpi_base.specs.Lint.PpttAdvice.{IsSameLeaf, IsSameCacheId, IsNoLeaf, IsLeafNowhere}
-use Rattle.acpi_base.specs.Lint.Processors.{uid_on, apic_id_on}
-use Rattle.acpi_base.specs.Lint.SratAdvice.{IsAffinityNowhere, IsNoDomain}
+use Rattle.acpi_lint.specs.Rules.FadtAdvice.{IsFadtOfRevision, IsFacsDiffers, IsDsdtDiffers, IsBlockDiffers}
+use Rattle.acpi_lint.specs.Rules.MadtAdvice.{io_apic_id, nonzero_io_apic_address, gicd, IsNmiNowhere, IsNoProcessor}
+use Rattle.acpi_lint.specs.Rules.PpttAdvice.{IsSameLeaf, IsSameCacheId, IsNoLeaf, IsLeafNowhere}
+use Rattle.acpi_lint.specs.Rules.Processors.{uid_on, apic_id_on}
+use Rattle.acpi_lint.specs.Rules.SratAdvice.{IsAffinityNowhere, IsNoDomain}
 use Rattle.acpi_base.specs.Madt.{MadtContents, MadtEntry}
 use Rattle.acpi_base.specs.Pptt.{PpttContents}
 use Rattle.acpi_base.specs.Srat.{SratContents}

@@ -1,11 +1,11 @@
 -- Numbers that are read from entries, numbers that are looked up, and those that are unknown.
 use Rattle.std.specs.Prelude.{◌<◌, ◌↔◌, ℕ, List, AllPairs, Contains, Option, option_map, ◌≡◌, ◌⊎◌, Some, None, MatchOption}
 use Rattle.std.specs.Option.{option_and_then}
-use Rattle.acpi_base.specs.Lint.Processors as said
-use Rattle.acpi_base.specs.Lint.Processors.{placed_uid, processor_domain, apic_id_on, gicc_uid_on, placed_apic_id, AreProcessorsRead}
+use Rattle.acpi_lint.specs.Rules.Processors as said
+use Rattle.acpi_lint.specs.Rules.Processors.{placed_uid, processor_domain, apic_id_on, gicc_uid_on, placed_apic_id, AreProcessorsRead}
 use Rattle.acpi_base.specs.Srat.{SratEntry}
 use Rattle.acpi_base.specs.Entries.{PlacedEntry}
-use Rattle.acpi_base.specs.Lint.Numbered.{IsNamed}
+use Rattle.acpi_lint.specs.Rules.Numbered.{IsNamed}
 use Rattle.acpi_base.specs.Madt.{MadtEntry, MadtContents}
 use Rattle.acpi_check.specs.CollectedValues.{Collects}
 use Rattle.acpi_lint.specs.Numbered.{IsUnlikeAt}

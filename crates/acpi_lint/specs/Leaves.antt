@@ -1,8 +1,8 @@
 -- The leaves of a PPTT (ACPI 6.5, 5.2.30.1): by their flags, and as nodes without children.
 use Rattle.std.specs.Prelude.{ℕ, Option, Some, None, List, ◌==◌, if◌then◌else◌}
 use Rattle.std.specs.List.{list_any}
-use Rattle.acpi_base.specs.Lint.Numbered.{NamesAt}
-use Rattle.acpi_base.specs.Lint.Processors.{IsParent}
+use Rattle.acpi_lint.specs.Rules.Numbered.{NamesAt}
+use Rattle.acpi_lint.specs.Rules.Processors.{IsParent}
 use Rattle.acpi_base.specs.Number.{has_bit}
 use Rattle.acpi_base.specs.Pptt.{PpttEntry, Node, PpttContents}
 

@@ -3,12 +3,12 @@ use Rattle.std.specs.Prelude.{◌≡◌, ℕ, List, [], ◌∷◌, Option, Some,
 use Rattle.acpi_base.specs.Order.{AreNotAfter}
 use Rattle.acpi_base.specs.Entries.{PlacedEntry, AreUnused}
 use Rattle.acpi_base.specs.Fadt.{gas_at, FadtTableFault}
-use Rattle.acpi_base.specs.Lint.FadtAdvice.{DoFieldsDiffer}
+use Rattle.acpi_lint.specs.Rules.FadtAdvice.{DoFieldsDiffer}
 use Rattle.acpi_base.specs.declared.code.Code.{Code}
 use Rattle.acpi_base.specs.Facs.{NamedFacsFault}
 use Rattle.acpi_base.specs.Memory.{Memory}
 use Rattle.acpi_base.specs.Slit.{SlitContents, HasSlitSize}
-use Rattle.acpi_base.specs.Lint.SlitAdvice.{IsSlitDiffers}
+use Rattle.acpi_lint.specs.Rules.SlitAdvice.{IsSlitDiffers}
 use Rattle.acpi_read.specs.EntryTables.{EntryTable}
 use Rattle.acpi_lint.specs.declared.place.Place.{Place}
 use Rattle.acpi_lint.specs.declared.passes.SoughtEntry.{SoughtEntry}

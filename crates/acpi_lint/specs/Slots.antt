@@ -2,7 +2,7 @@
 use Rattle.std.specs.Prelude.{◌≡◌, ℕ, ◌<◌, ◌⊎◌, ◌↔◌, ◌==◌, if◌then◌else◌, List, Option, Some, None, IsTrue, MatchOption, AllPairs, Contains}
 use Rattle.std.specs.Option.{option_and_then}
 use Rattle.acpi_base.specs.Facs.{facs_signature}
-use Rattle.acpi_base.specs.Lint.Slots.{dsdt_signature}
+use Rattle.acpi_lint.specs.Rules.Slots.{dsdt_signature}
 use Rattle.acpi_base.specs.Memory.{Memory}
 use Rattle.acpi_base.specs.Root.{IsSlot}
 use Rattle.acpi_base.specs.TableKinds.{signature_of}

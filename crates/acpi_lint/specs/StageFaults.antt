@@ -3,8 +3,8 @@ use Rattle.std.specs.Prelude.{◌≡◌, ⊤, Option, Some, None, Result, Ok, Er
 use Rattle.acpi_base.specs.Memory.{Memory}
 use Rattle.acpi_base.specs.Policy.{PolicyValue}
 use Rattle.acpi_base.specs.Faults.{FaultCondition}
-use Rattle.acpi_base.specs.Lint.Advice.{IsFirstAdvice}
-use Rattle.acpi_base.specs.Lint.FirstOfCode.{FindsFirstOfCode}
+use Rattle.acpi_lint.specs.Rules.Advice.{IsFirstAdvice}
+use Rattle.acpi_base.specs.FirstOfCode.{FindsFirstOfCode}
 use Rattle.acpi_base.specs.declared.rule.Advice.{Advice}
 use Rattle.acpi_base.specs.declared.rule.Rule.{Rule}
 use Rattle.acpi_base.specs.declared.code.Code.{Code}

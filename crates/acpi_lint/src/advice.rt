@@ -1,8 +1,8 @@
 //! The first finding of each rule of advice.
 
 ghost use Rattle.std.specs.Prelude.{IfOk};
-ghost use Rattle.acpi_base.specs.Lint.Rules.{IsBroken};
-ghost use Rattle.acpi_base.specs.Lint.Findings.{AreFirstAdvice};
+ghost use Rattle.acpi_lint.specs.Rules.Broken.{IsBroken};
+ghost use Rattle.acpi_lint.specs.Rules.Findings.{AreFirstAdvice};
 ghost use Rattle.acpi_base.specs.Memory.{Memory};
 ghost use Rattle.acpi_base.specs.Policy.{PolicyValue};
 ghost use Rattle.acpi_base.specs.declared.rule.Rule.{Rule};

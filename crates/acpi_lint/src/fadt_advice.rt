@@ -1,7 +1,7 @@
 //! Advice on a FADT of at least 116 bytes (ACPI 6.5, 5.2.9): fields that disagree, and fields that are missing.
 
 ghost use Rattle.std.specs.Prelude.{◌≡◌, ◌≤◌, ◌<◌, ◌+◌, ◌*◌, ◌↔◌, IsTrue, length};
-ghost use Rattle.acpi_base.specs.Lint.FadtAdvice.{fields_length, IsFadtOfRevision, IsFacsDiffers, IsDsdtDiffers, IsBlockDiffers};
+ghost use Rattle.acpi_lint.specs.Rules.FadtAdvice.{fields_length, IsFadtOfRevision, IsFacsDiffers, IsDsdtDiffers, IsBlockDiffers};
 ghost use Rattle.acpi_lint.specs.Advice.{IsFadtBroken};
 ghost use Rattle.acpi_lint.specs.Places.{AreTwoFields, IsBlock, FindsLeast};
 

@@ -1,8 +1,7 @@
 //! The first fault of each code.
 
 ghost use Rattle.std.specs.Prelude.{IfOk};
-ghost use Rattle.acpi_base.specs.Lint.Findings.{AreFirstFaults};
-ghost use Rattle.acpi_base.specs.Lint.FirstOfCode.{FindsFirstOfCode};
+ghost use Rattle.acpi_base.specs.FirstOfCode.{AreFirstFaults, FindsFirstOfCode};
 ghost use Rattle.acpi_lint.specs.StageFaults.{FindsFirstAt};
 ghost use Rattle.acpi_lint.specs.CompleteTables.{AreCompleteTables};
 

@@ -1,7 +1,7 @@
 //! All findings at once.
 
 ghost use Rattle.std.specs.Prelude.{IfOk};
-ghost use Rattle.acpi_base.specs.Lint.Findings.{AreFindings};
+ghost use Rattle.acpi_lint.specs.Rules.Findings.{AreFindings};
 
 use crate::advice::first_advice;
 use crate::complete_tables::CompleteTables;

@@ -4,8 +4,8 @@
 ghost use Rattle.std.specs.Prelude.{◌≡◌, ◌≤◌, ◌↔◌, ℕ, length, map, IfOk, IsSome, IsTrue};
 ghost use denote.Ref.{Bor};
 ghost use Rattle.acpi_base.specs.Entries.{StandsWith, entries_read_by};
-ghost use Rattle.acpi_base.specs.Lint.Numbered.{IsNamed};
-ghost use Rattle.acpi_base.specs.Lint.Processors.{apic_id_of, uid_of, uid_on, placed_apic_id, placed_uid, processor_domain, IsGicc, IsOtherProcessor, AreProcessorsRead, IsLeafId};
+ghost use Rattle.acpi_lint.specs.Rules.Numbered.{IsNamed};
+ghost use Rattle.acpi_lint.specs.Rules.Processors.{apic_id_of, uid_of, uid_on, placed_apic_id, placed_uid, processor_domain, IsGicc, IsOtherProcessor, AreProcessorsRead, IsLeafId};
 ghost use Rattle.acpi_base.specs.Madt.{madt_contents};
 ghost use Rattle.acpi_base.specs.Madt as madts;
 ghost use Rattle.acpi_base.specs.Pptt.{pptt_contents};

@@ -1,8 +1,8 @@
 //! The leaves of a PPTT.
 
 ghost use Rattle.std.specs.Prelude.{◌≡◌, ◌<◌, ◌↔◌, ℕ, AllPairs, Contains, IfOk, option_map};
-ghost use Rattle.acpi_base.specs.Lint.Numbered.{NamesAt};
-ghost use Rattle.acpi_base.specs.Lint.Processors.{IsLeafAt, IsParent};
+ghost use Rattle.acpi_lint.specs.Rules.Numbered.{NamesAt};
+ghost use Rattle.acpi_lint.specs.Rules.Processors.{IsLeafAt, IsParent};
 ghost use Rattle.acpi_base.specs.Pptt.{pptt_contents, parent_of};
 ghost use Rattle.acpi_read.specs.Pptts.{pptt_value};
 ghost use Rattle.acpi_lint.specs.Leaves.{valid_id, said_leaf_id, unnamed_id, IsUnnamedAt};

@@ -41,6 +41,7 @@ mod faults;
 mod findings;
 mod first_slots;
 mod known_numbers;
+pub mod laws;
 mod leaves;
 mod listed_slots;
 mod nowhere;

@@ -3,10 +3,10 @@
 //! the MADT is tested last, since there is mostly nothing to report.
 
 ghost use Rattle.std.specs.Prelude.{◌<◌, AllPairs, IfOk};
-ghost use Rattle.acpi_base.specs.Lint.MadtAdvice.{nmi_uid, IsNmiNowhere, IsNoProcessor};
-ghost use Rattle.acpi_base.specs.Lint.PpttAdvice.{IsNoLeaf, IsLeafNowhere};
-ghost use Rattle.acpi_base.specs.Lint.Processors.{uid_on};
-ghost use Rattle.acpi_base.specs.Lint.SratAdvice.{IsAffinityNowhere, IsNoDomain};
+ghost use Rattle.acpi_lint.specs.Rules.MadtAdvice.{nmi_uid, IsNmiNowhere, IsNoProcessor};
+ghost use Rattle.acpi_lint.specs.Rules.PpttAdvice.{IsNoLeaf, IsLeafNowhere};
+ghost use Rattle.acpi_lint.specs.Rules.Processors.{uid_on};
+ghost use Rattle.acpi_lint.specs.Rules.SratAdvice.{IsAffinityNowhere, IsNoDomain};
 ghost use Rattle.acpi_base.specs.Madt.{madt_contents};
 ghost use Rattle.acpi_base.specs.Pptt.{pptt_contents};
 ghost use Rattle.acpi_base.specs.Srat.{srat_contents};

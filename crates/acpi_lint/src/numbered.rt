@@ -3,7 +3,7 @@
 ghost use Rattle.std.specs.Prelude.{◌≡◌, ◌⊎◌, AllPairs, Contains, IfOk, IfSome, OnOk, Some};
 ghost use Rattle.std.specs.List.Sorted.{IsPermutation};
 ghost use Rattle.std.specs.Option.{option_map};
-ghost use Rattle.acpi_base.specs.Lint.Numbered.{IsLater};
+ghost use Rattle.acpi_lint.specs.Rules.Numbered.{IsLater};
 ghost use Rattle.acpi_lint.specs.Numbered.{IsNotAbove, IsUnlikeAt, HasAt, at_place, unlike_place};
 ghost use Rattle.acpi_lint.specs.Places.{FindsLeast, IsNotAfter};
 

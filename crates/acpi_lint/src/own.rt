@@ -3,11 +3,11 @@
 ghost use Rattle.std.specs.Prelude.{◌≡◌, ◌<◌, ◌≤◌, ◌↔◌, length, ℕ, Option, IsTrue, MatchOption};
 ghost use denote.Ref.{Bor};
 ghost use Rattle.acpi_base.specs.Entries.{entries_read_by};
-ghost use Rattle.acpi_base.specs.Lint.MadtAdvice as madt_advice;
-ghost use Rattle.acpi_base.specs.Lint.MadtAdvice.{IsIoApicAtZero, IsMadtUnread};
-ghost use Rattle.acpi_base.specs.Lint.PpttAdvice.{IsPowerOfTwo, HasOddShape, IsCacheShape};
-ghost use Rattle.acpi_base.specs.Lint.SratAdvice as srat_advice;
-ghost use Rattle.acpi_base.specs.Lint.SratAdvice.{IsDomainPastSlit, IsSratUnread};
+ghost use Rattle.acpi_lint.specs.Rules.MadtAdvice as madt_advice;
+ghost use Rattle.acpi_lint.specs.Rules.MadtAdvice.{IsIoApicAtZero, IsMadtUnread};
+ghost use Rattle.acpi_lint.specs.Rules.PpttAdvice.{IsPowerOfTwo, HasOddShape, IsCacheShape};
+ghost use Rattle.acpi_lint.specs.Rules.SratAdvice as srat_advice;
+ghost use Rattle.acpi_lint.specs.Rules.SratAdvice.{IsDomainPastSlit, IsSratUnread};
 ghost use Rattle.acpi_base.specs.Pptt.{Cache, CacheValue};
 ghost use Rattle.acpi_read.specs.Madts as madts;
 ghost use Rattle.acpi_read.specs.Madts.{madt_value};

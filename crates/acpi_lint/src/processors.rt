@@ -2,9 +2,9 @@
 
 ghost use Rattle.std.specs.Prelude.{◌≡◌, ◌<◌, ◌≤◌, ◌||◌, length, IsTrue};
 ghost use Rattle.std.specs.Option.{option_map};
-ghost use Rattle.acpi_base.specs.Lint.MadtAdvice.{io_apic_address, io_apic_id, nonzero_io_apic_address, nmi_uid, gicd};
-ghost use Rattle.acpi_base.specs.Lint.PpttAdvice.{cache_id};
-ghost use Rattle.acpi_base.specs.Lint.Processors.{is_gicc, processor_of, uid_of, uid_on, apic_id_of, apic_id_on, gicc_uid_on, is_gicc_affinity, placed_apic_id, placed_uid, processor_domain, any_domain};
+ghost use Rattle.acpi_lint.specs.Rules.MadtAdvice.{io_apic_address, io_apic_id, nonzero_io_apic_address, nmi_uid, gicd};
+ghost use Rattle.acpi_lint.specs.Rules.PpttAdvice.{cache_id};
+ghost use Rattle.acpi_lint.specs.Rules.Processors.{is_gicc, processor_of, uid_of, uid_on, apic_id_of, apic_id_on, gicc_uid_on, is_gicc_affinity, placed_apic_id, placed_uid, processor_domain, any_domain};
 ghost use Rattle.acpi_base.specs.Number.{has_bit};
 ghost use Rattle.acpi_read.specs.Madts.{madt_value};
 ghost use Rattle.acpi_read.specs.Pptts.{pptt_value};

@@ -3,8 +3,8 @@
 ghost use Rattle.std.specs.Prelude.{◌≡◌, IfOk, MatchOption, option_map};
 ghost use denote.Ref.{Bor};
 ghost use Rattle.acpi_base.specs.Entries.{entries_read_by};
-ghost use Rattle.acpi_base.specs.Lint.PpttAdvice.{cache_id, IsSameCacheId, IsSameLeaf};
-ghost use Rattle.acpi_base.specs.Lint.SratAdvice.{IsTwoUidDomains};
+ghost use Rattle.acpi_lint.specs.Rules.PpttAdvice.{cache_id, IsSameCacheId, IsSameLeaf};
+ghost use Rattle.acpi_lint.specs.Rules.SratAdvice.{IsTwoUidDomains};
 ghost use Rattle.acpi_base.specs.Pptt.{pptt_contents};
 ghost use Rattle.acpi_base.specs.Srat.{srat_contents};
 ghost use Rattle.acpi_read.specs.Madts.{madt_value};

@@ -2,7 +2,7 @@
 
 ghost use Rattle.std.specs.Prelude.{◌≡◌, ◌↔◌, ℕ, IsSome, IsTrue};
 ghost use Rattle.acpi_base.specs.Across.{HasIoApic, IsIoApic, IsServed};
-ghost use Rattle.acpi_base.specs.Lint.FadtAdvice.{IsGsiOf, IsSciNowhere};
+ghost use Rattle.acpi_lint.specs.Rules.FadtAdvice.{IsGsiOf, IsSciNowhere};
 ghost use Rattle.acpi_base.specs.Madt.{madt_contents};
 ghost use Rattle.acpi_read.specs.Madts.{madt_value};
 ghost use Rattle.acpi_read.specs.Entries.{entry_at_value};

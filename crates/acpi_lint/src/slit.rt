@@ -2,7 +2,7 @@
 
 ghost use Rattle.std.specs.Prelude.{◌<◌, MatchOption};
 ghost use Rattle.acpi_base.specs.Slit.{slit_contents, HasSlitSize, SlitFault};
-ghost use Rattle.acpi_base.specs.Lint.SlitAdvice.{IsSlitDiffers};
+ghost use Rattle.acpi_lint.specs.Rules.SlitAdvice.{IsSlitDiffers};
 ghost use Rattle.acpi_base.specs.declared.code.Code.{Code};
 ghost use Rattle.acpi_read.specs.Slits.{HasRows};
 ghost use Rattle.acpi_lint.specs.Places.{FindsLeast, IsRowDiffers, IsSizedDiffers};

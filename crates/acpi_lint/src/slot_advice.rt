@@ -2,7 +2,7 @@
 //! 5.2.8).
 
 ghost use Rattle.std.specs.Prelude.{◌≡◌, ℕ, map, IfOk};
-ghost use Rattle.acpi_base.specs.Lint.Slots.{IsListedTwice, IsSecondTable, IsListedApart};
+ghost use Rattle.acpi_lint.specs.Rules.Slots.{IsListedTwice, IsSecondTable, IsListedApart};
 ghost use Rattle.acpi_base.specs.Memory.{Memory};
 ghost use Rattle.acpi_lint.specs.Places.{FindsLeast};
 ghost use Rattle.acpi_lint.specs.Slots.{numbered_slot, second_place};

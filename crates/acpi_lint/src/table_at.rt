@@ -3,7 +3,7 @@
 ghost use Rattle.std.specs.Prelude.{◌≡◌, ◌↔◌, ◌⊎◌, IsTrue, Some, true, length};
 ghost use Rattle.acpi_base.specs.Facs.{facs_signature};
 ghost use Rattle.acpi_base.specs.Image.Runs.{AreBytesFrom};
-ghost use Rattle.acpi_base.specs.Lint.Slots.{dsdt_signature};
+ghost use Rattle.acpi_lint.specs.Rules.Slots.{dsdt_signature};
 ghost use Rattle.acpi_base.specs.Memory.{bytes_at};
 ghost use Rattle.acpi_base.specs.Signature.{has_signature};
 ghost use Rattle.acpi_base.specs.Tables.{TableFault};

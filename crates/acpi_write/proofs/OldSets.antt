@@ -2,6 +2,6 @@
 pub mod CleanSets
 pub mod FirstListed
 pub mod FirstTables
+pub mod LaterValues
 pub mod Listing
 pub mod OldTables
-pub mod ValuesBehind

@@ -7,7 +7,7 @@ ghost use Rattle.acpi_base.specs.Header.{header_of, head_of};
 ghost use Rattle.acpi_base.specs.Listed.{listed_addresses};
 ghost use Rattle.acpi_base.specs.Number.{byte_sum};
 ghost use Rattle.acpi_base.specs.declared.table_kind.TableKind.{TableKind};
-ghost use Rattle.acpi_check.specs.HandedOn.{IsListedSet};
+ghost use Rattle.acpi_check.specs.StageSets.{IsListedSet};
 ghost use Rattle.acpi_read.specs.Entries.{IsFilledMadt, IsFilledSrat, IsFilledPptt};
 ghost use Rattle.acpi_read.specs.Structures.{header_value};
 ghost use Rattle.acpi_write.specs.Bodies.{entries_in, IsReadableAs};

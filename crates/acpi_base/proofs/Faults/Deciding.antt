@@ -3,7 +3,7 @@ use Rattle.std.proofs.Common.{◌≡◌, ℕ, ◌<◌, ◌≤◌, Option, Some, 
 use Rattle.std.proofs.lemmas.Option.{none-some, same_Some}
 use Rattle.std.specs.Prelude.{◌⊎◌, ◌≢◌, Bool, true, false}
 use Rattle.std.proofs.lemmas.Bool.{cases_lt, cases_eq, cases_Bool, both_ways}
-use Rattle.acpi_base.proofs.Images.PresentBytes.{cases_Option, none_and_some, same_value}
+use Rattle.acpi_base.proofs.Options.{cases_Option, none_and_some, same_value}
 
 -- P holds or does not
 abbrev pub Decided : Type 0 → Type 0

@@ -5,14 +5,14 @@ use Rattle.std.specs.List.{slice_get}
 use Rattle.std.proofs.lemmas.Bool.{cases_eq}
 use Rattle.std.proofs.lemmas.Option.{same_Some}
 use Rattle.acpi_base.specs.Codes.{all_codes, code_number, stage_number}
-use Rattle.acpi_base.specs.Lint.Rules.{all_rules, rule_number}
+use Rattle.acpi_base.specs.Rules.{all_rules, rule_number}
 use Rattle.acpi_base.specs.declared.code.Code.{Code}
 use Rattle.acpi_base.specs.declared.code.Code.TheVariants as code
 use Rattle.acpi_base.specs.declared.rule.Rule.{Rule}
 use Rattle.acpi_base.specs.declared.rule.Rule.TheVariants as rule
 use Rattle.acpi_base.specs.declared.stage.Stage.{Stage}
 use Rattle.acpi_base.specs.declared.stage.Stage.TheVariants as stage
-use Rattle.acpi_base.proofs.Images.PresentBytes.{cases_Option, none_and_some}
+use Rattle.acpi_base.proofs.Options.{cases_Option, none_and_some}
 
 -- the codes by their numbers; at 0, which is no code's number, is the first code
 abbrev pub codes_by_number : List Code

@@ -8,16 +8,6 @@ use Rattle.acpi_base.specs.Memory.{Memory, IsImage, byte_of, bytes_at, run_of}
 use Rattle.acpi_base.specs.Number.{field}
 use Rattle.acpi_base.proofs.Images.ByteRuns.{run_of-split, run_of-count}
 
-pub cases_Option : {X : Type 0} (o : Option X) → ((x : X) × (o ≡ Some x)) ⊎ (o ≡ None)
-cases_Option (Some x) = inl (x, refl)
-cases_Option None = inr refl
-
-pub none_and_some : {X : Type 0} {o : Option X} {x : X} → o ≡ None → o ≡ Some x → ⊥
-none_and_some {x = x} none some = none-some x (sym none ∙ some)
-
-pub same_value : {X : Type 0} {o : Option X} (x y : X) → o ≡ Some x → o ≡ Some y → x ≡ y
-same_value x y e f = same_Some x y (sym e ∙ f)
-
 pub length-bytes_at : (m : Memory) (a n : ℕ) (bytes : List ℕ) → bytes_at m a n ≡ Some bytes → length bytes ≡ n
 length-bytes_at m a n bytes e = run_of-count (byte_of m) a n bytes e
 

@@ -10,7 +10,7 @@ use Rattle.acpi_base.specs.declared.code.Code.{Code}
 use Rattle.acpi_base.specs.declared.code.Code.TheVariants as code
 use Rattle.acpi_base.specs.declared.stage.Stage.TheVariants as stage
 use Rattle.acpi_base.proofs.Faults.Deciding.{Decided, both, all3, all4, either, same, below, differs, is_some_number, not_below, not_other}
-use Rattle.acpi_base.proofs.Images.PresentBytes.{cases_Option, none_and_some}
+use Rattle.acpi_base.proofs.Options.{cases_Option, none_and_some}
 use Rattle.acpi_base.proofs.EntryOffsets.{AreOnes, cut_inside, one_said, said_inside, stands_with_decided, type_decided, unused_decided}
 
 -- ---- the entries

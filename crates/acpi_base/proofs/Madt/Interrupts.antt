@@ -11,7 +11,8 @@ use Rattle.acpi_base.specs.declared.code.Code.TheVariants as code
 use Rattle.acpi_base.proofs.Overlaps as clashes
 use Rattle.acpi_base.proofs.Overlaps.{AreFiniteRanges, ranges_of_entries, apart_or_first}
 use Rattle.acpi_base.proofs.Faults.Deciding.{Decided, all3, same, below, at_most}
-use Rattle.acpi_base.proofs.Images.PresentBytes.{cases_Option, field_below}
+use Rattle.acpi_base.proofs.Options.{cases_Option}
+use Rattle.acpi_base.proofs.Images.PresentBytes.{field_below}
 use Rattle.acpi_base.proofs.Madt.Faults.{ones, inside}
 use Rattle.acpi_base.proofs.EntryOffsets.{said_with}
 

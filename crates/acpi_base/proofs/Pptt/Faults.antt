@@ -13,7 +13,7 @@ use Rattle.acpi_base.specs.declared.code.Code.TheVariants as code
 use Rattle.acpi_base.specs.declared.stage.Stage.TheVariants as stage
 use Rattle.acpi_base.proofs.Chains.{IsNaming, names_decided}
 use Rattle.acpi_base.proofs.Faults.Deciding.{Decided, decided_as, both, all3, same, differs, at_most, negated, is_some_number}
-use Rattle.acpi_base.proofs.Images.PresentBytes.{cases_Option, none_and_some}
+use Rattle.acpi_base.proofs.Options.{cases_Option, none_and_some}
 use Rattle.acpi_base.proofs.Pptt.Places.{inside, resource_decided, naming}
 use Rattle.acpi_base.proofs.EntryOffsets.{cut_inside, entries_bounded, stands_with_decided}
 

@@ -12,7 +12,7 @@ use Rattle.acpi_base.specs.declared.code.Code.{Code}
 use Rattle.acpi_base.specs.declared.code.Code.TheVariants as code
 use Rattle.acpi_base.specs.declared.frame.Question.TheVariants as question
 use Rattle.acpi_base.specs.declared.stage.Stage.TheVariants as stage
-use Rattle.acpi_base.proofs.Images.PresentBytes.{same_value}
+use Rattle.acpi_base.proofs.Options.{same_value}
 use Rattle.acpi_base.proofs.Faults.Deciding.{Decided, decided_as, both, same, at_most, differs, is_some_with, not_other, not_false}
 use Rattle.acpi_base.proofs.Faults.Numbers.{same_code}
 use Rattle.acpi_base.proofs.Root.Named.{one_root, root_or_none, no_root_and_root, root_fits}

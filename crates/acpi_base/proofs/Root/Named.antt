@@ -6,7 +6,7 @@ use Rattle.std.proofs.lemmas.Option.{same_Some}
 use Rattle.acpi_base.specs.Memory.{Memory, IsImage}
 use Rattle.acpi_base.specs.Rsdp.{Addresses, addresses_at}
 use Rattle.acpi_base.specs.Root.{chosen_root, IsRoot, HasNoRoot, IsRootTable, IsSlotWidth}
-use Rattle.acpi_base.proofs.Images.PresentBytes.{cases_Option, none_and_some, same_value}
+use Rattle.acpi_base.proofs.Options.{cases_Option, none_and_some, same_value}
 use Rattle.acpi_base.proofs.Rsdp.Naming.{named_fit}
 use Rattle.acpi_base.proofs.Frames.{one_frame}
 

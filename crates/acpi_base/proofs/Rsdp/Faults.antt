@@ -10,7 +10,7 @@ use Rattle.acpi_base.specs.declared.code.Code.{Code}
 use Rattle.acpi_base.specs.declared.code.Code.TheVariants as code
 use Rattle.acpi_base.specs.declared.frame.Question.TheVariants as question
 use Rattle.acpi_base.specs.declared.stage.Stage.TheVariants as stage
-use Rattle.acpi_base.proofs.Images.PresentBytes.{none_and_some, same_value}
+use Rattle.acpi_base.proofs.Options.{none_and_some, same_value}
 use Rattle.acpi_base.proofs.Faults.Deciding.{Decided, both, at_most, differs, is_false, is_none, is_some_with, not_other, not_false, not_none}
 use Rattle.acpi_base.proofs.Frames as frame
 use Rattle.acpi_base.proofs.Frames.{stands_wrong}

@@ -7,7 +7,8 @@ use Rattle.acpi_base.specs.Memory.{Memory, IsImage, bytes_at}
 use Rattle.acpi_base.specs.Rsdp.{Addresses, addresses_at, revision_of, short_addresses, extended_addresses, extended_frame, IsValidRsdp}
 use Rattle.acpi_base.specs.Frames.{IsFrame}
 use Rattle.acpi_base.proofs.Frames.{header_field}
-use Rattle.acpi_base.proofs.Images.PresentBytes.{cases_Option, present_field_below}
+use Rattle.acpi_base.proofs.Options.{cases_Option}
+use Rattle.acpi_base.proofs.Images.PresentBytes.{present_field_below}
 
 pub how_read : (m : Memory) (p : ℕ) (named : Addresses) → addresses_at m p ≡ Some named
     → ((head : List ℕ) × (bytes_at m p 20 ≡ Some head) × (named ≡ short_addresses head))

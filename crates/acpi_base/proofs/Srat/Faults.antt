@@ -7,7 +7,7 @@ use Rattle.acpi_base.specs.declared.code.Code.{Code}
 use Rattle.acpi_base.specs.declared.code.Code.TheVariants as code
 use Rattle.acpi_base.specs.declared.stage.Stage.TheVariants as stage
 use Rattle.acpi_base.proofs.Faults.Deciding.{Decided, both, all3, same, below, is_true, is_some_number, not_below}
-use Rattle.acpi_base.proofs.Images.PresentBytes.{cases_Option, none_and_some}
+use Rattle.acpi_base.proofs.Options.{cases_Option, none_and_some}
 use Rattle.acpi_base.proofs.EntryOffsets.{cut_inside, said_inside, stands_with_decided, type_decided, unused_decided}
 
 -- ---- an entry by itself

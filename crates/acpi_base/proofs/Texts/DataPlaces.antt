@@ -6,10 +6,7 @@ use Rattle.std.specs.Option.{option_map}
 use Rattle.std.specs.List.{Contains}
 use Rattle.acpi_base.specs.Text.ImageText.{Line, Blank, Address, Data, Bad}
 use Rattle.acpi_base.specs.Text.TextMeaning.{data_of, all_data, IsDataByteAt}
-
--- the first bytes are at an address and the following ones, and the rest as `later` says
-abbrev pub first_then : Option ℕ → ℕ → (ℕ → Option ℕ) → ℕ → Option ℕ
-first_then next count later n = if nat_lt n count then option_map (λ a. a + n) next else later (n - count)
+use Rattle.acpi_base.proofs.Images.DataImages.{first_then, first_here, first_later, first_cases}
 
 -- the address of byte n of the lines' data, if it has one; `next` is the next address before them
 abbrev pub place_of : Option ℕ → List Line → ℕ → Option ℕ
@@ -19,20 +16,6 @@ place_of next (Address address ∷ rest) n = place_of (Some address) rest n
 place_of next (Data bytes ∷ rest) n =
     first_then next (length bytes) (place_of (option_map (λ a. a + length bytes) next) rest) n
 place_of next (Bad ∷ rest) n = place_of next rest n
-
-pub first_here : (next : Option ℕ) (count : ℕ) (later : ℕ → Option ℕ) (n : ℕ) → n < count
-    → first_then next count later n ≡ option_map (λ a. a + n) next
-first_here next count later n h = rw (lt-ltb n count h) refl
-
-pub first_later : (next : Option ℕ) (count : ℕ) (later : ℕ → Option ℕ) (n : ℕ)
-    → first_then next count later (count + n) ≡ later n
-first_later next count later n = let q : count + n - count ≡ n = omega arith in
-    rw (le-ltb (count + n) count (omega arith), q) refl
-
-pub first_cases : (next : Option ℕ) (count : ℕ) (later : ℕ → Option ℕ) (n x : ℕ)
-    → first_then next count later n ≡ Some x
-    → ((n < count) × (option_map (λ a. a + n) next ≡ Some x)) ⊎ ((k : ℕ) × (n ≡ count + k) × (later k ≡ Some x))
-first_cases next count later n x e = grind (arith, cases_lt, first_here, first_later)
 
 -- ---- from the parts of a text to the place
 

@@ -13,16 +13,12 @@ use Rattle.acpi_base.specs.Image.Adding.{add_refusal}
 use Rattle.acpi_base.specs.Text.ImageText.{Line, Blank, Address, Data, Bad, Reading, start, on_ok, max_line, max_text, is_too_long, data_fault, put_data, take_line, line_of, read_line, read_lines, ended_lines_from, last_line_from, ended_lines, last_line, read_text, IsText, IsRefused}
 use Rattle.acpi_base.specs.declared.text.TextFault.{TextFault}
 use Rattle.acpi_base.specs.Text.TextMeaning.{text_lines, parsed_lines, all_data, IsGoodText}
+use Rattle.acpi_base.proofs.Options.{same_options, a_value}
 use Rattle.acpi_base.proofs.Images.RunMemory.{same_memory}
 use Rattle.acpi_base.proofs.Texts.LineParsing.{data_some}
 use Rattle.acpi_base.proofs.Texts.ByteMachine.{take_line_keeps}
-use Rattle.acpi_base.proofs.Texts.DataPlaces.{place_of, first_here, stands_is_place}
-use Rattle.acpi_base.proofs.Texts.DataImages.{Given, Makes, data_more, data_less, taken, not_refused}
-
-pub same_options : (o p : Option ℕ) → ((b : ℕ) → (o ≡ Some b) ↔ (p ≡ Some b)) → o ≡ p
-same_options None None h = refl
-same_options None (Some b) h = (h b).1 refl
-same_options (Some b) p h = sym ((h b).0 refl)
+use Rattle.acpi_base.proofs.Texts.DataPlaces.{place_of, stands_is_place}
+use Rattle.acpi_base.proofs.Images.DataImages.{Given, Makes, first_here, data_more, data_less, taken, not_refused}
 
 none_given : (m : Memory) (a b : ℕ) → Given (λ n. None) [] m a b → byte_of m a ≡ Some b
 none_given m a b (inl e) = e
@@ -203,10 +199,6 @@ valid_lines (line ∷ lines) good = (
 )
 
 -- ---- reading gives what the text means
-
-pub a_value : (o : Option ℕ) → IsSome o → (a : ℕ) × (o ≡ Some a)
-a_value None h = absurd (cc)
-a_value (Some a) h = (a, refl)
 
 -- the image is empty before the text
 given_first : (place : ℕ → Option ℕ) (bytes : List ℕ) (a b : ℕ) → Given place bytes (empty {R = nat_cmp}) a b

@@ -3,7 +3,7 @@ use Rattle.std.specs.Prelude.{◌≡◌, ℕ, Bool, not, ◌==◌, List, ◌∷�
 use Rattle.std.specs.List.{list_all}
 use Rattle.std.specs.Fmt.{digits}
 use Rattle.acpi_base.specs.Codes.{stage_number, code_name, stage_of}
-use Rattle.acpi_base.specs.Lint.Rules.{rule_name}
+use Rattle.acpi_base.specs.Rules.{rule_name}
 use Rattle.acpi_base.specs.declared.code.Code.{Code}
 use Rattle.acpi_base.specs.declared.rule.Advice.{Advice}
 use Rattle.acpi_base.specs.declared.witness.Witness.{Witness}

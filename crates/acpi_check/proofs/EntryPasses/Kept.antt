@@ -12,7 +12,7 @@ use Rattle.acpi_base.specs.Entries.{PlacedEntry, first_entry, entries_from, entr
 use Rattle.acpi_base.specs.Madt.{MadtEntry, madt_entry, madt_contents}
 use Rattle.acpi_base.specs.Srat.{SratEntry, srat_entry, srat_contents}
 use Rattle.acpi_base.specs.Pptt.{pptt_entry, pptt_contents}
-use Rattle.acpi_base.proofs.Images.PresentBytes.{cases_Option}
+use Rattle.acpi_base.proofs.Options.{cases_Option}
 use Rattle.acpi_base.proofs.Elements.{first_element, later_element, first_or_later, no_element}
 use Rattle.acpi_base.proofs.EntryOffsets.{entry_within, said_from}
 

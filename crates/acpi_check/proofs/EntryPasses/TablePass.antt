@@ -14,7 +14,7 @@ use Rattle.acpi_base.proofs.Elements.{first_element, later_element}
 use Rattle.acpi_base.proofs.Entries.{none_in_short}
 use Rattle.acpi_base.proofs.Faults.Numbers.{same_code}
 use Rattle.acpi_base.proofs.Faults.Order.{not_after}
-use Rattle.acpi_base.proofs.Images.PresentBytes.{none_and_some, same_value}
+use Rattle.acpi_base.proofs.Options.{none_and_some, same_value}
 use Rattle.acpi_read.specs.EntryTables.{EntryTable, entries_in, IsAbout, AreFaults, is_code, subject_of}
 use Rattle.acpi_read.specs.declared.entry_codes.EntryCodes.{EntryCodes}
 use Rattle.acpi_read.specs.declared.entry_codes.Subject.{Subject}

@@ -10,7 +10,7 @@ use Rattle.acpi_base.specs.Faults.{NotAfter}
 use Rattle.acpi_base.specs.declared.code.Code.{Code}
 use Rattle.acpi_base.proofs.Chains.{IsNumbered, pigeonhole, cycle_begins}
 use Rattle.acpi_base.proofs.Faults.Least.{witness}
-use Rattle.acpi_base.proofs.Images.PresentBytes.{cases_Option}
+use Rattle.acpi_base.proofs.Options.{cases_Option}
 use Rattle.acpi_graph.specs.Parents as graph
 use Rattle.acpi_graph.specs.Parents.{AreNodes, parent_of, node_after, Returns, IsFirstStray, IfRound}
 use Rattle.acpi_graph.specs.declared.stray.Stray.{Stray}

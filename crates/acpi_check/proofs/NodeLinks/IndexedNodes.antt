@@ -7,7 +7,7 @@ use Rattle.std.proofs.lemmas.List.{length-map, get_or-map}
 use Rattle.std.proofs.lemmas.Option.{none-some, same_Some, slice_get-get_or}
 use Rattle.acpi_base.specs.Chains.{IsAt}
 use Rattle.acpi_base.specs.Entries.{PlacedEntry, Stands}
-use Rattle.acpi_base.proofs.Images.PresentBytes.{cases_Option}
+use Rattle.acpi_base.proofs.Options.{cases_Option}
 use Rattle.acpi_base.proofs.Elements.{element_of_map}
 use Rattle.acpi_graph.specs.Parents.{parent_of}
 use Rattle.acpi_check.specs.ChainIndices.{IsIndexOf, AreIndexed, ChainNode, nodes_of, node_offsets, AreParents}

@@ -1,6 +1,6 @@
 //! The lines of the RSDP, of the root, and of its slots.
 
-ghost use Rattle.acpi_check.specs.HandedOn.{IsListedSet};
+ghost use Rattle.acpi_check.specs.StageSets.{IsListedSet};
 
 use crate::show::fields::{add_decimal, add_hex};
 use acpi_check::ListedSet;

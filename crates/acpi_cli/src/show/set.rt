@@ -1,6 +1,6 @@
 //! All lines of a set.
 
-ghost use Rattle.acpi_check.specs.HandedOn.{IsListedSet};
+ghost use Rattle.acpi_check.specs.StageSets.{IsListedSet};
 
 use crate::show::fadt::add_fadt;
 use crate::show::madt::add_madt;

@@ -3,7 +3,7 @@
 ghost use Rattle.std.specs.Prelude.{◌≤◌, ◌<◌, ◌+◌, ◌↔◌, ℕ, Some, IsTrue, MatchOption, length};
 ghost use Rattle.acpi_base.specs.Chains.{IsStep, LeadsTo, IsCycle};
 ghost use Rattle.acpi_base.specs.Pptt.{ParentFault, CacheFault, pptt_contents};
-ghost use Rattle.acpi_confirm.specs.Links.{Names, IsStepTo};
+ghost use Rattle.acpi_confirm.specs.References.{Names, IsStepTo};
 ghost use Rattle.acpi_confirm.specs.Walks.{AreStarts, IsOnly};
 
 use super::starts::{Starts, entry_noted, note_starts};

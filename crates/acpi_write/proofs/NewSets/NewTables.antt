@@ -12,7 +12,7 @@ use Rattle.acpi_base.specs.Listed.{fadt_signature}
 use Rattle.acpi_base.specs.TableKinds.{signature_of}
 use Rattle.acpi_base.specs.declared.table_kind.TableKind.{TableKind}
 use Rattle.acpi_base.specs.declared.table_kind.TableKind.TheVariants as kind
-use Rattle.acpi_base.proofs.Images.PresentBytes.{same_value}
+use Rattle.acpi_base.proofs.Options.{same_value}
 use Rattle.acpi_base.proofs.Tables.Kinds.{length-signature_of}
 use Rattle.acpi_write.specs.Bodies.{contents_of}
 use Rattle.acpi_write.specs.Encoded.{table_bytes, encoded_bytes_with}
@@ -25,7 +25,7 @@ use Rattle.acpi_write.proofs.TablesWritten.FadtBodies.{length-with_facs}
 use Rattle.acpi_write.proofs.TablesWritten.KeptContents.{IsCleanTable}
 use Rattle.acpi_write.proofs.OldSets.FirstTables.{first_table_with, AreCleanTables, new_tables, first_is, is_behind, none_more}
 use Rattle.acpi_write.proofs.NewSets.RewrittenTables.{IsCleanBehind, new_of, new_kept, rewritten, new_fadt}
-use Rattle.acpi_write.proofs.OldSets.ValuesBehind.{AmongAlike, says}
+use Rattle.acpi_write.proofs.OldSets.LaterValues.{AmongAlike, says}
 
 -- ---- of each, after those before it
 

@@ -13,7 +13,7 @@ use Rattle.acpi_write.specs.Kinds.{IsKindBehind}
 use Rattle.acpi_write.specs.Laws.{KeepsContents}
 use Rattle.acpi_write.specs.SetValues.{is_first, table_value_as, table_value_behind}
 use Rattle.acpi_write.specs.Values.{Known}
-use Rattle.acpi_write.proofs.OldSets.ValuesBehind.{says, kind_found, IsRewritten, as_first, as_it_was}
+use Rattle.acpi_write.proofs.OldSets.LaterValues.{says, kind_found, IsRewritten, as_first, as_it_was}
 use Rattle.acpi_write.proofs.Tables.Kinds.{facts}
 use Rattle.acpi_write.proofs.TablesWritten.FadtBodies.{with_facs-with_facs}
 use Rattle.acpi_write.proofs.TablesWritten.KeptContents.{IsCleanTable, kept}

@@ -15,7 +15,7 @@ use Rattle.acpi_base.specs.Statements.{IsClean}
 use Rattle.acpi_base.specs.TableKinds.{signature_of}
 use Rattle.acpi_base.specs.declared.stage.Stage.TheVariants as stage
 use Rattle.acpi_base.specs.declared.table_kind.TableKind.{TableKind}
-use Rattle.acpi_base.proofs.Images.PresentBytes.{same_value}
+use Rattle.acpi_base.proofs.Options.{same_value}
 use Rattle.acpi_base.proofs.Root.Slots.{root_slot}
 use Rattle.acpi_base.proofs.Root.Named.{root_width}
 use Rattle.acpi_base.proofs.Tables.Kinds.{length-signature_of}

@@ -7,7 +7,7 @@ use Rattle.acpi_base.specs.Number.{field}
 use Rattle.acpi_base.specs.Signature.{has_signature}
 use Rattle.acpi_base.specs.Root.{IsSlotWidth, IsRoot, IsRootTable, HasSlot}
 use Rattle.acpi_base.specs.Listed.{listed_addresses, IsFirstListed, IsListedTable}
-use Rattle.acpi_base.proofs.Images.PresentBytes.{cases_Option, same_value}
+use Rattle.acpi_base.proofs.Options.{cases_Option, same_value}
 use Rattle.acpi_base.proofs.Root.Named.{root_width}
 use Rattle.acpi_base.proofs.Tables.Listed.{listed_of_root, one_listed}
 use Rattle.acpi_base.proofs.Tables.Faults.{signed_table}

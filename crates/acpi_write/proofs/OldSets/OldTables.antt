@@ -13,7 +13,8 @@ use Rattle.acpi_base.specs.Tables.{length_of}
 use Rattle.acpi_base.specs.Statements.{IsClean}
 use Rattle.acpi_base.specs.TableKinds.{signature_of}
 use Rattle.acpi_base.specs.declared.stage.Stage.TheVariants as stage
-use Rattle.acpi_base.proofs.Images.PresentBytes.{bytes_below, present_field_below, length-bytes_at, same_value}
+use Rattle.acpi_base.proofs.Options.{same_value}
+use Rattle.acpi_base.proofs.Images.PresentBytes.{bytes_below, present_field_below, length-bytes_at}
 use Rattle.acpi_base.proofs.Tables.Kinds.{length-signature_of}
 use Rattle.acpi_base.proofs.Tables.Listed.{one_listed}
 use Rattle.acpi_base.proofs.Frames.{length_frame, header_is, says_length, one_frame}

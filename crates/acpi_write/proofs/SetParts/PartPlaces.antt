@@ -21,7 +21,7 @@ use Rattle.acpi_write.specs.Bodies.{IsReadableAs}
 use Rattle.acpi_write.proofs.OldSets.CleanSets.{clean_readable}
 use Rattle.acpi_write.proofs.NewSets.NewImage.{length-block_places}
 use Rattle.acpi_write.proofs.NewSets.NewRoot.{length-slots}
-use Rattle.acpi_write.proofs.OldSets.ValuesBehind.{kind_found}
+use Rattle.acpi_write.proofs.OldSets.LaterValues.{kind_found}
 use Rattle.acpi_write.proofs.TablesWritten.KeptContents.{length-encoded_bytes_with}
 use Rattle.acpi_write.proofs.TablesWritten.CompleteTables.{HasWidths, widths_of, length-table_bytes}
 

@@ -11,7 +11,7 @@ use Rattle.std.proofs.lemmas.Option.{cond_some}
 use Rattle.std.proofs.Math.ListN.{get_or-eq_default}
 use Rattle.acpi_base.specs.Entries.{IsEntry, PlacedEntry, first_entry, entries_from, entries_of, end_of_entries, cut_of, entries_read_by}
 use Rattle.acpi_base.proofs.Entries.{no_cut_fault}
-use Rattle.acpi_base.proofs.Images.PresentBytes.{cases_Option}
+use Rattle.acpi_base.proofs.Options.{cases_Option}
 use Rattle.acpi_write.specs.Bodies.{entries_in}
 use Rattle.acpi_write.specs.Laws.{AreByteValues, WrittenAgain}
 use Rattle.acpi_write.proofs.TablesWritten.EntryRuns.{standing, cut_stands, said_standing, joined_again, entries_each}

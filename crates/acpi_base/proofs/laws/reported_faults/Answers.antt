@@ -1,4 +1,4 @@
-use Rattle.acpi_base.proofs.Lint.{none_reported, first_is_reported, reported_are_faults}
+use Rattle.acpi_base.proofs.FirstOfCode.{none_reported, first_is_reported, reported_are_faults}
 use Rattle.acpi_base.proofs.laws.reported_faults.Goals as goal
 
 pub returns-clause-none : goal.returns-clause-none

@@ -3,7 +3,7 @@ use Rattle.acpi_base.specs.declared.stage.Stage.TheVariants as stage
 use Rattle.acpi_base.specs.Listed.{fadt_signature}
 use Rattle.acpi_base.specs.Fadt.{IsValidFadt}
 use Rattle.acpi_base.proofs.Tables.Listed.{one_listed}
-use Rattle.acpi_check.proofs.WholeSets.FirstFaults.{facs_first, facs_named, facs_valid}
+use Rattle.acpi_check.proofs.SetFaults.FirstFaults.{facs_first, facs_named, facs_valid}
 use Rattle.acpi_check.proofs.facs.check_facs.Goals as goal
 
 pub returns-in-Ok : goal.returns-in-Ok

@@ -1,8 +1,8 @@
 use Rattle.std.proofs.Common.{refl, sym, subst, List, ℕ}
 use Rattle.acpi_base.specs.Fadt.{IsFadt, IsValidFadt}
 use Rattle.acpi_base.specs.declared.table_kind.TableKind.TheVariants as kind
-use Rattle.acpi_check.proofs.WholeSets.FirstFaults.{fadt_first, no_fadt_first}
-use Rattle.acpi_check.proofs.WholeSets.TablesLifted.{listed_of_first, none_listed}
+use Rattle.acpi_check.proofs.SetFaults.FirstFaults.{fadt_first, no_fadt_first}
+use Rattle.acpi_check.proofs.SetFaults.TablesLifted.{listed_of_first, none_listed}
 use Rattle.acpi_check.proofs.fadt.check_fadt.Goals as goal
 
 pub returns-in_default : goal.returns-in_default

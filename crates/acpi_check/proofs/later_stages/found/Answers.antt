@@ -9,7 +9,7 @@ use Rattle.acpi_base.specs.declared.stage.Stage.TheVariants as stage
 use Rattle.acpi_base.specs.declared.table_kind.TableKind.TheVariants as kind
 use Rattle.acpi_check.specs.TableResults.{IsOverlap}
 use Rattle.acpi_check.proofs.Spans.RangeClashes.{gsi_clash_first, overlap_first}
-use Rattle.acpi_check.proofs.WholeSets.TablesLifted.{listed_of_first, of_none, of_one, of_two, earlier, unlisted, settled}
+use Rattle.acpi_check.proofs.SetFaults.TablesLifted.{listed_of_first, of_none, of_one, of_two, earlier, unlisted, settled}
 use Rattle.acpi_check.proofs.later_stages.found.Goals as goal
 
 pub returns-in_err-first-in-Madt : goal.returns-in_err-first-in-Madt

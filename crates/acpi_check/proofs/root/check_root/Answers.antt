@@ -1,4 +1,4 @@
-use Rattle.acpi_check.proofs.WholeSets.FirstFaults.{root_first}
+use Rattle.acpi_check.proofs.SetFaults.FirstFaults.{root_first}
 use Rattle.acpi_check.proofs.root.check_root.Goals as goal
 
 pub returns-in-Err : goal.returns-in-Err

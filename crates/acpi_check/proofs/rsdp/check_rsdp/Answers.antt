@@ -1,5 +1,5 @@
 use Rattle.std.proofs.Common.{refl, sym}
-use Rattle.acpi_check.proofs.WholeSets.FirstFaults.{rsdp_first}
+use Rattle.acpi_check.proofs.SetFaults.FirstFaults.{rsdp_first}
 use Rattle.acpi_check.proofs.rsdp.check_rsdp.Goals as goal
 
 pub returns-in-Ok : goal.returns-in-Ok

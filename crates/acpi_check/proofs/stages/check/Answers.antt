@@ -1,4 +1,4 @@
-use Rattle.acpi_check.proofs.WholeSets.Headlines.{yes_found, no_found}
+use Rattle.acpi_check.proofs.SetFaults.Headlines.{yes_found, no_found}
 use Rattle.acpi_check.proofs.stages.check.Goals as goal
 
 pub returns-clause-yes : goal.returns-clause-yes

@@ -1,9 +1,9 @@
 use Rattle.std.proofs.Common.{refl, arith}
 use Rattle.acpi_base.specs.Rsdp.{IsRsdp}
 use Rattle.acpi_base.specs.declared.stage.Stage.TheVariants as stage
-use Rattle.acpi_check.specs.HandedOn.{IsListedSetOf}
+use Rattle.acpi_check.specs.StageSets.{IsListedSetOf}
 use Rattle.acpi_check.specs.TableResults.{AreFirstTables, IsRootOf}
-use Rattle.acpi_check.proofs.WholeSets.StageByStage.{before_first, clean_to, clean_before, fault_of}
+use Rattle.acpi_check.proofs.SetFaults.StageByStage.{before_first, clean_to, clean_before, fault_of}
 use Rattle.acpi_check.proofs.stages.read_set.Goals as goal
 
 pub returns-in_err-rsdp : goal.returns-in_err-rsdp

@@ -1,9 +1,9 @@
 use Rattle.std.proofs.Common.{refl, sym, arith}
 use Rattle.acpi_base.specs.Fadt.{IsFadt}
 use Rattle.acpi_base.specs.declared.stage.Stage.TheVariants as stage
-use Rattle.acpi_check.specs.HandedOn.{IsFacsNamed, IsListedSetOf}
+use Rattle.acpi_check.specs.StageSets.{IsFacsNamed, IsListedSetOf}
 use Rattle.acpi_check.specs.Set.{IsSetOf}
-use Rattle.acpi_check.proofs.WholeSets.StageByStage.{before_next, clean_to, clean_before, fault_of, passed_on}
+use Rattle.acpi_check.proofs.SetFaults.StageByStage.{before_next, clean_to, clean_before, fault_of, passed_on}
 use Rattle.acpi_check.proofs.stages.valid_set.Goals as goal
 
 pub returns-in_err-listed : goal.returns-in_err-listed

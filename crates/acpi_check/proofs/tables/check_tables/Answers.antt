@@ -1,8 +1,8 @@
 use Rattle.std.proofs.Common.{◌≡◌, ℕ, refl, sym, ◌∙◌, subst, arith}
 use Rattle.acpi_base.specs.Root.{HasSlot}
 use Rattle.acpi_check.specs.FirstBelow.{AreFirstBelow}
-use Rattle.acpi_check.proofs.WholeSets.FirstFaults.{first_table_fault}
-use Rattle.acpi_check.proofs.WholeSets.Slots.{none_below, firsts_skip, firsts_more, valid_and_first}
+use Rattle.acpi_check.proofs.SetFaults.FirstFaults.{first_table_fault}
+use Rattle.acpi_check.proofs.SetFaults.Slots.{none_below, firsts_skip, firsts_more, valid_and_first}
 use Rattle.acpi_check.proofs.tables.check_tables.Goals as goal
 
 pub loop-slot-init : goal.loop-slot-init

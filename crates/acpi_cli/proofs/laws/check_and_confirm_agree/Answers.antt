@@ -4,7 +4,7 @@ use Rattle.acpi_base.specs.Codes.{stage_number}
 use Rattle.acpi_base.specs.Faults.{IsFirstFault}
 use Rattle.acpi_base.specs.declared.stage.Stage.{Stage}
 use Rattle.acpi_base.specs.declared.stage.Stage.TheVariants as stage
-use Rattle.acpi_base.proofs.Lint.{up_to_last}
+use Rattle.acpi_base.proofs.FirstOfCode.{up_to_last}
 use Rattle.acpi_check.specs.Headline.{IfNo}
 use Rattle.acpi_cli.proofs.laws.check_and_confirm_agree.Goals as goal
 

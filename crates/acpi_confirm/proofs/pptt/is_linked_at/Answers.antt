@@ -1,5 +1,5 @@
 use Rattle.acpi_base.specs.Pptt.{pptt_contents}
-use Rattle.acpi_confirm.specs.Links.{Names}
+use Rattle.acpi_confirm.specs.References.{Names}
 use Rattle.acpi_confirm.proofs.EntriesAt.{only_some}
 use Rattle.acpi_confirm.proofs.pptt.is_linked_at.Goals as goal
 

@@ -1,6 +1,6 @@
 use Rattle.std.proofs.Common.{◌≡◌, Some, rules, tests}
 use Rattle.acpi_base.specs.Pptt.{pptt_entry, pptt_contents}
-use Rattle.acpi_confirm.specs.Links.{named_offset}
+use Rattle.acpi_confirm.specs.References.{named_offset}
 use Rattle.acpi_confirm.proofs.PpttEntries.{names_of}
 use Rattle.acpi_confirm.proofs.EntriesAt.{only_at, only_same}
 use Rattle.acpi_confirm.proofs.pptt.named_at.Goals as goal

@@ -1,11 +1,11 @@
 use Rattle.std.proofs.Common.{ap, rules, Ok}
 use Rattle.std.specs.Prelude.{⊤}
 use Rattle.acpi_base.specs.Contents.{HasPptt}
-use Rattle.acpi_base.specs.Lint.FadtAdvice.{IsSciNowhere}
-use Rattle.acpi_base.specs.Lint.MadtAdvice.{IsIoApicAtZero, IsMadtUnread}
-use Rattle.acpi_base.specs.Lint.PpttAdvice.{IsCacheShape}
-use Rattle.acpi_base.specs.Lint.Sets.{OfFadt, OfMadt, OfSrat}
-use Rattle.acpi_base.specs.Lint.SratAdvice.{IsTwoUidDomains, IsSratUnread}
+use Rattle.acpi_lint.specs.Rules.FadtAdvice.{IsSciNowhere}
+use Rattle.acpi_lint.specs.Rules.MadtAdvice.{IsIoApicAtZero, IsMadtUnread}
+use Rattle.acpi_lint.specs.Rules.PpttAdvice.{IsCacheShape}
+use Rattle.acpi_lint.specs.Rules.Sets.{OfFadt, OfMadt, OfSrat}
+use Rattle.acpi_lint.specs.Rules.SratAdvice.{IsTwoUidDomains, IsSratUnread}
 use Rattle.acpi_base.specs.Listed.{slit_signature, HasListed}
 use Rattle.acpi_base.specs.Madt.{madt_contents}
 use Rattle.acpi_base.specs.Pptt.{pptt_contents}

@@ -1,6 +1,6 @@
 use Rattle.std.proofs.Common.{◌≡◌, None, Some, sym, ◌∙◌, rules}
-use Rattle.acpi_base.specs.Lint.Numbered.{OnEntry}
-use Rattle.acpi_base.specs.Lint.SratAdvice.{IsDomainPastSlit}
+use Rattle.acpi_lint.specs.Rules.Numbered.{OnEntry}
+use Rattle.acpi_lint.specs.Rules.SratAdvice.{IsDomainPastSlit}
 use Rattle.acpi_base.specs.Srat.{srat_contents}
 use Rattle.acpi_read.specs.Srats.{srat_value}
 use Rattle.acpi_lint.proofs.OfTables.{no_slit, sized_slit, past_localities, own_srat}

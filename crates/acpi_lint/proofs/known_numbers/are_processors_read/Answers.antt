@@ -1,5 +1,5 @@
 use Rattle.std.proofs.Common.{rules}
-use Rattle.acpi_base.specs.Lint.Processors.{IsOtherProcessor}
+use Rattle.acpi_lint.specs.Rules.Processors.{IsOtherProcessor}
 use Rattle.acpi_read.specs.Madts.{madt_value}
 use Rattle.acpi_lint.proofs.SomeEntries.{any_of_entries, where_none}
 use Rattle.acpi_lint.proofs.known_numbers.are_processors_read.Goals as goal

@@ -1,5 +1,5 @@
 use Rattle.std.proofs.Common.{rules}
-use Rattle.acpi_base.specs.Lint.Processors.{uid_on}
+use Rattle.acpi_lint.specs.Rules.Processors.{uid_on}
 use Rattle.acpi_base.specs.Madt.{madt_contents}
 use Rattle.acpi_read.specs.Madts.{madt_value}
 use Rattle.acpi_lint.proofs.SomeEntries.{HasSome, number_where, any_named, any_of_entries}

@@ -1,5 +1,5 @@
 use Rattle.std.proofs.Common.{rules}
-use Rattle.acpi_base.specs.Lint.Processors.{processor_domain}
+use Rattle.acpi_lint.specs.Rules.Processors.{processor_domain}
 use Rattle.acpi_base.specs.Srat.{srat_contents}
 use Rattle.acpi_read.specs.Srats.{srat_value}
 use Rattle.acpi_lint.proofs.SomeEntries.{HasSome, number_where, any_named, any_of_entries}

@@ -1,4 +1,4 @@
-use Rattle.acpi_base.specs.Lint.Processors.{IsLeafAt}
+use Rattle.acpi_lint.specs.Rules.Processors.{IsLeafAt}
 use Rattle.acpi_base.specs.Pptt.{pptt_contents}
 use Rattle.acpi_lint.proofs.KnownOnes.{are_placed}
 use Rattle.acpi_lint.proofs.known_numbers.leaf_ids.Goals as goal

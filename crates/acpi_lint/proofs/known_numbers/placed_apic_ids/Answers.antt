@@ -1,5 +1,5 @@
 use Rattle.std.proofs.Common.{rules}
-use Rattle.acpi_base.specs.Lint.Processors.{placed_apic_id}
+use Rattle.acpi_lint.specs.Rules.Processors.{placed_apic_id}
 use Rattle.acpi_base.specs.Srat.{srat_contents}
 use Rattle.acpi_read.specs.Srats.{srat_value}
 use Rattle.acpi_lint.proofs.CollectedNumbers.{each_ok, known_read}

@@ -1,5 +1,5 @@
 use Rattle.std.proofs.Common.{rules}
-use Rattle.acpi_base.specs.Lint.Processors.{uid_of}
+use Rattle.acpi_lint.specs.Rules.Processors.{uid_of}
 use Rattle.acpi_base.specs.Madt.{madt_contents}
 use Rattle.acpi_read.specs.Madts.{madt_value}
 use Rattle.acpi_lint.proofs.CollectedNumbers.{each_ok, known_read}

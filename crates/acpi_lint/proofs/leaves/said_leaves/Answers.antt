@@ -1,5 +1,5 @@
 use Rattle.std.proofs.Common.{rules}
-use Rattle.acpi_base.specs.Lint.Numbered.{NamesAt}
+use Rattle.acpi_lint.specs.Rules.Numbered.{NamesAt}
 use Rattle.acpi_base.specs.Pptt.{pptt_contents}
 use Rattle.acpi_read.specs.Pptts.{pptt_value}
 use Rattle.acpi_check.proofs.EntryPasses.Kept.{pptt_rising}

@@ -1,6 +1,6 @@
 use Rattle.std.proofs.Common.{◌≡◌, ℕ}
-use Rattle.acpi_base.specs.Lint.Numbered.{IsNamed}
-use Rattle.acpi_base.specs.Lint.Processors.{uid_of, IsLeafAt}
+use Rattle.acpi_lint.specs.Rules.Numbered.{IsNamed}
+use Rattle.acpi_lint.specs.Rules.Processors.{uid_of, IsLeafAt}
 use Rattle.acpi_base.specs.Madt.{MadtContents, madt_contents}
 use Rattle.acpi_base.specs.Pptt.{PpttContents, pptt_contents}
 use Rattle.acpi_lint.proofs.LeastPlaces.{least_as}

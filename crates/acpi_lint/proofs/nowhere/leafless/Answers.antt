@@ -1,4 +1,4 @@
-use Rattle.acpi_base.specs.Lint.Processors.{uid_on}
+use Rattle.acpi_lint.specs.Rules.Processors.{uid_on}
 use Rattle.acpi_read.specs.Madts.{madt_value}
 use Rattle.acpi_read.specs.Entries.{entry_at_value}
 use Rattle.acpi_lint.proofs.UnknownOnes.{own_number}

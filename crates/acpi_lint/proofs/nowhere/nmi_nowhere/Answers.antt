@@ -1,7 +1,7 @@
 use Rattle.std.proofs.Common.{rules}
-use Rattle.acpi_base.specs.Lint.MadtAdvice.{nmi_uid}
-use Rattle.acpi_base.specs.Lint.Numbered.{IsNamed}
-use Rattle.acpi_base.specs.Lint.Processors.{uid_of}
+use Rattle.acpi_lint.specs.Rules.MadtAdvice.{nmi_uid}
+use Rattle.acpi_lint.specs.Rules.Numbered.{IsNamed}
+use Rattle.acpi_lint.specs.Rules.Processors.{uid_of}
 use Rattle.acpi_base.specs.Madt.{madt_contents}
 use Rattle.acpi_read.specs.Madts.{madt_value}
 use Rattle.acpi_check.proofs.EntryPasses.Kept.{madt_rising}

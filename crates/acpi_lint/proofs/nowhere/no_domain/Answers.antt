@@ -1,6 +1,6 @@
 use Rattle.std.proofs.Common.{rules}
-use Rattle.acpi_base.specs.Lint.Numbered.{IsNamed}
-use Rattle.acpi_base.specs.Lint.Processors.{apic_id_on, gicc_uid_on, placed_apic_id, placed_uid}
+use Rattle.acpi_lint.specs.Rules.Numbered.{IsNamed}
+use Rattle.acpi_lint.specs.Rules.Processors.{apic_id_on, gicc_uid_on, placed_apic_id, placed_uid}
 use Rattle.acpi_base.specs.Madt.{madt_contents}
 use Rattle.acpi_base.specs.Srat.{srat_contents}
 use Rattle.acpi_read.specs.Madts.{madt_value}

@@ -1,6 +1,6 @@
 use Rattle.std.proofs.Common.{◌≡◌, ℕ, Some, true≢false, refl, sym, ◌∙◌, inr, arith}
-use Rattle.acpi_base.specs.Lint.Numbered.{IsNamed}
-use Rattle.acpi_base.specs.Lint.Processors.{uid_on}
+use Rattle.acpi_lint.specs.Rules.Numbered.{IsNamed}
+use Rattle.acpi_lint.specs.Rules.Processors.{uid_on}
 use Rattle.acpi_base.specs.Madt.{MadtContents, madt_contents}
 use Rattle.acpi_lint.proofs.LeastPlaces.{least_as}
 use Rattle.acpi_lint.proofs.UnknownOnes.{where_all_read}

@@ -1,5 +1,5 @@
 use Rattle.std.proofs.Common.{sym, ◌∙◌}
-use Rattle.acpi_base.specs.Lint.Processors.{placed_apic_id, placed_uid}
+use Rattle.acpi_lint.specs.Rules.Processors.{placed_apic_id, placed_uid}
 use Rattle.acpi_read.specs.Srats.{srat_value}
 use Rattle.acpi_read.specs.Entries.{entry_at_value}
 use Rattle.acpi_lint.proofs.UnknownOnes.{own_first, own_second, affinity_has_one}

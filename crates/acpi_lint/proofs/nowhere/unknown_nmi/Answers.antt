@@ -1,4 +1,4 @@
-use Rattle.acpi_base.specs.Lint.MadtAdvice.{nmi_uid}
+use Rattle.acpi_lint.specs.Rules.MadtAdvice.{nmi_uid}
 use Rattle.acpi_read.specs.Madts.{madt_value}
 use Rattle.acpi_read.specs.Entries.{entry_at_value}
 use Rattle.acpi_lint.proofs.UnknownOnes.{own_number}

@@ -1,5 +1,5 @@
 use Rattle.std.proofs.Common.{sym, ◌∙◌}
-use Rattle.acpi_base.specs.Lint.Processors.{apic_id_on, gicc_uid_on}
+use Rattle.acpi_lint.specs.Rules.Processors.{apic_id_on, gicc_uid_on}
 use Rattle.acpi_read.specs.Madts.{madt_value}
 use Rattle.acpi_read.specs.Entries.{entry_at_value}
 use Rattle.acpi_lint.proofs.UnknownOnes.{own_first, own_second, processor_has_one}

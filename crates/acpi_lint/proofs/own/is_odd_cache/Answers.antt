@@ -1,6 +1,6 @@
 use Rattle.std.proofs.Common.{◌≡◌, Bool, Some, None, IsTrue, refl, ap, sym, subst}
 use Rattle.std.specs.Prelude.{◌↔◌}
-use Rattle.acpi_base.specs.Lint.PpttAdvice.{HasOddShape}
+use Rattle.acpi_lint.specs.Rules.PpttAdvice.{HasOddShape}
 use Rattle.acpi_base.specs.Pptt.{PpttEntry, Cache, CacheValue}
 use Rattle.acpi_read.specs.Pptts.{pptt_value, cache24_value, cache28_value}
 use Rattle.acpi_lint.proofs.own.is_odd_cache.Goals as goal

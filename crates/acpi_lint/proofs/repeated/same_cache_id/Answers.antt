@@ -1,6 +1,6 @@
 use Rattle.std.proofs.Common.{◌≤◌, rules, arith}
-use Rattle.acpi_base.specs.Lint.Numbered.{Repeats}
-use Rattle.acpi_base.specs.Lint.PpttAdvice.{cache_id}
+use Rattle.acpi_lint.specs.Rules.Numbered.{Repeats}
+use Rattle.acpi_lint.specs.Rules.PpttAdvice.{cache_id}
 use Rattle.acpi_base.specs.Pptt.{pptt_contents}
 use Rattle.acpi_read.specs.Pptts.{pptt_value}
 use Rattle.acpi_check.proofs.EntryPasses.Kept.{pptt_rising}

@@ -1,5 +1,5 @@
 use Rattle.std.proofs.Common.{inl}
-use Rattle.acpi_base.specs.Lint.FadtAdvice.{IsGsiOf}
+use Rattle.acpi_lint.specs.Rules.FadtAdvice.{IsGsiOf}
 use Rattle.acpi_base.specs.Madt.{madt_contents}
 use Rattle.acpi_lint.proofs.SciGsis.{is_first_override, own_gsi, one_gsi}
 use Rattle.acpi_lint.proofs.sci.gsi_of.Goals as goal

@@ -12,7 +12,7 @@ use Rattle.acpi_base.specs.declared.stage.Stage.TheVariants as stage
 use Rattle.acpi_base.proofs.Faults.Stages.{excludes}
 use Rattle.acpi_base.proofs.Tables.Listed.{one_listed}
 use Rattle.acpi_read.specs.Fadts.{FacsValue}
-use Rattle.acpi_check.specs.HandedOn.{IsCleanSetOf, IsFacsNamed}
+use Rattle.acpi_check.specs.StageSets.{IsCleanSetOf, IsFacsNamed}
 use Rattle.acpi_check.specs.StageResults.{IsResultTo}
 use Rattle.acpi_check.specs.declared.refusal.Refusal.{Refusal}
 use Rattle.acpi_check.specs.declared.refusal.Refusal.TheVariants.{Fault, OutOfMemory}

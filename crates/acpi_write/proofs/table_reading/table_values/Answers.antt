@@ -6,7 +6,7 @@ use Rattle.acpi_read.specs.declared.first_tables.Listed.{Listed}
 use Rattle.acpi_write.specs.Kinds.{IsReadableBehind, IsKindBehind, table_of}
 use Rattle.acpi_write.specs.SetValues.{table_value_behind}
 use Rattle.acpi_write.specs.Views.{table_value, IsShaped, IsShort}
-use Rattle.acpi_write.proofs.OldSets.ValuesBehind.{firsts_none, firsts_more, kind_behind, values_none, values_next, next_take, says}
+use Rattle.acpi_write.proofs.OldSets.LaterValues.{firsts_none, firsts_more, kind_behind, values_none, values_next, next_take, says}
 use Rattle.acpi_write.proofs.table_reading.table_values.Goals as goal
 
 pub loop-k-init : goal.loop-k-init

@@ -1,6 +1,6 @@
 use Rattle.std.proofs.Common.{Some}
 use Rattle.acpi_base.specs.Pptt.{pptt_contents}
-use Rattle.acpi_confirm.specs.Links.{Names}
+use Rattle.acpi_confirm.specs.References.{Names}
 use Rattle.acpi_confirm.specs.Walks.{IsOnly}
 use Rattle.acpi_confirm.proofs.Chains.{IsLed}
 use Rattle.acpi_confirm.proofs.pptt.chains.follow.Given as goal

@@ -1,6 +1,6 @@
 use Rattle.std.proofs.Common.{length-drop, length-take, arith, ◌∙◌}
 use Rattle.acpi_cli.proofs.Sent.{sent_more}
-use Rattle.acpi_cli.proofs.devices.write_whole.Goals as goal
+use Rattle.acpi_cli.proofs.devices.write_all.Goals as goal
 
 pub loop-written-preserved : goal.loop-written-preserved
 loop-written-preserved g c =

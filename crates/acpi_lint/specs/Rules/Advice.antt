@@ -3,7 +3,7 @@ use Rattle.std.specs.Prelude.{◌≡◌, ℕ, List, [], ◌∷◌}
 use Rattle.acpi_base.specs.Memory.{Memory}
 use Rattle.acpi_base.specs.Order.{AreNotAfter}
 use Rattle.acpi_base.specs.Policy.{PolicyValue}
-use Rattle.acpi_base.specs.Lint.Rules.{IsBroken}
+use Rattle.acpi_lint.specs.Rules.Broken.{IsBroken}
 use Rattle.acpi_base.specs.declared.rule.Advice.{Advice}
 
 -- the advice says that its rule is broken there
@@ -22,3 +22,10 @@ NotAfter a b = AreNotAfter (order_of a) (order_of b)
 pub record IsFirstAdvice (m : Memory) (q : PolicyValue) (a : Advice) : Type 0 where
   pub broken : IsAdvice m q a
   pub least : (b : Advice) → b.rule ≡ a.rule → IsAdvice m q b → NotAfter a b
+
+-- ---- the law
+
+-- a rule has one first finding at most
+abbrev pub OneFirstAdvice : Type 0
+OneFirstAdvice =
+    (m : Memory) (q : PolicyValue) (a b : Advice) → a.rule ≡ b.rule → IsFirstAdvice m q a → IsFirstAdvice m q b → a ≡ b

@@ -1,8 +1,9 @@
 -- What data makes of an image, byte by byte: the address of each byte, and that the image has it there.
-use Rattle.std.proofs.Common.{◌≡◌, ◌⊎◌, inl, inr, ℕ, zero, suc, ◌+◌, ◌-◌, ◌^◌, ◌<◌, ◌≢◌, List, [], ◌∷◌, ◌++◌, length, refl, sym, ap, subst, ◌∙◌, arith}
-use Rattle.std.proofs.lemmas.Bool.{cases_eq, le-ltb, ltb-false}
+use Rattle.std.proofs.Common.{◌≡◌, ◌⊎◌, inl, inr, ℕ, zero, suc, ◌+◌, ◌-◌, ◌^◌, ◌<◌, ◌≢◌, List, [], ◌∷◌, ◌++◌, length, refl, sym, ap, subst, ◌∙◌, arith, if◌then◌else◌}
+use Rattle.std.proofs.lemmas.Bool.{cases_eq, cases_lt, lt-ltb, le-ltb, ltb-false}
 use Rattle.std.proofs.lemmas.Bool.Decides.{nat_tests}
 use Rattle.std.specs.Prelude.{Option, None, Some, IsSome, nat_lt, ◌↔◌}
+use Rattle.std.specs.Option.{option_map}
 use Rattle.std.specs.List.{slice_get}
 use Rattle.std.specs.FinMap.{insert}
 use Rattle.acpi_base.specs.Memory.{Memory, byte_of, first_present, with_bytes}
@@ -11,7 +12,26 @@ use Rattle.acpi_base.proofs.Images.RunMemory.{same_memory, fits_unless}
 use Rattle.acpi_base.proofs.Images.Searches.{nothing_present}
 use Rattle.acpi_base.proofs.Images.ByteRuns.{first_of_none}
 use Rattle.acpi_base.proofs.Images.RunBytes.{byte_of-insert, byte_of-with_bytes, byte_of-with_bytes_outside}
-use Rattle.acpi_base.proofs.Texts.DataPlaces.{first_then, first_here}
+
+-- ---- the addresses of bytes
+
+-- the first bytes are at an address and the following ones, and the rest as `later` says
+abbrev pub first_then : Option ℕ → ℕ → (ℕ → Option ℕ) → ℕ → Option ℕ
+first_then next count later n = if nat_lt n count then option_map (λ a. a + n) next else later (n - count)
+
+pub first_here : (next : Option ℕ) (count : ℕ) (later : ℕ → Option ℕ) (n : ℕ) → n < count
+    → first_then next count later n ≡ option_map (λ a. a + n) next
+first_here next count later n h = rw (lt-ltb n count h) refl
+
+pub first_later : (next : Option ℕ) (count : ℕ) (later : ℕ → Option ℕ) (n : ℕ)
+    → first_then next count later (count + n) ≡ later n
+first_later next count later n = let q : count + n - count ≡ n = omega arith in
+    rw (le-ltb (count + n) count (omega arith), q) refl
+
+pub first_cases : (next : Option ℕ) (count : ℕ) (later : ℕ → Option ℕ) (n x : ℕ)
+    → first_then next count later n ≡ Some x
+    → ((n < count) × (option_map (λ a. a + n) next ≡ Some x)) ⊎ ((k : ℕ) × (n ≡ count + k) × (later k ≡ Some x))
+first_cases next count later n x e = grind (arith, cases_lt, first_here, first_later)
 
 -- ---- an image with bytes added at given addresses
 

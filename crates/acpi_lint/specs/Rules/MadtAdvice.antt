@@ -3,8 +3,8 @@ use Rattle.std.specs.Prelude.{◌≡◌, ◌≢◌, ℕ, ◌-◌, ◌^◌, ◌<�
 use Rattle.std.specs.Option.{option_and_then}
 use Rattle.acpi_base.specs.Entries.{AreUnused}
 use Rattle.acpi_base.specs.Madt.{MadtEntry, IoApic, LocalNmi, X2apicNmi, Opaque, MadtContents}
-use Rattle.acpi_base.specs.Lint.Numbered.{NamesAt, IsNamed}
-use Rattle.acpi_base.specs.Lint.Processors.{uid_of, uid_on, AreProcessorsRead}
+use Rattle.acpi_lint.specs.Rules.Numbered.{NamesAt, IsNamed}
+use Rattle.acpi_lint.specs.Rules.Processors.{uid_of, uid_on, AreProcessorsRead}
 
 -- ---- processors
 

@@ -1,14 +1,12 @@
--- Everything that is wrong with an image: faults and advice.
+-- The rules of advice: when each is broken, its first finding, and what is reported.
 pub mod Advice
+pub mod Broken
 pub mod FadtAdvice
 pub mod Findings
-pub mod FirstOfCode
-pub mod Laws
 pub mod MadtAdvice
 pub mod Numbered
 pub mod PpttAdvice
 pub mod Processors
-pub mod Rules
 pub mod Sets
 pub mod SlitAdvice
 pub mod Slots

@@ -5,13 +5,10 @@ use Rattle.acpi_base.specs.Policy.{PolicyValue}
 use Rattle.acpi_base.specs.Codes.{stage_number, stage_of}
 use Rattle.acpi_base.specs.Statements.{IsClean}
 use Rattle.acpi_base.specs.Faults.{Fault, FaultOfStage, IsLeastOfStage, IsFirstFault}
-use Rattle.acpi_base.specs.Lint.FirstOfCode.{IsLeastOfCode}
-use Rattle.acpi_base.specs.Lint.Laws.{CleanWithoutFaults, CleanWithoutFirsts, FirstIsFirstOfCode, OneFirstOfCode, OneFirstAdvice, NoneReportedOfClean, FirstIsReported, ReportedAreFaults}
-use Rattle.acpi_base.specs.Lint.Advice.{NotAfter}
-use Rattle.acpi_base.specs.Lint.Findings.{AreFirstFaults}
+use Rattle.acpi_base.specs.FirstOfCode.{IsLeastOfCode, AreFirstFaults}
+use Rattle.acpi_base.specs.Laws.{CleanWithoutFaults, CleanWithoutFirsts, FirstIsFirstOfCode, OneFirstOfCode, NoneReportedOfClean, FirstIsReported, ReportedAreFaults}
 use Rattle.acpi_base.specs.declared.code.Code.{Code}
 use Rattle.acpi_base.specs.declared.code.Code.TheVariants as code
-use Rattle.acpi_base.specs.declared.rule.Advice.{Advice}
 use Rattle.acpi_base.specs.declared.stage.Stage.{Stage}
 use Rattle.acpi_base.specs.declared.stage.Stage.TheVariants as stage
 use Rattle.acpi_base.specs.declared.witness.Witness.{Witness}
@@ -94,14 +91,3 @@ none_reported m q faults are = (
   λ none. clean_without m q (λ w first. no_element w (rw none at (first_is_reported m q faults w are first))),
   none_or_some m q faults are,
 )
-
--- ---- advice
-
-same_numbers : (a b : Advice) → NotAfter a b → NotAfter b a → (a.at ≡ b.at) × (a.other ≡ b.other) × (a.point ≡ b.point)
-same_numbers a b one other = (grind (arith, one, other), grind (arith, one, other), grind (arith, one, other))
-
-pub one_first_advice : OneFirstAdvice
-one_first_advice m q a b same one other =
-    let (at, second, point) =
-    same_numbers a b (one.least b (sym same) other.broken) (other.least a same one.broken) in
-    λ i. record { rule = same i; at = at i; other = second i; point = point i }

@@ -4,8 +4,8 @@ use Rattle.acpi_base.specs.Entries.{StandsWith, AreUnused}
 use Rattle.acpi_base.specs.Number.{has_bit}
 use Rattle.acpi_base.specs.Madt.{MadtContents}
 use Rattle.acpi_base.specs.Pptt.{PpttEntry, Cache, CacheValue, PpttContents}
-use Rattle.acpi_base.specs.Lint.Numbered.{NamesAt, IsNamed, IsLater, Repeats}
-use Rattle.acpi_base.specs.Lint.Processors.{uid_of, uid_on, AreProcessorsRead, IsGicc, IsLeafAt, IsLeafId}
+use Rattle.acpi_lint.specs.Rules.Numbered.{NamesAt, IsNamed, IsLater, Repeats}
+use Rattle.acpi_lint.specs.Rules.Processors.{uid_of, uid_on, AreProcessorsRead, IsGicc, IsLeafAt, IsLeafId}
 
 -- two leaves have the ACPI processor ID `point`; `other` is the first that has it (5.2.30.1)
 abbrev pub IsSameLeaf : PpttContents → ℕ → ℕ → ℕ → Type 0

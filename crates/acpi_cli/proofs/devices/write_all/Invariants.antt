@@ -1,6 +1,6 @@
 use Rattle.std.proofs.Common.{◌≡◌, ◌≤◌, ◌-◌, length, take}
 use Rattle.std.specs.Io.KnownBytes.{Appends}
-use Rattle.acpi_cli.proofs.devices.write_whole.Given as goal
+use Rattle.acpi_cli.proofs.devices.write_all.Given as goal
 
 -- what was written is a prefix of the bytes
 abbrev pub invariant-loop-written : goal.invariant-loop-written

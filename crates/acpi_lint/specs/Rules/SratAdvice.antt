@@ -2,8 +2,8 @@
 use Rattle.std.specs.Prelude.{◌≡◌, ◌≢◌, ℕ, ◌≤◌, ◌⊎◌, List, length, slice_index, Some}
 use Rattle.acpi_base.specs.Madt.{MadtContents}
 use Rattle.acpi_base.specs.Srat.{SratEntry, Opaque, SratContents}
-use Rattle.acpi_base.specs.Lint.Numbered.{NamesAt, IsNamed}
-use Rattle.acpi_base.specs.Lint.Processors.{uid_of, apic_id_of, apic_id_on, gicc_uid_on, placed_apic_id, placed_uid, processor_domain, any_domain, AreProcessorsRead}
+use Rattle.acpi_lint.specs.Rules.Numbered.{NamesAt, IsNamed}
+use Rattle.acpi_lint.specs.Rules.Processors.{uid_of, apic_id_of, apic_id_on, gicc_uid_on, placed_apic_id, placed_uid, processor_domain, any_domain, AreProcessorsRead}
 
 -- the affinity at o places the processor with this UID in the domain d (5.2.16.4)
 abbrev pub PlacesUid : SratContents → ℕ → ℕ → ℕ → Type 0

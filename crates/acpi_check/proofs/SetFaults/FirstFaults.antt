@@ -20,7 +20,7 @@ use Rattle.acpi_base.specs.declared.witness.Witness.{Witness}
 use Rattle.acpi_base.proofs.Faults.Numbers.{stage_from_1}
 use Rattle.acpi_base.proofs.Faults.Order.{not_after}
 use Rattle.acpi_base.proofs.Faults.HoldsOrFault.{IsFirstOfStage, first_of_set}
-use Rattle.acpi_base.proofs.Images.PresentBytes.{same_value}
+use Rattle.acpi_base.proofs.Options.{same_value}
 use Rattle.acpi_base.proofs.Root.Named.{no_root_and_root, one_root}
 use Rattle.acpi_base.proofs.Root.Slots.{one_slot, root_slot, slot_of_root}
 use Rattle.acpi_base.proofs.Tables.Faults.{excludes}
@@ -28,7 +28,7 @@ use Rattle.acpi_base.proofs.Tables.Listed.{none_and_listed, one_listed}
 use Rattle.acpi_base.proofs.Facs.{place}
 use Rattle.acpi_read.specs.Fadts.{FacsValue}
 use Rattle.acpi_read.specs.Roots.{RootValue}
-use Rattle.acpi_check.specs.HandedOn.{IsFacsNamed}
+use Rattle.acpi_check.specs.StageSets.{IsFacsNamed}
 use Rattle.acpi_check.specs.TableResults.{IsRootOf}
 
 -- the first fault of the RSDP

@@ -1,7 +1,8 @@
 -- The first fault of each code.
-use Rattle.std.specs.Prelude.{◌≡◌, Option, Some, None}
+use Rattle.std.specs.Prelude.{◌≡◌, ◌<◌, ◌↔◌, List, AllPairs, Contains, Option, Some, None}
 use Rattle.acpi_base.specs.Memory.{Memory}
 use Rattle.acpi_base.specs.Policy.{PolicyValue}
+use Rattle.acpi_base.specs.Codes.{code_number}
 use Rattle.acpi_base.specs.Contents.{HasMadt, HasSrat}
 use Rattle.acpi_base.specs.Madt.{IsFirstGsiClash}
 use Rattle.acpi_base.specs.Srat.{IsFirstOverlap}
@@ -26,3 +27,8 @@ pub record IsFirstOfCode (m : Memory) (q : PolicyValue) (w : Witness) : Type 0 w
 abbrev pub FindsFirstOfCode : Code → Memory → PolicyValue → Option Witness → Type 0
 FindsFirstOfCode c m q None = (w : Witness) → w.code ≡ c → ¬ Fault m q w
 FindsFirstOfCode c m q (Some w) = (w.code ≡ c) × IsFirstOfCode m q w
+
+-- these are the first faults of all codes that have one, in the order of the codes' numbers
+pub record AreFirstFaults (m : Memory) (q : PolicyValue) (faults : List Witness) : Type 0 where
+  pub all : (w : Witness) → Contains faults w ↔ IsFirstOfCode m q w
+  pub rise : AllPairs (λ w v. code_number w.code < code_number v.code) faults

@@ -5,7 +5,7 @@ use Rattle.acpi_base.specs.Root.{IsSlot}
 use Rattle.acpi_base.specs.Facs.{facs_signature}
 use Rattle.acpi_base.specs.TableKinds.{signature_of}
 use Rattle.acpi_base.specs.Tables.{IsSigned}
-use Rattle.acpi_base.specs.Lint.Numbered.{IsLater}
+use Rattle.acpi_lint.specs.Rules.Numbered.{IsLater}
 use Rattle.acpi_base.specs.declared.table_kind.TableKind.{TableKind}
 
 -- the slot lists an address that an earlier slot lists; `other` is the first of them
