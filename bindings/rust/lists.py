@@ -13,7 +13,7 @@ from pathlib import Path
 HERE = Path(__file__).resolve().parent
 TOP = HERE.parent.parent
 CODES = TOP / "crates/acpi_base/specs/Codes.antt"
-RULES = TOP / "crates/acpi_base/specs/Lint/Rules.antt"
+RULES = TOP / "crates/acpi_base/specs/Rules.antt"
 KINDS = TOP / "crates/acpi_c/specs/Kinds.antt"
 FAULTS = TOP / "docs/FAULTS.md"
 STAGES = TOP / "crates/acpi_base/src/stage.rt"

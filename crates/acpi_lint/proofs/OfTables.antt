@@ -1,7 +1,6 @@
 -- From what is found in a table to what is found in the set that lists it.
 use Rattle.std.proofs.Common.{◌≡◌, ℕ, ◌≤◌, List, length, Option, Some, None, Result, Ok, Err, refl, ap, arith}
 use Rattle.std.specs.Prelude.{◌↔◌, IfOk, MatchOption, option_map}
-use Rattle.std.specs.Option.{option_zip}
 use Rattle.std.proofs.lemmas.Option.{same_Some}
 use denote.Ref.{Bor}
 use Rattle.acpi_base.specs.Contents.{HasPptt}
@@ -94,7 +93,46 @@ pptt_lifts m q {tables = tables} view are is =
     read_lifts (HasListed m q.rsdp pptt_signature) pptt_contents view
     (rw is (listed_lifts m q.rsdp pptt_signature tables.pptt (are.listed kind.Pptt)))
 
--- ---- what is found in one table, and in two
+-- ---- what is found in one table
+
+-- P holds nowhere if there is no view of the table
+pub not_there : {C : Type 0} (Of : (C → Type 0) → Type 0) (read : List ℕ → C) {view : Option (List ℕ)}
+    (P : C → ℕ → ℕ → ℕ → Type 0) → Lifts Of read view → view ≡ None
+    → FindsLeast (λ at other point. Of (λ c. P c at other point)) None
+not_there Of read {view} P lifts none = λ at other point. (rw none at lifts) (λ c. P c at other point)
+
+-- what is found in the view is found in the set
+pub there : {C : Type 0} (Of : (C → Type 0) → Type 0) (read : List ℕ → C) {view : Option (List ℕ)} {whole : List ℕ}
+    (P : C → ℕ → ℕ → ℕ → Type 0) (found : Option Place) → Lifts Of read view → view ≡ Some whole
+    → FindsLeast (P (read whole)) found → FindsLeast (λ at other point. Of (λ c. P c at other point)) found
+there Of read P found lifts is least =
+    let lift = rw is at lifts in
+    least_as found (λ at other point holds. (lift (λ c. P c at other point)).1 holds)
+    (λ at other point has. (lift (λ c. P c at other point)).0 has) least
+
+-- the same for two tables: the first is missing, the second is, and neither
+pub first_missing : {C D : Type 0} (Of : (C → Type 0) → Type 0) (read : List ℕ → C) (With : (D → Type 0) → Type 0)
+    {first : Option (List ℕ)} (P : C → D → ℕ → ℕ → ℕ → Type 0) → Lifts Of read first → first ≡ None
+    → FindsLeast (λ at other point. Of (λ c. With (λ d. P c d at other point))) None
+first_missing Of read With P lifts none =
+    not_there Of read (λ c at other point. With (λ d. P c d at other point)) lifts none
+
+pub second_missing : {C D : Type 0} (Of : (C → Type 0) → Type 0) (read : List ℕ → C) (With : (D → Type 0) → Type 0)
+    (say : List ℕ → D) {first second : Option (List ℕ)} {one : List ℕ} (P : C → D → ℕ → ℕ → ℕ → Type 0)
+    → Lifts Of read first → first ≡ Some one → Lifts With say second → second ≡ None
+    → FindsLeast (λ at other point. Of (λ c. With (λ d. P c d at other point))) None
+second_missing Of read With say {one = one} P lifts is more none =
+    there Of read (λ c at other point. With (λ d. P c d at other point)) None lifts is
+    (not_there With say (P (read one)) more none)
+
+pub both_there : {C D : Type 0} (Of : (C → Type 0) → Type 0) (read : List ℕ → C) (With : (D → Type 0) → Type 0)
+    (say : List ℕ → D) {first second : Option (List ℕ)} {one two : List ℕ} (P : C → D → ℕ → ℕ → ℕ → Type 0)
+    (found : Option Place) → Lifts Of read first → first ≡ Some one → Lifts With say second → second ≡ Some two
+    → FindsLeast (P (read one) (say two)) found
+    → FindsLeast (λ at other point. Of (λ c. With (λ d. P c d at other point))) found
+both_there Of read With say {one = one} P found lifts is more also least =
+    there Of read (λ c at other point. With (λ d. P c d at other point)) found lifts is
+    (there With say (P (read one)) found more also least)
 
 pub of_one : {C : Type 0} (Of : (C → Type 0) → Type 0) (read : List ℕ → C) (P : C → ℕ → ℕ → ℕ → Type 0) {X A : Type 0}
     {B : List ℕ → Type 0} (r : Result (Option Place) X) (view : Option (List ℕ)) → Lifts Of read view
@@ -103,27 +141,7 @@ pub of_one : {C : Type 0} (Of : (C → Type 0) → Type 0) (read : List ℕ → 
     → IfOk r (FindsLeast (λ at other point. Of (λ c. P c at other point)))
 of_one Of read P r None lifts is none some = rw (none is) (λ at other point has. lifts (λ c. P c at other point) has)
 of_one Of read P r (Some whole) lifts is none some =
-    each_ok r (λ found least. least_as found (λ at other point holds. (lifts (λ c. P c at other point)).1 holds)
-    (λ at other point has. (lifts (λ c. P c at other point)).0 has) least)
-    (some whole is)
-
-pub of_two : {C D : Type 0} (Of : (C → Type 0) → Type 0) (read : List ℕ → C) (With : (D → Type 0) → Type 0)
-    (say : List ℕ → D) (P : C → D → ℕ → ℕ → ℕ → Type 0) {X A : Type 0} (B : List ℕ × List ℕ → Type 0)
-    (r : Result (Option Place) X) (first second : Option (List ℕ)) → Lifts Of read first → Lifts With say second
-    → MatchOption (option_zip first second) A B → (A → r ≡ Ok None)
-    → ((one two : List ℕ) → B (one, two) → IfOk r (FindsLeast (P (read one) (say two))))
-    → IfOk r (FindsLeast (λ at other point. Of (λ c. With (λ d. P c d at other point))))
-of_two Of read With say P B r None second lifts other is none some =
-    of_one Of read (λ c at other point. With (λ d. P c d at other point)) r None lifts is none (λ one none. none)
-of_two Of read With say P {A = A} B r (Some one) second lifts other is none some =
-    each_ok r (λ found least. least_as found (λ at o point holds. (lifts (λ c. With (λ d. P c d at o point))).1 holds)
-    (λ at o point has. (lifts (λ c. With (λ d. P c d at o point))).0 has) least)
-    (of_one With say (P (read one)) {B = λ two. B (one, two)} r second other (zipped second is) none (some one))
-  where
-    zipped : (second : Option (List ℕ)) → MatchOption (option_zip (Some one) second) A B
-        → MatchOption second A (λ two. B (one, two))
-    zipped None is = is
-    zipped (Some two) is = is
+    each_ok r (λ found least. there Of read P found lifts refl least) (some whole is)
 
 -- ---- what is found in entries
 
@@ -221,7 +239,7 @@ repeated_madt m q {X = X} value {Answers = Answers} read (Ok found) said entries
 
 -- ---- the SRAT and the SLIT
 
-slit_found : (m : Memory) (q : PolicyValue) {tables : CompleteTables} (view : Option (List ℕ))
+pub slit_found : (m : Memory) (q : PolicyValue) {tables : CompleteTables} (view : Option (List ℕ))
     → AreCompleteTables m q.rsdp tables → view ≡ tables.slit
     → Lifts (HasListed m q.rsdp slit_signature) (λ whole. whole) view
 slit_found m q {tables = tables} view are is =
@@ -246,21 +264,21 @@ sized_slit m q slit n are is rows = λ P.
     in
     (λ has. (both.0 has).1, λ holds. both.1 (rw rows.count rows.size, holds))
 
--- the number of localities is that of the SLIT
-pub past_localities : (m : Memory) (q : PolicyValue) (slit : List ℕ) (n : ℕ) (found : Option Place) → HasRows slit n
-    → Lifts (OfSlit m q) slit_contents (Some slit)
-    → FindsLeast (λ at other point. OfSrat m q (λ srat. OnEntry (IsDomainPastSlit n) srat.entries at other point)) found
+-- what is found in an SRAT with the number of a SLIT's localities
+pub with_localities : (m : Memory) (q : PolicyValue) (P : ℕ → SratEntry → ℕ → ℕ → Type 0) (slit : List ℕ) (n : ℕ)
+    (found : Option Place) → HasRows slit n → Lifts (OfSlit m q) slit_contents (Some slit)
+    → FindsLeast (λ at other point. OfSrat m q (λ srat. OnEntry (P n) srat.entries at other point)) found
     → FindsLeast (λ at other point. OfSrat m q (λ srat.
-    OfSlit m q (λ s. OnEntry (IsDomainPastSlit s.count) srat.entries at other point))) found
-past_localities m q slit n found rows lifts least =
+    OfSlit m q (λ s. OnEntry (P s.count) srat.entries at other point))) found
+with_localities m q P slit n found rows lifts least =
     least_as found
-    (λ at other point (srat, listed, (size, past)). (
+    (λ at other point (srat, listed, (size, has)). (
       srat,
       listed,
       (
         size,
-        (lifts (λ s. OnEntry (IsDomainPastSlit s.count) (srat_contents srat).entries at other point)).1 (rw rows.count
-            past),
+        (lifts (λ s. OnEntry (P s.count) (srat_contents srat).entries at other point)).1
+            (rw rows.count has),
       ),
     ))
     (λ at other point (srat, listed, (size, has)). (
@@ -269,7 +287,7 @@ past_localities m q slit n found rows lifts least =
       (
         size,
         rw rows.count at
-            ((lifts (λ s. OnEntry (IsDomainPastSlit s.count) (srat_contents srat).entries at other point)).0 has),
+            ((lifts (λ s. OnEntry (P s.count) (srat_contents srat).entries at other point)).0 has),
       ),
     ))
     least

@@ -1,70 +1,53 @@
--- A finder that serves several rules finds the first place of each: it looks for what the rule's definition says.
-use Rattle.std.proofs.Common.{◌≡◌, ℕ, Result, inl, inr}
-use Rattle.std.specs.Prelude.{◌⊎◌, IfOk, Option}
-use Rattle.acpi_base.specs.Contents.{HasPptt}
-use Rattle.acpi_lint.specs.Rules.Numbered.{Repeats}
-use Rattle.acpi_lint.specs.Rules.Broken.{IsBroken}
-use Rattle.acpi_lint.specs.Rules.Sets.{OfFadt, OfMadt, OfSrat}
+-- The rules of a group: what is found for the relation of a condition is found for the condition.
+use Rattle.std.proofs.Common.{◌≡◌, Result, Ok, Err, refl, sym, ◌∙◌, subst, Option}
+use Rattle.std.specs.Prelude.{IfOk}
 use Rattle.acpi_base.specs.Memory.{Memory}
 use Rattle.acpi_base.specs.Policy.{PolicyValue}
-use Rattle.acpi_base.specs.declared.rule.Rule.{Rule}
-use Rattle.acpi_base.specs.declared.rule.Rule.TheVariants as rule
-use Rattle.acpi_lint.specs.Advice.{IsFadtBroken, unique_number, IsMadtBroken, IsPpttBroken, IsMadtSratBroken, IsMadtPpttBroken}
+use Rattle.acpi_lint.specs.CompleteTables.{AreCompleteTables}
 use Rattle.acpi_lint.specs.Places.{FindsLeast}
+use Rattle.acpi_lint.specs.RuleGroups.{group_of, as_group, Finds}
+use Rattle.acpi_lint.specs.Rules.Broken.{Condition, Holds, Slots, Fadt, FadtMadt, Madt, MadtEntries, MadtNumbers, MadtSrat, MadtPptt, Srat, SratEntries, SratSlit, Slit, Pptt, PpttEntries}
+use Rattle.acpi_lint.specs.declared.complete_tables.CompleteTables.{CompleteTables}
 use Rattle.acpi_lint.specs.declared.place.Place.{Place}
+use Rattle.acpi_lint.specs.declared.rule_group.RuleGroup.{RuleGroup}
 
-abbrev OneOfTwo : Rule → Rule → Rule → Type 0
-OneOfTwo r s t = (r ≡ s) ⊎ (r ≡ t)
+-- a condition is that of its group
+in_group : (c : Condition) → as_group (group_of c) c ≡ c
+in_group (Slots P) = refl
+in_group (Fadt P) = refl
+in_group (FadtMadt P) = refl
+in_group (Madt P) = refl
+in_group (MadtEntries P) = refl
+in_group (MadtNumbers read) = refl
+in_group (MadtSrat P) = refl
+in_group (MadtPptt P) = refl
+in_group (Srat P) = refl
+in_group (SratEntries P) = refl
+in_group (SratSlit P) = refl
+in_group (Slit P) = refl
+in_group (Pptt P) = refl
+in_group (PpttEntries P) = refl
 
-pub fadt_rules : (m : Memory) (q : PolicyValue) (found : Option Place) (r : Rule)
-    → (r ≡ rule.FadtOfRevision) ⊎ ((r ≡ rule.FacsDiffers) ⊎ ((r ≡ rule.DsdtDiffers) ⊎ (r ≡ rule.BlockDiffers)))
-    → FindsLeast (λ at other point. OfFadt m q (λ fadt. IsFadtBroken r fadt at other point)) found
-    → FindsLeast (IsBroken r m q) found
-fadt_rules m q found r (inl is) least = rw is (rw is at least)
-fadt_rules m q found r (inr (inl is)) least = rw is (rw is at least)
-fadt_rules m q found r (inr (inr (inl is))) least = rw is (rw is at least)
-fadt_rules m q found r (inr (inr (inr is))) least = rw is (rw is at least)
+pub is_of_group : (c : Condition) {found g : RuleGroup} → found ≡ group_of c → found ≡ g → as_group g c ≡ c
+is_of_group c is same = subst (λ (h : RuleGroup). as_group h c ≡ c) (sym is ∙ same) (in_group c)
 
-pub unique_rules : {X : Type 0} (m : Memory) (q : PolicyValue) (result : Result (Option Place) X) (r : Rule)
-    → (r ≡ rule.SameUid) ⊎ ((r ≡ rule.SameApicId) ⊎ ((r ≡ rule.SameIoApicId) ⊎ ((r ≡ rule.SameIoApicAddress)
-    ⊎ (r ≡ rule.SecondGicd))))
-    → IfOk result
-    (FindsLeast (λ at other point. OfMadt m q (λ madt. Repeats (unique_number r) madt.entries at other point)))
-    → IfOk result (FindsLeast (IsBroken r m q))
-unique_rules m q result r (inl is) found = rw is (rw is at found)
-unique_rules m q result r (inr (inl is)) found = rw is (rw is at found)
-unique_rules m q result r (inr (inr (inl is))) found = rw is (rw is at found)
-unique_rules m q result r (inr (inr (inr (inl is)))) found = rw is (rw is at found)
-unique_rules m q result r (inr (inr (inr (inr is)))) found = rw is (rw is at found)
+pub as_rule : (m : Memory) (q : PolicyValue) {k c : Condition} (found : Option Place) → k ≡ c
+    → FindsLeast (Holds k m q) found → FindsLeast (Holds c m q) found
+as_rule m q found is = subst (λ (d : Condition). FindsLeast (Holds d m q) found) is
 
-pub madt_rules : {X : Type 0} (m : Memory) (q : PolicyValue) (result : Result (Option Place) X) (r : Rule)
-    → OneOfTwo r rule.NoProcessor rule.NmiNowhere
-    → IfOk result (FindsLeast (λ at other point. OfMadt m q (λ madt. IsMadtBroken r madt at other point)))
-    → IfOk result (FindsLeast (IsBroken r m q))
-madt_rules m q result r (inl is) found = rw is (rw is at found)
-madt_rules m q result r (inr is) found = rw is (rw is at found)
+pub each_rule : (m : Memory) (q : PolicyValue) {k c : Condition} {X : Type 0} (result : Result (Option Place) X) → k ≡ c
+    → IfOk result (FindsLeast (Holds k m q)) → IfOk result (FindsLeast (Holds c m q))
+each_rule m q result is = subst (λ (d : Condition). IfOk result (FindsLeast (Holds d m q))) is
 
-pub pptt_rules : {X : Type 0} (m : Memory) (q : PolicyValue) (result : Result (Option Place) X) (r : Rule)
-    → OneOfTwo r rule.SameLeaf rule.SameCacheId
-    → IfOk result (FindsLeast (λ at other point. HasPptt m q (λ pptt. IsPpttBroken r pptt at other point)))
-    → IfOk result (FindsLeast (IsBroken r m q))
-pptt_rules m q result r (inl is) found = rw is (rw is at found)
-pptt_rules m q result r (inr is) found = rw is (rw is at found)
+-- the same for what is found in the tables of a set
+pub each_set : (m : Memory) (q : PolicyValue) {k c : Condition} {X : Type 0} {tables : CompleteTables}
+    (result : Result (Option Place) X) → k ≡ c → AreCompleteTables m q.rsdp tables → IfOk result (Finds k tables)
+    → IfOk result (FindsLeast (Holds c m q))
+each_set m q (Ok found) is are finds = as_rule m q found is (finds m q are)
+each_set m q (Err e) is are finds = tt
 
-pub madt_srat_rules : {X : Type 0} (m : Memory) (q : PolicyValue) (result : Result (Option Place) X) (r : Rule)
-    → OneOfTwo r rule.AffinityNowhere rule.NoDomain
-    → IfOk result
-    (FindsLeast (λ at other point. OfMadt m q
-    (λ madt. OfSrat m q (λ srat. IsMadtSratBroken r madt srat at other point))))
-    → IfOk result (FindsLeast (IsBroken r m q))
-madt_srat_rules m q result r (inl is) found = rw is (rw is at found)
-madt_srat_rules m q result r (inr is) found = rw is (rw is at found)
-
-pub madt_pptt_rules : {X : Type 0} (m : Memory) (q : PolicyValue) (result : Result (Option Place) X) (r : Rule)
-    → OneOfTwo r rule.NoLeaf rule.LeafNowhere
-    → IfOk result
-    (FindsLeast (λ at other point. OfMadt m q
-    (λ madt. HasPptt m q (λ pptt. IsMadtPpttBroken r madt pptt at other point))))
-    → IfOk result (FindsLeast (IsBroken r m q))
-madt_pptt_rules m q result r (inl is) found = rw is (rw is at found)
-madt_pptt_rules m q result r (inr is) found = rw is (rw is at found)
+pub each_found : (c : Condition) {X : Type 0} {tables : CompleteTables} (result : Result (Option Place) X)
+    → ((m : Memory) (q : PolicyValue) → AreCompleteTables m q.rsdp tables → IfOk result (FindsLeast (Holds c m q)))
+    → IfOk result (Finds c tables)
+each_found c (Ok found) finds = finds
+each_found c (Err e) finds = tt

@@ -1,5 +1,4 @@
 -- The definitions that contracts of the linter cite.
-pub mod Advice
 pub mod CompleteTables
 pub mod EntryNumbers
 pub mod Leaves
@@ -7,6 +6,7 @@ pub mod Numbered
 pub mod Overrides
 pub mod Places
 pub mod References
+pub mod RuleGroups
 pub mod Rules
 pub mod Slots
 pub mod StageFaults

@@ -1,41 +1,149 @@
-//! The first finding of each rule of advice.
+//! The first finding of each rule of advice. A rule on a table finds nothing if the set lists no complete one with all
+//! its fields.
 
 ghost use Rattle.std.specs.Prelude.{IfOk};
-ghost use Rattle.acpi_lint.specs.Rules.Broken.{IsBroken};
-ghost use Rattle.acpi_lint.specs.Rules.Findings.{AreFirstAdvice};
-ghost use Rattle.acpi_base.specs.Memory.{Memory};
-ghost use Rattle.acpi_base.specs.Policy.{PolicyValue};
-ghost use Rattle.acpi_base.specs.declared.rule.Rule.{Rule};
-ghost use Rattle.acpi_lint.specs.Places.{FindsLeast};
-ghost use Rattle.acpi_lint.specs.StageFaults.{FindsFirstAdvice};
 ghost use Rattle.acpi_lint.specs.CompleteTables.{AreCompleteTables};
+ghost use Rattle.acpi_lint.specs.Places.{FindsLeast};
+ghost use Rattle.acpi_lint.specs.RuleGroups.{in_fadt, in_fadt_madt, in_madt, on_madt_entry, unique_number, in_madt_srat, in_madt_pptt, in_srat, on_srat_entry, on_srat_entry_with, in_slit, in_pptt, on_pptt_entry, Finds, FindsBy};
+ghost use Rattle.acpi_lint.specs.Rules.Broken as broken;
+ghost use Rattle.acpi_lint.specs.Rules.Broken.{condition, IsBroken};
+ghost use Rattle.acpi_lint.specs.Rules.Findings.{AreFirstAdvice};
+ghost use Rattle.acpi_lint.specs.StageFaults.{FindsFirstAdvice};
 
 use crate::complete_tables::CompleteTables;
 use crate::fadt_advice::fadt_place;
 use crate::nowhere::{madt_place, madt_pptt_place, madt_srat_place};
 use crate::own::{
-    cache_shape, domain_past_slit, first_own_place, io_apic_at_zero, madt_unread, srat_unread,
+    first_own_place, madt_entry_place, pptt_entry_place, srat_entry_place, srat_entry_place_with,
 };
 use crate::place::Place;
-use crate::repeated::{pptt_place, repeated, two_uid_domains, unique_number_at};
-use crate::sci::sci_nowhere;
-use crate::slit::{rows, slit_differs};
-use crate::slot_advice::{listed_apart, listed_twice, second_table};
+use crate::repeated::{pptt_place, repeated, srat_place, unique_number_at};
+use crate::rule_group::{RuleGroup, group};
+use crate::sci::fadt_madt_place;
+use crate::slit::{rows, slit_place};
+use crate::slot_advice::slot_place;
 use acpi_base::{Advice, Image, Policy, Rule, TableKind};
 use std::alloc::{AllocError, Global};
 
-/// The place of the first entry of a set's SRAT whose domain is not one of the localities of its SLIT.
-fn past_slit(tables: &CompleteTables<'_>) -> Option<Place>
-    ensures { (m : Memory) (q : PolicyValue) → AreCompleteTables m q.rsdp tables.now
-        → FindsLeast (IsBroken Rule.DomainPastSlit m q) result }
+// ---- rules on tables of a set
+
+/// The place of a rule on the FADT.
+fn in_fadt(tables: &CompleteTables<'_>, rule: Rule) -> Option<Place>
+    ensures { Finds (broken.Fadt (in_fadt (condition rule))) tables.now result }
+{
+    let fadt = tables.fadt()?;
+    fadt_place(rule, &fadt)
+}
+
+/// The place of a rule on the FADT and the MADT.
+fn in_fadt_madt(policy: &Policy, tables: &CompleteTables<'_>, rule: Rule) -> Option<Place>
+    ensures { FindsBy (broken.FadtMadt (in_fadt_madt (condition rule))) policy.now tables.now
+        result }
+{
+    let fadt = tables.fadt()?;
+    let madt = tables.madt()?;
+    fadt_madt_place(policy, rule, &fadt, &madt)
+}
+
+/// The place of a rule on the MADT.
+fn in_madt(
+    alloc: Global,
+    tables: &CompleteTables<'_>,
+    rule: Rule,
+) -> Result<Option<Place>, AllocError>
+    ensures { IfOk result (Finds (broken.Madt (in_madt (condition rule))) tables.now) }
+{
+    let Some(madt) = tables.madt() else {
+        return Ok(None);
+    };
+    madt_place(alloc, rule, &madt)
+}
+
+/// The place of a rule on the MADT and the SRAT.
+fn in_madt_srat(
+    alloc: Global,
+    tables: &CompleteTables<'_>,
+    rule: Rule,
+) -> Result<Option<Place>, AllocError>
+    ensures { IfOk result (Finds (broken.MadtSrat (in_madt_srat (condition rule))) tables.now) }
+{
+    let Some(madt) = tables.madt() else {
+        return Ok(None);
+    };
+    let Some(srat) = tables.srat() else {
+        return Ok(None);
+    };
+    madt_srat_place(alloc, rule, &madt, &srat)
+}
+
+/// The place of a rule on the MADT and the PPTT.
+fn in_madt_pptt(
+    alloc: Global,
+    tables: &CompleteTables<'_>,
+    rule: Rule,
+) -> Result<Option<Place>, AllocError>
+    ensures { IfOk result (Finds (broken.MadtPptt (in_madt_pptt (condition rule))) tables.now) }
+{
+    let Some(madt) = tables.madt() else {
+        return Ok(None);
+    };
+    let Some(pptt) = tables.pptt() else {
+        return Ok(None);
+    };
+    madt_pptt_place(alloc, rule, &madt, &pptt)
+}
+
+/// The place of a rule on the SRAT.
+fn in_srat(
+    alloc: Global,
+    tables: &CompleteTables<'_>,
+    rule: Rule,
+) -> Result<Option<Place>, AllocError>
+    ensures { IfOk result (Finds (broken.Srat (in_srat (condition rule))) tables.now) }
+{
+    let Some(srat) = tables.srat() else {
+        return Ok(None);
+    };
+    srat_place(alloc, rule, &srat)
+}
+
+/// The place of a rule on each entry of the SRAT with the SLIT.
+fn in_srat_slit(tables: &CompleteTables<'_>, rule: Rule) -> Option<Place>
+    ensures { Finds (broken.SratSlit (on_srat_entry_with (condition rule))) tables.now result }
 {
     let slit = tables.table(TableKind::Slit)?;
     let localities = rows(slit.bytes())? as u64;
-    first_own_place(tables.srat_entries(), |at| domain_past_slit(localities, at))
+    first_own_place(
+        tables.srat_entries(),
+        |at| srat_entry_place_with(rule, localities, at),
+    )
 }
 
-/// The place of the first finding of a rule, by what the rules look at; those on the same tables share a finder. A rule
-/// on a table finds nothing if the set lists no complete one with all its fields.
+/// The place of a rule on the SLIT.
+fn in_slit(tables: &CompleteTables<'_>, rule: Rule) -> Option<Place>
+    ensures { Finds (broken.Slit (in_slit (condition rule))) tables.now result }
+{
+    let slit = tables.table(TableKind::Slit)?;
+    slit_place(rule, slit)
+}
+
+/// The place of a rule on the PPTT.
+fn in_pptt(
+    alloc: Global,
+    tables: &CompleteTables<'_>,
+    rule: Rule,
+) -> Result<Option<Place>, AllocError>
+    ensures { IfOk result (Finds (broken.Pptt (in_pptt (condition rule))) tables.now) }
+{
+    let Some(pptt) = tables.pptt() else {
+        return Ok(None);
+    };
+    pptt_place(alloc, rule, &pptt)
+}
+
+// ---- all rules
+
+/// The place of the first finding of a rule.
 fn first_place(
     alloc: Global,
     image: &Image,
@@ -46,50 +154,34 @@ fn first_place(
     requires { AreCompleteTables image.now policy.now.rsdp tables.now }
     ensures { IfOk result (FindsLeast (IsBroken rule image.now policy.now)) }
 {
-    let (fadt, madt, srat, pptt) = (tables.fadt(), tables.madt(), tables.srat(), tables.pptt());
-    let in_madt = tables.madt_entries();
-    match rule {
-        // Slots of the root table.
-        Rule::ListedTwice => listed_twice(alloc, tables),
-        Rule::SecondTable => Ok(second_table(tables)),
-        Rule::ListedApart => Ok(listed_apart(tables)),
-        // Fields.
-        Rule::FadtOfRevision | Rule::FacsDiffers | Rule::DsdtDiffers | Rule::BlockDiffers => {
-            Ok(fadt.and_then(|fadt| fadt_place(rule, &fadt)))
-        }
-        Rule::SlitDiffers => Ok(tables.table(TableKind::Slit).and_then(slit_differs)),
-        // Entries by themselves.
-        Rule::IoApicAtZero => Ok(first_own_place(in_madt, io_apic_at_zero)),
-        Rule::MadtUnread => Ok(first_own_place(in_madt, madt_unread)),
-        Rule::SratUnread => Ok(first_own_place(tables.srat_entries(), srat_unread)),
-        Rule::DomainPastSlit => Ok(past_slit(tables)),
-        Rule::CacheShape => Ok(first_own_place(tables.pptt_entries(), cache_shape)),
-        // Numbers that repeat.
-        Rule::SameUid
-        | Rule::SameApicId
-        | Rule::SameIoApicId
-        | Rule::SameIoApicAddress
-        | Rule::SecondGicd => repeated(alloc, in_madt, |at| unique_number_at(rule, at)),
-        Rule::TwoUidDomains => srat.map_or(Ok(None), |srat| two_uid_domains(alloc, &srat)),
-        Rule::SameLeaf | Rule::SameCacheId => {
-            pptt.map_or(Ok(None), |pptt| pptt_place(alloc, rule, &pptt))
-        }
-        // Numbers that are looked up, and what is not there.
-        Rule::SciNowhere => Ok(
-            fadt.zip(madt)
-                .and_then(|(fadt, madt)| sci_nowhere(policy, &fadt, &madt)),
+    match group(rule) {
+        RuleGroup::Slots => slot_place(alloc, tables, rule),
+        RuleGroup::Fadt => Ok(in_fadt(tables, rule)),
+        RuleGroup::FadtMadt => Ok(in_fadt_madt(policy, tables, rule)),
+        RuleGroup::Madt => in_madt(alloc, tables, rule),
+        RuleGroup::MadtEntries => Ok(first_own_place(
+            tables.madt_entries(),
+            |at| madt_entry_place(rule, at),
+        )),
+        RuleGroup::MadtNumbers => repeated(
+            alloc,
+            tables.madt_entries(),
+            |at| unique_number_at(rule, at),
         ),
-        Rule::NoProcessor | Rule::NmiNowhere => {
-            madt.map_or(Ok(None), |madt| madt_place(alloc, rule, &madt))
-        }
-        Rule::AffinityNowhere | Rule::NoDomain => madt.zip(srat).map_or(
-            Ok(None),
-            |(madt, srat)| madt_srat_place(alloc, rule, &madt, &srat),
-        ),
-        Rule::NoLeaf | Rule::LeafNowhere => madt.zip(pptt).map_or(
-            Ok(None),
-            |(madt, pptt)| madt_pptt_place(alloc, rule, &madt, &pptt),
-        ),
+        RuleGroup::MadtSrat => in_madt_srat(alloc, tables, rule),
+        RuleGroup::MadtPptt => in_madt_pptt(alloc, tables, rule),
+        RuleGroup::Srat => in_srat(alloc, tables, rule),
+        RuleGroup::SratEntries => Ok(first_own_place(
+            tables.srat_entries(),
+            |at| srat_entry_place(rule, at),
+        )),
+        RuleGroup::SratSlit => Ok(in_srat_slit(tables, rule)),
+        RuleGroup::Slit => Ok(in_slit(tables, rule)),
+        RuleGroup::Pptt => in_pptt(alloc, tables, rule),
+        RuleGroup::PpttEntries => Ok(first_own_place(
+            tables.pptt_entries(),
+            |at| pptt_entry_place(rule, at),
+        )),
     }
 }
 

@@ -2,7 +2,8 @@
 
 ghost use Rattle.std.specs.Prelude.{◌≡◌, ◌≤◌, ◌<◌, ◌+◌, ◌*◌, ◌↔◌, IsTrue, length};
 ghost use Rattle.acpi_lint.specs.Rules.FadtAdvice.{fields_length, IsFadtOfRevision, IsFacsDiffers, IsDsdtDiffers, IsBlockDiffers};
-ghost use Rattle.acpi_lint.specs.Advice.{IsFadtBroken};
+ghost use Rattle.acpi_lint.specs.RuleGroups.{in_fadt};
+ghost use Rattle.acpi_lint.specs.Rules.Broken.{condition};
 ghost use Rattle.acpi_lint.specs.Places.{AreTwoFields, IsBlock, FindsLeast};
 
 use crate::place::Place;
@@ -106,7 +107,7 @@ fn block_differs(fadt: &Fadt<'_>) -> Option<Place>
 
 /// The place where a rule on the fields of a FADT is broken. None for another rule.
 pub fn fadt_place(rule: Rule, fadt: &Fadt<'_>) -> Option<Place>
-    ensures { FindsLeast (IsFadtBroken rule fadt.now) result }
+    ensures { FindsLeast (in_fadt (condition rule) fadt.now) result }
 {
     match rule {
         Rule::FadtOfRevision => fadt_of_revision(fadt),

@@ -10,7 +10,7 @@ use crate::table_at::Sought;
 use acpi_base::TableKind;
 
 /// The first slot with a header of each kind.
-#[derive(Clone, Copy, Debug)]
+#[derive(Clone, Copy)]
 pub struct FirstSlots {
     /// Of a FADT.
     pub fadt: Option<Slot>,

@@ -55,6 +55,7 @@ mod references;
 mod repeated;
 mod root;
 mod rsdp;
+mod rule_group;
 mod sci;
 mod slit;
 mod slot_advice;

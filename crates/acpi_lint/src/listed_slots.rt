@@ -11,7 +11,7 @@ use acpi_read::Root;
 use std::alloc::{AllocError, Global};
 
 /// A slot of the root table that lists an address.
-#[derive(Clone, Copy, Debug)]
+#[derive(Clone, Copy)]
 pub struct Slot {
     /// The slot's number, from 0; slots that list nothing count too.
     pub number: u64,

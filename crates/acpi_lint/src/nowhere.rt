@@ -13,7 +13,8 @@ ghost use Rattle.acpi_base.specs.Srat.{srat_contents};
 ghost use Rattle.acpi_read.specs.Madts.{madt_value};
 ghost use Rattle.acpi_read.specs.Srats.{srat_value};
 ghost use Rattle.acpi_read.specs.Entries.{entry_at_value};
-ghost use Rattle.acpi_lint.specs.Advice.{IsMadtBroken, IsMadtSratBroken, IsMadtPpttBroken};
+ghost use Rattle.acpi_lint.specs.RuleGroups.{in_madt, in_madt_srat, in_madt_pptt};
+ghost use Rattle.acpi_lint.specs.Rules.Broken.{condition};
 ghost use Rattle.acpi_lint.specs.Places.{FindsOwn, FindsLeast};
 ghost use Rattle.acpi_lint.specs.EntryNumbers.{IsUnknown, IsUnknownOf, IsUnknownAffinity, IsUnplaced, IsUnknownAt, IsWhereRead};
 
@@ -88,7 +89,7 @@ fn nmi_nowhere(alloc: Global, madt: &Table<'_>) -> Result<Option<Place>, AllocEr
 
 /// The place where a rule on the processors of a MADT is broken. None for another rule.
 pub fn madt_place(alloc: Global, rule: Rule, madt: &Table<'_>) -> Result<Option<Place>, AllocError>
-    ensures { IfOk result (FindsLeast (IsMadtBroken rule (madt_contents madt.now))) }
+    ensures { IfOk result (FindsLeast (in_madt (condition rule) (madt_contents madt.now))) }
 {
     match rule {
         Rule::NoProcessor => Ok(no_processor(madt)),
@@ -174,7 +175,7 @@ pub fn madt_srat_place(
     srat: &Table<'_>,
 ) -> Result<Option<Place>, AllocError>
     ensures { IfOk result (FindsLeast
-        (IsMadtSratBroken rule (madt_contents madt.now) (srat_contents srat.now))) }
+        (in_madt_srat (condition rule) (madt_contents madt.now) (srat_contents srat.now))) }
 {
     match rule {
         Rule::AffinityNowhere => affinity_nowhere(alloc, madt, srat),
@@ -253,7 +254,7 @@ pub fn madt_pptt_place(
     pptt: &Table<'_>,
 ) -> Result<Option<Place>, AllocError>
     ensures { IfOk result (FindsLeast
-        (IsMadtPpttBroken rule (madt_contents madt.now) (pptt_contents pptt.now))) }
+        (in_madt_pptt (condition rule) (madt_contents madt.now) (pptt_contents pptt.now))) }
 {
     match rule {
         Rule::NoLeaf => no_leaf(alloc, madt, pptt),

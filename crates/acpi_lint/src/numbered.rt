@@ -12,7 +12,7 @@ use acpi_graph::sort_unless_sorted;
 use std::alloc::AllocError;
 
 /// A value that is given to a number at a place. These compare by number, then by place, then by value.
-#[derive(Clone, Copy, Debug, PartialEq, Eq, PartialOrd, Ord)]
+#[derive(Clone, Copy, PartialEq, Eq, PartialOrd, Ord)]
 pub struct Numbered {
     /// The number.
     pub number: u64,
@@ -35,7 +35,7 @@ pub fn at_place(at: u64, number: Option<u32>) -> Option<Numbered>
 }
 
 /// At which of two places it is reported if a number's value differs from its first one.
-#[derive(Clone, Copy, Debug)]
+#[derive(Clone, Copy)]
 pub enum Order {
     /// At the later one.
     Later,

@@ -17,10 +17,13 @@ ghost use Rattle.acpi_read.specs.Srats.{srat_value};
 ghost use Rattle.acpi_read.specs.Entries.{entry_at_value};
 ghost use Rattle.acpi_check.specs.CollectedValues.{Picks};
 ghost use Rattle.acpi_lint.specs.Places.{PicksFirst, FindsOwn};
+ghost use Rattle.acpi_lint.specs.RuleGroups.{on_madt_entry, on_srat_entry, on_srat_entry_with, on_pptt_entry};
+ghost use Rattle.acpi_lint.specs.Rules.Broken.{condition};
 
 use crate::passes::first_picked;
 use crate::place::Place;
 use crate::processors::{GICD, any_domain, io_apic_address, is_gicc, is_set};
+use acpi_base::Rule;
 use acpi_read::{
     Cache24, EntryAt, GICC, GICC_AFFINITY, GICC_AFFINITY_LEN, MadtEntry, PpttEntry, SratEntry,
     TableEntry, TypedEntries,
@@ -42,7 +45,7 @@ pub fn first_own_place<'a, E: TableEntry<'a> + Copy, F: Fn(&EntryAt<E>) -> Optio
 // ---- the MADT
 
 /// The place of an I/O APIC whose address is 0.
-pub fn io_apic_at_zero(at: &EntryAt<MadtEntry<'_>>) -> Option<Place>
+fn io_apic_at_zero(at: &EntryAt<MadtEntry<'_>>) -> Option<Place>
     ensures { FindsOwn (λ at. IsIoApicAtZero) (entry_at_value madt_value at.now) result }
 {
     let address = io_apic_address(&at.entry)?;
@@ -63,7 +66,7 @@ fn is_madt_unread(bytes: &[u8]) -> bool
 }
 
 /// The place of an entry of a MADT that neither the stages nor these rules read; `other` is its type.
-pub fn madt_unread(at: &EntryAt<MadtEntry<'_>>) -> Option<Place>
+fn madt_unread(at: &EntryAt<MadtEntry<'_>>) -> Option<Place>
     requires { madts.IsCompleteEntry at.now.entry }
     ensures { FindsOwn (λ at. IsMadtUnread) (entry_at_value madt_value at.now) result }
 {
@@ -73,6 +76,19 @@ pub fn madt_unread(at: &EntryAt<MadtEntry<'_>>) -> Option<Place>
             other: u64::from(bytes[0]),
             point: 0,
         }),
+        _ => None,
+    }
+}
+
+/// The place of an entry of a MADT that breaks a rule by itself. None for another rule.
+pub fn madt_entry_place(rule: Rule, at: &EntryAt<MadtEntry<'_>>) -> Option<Place>
+    requires { madts.IsCompleteEntry at.now.entry }
+    ensures { FindsOwn (λ at. on_madt_entry (condition rule)) (entry_at_value madt_value at.now)
+        result }
+{
+    match rule {
+        Rule::IoApicAtZero => io_apic_at_zero(at),
+        Rule::MadtUnread => madt_unread(at),
         _ => None,
     }
 }
@@ -92,7 +108,7 @@ fn is_srat_unread(bytes: &[u8]) -> bool
 }
 
 /// The place of an entry of an SRAT that neither the stages nor these rules read; `other` is its type.
-pub fn srat_unread(at: &EntryAt<SratEntry<'_>>) -> Option<Place>
+fn srat_unread(at: &EntryAt<SratEntry<'_>>) -> Option<Place>
     requires { srats.IsCompleteEntry at.now.entry }
     ensures { FindsOwn (λ at. IsSratUnread) (entry_at_value srat_value at.now) result }
 {
@@ -107,7 +123,7 @@ pub fn srat_unread(at: &EntryAt<SratEntry<'_>>) -> Option<Place>
 }
 
 /// The place of an entry whose domain, `point`, is not one of a SLIT's localities, of which there are `other`.
-pub fn domain_past_slit(localities: u64, at: &EntryAt<SratEntry<'_>>) -> Option<Place>
+fn domain_past_slit(localities: u64, at: &EntryAt<SratEntry<'_>>) -> Option<Place>
     ensures { FindsOwn (λ at. IsDomainPastSlit localities) (entry_at_value srat_value at.now)
         result }
 {
@@ -117,6 +133,34 @@ pub fn domain_past_slit(localities: u64, at: &EntryAt<SratEntry<'_>>) -> Option<
         other: localities,
         point: domain,
     })
+}
+
+/// The place of an entry of an SRAT that breaks a rule by itself. None for another rule.
+pub fn srat_entry_place(rule: Rule, at: &EntryAt<SratEntry<'_>>) -> Option<Place>
+    requires { srats.IsCompleteEntry at.now.entry }
+    ensures { FindsOwn (λ at. on_srat_entry (condition rule)) (entry_at_value srat_value at.now)
+        result }
+{
+    match rule {
+        Rule::SratUnread => srat_unread(at),
+        _ => None,
+    }
+}
+
+/// The place of an entry of an SRAT that breaks a rule with a SLIT, which has this many localities. None for another
+/// rule.
+pub fn srat_entry_place_with(
+    rule: Rule,
+    localities: u64,
+    at: &EntryAt<SratEntry<'_>>,
+) -> Option<Place>
+    ensures { FindsOwn (λ at. on_srat_entry_with (condition rule) localities)
+        (entry_at_value srat_value at.now) result }
+{
+    match rule {
+        Rule::DomainPastSlit => domain_past_slit(localities, at),
+        _ => None,
+    }
 }
 
 // ---- the PPTT
@@ -149,8 +193,19 @@ fn is_odd_cache(entry: &PpttEntry<'_>) -> bool
 }
 
 /// The place of a cache whose Number of Sets is valid and 0, or whose Line Size is valid and not a power of two.
-pub fn cache_shape(at: &EntryAt<PpttEntry<'_>>) -> Option<Place>
+fn cache_shape(at: &EntryAt<PpttEntry<'_>>) -> Option<Place>
     ensures { FindsOwn (λ at. IsCacheShape) (entry_at_value pptt_value at.now) result }
 {
     is_odd_cache(&at.entry).then_some(Place::at(at.offset))
+}
+
+/// The place of an entry of a PPTT that breaks a rule by itself. None for another rule.
+pub fn pptt_entry_place(rule: Rule, at: &EntryAt<PpttEntry<'_>>) -> Option<Place>
+    ensures { FindsOwn (λ at. on_pptt_entry (condition rule)) (entry_at_value pptt_value at.now)
+        result }
+{
+    match rule {
+        Rule::CacheShape => cache_shape(at),
+        _ => None,
+    }
 }

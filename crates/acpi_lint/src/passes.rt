@@ -39,7 +39,7 @@ pub fn first_picked<'a, E: TableEntry<'a> + Copy, T: Drop, F: Fn(&EntryAt<E>) ->
 }
 
 /// What is looked for among the entries of a table.
-#[derive(Clone, Copy, Debug, PartialEq, Eq)]
+#[derive(Clone, Copy)]
 pub enum SoughtEntry {
     /// One that has the fault with this code by itself.
     Own(Code),

@@ -11,7 +11,8 @@ ghost use Rattle.acpi_read.specs.Madts.{madt_value};
 ghost use Rattle.acpi_read.specs.Pptts.{pptt_value};
 ghost use Rattle.acpi_read.specs.Srats.{srat_value};
 ghost use Rattle.acpi_check.specs.CollectedValues.{Picks};
-ghost use Rattle.acpi_lint.specs.Advice.{unique_number, IsPpttBroken};
+ghost use Rattle.acpi_lint.specs.RuleGroups.{unique_number, in_pptt, in_srat};
+ghost use Rattle.acpi_lint.specs.Rules.Broken.{condition};
 ghost use Rattle.acpi_lint.specs.EntryNumbers.{domain_of_uid, FindsRepeated};
 ghost use Rattle.acpi_lint.specs.Numbered.{at_place};
 ghost use Rattle.acpi_lint.specs.Places.{FindsLeast};
@@ -51,7 +52,7 @@ pub fn repeated<'a, E: TableEntry<'a> + Copy, F: Fn(&EntryAt<E>) -> Option<Numbe
 
 /// The number of an entry of a MADT that a rule wants to be unique. None for another rule.
 fn unique_number(rule: Rule, entry: &MadtEntry<'_>) -> Option<u32>
-    ensures { result ≡ unique_number rule (madt_value entry.now) }
+    ensures { result ≡ unique_number (condition rule) (madt_value entry.now) }
 {
     match rule {
         Rule::SameUid => uid_on(entry),
@@ -66,7 +67,7 @@ fn unique_number(rule: Rule, entry: &MadtEntry<'_>) -> Option<u32>
 /// The same at the entry's place.
 pub fn unique_number_at(rule: Rule, at: &EntryAt<MadtEntry<'_>>) -> Option<Numbered>
     ensures { result
-        ≡ option_map (at_place at.now.offset) (unique_number rule (madt_value at.now.entry)) }
+        ≡ option_map (at_place at.now.offset) (unique_number (condition rule) (madt_value at.now.entry)) }
 {
     at_place(at.offset, unique_number(rule, &at.entry))
 }
@@ -105,7 +106,7 @@ fn same_leaf(alloc: Global, pptt: &Table<'_>) -> Result<Option<Place>, AllocErro
 
 /// The place where a rule on the numbers in a PPTT is broken. None for another rule.
 pub fn pptt_place(alloc: Global, rule: Rule, pptt: &Table<'_>) -> Result<Option<Place>, AllocError>
-    ensures { IfOk result (FindsLeast (IsPpttBroken rule (pptt_contents pptt.now))) }
+    ensures { IfOk result (FindsLeast (in_pptt (condition rule) (pptt_contents pptt.now))) }
 {
     match rule {
         Rule::SameLeaf => same_leaf(alloc, pptt),
@@ -131,9 +132,19 @@ fn domain_of_uid(at: &EntryAt<SratEntry<'_>>) -> Option<Numbered>
 
 /// The first GICC affinity with a UID that a later one puts into another domain; `other` is the first such one, and
 /// `point` the UID. Allocates for each enabled GICC affinity.
-pub fn two_uid_domains(alloc: Global, srat: &Table<'_>) -> Result<Option<Place>, AllocError>
+fn two_uid_domains(alloc: Global, srat: &Table<'_>) -> Result<Option<Place>, AllocError>
     ensures { IfOk result (FindsLeast (IsTwoUidDomains (srat_contents srat.now))) }
 {
     let domains = collected(alloc, srat.entries::<SratEntry<'_>>(), domain_of_uid)?;
     first_unlike(domains, Order::First)
+}
+
+/// The place where a rule on the numbers in an SRAT is broken. None for another rule.
+pub fn srat_place(alloc: Global, rule: Rule, srat: &Table<'_>) -> Result<Option<Place>, AllocError>
+    ensures { IfOk result (FindsLeast (in_srat (condition rule) (srat_contents srat.now))) }
+{
+    match rule {
+        Rule::TwoUidDomains => two_uid_domains(alloc, srat),
+        _ => Ok(None),
+    }
 }

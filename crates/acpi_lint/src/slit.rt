@@ -6,10 +6,12 @@ ghost use Rattle.acpi_lint.specs.Rules.SlitAdvice.{IsSlitDiffers};
 ghost use Rattle.acpi_base.specs.declared.code.Code.{Code};
 ghost use Rattle.acpi_read.specs.Slits.{HasRows};
 ghost use Rattle.acpi_lint.specs.Places.{FindsLeast, IsRowDiffers, IsSizedDiffers};
+ghost use Rattle.acpi_lint.specs.RuleGroups.{IsSizedBroken};
+ghost use Rattle.acpi_lint.specs.Rules.Broken.{condition};
 
 use crate::place::Place;
-use acpi_base::Code;
 use acpi_base::field::u64_at;
+use acpi_base::{Code, Rule};
 use acpi_read::{Slit, Table};
 
 /// How many rows of as many cells a table has, if it has these after its first 44 bytes, and nothing else.
@@ -123,9 +125,19 @@ fn rows_differ(bytes: &[u8], count: usize) -> Option<Place>
 
 /// The place of the first distance of a SLIT that differs from the distance back: the offsets of both cells. None if
 /// the SLIT does not have the right size.
-pub fn slit_differs(table: Table<'_>) -> Option<Place>
+fn slit_differs(table: Table<'_>) -> Option<Place>
     ensures { FindsLeast (IsSizedDiffers (slit_contents table.entry)) result }
 {
     let bytes = table.bytes();
     rows_differ(bytes, rows(bytes)?)
+}
+
+/// The place where a rule on a SLIT is broken, whose cells are read only if it has the right size. None for another rule.
+pub fn slit_place(rule: Rule, slit: Table<'_>) -> Option<Place>
+    ensures { FindsLeast (IsSizedBroken (condition rule) (slit_contents slit.entry)) result }
+{
+    match rule {
+        Rule::SlitDiffers => slit_differs(slit),
+        _ => None,
+    }
 }

@@ -7,6 +7,9 @@ ghost use Rattle.acpi_base.specs.Memory.{Memory};
 ghost use Rattle.acpi_lint.specs.Places.{FindsLeast};
 ghost use Rattle.acpi_lint.specs.Slots.{numbered_slot, second_place};
 ghost use Rattle.acpi_lint.specs.CompleteTables.{AreCompleteTables};
+ghost use Rattle.acpi_lint.specs.RuleGroups.{in_slots, Finds};
+ghost use Rattle.acpi_lint.specs.Rules.Broken as broken;
+ghost use Rattle.acpi_lint.specs.Rules.Broken.{condition};
 
 use crate::complete_tables::CompleteTables;
 use crate::first_slots::FirstSlots;
@@ -14,6 +17,7 @@ use crate::listed_slots::{Slot, first_slot};
 use crate::numbered::{Numbered, first_repeated};
 use crate::place::Place;
 use crate::table_at::Sought;
+use acpi_base::Rule;
 use std::alloc::{AllocError, Global};
 
 /// The addresses that slots list, each at its slot's number.
@@ -33,7 +37,7 @@ fn numbered_slots(alloc: Global, slots: &[Slot]) -> Result<Vec<Numbered>, AllocE
 
 /// The first slot that lists an address that an earlier slot also lists. The tables are those of the set. Allocates for
 /// each slot.
-pub fn listed_twice(alloc: Global, tables: &CompleteTables<'_>) -> Result<Option<Place>, AllocError>
+fn listed_twice(alloc: Global, tables: &CompleteTables<'_>) -> Result<Option<Place>, AllocError>
     ensures { (m : Memory) (p : ℕ) → AreCompleteTables m p tables.now
         → IfOk result (FindsLeast (IsListedTwice m p)) }
 {
@@ -56,7 +60,7 @@ fn second_place(firsts: &FirstSlots, slot: &Slot) -> Option<Place>
 
 /// The first slot that lists a table of the same kind as an earlier one, at another address. The tables are those of
 /// the set.
-pub fn second_table(tables: &CompleteTables<'_>) -> Option<Place>
+fn second_table(tables: &CompleteTables<'_>) -> Option<Place>
     ensures { (m : Memory) (p : ℕ) → AreCompleteTables m p tables.now
         → FindsLeast (IsSecondTable m p) result }
 {
@@ -69,7 +73,7 @@ pub fn second_table(tables: &CompleteTables<'_>) -> Option<Place>
 }
 
 /// The first slot that lists a DSDT or a FACS, which only the FADT should name. The tables are those of the set.
-pub fn listed_apart(tables: &CompleteTables<'_>) -> Option<Place>
+fn listed_apart(tables: &CompleteTables<'_>) -> Option<Place>
     ensures { (m : Memory) (p : ℕ) → AreCompleteTables m p tables.now
         → FindsLeast (IsListedApart m p) result }
 {
@@ -79,4 +83,21 @@ pub fn listed_apart(tables: &CompleteTables<'_>) -> Option<Place>
         other: 0,
         point: slot.table.address,
     })
+}
+
+/// The place where a rule on the slots of the root table is broken. None for another rule. The tables are those of the
+/// set. Allocates for each slot.
+pub fn slot_place(
+    alloc: Global,
+    tables: &CompleteTables<'_>,
+    rule: Rule,
+) -> Result<Option<Place>, AllocError>
+    ensures { IfOk result (Finds (broken.Slots (in_slots (condition rule))) tables.now) }
+{
+    match rule {
+        Rule::ListedTwice => listed_twice(alloc, tables),
+        Rule::SecondTable => Ok(second_table(tables)),
+        Rule::ListedApart => Ok(listed_apart(tables)),
+        _ => Ok(None),
+    }
 }

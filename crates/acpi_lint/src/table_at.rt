@@ -15,7 +15,7 @@ use acpi_base::{Code, Image, TableKind};
 use acpi_read::sums_to_zero;
 
 /// What is looked for at the addresses that slots list.
-#[derive(Clone, Copy, Debug)]
+#[derive(Clone, Copy)]
 pub enum Sought {
     /// A table that has the fault with this code.
     Fault(Code),
@@ -26,7 +26,7 @@ pub enum Sought {
 }
 
 /// What is at an address.
-#[derive(Clone, Copy, Debug)]
+#[derive(Clone, Copy)]
 pub struct TableAt {
     /// The address.
     pub address: u64,

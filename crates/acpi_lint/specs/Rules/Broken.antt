@@ -1,8 +1,12 @@
 -- When each rule of advice is broken. Offsets and numbers are as the tables' own rules say.
-use Rattle.std.specs.Prelude.{ℕ}
+use Rattle.std.specs.Prelude.{ℕ, List, Option}
 use Rattle.acpi_base.specs.Memory.{Memory}
 use Rattle.acpi_base.specs.Policy.{PolicyValue}
 use Rattle.acpi_base.specs.Contents.{HasPptt}
+use Rattle.acpi_base.specs.Madt.{MadtEntry, MadtContents}
+use Rattle.acpi_base.specs.Srat.{SratEntry, SratContents}
+use Rattle.acpi_base.specs.Slit.{SlitContents}
+use Rattle.acpi_base.specs.Pptt.{PpttEntry, PpttContents}
 use Rattle.acpi_lint.specs.Rules.Numbered.{OnEntry, Repeats}
 use Rattle.acpi_lint.specs.Rules.Processors.{uid_on, apic_id_on}
 use Rattle.acpi_lint.specs.Rules.Sets.{OfFadt, OfMadt, OfSrat, OfSlit}
@@ -15,33 +19,72 @@ use Rattle.acpi_lint.specs.Rules.PpttAdvice.{IsSameLeaf, IsCacheShape, IsSameCac
 use Rattle.acpi_base.specs.declared.rule.Rule.{Rule}
 use Rattle.acpi_base.specs.declared.rule.Rule.TheVariants as rule
 
+-- what a rule looks at, and the relation that says with which numbers it is broken there
+pub data Condition : Type 1 where
+  Slots : (Memory → ℕ → ℕ → ℕ → ℕ → Type 0) → Condition  -- the slots of the root table that the RSDP at an address names
+  Fadt : (List ℕ → ℕ → ℕ → ℕ → Type 0) → Condition
+  FadtMadt : (PolicyValue → List ℕ → MadtContents → ℕ → ℕ → ℕ → Type 0) → Condition
+  Madt : (MadtContents → ℕ → ℕ → ℕ → Type 0) → Condition
+  MadtEntries : (MadtEntry → ℕ → ℕ → Type 0) → Condition  -- each entry by itself
+  MadtNumbers : (MadtEntry → Option ℕ) → Condition  -- a number of entries, which should be unique
+  MadtSrat : (MadtContents → SratContents → ℕ → ℕ → ℕ → Type 0) → Condition
+  MadtPptt : (MadtContents → PpttContents → ℕ → ℕ → ℕ → Type 0) → Condition
+  Srat : (SratContents → ℕ → ℕ → ℕ → Type 0) → Condition
+  SratEntries : (SratEntry → ℕ → ℕ → Type 0) → Condition
+  SratSlit : (ℕ → SratEntry → ℕ → ℕ → Type 0) → Condition  -- each entry, with the number of the SLIT's localities
+  Slit : (SlitContents → ℕ → ℕ → ℕ → Type 0) → Condition
+  Pptt : (PpttContents → ℕ → ℕ → ℕ → Type 0) → Condition
+  PpttEntries : (PpttEntry → ℕ → ℕ → Type 0) → Condition
+
+-- the condition of each rule
+abbrev pub condition : Rule → Condition
+condition rule.ListedTwice = Slots IsListedTwice
+condition rule.SecondTable = Slots IsSecondTable
+condition rule.ListedApart = Slots IsListedApart
+condition rule.FadtOfRevision = Fadt IsFadtOfRevision
+condition rule.FacsDiffers = Fadt IsFacsDiffers
+condition rule.DsdtDiffers = Fadt IsDsdtDiffers
+condition rule.BlockDiffers = Fadt IsBlockDiffers
+condition rule.SciNowhere = FadtMadt IsSciNowhere
+condition rule.SameUid = MadtNumbers uid_on
+condition rule.SameApicId = MadtNumbers apic_id_on
+condition rule.IoApicAtZero = MadtEntries IsIoApicAtZero
+condition rule.SameIoApicId = MadtNumbers io_apic_id
+condition rule.SameIoApicAddress = MadtNumbers nonzero_io_apic_address
+condition rule.NmiNowhere = Madt IsNmiNowhere
+condition rule.SecondGicd = MadtNumbers gicd
+condition rule.NoProcessor = Madt IsNoProcessor
+condition rule.TwoUidDomains = Srat IsTwoUidDomains
+condition rule.AffinityNowhere = MadtSrat IsAffinityNowhere
+condition rule.NoDomain = MadtSrat IsNoDomain
+condition rule.DomainPastSlit = SratSlit IsDomainPastSlit
+condition rule.SlitDiffers = Slit IsSlitDiffers
+condition rule.SameLeaf = Pptt IsSameLeaf
+condition rule.CacheShape = PpttEntries IsCacheShape
+condition rule.SameCacheId = Pptt IsSameCacheId
+condition rule.NoLeaf = MadtPptt IsNoLeaf
+condition rule.LeafNowhere = MadtPptt IsLeafNowhere
+condition rule.MadtUnread = MadtEntries IsMadtUnread
+condition rule.SratUnread = SratEntries IsSratUnread
+
+-- the condition holds in a set for these numbers
+abbrev pub Holds : Condition → Memory → PolicyValue → ℕ → ℕ → ℕ → Type 0
+Holds (Slots P) m q at other point = P m q.rsdp at other point
+Holds (Fadt P) m q at other point = OfFadt m q (λ fadt. P fadt at other point)
+Holds (FadtMadt P) m q at other point = OfFadt m q (λ fadt. OfMadt m q (λ madt. P q fadt madt at other point))
+Holds (Madt P) m q at other point = OfMadt m q (λ madt. P madt at other point)
+Holds (MadtEntries P) m q at other point = OfMadt m q (λ madt. OnEntry P madt.entries at other point)
+Holds (MadtNumbers read) m q at other point = OfMadt m q (λ madt. Repeats read madt.entries at other point)
+Holds (MadtSrat P) m q at other point = OfMadt m q (λ madt. OfSrat m q (λ srat. P madt srat at other point))
+Holds (MadtPptt P) m q at other point = OfMadt m q (λ madt. HasPptt m q (λ pptt. P madt pptt at other point))
+Holds (Srat P) m q at other point = OfSrat m q (λ srat. P srat at other point)
+Holds (SratEntries P) m q at other point = OfSrat m q (λ srat. OnEntry P srat.entries at other point)
+Holds (SratSlit P) m q at other point =
+    OfSrat m q (λ srat. OfSlit m q (λ slit. OnEntry (P slit.count) srat.entries at other point))
+Holds (Slit P) m q at other point = OfSlit m q (λ slit. P slit at other point)
+Holds (Pptt P) m q at other point = HasPptt m q (λ pptt. P pptt at other point)
+Holds (PpttEntries P) m q at other point = HasPptt m q (λ pptt. OnEntry P pptt.entries at other point)
+
 -- the rule is broken at these numbers
 abbrev pub IsBroken : Rule → Memory → PolicyValue → ℕ → ℕ → ℕ → Type 0
-IsBroken rule.ListedTwice m q at other point = IsListedTwice m q.rsdp at other point
-IsBroken rule.SecondTable m q at other point = IsSecondTable m q.rsdp at other point
-IsBroken rule.ListedApart m q at other point = IsListedApart m q.rsdp at other point
-IsBroken rule.FadtOfRevision m q at other point = OfFadt m q (λ fadt. IsFadtOfRevision fadt at other point)
-IsBroken rule.FacsDiffers m q at other point = OfFadt m q (λ fadt. IsFacsDiffers fadt at other point)
-IsBroken rule.DsdtDiffers m q at other point = OfFadt m q (λ fadt. IsDsdtDiffers fadt at other point)
-IsBroken rule.BlockDiffers m q at other point = OfFadt m q (λ fadt. IsBlockDiffers fadt at other point)
-IsBroken rule.SciNowhere m q at other point = OfFadt m q (λ fadt. OfMadt m q (λ madt. IsSciNowhere q fadt madt at other point))
-IsBroken rule.SameUid m q at other point = OfMadt m q (λ madt. Repeats uid_on madt.entries at other point)
-IsBroken rule.SameApicId m q at other point = OfMadt m q (λ madt. Repeats apic_id_on madt.entries at other point)
-IsBroken rule.IoApicAtZero m q at other point = OfMadt m q (λ madt. OnEntry IsIoApicAtZero madt.entries at other point)
-IsBroken rule.SameIoApicId m q at other point = OfMadt m q (λ madt. Repeats io_apic_id madt.entries at other point)
-IsBroken rule.SameIoApicAddress m q at other point = OfMadt m q (λ madt. Repeats nonzero_io_apic_address madt.entries at other point)
-IsBroken rule.NmiNowhere m q at other point = OfMadt m q (λ madt. IsNmiNowhere madt at other point)
-IsBroken rule.SecondGicd m q at other point = OfMadt m q (λ madt. Repeats gicd madt.entries at other point)
-IsBroken rule.NoProcessor m q at other point = OfMadt m q (λ madt. IsNoProcessor madt at other point)
-IsBroken rule.TwoUidDomains m q at other point = OfSrat m q (λ srat. IsTwoUidDomains srat at other point)
-IsBroken rule.AffinityNowhere m q at other point = OfMadt m q (λ madt. OfSrat m q (λ srat. IsAffinityNowhere madt srat at other point))
-IsBroken rule.NoDomain m q at other point = OfMadt m q (λ madt. OfSrat m q (λ srat. IsNoDomain madt srat at other point))
-IsBroken rule.DomainPastSlit m q at other point = OfSrat m q (λ srat. OfSlit m q (λ slit. OnEntry (IsDomainPastSlit slit.count) srat.entries at other point))
-IsBroken rule.SlitDiffers m q at other point = OfSlit m q (λ slit. IsSlitDiffers slit at other point)
-IsBroken rule.SameLeaf m q at other point = HasPptt m q (λ pptt. IsSameLeaf pptt at other point)
-IsBroken rule.CacheShape m q at other point = HasPptt m q (λ pptt. OnEntry IsCacheShape pptt.entries at other point)
-IsBroken rule.SameCacheId m q at other point = HasPptt m q (λ pptt. IsSameCacheId pptt at other point)
-IsBroken rule.NoLeaf m q at other point = OfMadt m q (λ madt. HasPptt m q (λ pptt. IsNoLeaf madt pptt at other point))
-IsBroken rule.LeafNowhere m q at other point = OfMadt m q (λ madt. HasPptt m q (λ pptt. IsLeafNowhere madt pptt at other point))
-IsBroken rule.MadtUnread m q at other point = OfMadt m q (λ madt. OnEntry IsMadtUnread madt.entries at other point)
-IsBroken rule.SratUnread m q at other point = OfSrat m q (λ srat. OnEntry IsSratUnread srat.entries at other point)
+IsBroken r = Holds (condition r)

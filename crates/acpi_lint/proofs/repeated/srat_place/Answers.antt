@@ -1,0 +1,4 @@
+use Rattle.acpi_lint.proofs.repeated.srat_place.Goals as goal
+
+pub returns-in-TwoUidDomains : goal.returns-in-TwoUidDomains
+returns-in-TwoUidDomains c = rw c.in-TwoUidDomains.is c.two_uid_domains.ensures

@@ -1,0 +1,15 @@
+use Rattle.acpi_lint.specs.Rules.Broken.{Slots}
+use Rattle.acpi_lint.specs.Rules.Slots.{IsListedTwice}
+use Rattle.acpi_lint.proofs.RuleGroups.{each_found}
+use Rattle.acpi_lint.proofs.slot_advice.slot_place.Goals as goal
+
+pub returns-in-ListedTwice : goal.returns-in-ListedTwice
+returns-in-ListedTwice c =
+    rw c.in-ListedTwice.is (each_found (Slots IsListedTwice) c.listed_twice.result
+    (λ m q are. c.listed_twice.ensures m q.rsdp are))
+
+pub returns-in-SecondTable : goal.returns-in-SecondTable
+returns-in-SecondTable c = λ m q are. rw c.in-SecondTable.is (c.second_table.ensures m q.rsdp are)
+
+pub returns-in-ListedApart : goal.returns-in-ListedApart
+returns-in-ListedApart c = λ m q are. rw c.in-ListedApart.is (c.listed_apart.ensures m q.rsdp are)

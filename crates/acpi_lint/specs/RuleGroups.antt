@@ -1,0 +1,122 @@
+-- The rules that a finder serves: those that look at the same.
+use Rattle.std.specs.Prelude.{ℕ, List, Option, None}
+use Rattle.acpi_base.specs.Madt.{MadtEntry, MadtContents}
+use Rattle.acpi_base.specs.Memory.{Memory}
+use Rattle.acpi_base.specs.Policy.{PolicyValue}
+use Rattle.acpi_base.specs.Pptt.{PpttEntry, PpttContents}
+use Rattle.acpi_base.specs.Slit.{SlitContents, HasSlitSize}
+use Rattle.acpi_base.specs.Srat.{SratEntry, SratContents}
+use Rattle.acpi_lint.specs.CompleteTables.{AreCompleteTables}
+use Rattle.acpi_lint.specs.Places.{FindsLeast}
+use Rattle.acpi_lint.specs.Rules.Broken.{Condition, Holds, Slots, Fadt, FadtMadt, Madt, MadtEntries, MadtNumbers, MadtSrat, MadtPptt, Srat, SratEntries, SratSlit, Slit, Pptt, PpttEntries}
+use Rattle.acpi_lint.specs.declared.complete_tables.CompleteTables.{CompleteTables}
+use Rattle.acpi_lint.specs.declared.place.Place.{Place}
+use Rattle.acpi_lint.specs.declared.rule_group.RuleGroup.{RuleGroup}
+use Rattle.acpi_lint.specs.declared.rule_group.RuleGroup.TheVariants as group
+
+-- the group of the rules with a condition
+abbrev pub group_of : Condition → RuleGroup
+group_of (Slots P) = group.Slots
+group_of (Fadt P) = group.Fadt
+group_of (FadtMadt P) = group.FadtMadt
+group_of (Madt P) = group.Madt
+group_of (MadtEntries P) = group.MadtEntries
+group_of (MadtNumbers read) = group.MadtNumbers
+group_of (MadtSrat P) = group.MadtSrat
+group_of (MadtPptt P) = group.MadtPptt
+group_of (Srat P) = group.Srat
+group_of (SratEntries P) = group.SratEntries
+group_of (SratSlit P) = group.SratSlit
+group_of (Slit P) = group.Slit
+group_of (Pptt P) = group.Pptt
+group_of (PpttEntries P) = group.PpttEntries
+
+-- ---- the relation of a condition of a group; nothing is related by that of another
+
+abbrev pub in_slots : Condition → Memory → ℕ → ℕ → ℕ → ℕ → Type 0
+in_slots (Slots P) = P
+in_slots _ = λ m p at other point. ⊥
+
+abbrev pub in_fadt : Condition → List ℕ → ℕ → ℕ → ℕ → Type 0
+in_fadt (Fadt P) = P
+in_fadt _ = λ fadt at other point. ⊥
+
+abbrev pub in_fadt_madt : Condition → PolicyValue → List ℕ → MadtContents → ℕ → ℕ → ℕ → Type 0
+in_fadt_madt (FadtMadt P) = P
+in_fadt_madt _ = λ q fadt madt at other point. ⊥
+
+abbrev pub in_madt : Condition → MadtContents → ℕ → ℕ → ℕ → Type 0
+in_madt (Madt P) = P
+in_madt _ = λ madt at other point. ⊥
+
+abbrev pub on_madt_entry : Condition → MadtEntry → ℕ → ℕ → Type 0
+on_madt_entry (MadtEntries P) = P
+on_madt_entry _ = λ e other point. ⊥
+
+abbrev pub unique_number : Condition → MadtEntry → Option ℕ
+unique_number (MadtNumbers read) = read
+unique_number _ = λ e. None
+
+abbrev pub in_madt_srat : Condition → MadtContents → SratContents → ℕ → ℕ → ℕ → Type 0
+in_madt_srat (MadtSrat P) = P
+in_madt_srat _ = λ madt srat at other point. ⊥
+
+abbrev pub in_madt_pptt : Condition → MadtContents → PpttContents → ℕ → ℕ → ℕ → Type 0
+in_madt_pptt (MadtPptt P) = P
+in_madt_pptt _ = λ madt pptt at other point. ⊥
+
+abbrev pub in_srat : Condition → SratContents → ℕ → ℕ → ℕ → Type 0
+in_srat (Srat P) = P
+in_srat _ = λ srat at other point. ⊥
+
+abbrev pub on_srat_entry : Condition → SratEntry → ℕ → ℕ → Type 0
+on_srat_entry (SratEntries P) = P
+on_srat_entry _ = λ e other point. ⊥
+
+abbrev pub on_srat_entry_with : Condition → ℕ → SratEntry → ℕ → ℕ → Type 0
+on_srat_entry_with (SratSlit P) = P
+on_srat_entry_with _ = λ localities e other point. ⊥
+
+abbrev pub in_slit : Condition → SlitContents → ℕ → ℕ → ℕ → Type 0
+in_slit (Slit P) = P
+in_slit _ = λ slit at other point. ⊥
+
+-- the same in a table that has the right size
+abbrev pub IsSizedBroken : Condition → SlitContents → ℕ → ℕ → ℕ → Type 0
+IsSizedBroken c slit at other point = HasSlitSize slit × in_slit c slit at other point
+
+abbrev pub in_pptt : Condition → PpttContents → ℕ → ℕ → ℕ → Type 0
+in_pptt (Pptt P) = P
+in_pptt _ = λ pptt at other point. ⊥
+
+abbrev pub on_pptt_entry : Condition → PpttEntry → ℕ → ℕ → Type 0
+on_pptt_entry (PpttEntries P) = P
+on_pptt_entry _ = λ e other point. ⊥
+
+-- the condition with that relation, of a group
+abbrev pub as_group : RuleGroup → Condition → Condition
+as_group group.Slots c = Slots (in_slots c)
+as_group group.Fadt c = Fadt (in_fadt c)
+as_group group.FadtMadt c = FadtMadt (in_fadt_madt c)
+as_group group.Madt c = Madt (in_madt c)
+as_group group.MadtEntries c = MadtEntries (on_madt_entry c)
+as_group group.MadtNumbers c = MadtNumbers (unique_number c)
+as_group group.MadtSrat c = MadtSrat (in_madt_srat c)
+as_group group.MadtPptt c = MadtPptt (in_madt_pptt c)
+as_group group.Srat c = Srat (in_srat c)
+as_group group.SratEntries c = SratEntries (on_srat_entry c)
+as_group group.SratSlit c = SratSlit (on_srat_entry_with c)
+as_group group.Slit c = Slit (in_slit c)
+as_group group.Pptt c = Pptt (in_pptt c)
+as_group group.PpttEntries c = PpttEntries (on_pptt_entry c)
+
+-- ---- what is found for a condition in the tables of a set
+
+-- the condition holds nowhere in the set with these tables, or this is the first place where it does
+abbrev pub Finds : Condition → CompleteTables → Option Place → Type 0
+Finds c tables found =
+    (m : Memory) (q : PolicyValue) → AreCompleteTables m q.rsdp tables → FindsLeast (Holds c m q) found
+
+-- the same with the settings of a policy
+abbrev pub FindsBy : Condition → PolicyValue → CompleteTables → Option Place → Type 0
+FindsBy c q tables found = (m : Memory) → AreCompleteTables m q.rsdp tables → FindsLeast (Holds c m q) found
