@@ -1,6 +1,7 @@
 -- The lowest place of a code is its first fault.
-use Rattle.std.proofs.Common.{◌≡◌, ◌≢◌, Option, Some, None, Result, Ok, Err, refl, sym, ap, subst, inl, inr, arith}
+use Rattle.std.proofs.Common.{◌≡◌, ◌≢◌, ◌⊎◌, Option, Some, None, Result, Ok, Err, refl, sym, ap, ◌∙◌, subst, inl, inr, arith}
 use Rattle.std.specs.Prelude.{IfOk}
+use Rattle.std.proofs.lemmas.Option.{none-some, same_Some}
 use Rattle.acpi_base.specs.Codes.{code_number, stage_number, stage_of}
 use Rattle.acpi_base.specs.Memory.{Memory}
 use Rattle.acpi_base.specs.Policy.{PolicyValue}
@@ -60,34 +61,32 @@ first_of_result m q s c is plain (Err e) first = tt
 
 -- ---- stages that have one code
 
-pub gsi_clash_alone : (c : Code) → stage_of c ≡ stage.Interrupts → c ≡ code.GsiClash
-gsi_clash_alone code.GsiClash is = refl
-gsi_clash_alone _ is = absurd (omega (arith, ap stage_number is))
+-- the code of such a stage
+abbrev pub only_code : Stage → Option Code
+only_code stage.Interrupts = Some code.GsiClash
+only_code stage.Overrides = Some code.OverrideClash
+only_code stage.Ranges = Some code.Overlap
+only_code stage.Parents = Some code.ParentCycle
+only_code stage.Caches = Some code.CacheCycle
+only_code stage.Domains = Some code.TwoDomains
+only_code stage.Served = Some code.GsiNowhere
+only_code stage.Leaves = Some code.LeafUnknown
+only_code _ = None
 
-pub override_clash_alone : (c : Code) → stage_of c ≡ stage.Overrides → c ≡ code.OverrideClash
-override_clash_alone code.OverrideClash is = refl
-override_clash_alone _ is = absurd (omega (arith, ap stage_number is))
+only_or_none : (c : Code) → (only_code (stage_of c) ≡ Some c) ⊎ (only_code (stage_of c) ≡ None)
+only_or_none code.GsiClash = inl refl
+only_or_none code.OverrideClash = inl refl
+only_or_none code.Overlap = inl refl
+only_or_none code.ParentCycle = inl refl
+only_or_none code.CacheCycle = inl refl
+only_or_none code.TwoDomains = inl refl
+only_or_none code.GsiNowhere = inl refl
+only_or_none code.LeafUnknown = inl refl
+only_or_none _ = inr refl
 
-pub overlap_alone : (c : Code) → stage_of c ≡ stage.Ranges → c ≡ code.Overlap
-overlap_alone code.Overlap is = refl
-overlap_alone _ is = absurd (omega (arith, ap stage_number is))
-
-pub parent_cycle_alone : (c : Code) → stage_of c ≡ stage.Parents → c ≡ code.ParentCycle
-parent_cycle_alone code.ParentCycle is = refl
-parent_cycle_alone _ is = absurd (omega (arith, ap stage_number is))
-
-pub cache_cycle_alone : (c : Code) → stage_of c ≡ stage.Caches → c ≡ code.CacheCycle
-cache_cycle_alone code.CacheCycle is = refl
-cache_cycle_alone _ is = absurd (omega (arith, ap stage_number is))
-
-pub two_domains_alone : (c : Code) → stage_of c ≡ stage.Domains → c ≡ code.TwoDomains
-two_domains_alone code.TwoDomains is = refl
-two_domains_alone _ is = absurd (omega (arith, ap stage_number is))
-
-pub gsi_nowhere_alone : (c : Code) → stage_of c ≡ stage.Served → c ≡ code.GsiNowhere
-gsi_nowhere_alone code.GsiNowhere is = refl
-gsi_nowhere_alone _ is = absurd (omega (arith, ap stage_number is))
-
-pub leaf_unknown_alone : (c : Code) → stage_of c ≡ stage.Leaves → c ≡ code.LeafUnknown
-leaf_unknown_alone code.LeafUnknown is = refl
-leaf_unknown_alone _ is = absurd (omega (arith, ap stage_number is))
+-- a code of such a stage is that one
+pub alone : (s : Stage) (only c : Code) → only_code s ≡ Some only → stage_of c ≡ s → c ≡ only
+alone s only c has is = elim (only_or_none c) [
+  | inl own ↦ same_Some c only (sym own ∙ ap only_code is ∙ has)
+  | inr none ↦ absurd (none-some only (sym none ∙ ap only_code is ∙ has))
+]

@@ -1,4 +1,4 @@
-use Rattle.std.proofs.Common.{◌≡◌, Ok, ap, sym, ◌∙◌, rules, arith}
+use Rattle.std.proofs.Common.{◌≡◌, Ok, refl, ap, sym, ◌∙◌, rules, arith}
 use Rattle.std.specs.Prelude.{⊤}
 use Rattle.acpi_base.specs.Codes.{stage_of}
 use Rattle.acpi_base.specs.Contents.{HasPptt}
@@ -8,7 +8,7 @@ use Rattle.acpi_base.specs.Slit.{slit_contents, SlitFault}
 use Rattle.acpi_base.specs.declared.code.Code.TheVariants as code
 use Rattle.acpi_base.specs.declared.stage.Stage.TheVariants as stage
 use Rattle.acpi_base.specs.declared.table_kind.TableKind.TheVariants as kind
-use Rattle.acpi_lint.proofs.FirstOfCodes.{first_of_stage, first_of_result, gsi_clash_alone, override_clash_alone, overlap_alone, parent_cycle_alone, cache_cycle_alone, two_domains_alone, gsi_nowhere_alone, leaf_unknown_alone}
+use Rattle.acpi_lint.proofs.FirstOfCodes.{first_of_stage, first_of_result, alone}
 use Rattle.acpi_lint.proofs.OfTables.{listed_lifts, pptt_lifts, of_one}
 use Rattle.acpi_lint.proofs.faults.first_place.Goals as goal
 
@@ -82,10 +82,11 @@ returns-in-References c =
 
 pub returns-in-Overrides : goal.returns-in-Overrides
 returns-in-Overrides c =
-    let code : stage_of c.args.code ≡ stage.Overrides = sym c.stage.ensures ∙ c.in-Overrides.is in
-    first_of_result c.args.image.now c.args.policy.now stage.Overrides c.args.code code
+    let own : stage_of c.args.code ≡ stage.Overrides = sym c.stage.ensures ∙ c.in-Overrides.is in
+    first_of_result c.args.image.now c.args.policy.now stage.Overrides c.args.code own
     (λ e. omega (arith, e), λ e. omega (arith, e)) c.override_clash.result
-    (rw (override_clash_alone c.args.code code) (c.override_clash.ensures c.args.image.now c.requires))
+    (rw (alone stage.Overrides code.OverrideClash c.args.code refl own)
+    (c.override_clash.ensures c.args.image.now c.requires))
 
 pub returns-in-Parents : goal.returns-in-Parents
 returns-in-Parents c =
@@ -94,7 +95,7 @@ returns-in-Parents c =
     let own : stage_of c.args.code ≡ stage.Parents = sym c.stage.ensures ∙ c.in-Parents.is in
     first_of_result m q stage.Parents c.args.code own (λ e. omega (arith, e), λ e. omega (arith, e))
     c.map_or-in-Parents.result
-    (rw (parent_cycle_alone c.args.code own)
+    (rw (alone stage.Parents code.ParentCycle c.args.code refl own)
     (of_one (HasPptt m q) pptt_contents (λ said. ParentFault said code.ParentCycle) c.map_or-in-Parents.result
     c.pptt-pptt.result
     (pptt_lifts m q c.pptt-pptt.result c.requires c.pptt-pptt.ensures) c.map_or-in-Parents.ensures (λ none. none)
@@ -107,7 +108,7 @@ returns-in-Caches c =
     let own : stage_of c.args.code ≡ stage.Caches = sym c.stage.ensures ∙ c.in-Caches.is in
     first_of_result m q stage.Caches c.args.code own (λ e. omega (arith, e), λ e. omega (arith, e))
     c.map_or-in-Caches.result
-    (rw (cache_cycle_alone c.args.code own)
+    (rw (alone stage.Caches code.CacheCycle c.args.code refl own)
     (of_one (HasPptt m q) pptt_contents (λ said. CacheFault said code.CacheCycle) c.map_or-in-Caches.result
     c.pptt-pptt.result
     (pptt_lifts m q c.pptt-pptt.result c.requires c.pptt-pptt.ensures) c.map_or-in-Caches.ensures (λ none. none)
@@ -115,31 +116,36 @@ returns-in-Caches c =
 
 pub returns-in-Domains : goal.returns-in-Domains
 returns-in-Domains c =
-    let code : stage_of c.args.code ≡ stage.Domains = sym c.stage.ensures ∙ c.in-Domains.is in
-    first_of_result c.args.image.now c.args.policy.now stage.Domains c.args.code code
+    let own : stage_of c.args.code ≡ stage.Domains = sym c.stage.ensures ∙ c.in-Domains.is in
+    first_of_result c.args.image.now c.args.policy.now stage.Domains c.args.code own
     (λ e. omega (arith, e), λ e. omega (arith, e)) c.two_domains.result
-    (rw (two_domains_alone c.args.code code) (c.two_domains.ensures c.args.image.now c.requires))
+    (rw (alone stage.Domains code.TwoDomains c.args.code refl own)
+    (c.two_domains.ensures c.args.image.now c.requires))
 
 pub returns-in-Served : goal.returns-in-Served
 returns-in-Served c =
-    let code : stage_of c.args.code ≡ stage.Served = sym c.stage.ensures ∙ c.in-Served.is in
-    first_of_result c.args.image.now c.args.policy.now stage.Served c.args.code code
+    let own : stage_of c.args.code ≡ stage.Served = sym c.stage.ensures ∙ c.in-Served.is in
+    first_of_result c.args.image.now c.args.policy.now stage.Served c.args.code own
     (λ e. omega (arith, e), λ e. omega (arith, e)) c.gsi_nowhere.result
-    (rw (gsi_nowhere_alone c.args.code code) (c.gsi_nowhere.ensures c.args.image.now c.requires))
+    (rw (alone stage.Served code.GsiNowhere c.args.code refl own)
+    (c.gsi_nowhere.ensures c.args.image.now c.requires))
 
 pub returns-in-Leaves : goal.returns-in-Leaves
 returns-in-Leaves c =
-    let code : stage_of c.args.code ≡ stage.Leaves = sym c.stage.ensures ∙ c.in-Leaves.is in
-    first_of_result c.args.image.now c.args.policy.now stage.Leaves c.args.code code
+    let own : stage_of c.args.code ≡ stage.Leaves = sym c.stage.ensures ∙ c.in-Leaves.is in
+    first_of_result c.args.image.now c.args.policy.now stage.Leaves c.args.code own
     (λ e. omega (arith, e), λ e. omega (arith, e)) c.leaf_unknown.result
-    (rw (leaf_unknown_alone c.args.code code) (c.leaf_unknown.ensures c.args.image.now c.requires))
+    (rw (alone stage.Leaves code.LeafUnknown c.args.code refl own)
+    (c.leaf_unknown.ensures c.args.image.now c.requires))
 
 pub returns-in-Interrupts : goal.returns-in-Interrupts
 returns-in-Interrupts c =
-    rw (gsi_clash_alone c.args.code (sym c.stage.ensures ∙ c.in-Interrupts.is))
+    rw
+    (alone stage.Interrupts code.GsiClash c.args.code refl (sym c.stage.ensures ∙ c.in-Interrupts.is))
     (c.gsi_clash.ensures c.args.image.now c.requires)
 
 pub returns-in-Ranges : goal.returns-in-Ranges
 returns-in-Ranges c =
-    rw (overlap_alone c.args.code (sym c.stage.ensures ∙ c.in-Ranges.is))
+    rw
+    (alone stage.Ranges code.Overlap c.args.code refl (sym c.stage.ensures ∙ c.in-Ranges.is))
     (c.overlap.ensures c.args.image.now c.requires)
