@@ -1,5 +1,5 @@
 -- The leaves of a PPTT, as they are collected from its entries.
-use Rattle.std.proofs.Common.{◌≡◌, ℕ, ◌<◌, ◌≤◌, List, get_or, Option, Some, None, Result, Ok, Err, Vec, Global, Bool, true, false, true≢false, refl, sym, ◌∙◌, subst, inl, inr, arith}
+use Rattle.std.proofs.Common.{◌≡◌, ℕ, ◌<◌, ◌≤◌, List, [], get_or, Option, Some, None, Result, Ok, Err, Vec, Global, Bool, true, false, true≢false, refl, sym, ◌∙◌, subst, inl, inr, arith}
 use Rattle.std.specs.Prelude.{◌↔◌, ◌==◌, Contains, IfOk, cond}
 use Rattle.std.specs.List.{filter_map, list_any}
 use Rattle.std.proofs.lemmas.Bool.Decides.{nat_tests, eqb_tells}
@@ -7,8 +7,10 @@ use Rattle.std.proofs.lemmas.List.Folds.{list_any_at, list_any_none}
 use Rattle.std.proofs.lemmas.List.Elements.{Contains-get_or}
 use Rattle.std.proofs.lemmas.Option.{cond_some}
 use Rattle.acpi_base.specs.Entries.{PlacedEntry}
+use Rattle.acpi_base.proofs.Elements.{no_element}
 use Rattle.acpi_lint.specs.Rules.Numbered.{NamesAt}
 use Rattle.acpi_lint.specs.Rules.Processors.{IsParent, IsLeafAt}
+use Rattle.acpi_lint.specs.Rules.Unbroken.{IsUnbrokenPptt}
 use Rattle.acpi_base.specs.Number.{has_bit}
 use Rattle.acpi_base.specs.Pptt.{PpttEntry, Node, Cache, Opaque, NodeValue, PpttContents, parent_of}
 use Rattle.acpi_check.proofs.EntryPasses.Kept.{kept_has, kept_from}
@@ -57,13 +59,26 @@ valid_node (Opaque e) id is = cc
 valid_of : (v : NodeValue) (id : ℕ) → v.id ≡ id → has_bit v.flags 1 ≡ true → valid_id (Node v) ≡ Some id
 valid_of v id is valid = rw (valid, is) refl
 
-pub unnamed_are_leaves : (c : PpttContents) → c.revision < 2 → (o id : ℕ) → IsUnnamedAt c o id ↔ IsLeafAt c o id
-unnamed_are_leaves c old o id = (
+pub unnamed_are_leaves : (c : PpttContents) → c.revision < 2 → IsUnbrokenPptt c → (o id : ℕ)
+    → IsUnnamedAt c o id ↔ IsLeafAt c o id
+unnamed_are_leaves c old unbroken o id = (
   λ ((e, stands, names), unnamed).
       let (v, is, here, valid) = valid_node e id names in
-      (e, stands, (v, is, here, valid, λ recent. absurd (omega arith), λ less. unnamed)),
-  λ (e, stands, (v, is, here, valid, said, unnamed)). ((e, stands, rw is (valid_of v id here valid)), unnamed old),
+      (e, stands, (v, is, here, valid, λ recent. absurd (omega arith), λ less. (unbroken, unnamed))),
+  λ (e, stands, (v, is, here, valid, said, unnamed)). ((e, stands, rw is (valid_of v id here valid)), (unnamed old).1),
 )
+
+-- without that there are none
+pub no_leaves : (c : PpttContents) (none : List Numbered) → c.revision < 2 → ¬ IsUnbrokenPptt c → none ≡ []
+    → AreNumbersAt (IsLeafAt c) none
+no_leaves c none old broken is = rw is (record {
+  rise = λ i j d before within. omega arith;
+  placed = λ g listed. absurd (no_element g listed);
+  all = λ at n. (
+    λ listed. absurd (no_element _ listed),
+    λ (e, stands, (v, same, here, valid, said, unnamed)). absurd (broken (unnamed old).0),
+  );
+})
 
 given_where : (b : Bool) (number : Option ℕ) (id : ℕ) → cond b number None ≡ Some id → (b ≡ true) × (number ≡ Some id)
 given_where true number id is = (refl, is)

@@ -23,12 +23,13 @@ mod RuleGroups
 mod SameNumbers
 mod SciGsis
 mod SecondTables
+mod ShortTables
 mod SlitFaults
 mod SomeEntries
 mod SortedNumbers
-mod ShortTables
 mod StageVerdicts
 mod TablesAt
 mod UidDomains
+mod UnbrokenTables
 mod UnknownOnes
 mod UnlikeNumbers

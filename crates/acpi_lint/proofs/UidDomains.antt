@@ -1,12 +1,12 @@
--- The domains into which GICC affinities of an SRAT put the processors with UIDs, as they are collected.
+-- The domains into which affinities of an SRAT put the processors with UIDs, as they are collected.
 use Rattle.std.proofs.Common.{◌≡◌, ℕ, ◌≤◌, List, Option, Some, None, refl, sym, ◌∙◌, ap, subst, inl, inr, arith}
-use Rattle.std.specs.Prelude.{Contains, option_map}
+use Rattle.std.specs.Prelude.{Bool, true, false, if◌then◌else◌, Contains, option_map}
 use Rattle.std.specs.List.{filter_map}
 use Rattle.std.specs.Option.{option_and_then}
 use Rattle.std.proofs.Math.Nat.{eq-or-lt_of_le}
-use Rattle.std.proofs.lemmas.Option.{same_Some, cond_some}
+use Rattle.std.proofs.lemmas.Option.{same_Some}
 use Rattle.acpi_base.specs.Entries.{Stands}
-use Rattle.acpi_lint.specs.Rules.Processors.{is_gicc_affinity, placed_uid, processor_domain}
+use Rattle.acpi_lint.specs.Rules.Processors.{is_gicc_affinity, is_rintc_affinity, placed_uid, processor_domain}
 use Rattle.acpi_lint.specs.Rules.SratAdvice.{PlacesUid, IsTwoUidDomains}
 use Rattle.acpi_base.specs.Number.{field}
 use Rattle.acpi_base.specs.Srat.{SratEntry, ApicDomain, MemoryRange, X2apicDomain, Opaque, SratContents, srat_entry, srat_contents}
@@ -32,9 +32,16 @@ made_of at (Some u) (Some d) g is =
     let same : ◌≡◌ {A = Numbered} (record { number = u; at = at; value = d }) g = same_Some _ g is in
     rw (← same) (refl, refl, refl)
 
+of_form : (gicc rintc : Bool) (n m d f uid : ℕ)
+    → (if gicc then Some n else if rintc then Some m else None) ≡ Some uid
+    → (x : ℕ) × ((if gicc then Some d else if rintc then Some f else None) ≡ Some x)
+of_form true rintc n m d f uid is = (d, refl)
+of_form false true n m d f uid is = (f, refl)
+of_form false false n m d f uid is = cc
+
 has_domain : (e : SratEntry) (uid : ℕ) → placed_uid e ≡ Some uid → (d : ℕ) × (processor_domain e ≡ Some d)
 has_domain (Opaque e) uid is =
-    let yes = (cond_some (is_gicc_affinity e) (field e 6 4) uid is).0 in (field e 2 4, rw yes refl)
+    of_form (is_gicc_affinity e) (is_rintc_affinity e) (field e 6 4) (field e 8 4) (field e 2 4) (field e 4 4) uid is
 has_domain (ApicDomain v) uid is = cc
 has_domain (MemoryRange v) uid is = cc
 has_domain (X2apicDomain v) uid is = cc

@@ -1,36 +1,23 @@
 -- Looking numbers up in a sorted list: what is found in entries by lists of known numbers is what the rules say.
-use Rattle.std.proofs.Common.{◌≡◌, ◌≢◌, ℕ, ◌<◌, ◌⊎◌, List, length, Option, Some, None, Bool, true, false, refl, sym, ◌∙◌, inl, inr, arith}
-use Rattle.std.specs.Prelude.{◌↔◌, if◌then◌else◌, Contains, IsTrue, MatchOption, slice_index}
+use Rattle.std.proofs.Common.{◌≡◌, ℕ, ◌<◌, ◌⊎◌, List, length, Option, Some, None, Bool, true, false, refl, sym, ◌∙◌, inl, inr}
+use Rattle.std.specs.Prelude.{◌↔◌, ◌&&◌, if◌then◌else◌, is_none, Contains, IsTrue, MatchOption, slice_index}
 use Rattle.std.specs.Bool.{then_some}
 use Rattle.std.specs.Option.{is_some, option_and_then}
-use Rattle.std.proofs.lemmas.List.Elements.{Contains-get_or}
 use Rattle.std.proofs.lemmas.List.{get_or_default}
 use Rattle.std.proofs.lemmas.Option.{none-some, same_Some}
 use Rattle.acpi_base.specs.Entries.{PlacedEntry}
 use Rattle.acpi_lint.specs.Rules.Numbered.{NamesAt}
-use Rattle.acpi_lint.specs.Rules.Processors.{Processor, is_gicc, apic_id_on, gicc_uid_on, placed_apic_id, placed_uid, AreProcessorsRead}
+use Rattle.acpi_lint.specs.Rules.Processors.{Processor, processor_of, apic_id_on, lone_uid_on, placed_apic_id, placed_uid}
 use Rattle.acpi_base.specs.Madt as madt
-use Rattle.acpi_base.specs.Number.{field, has_bit}
 use Rattle.acpi_base.specs.Srat as srat
 use Rattle.acpi_lint.specs.Places.{FindsOwn, FindsLeast}
-use Rattle.acpi_lint.specs.EntryNumbers.{AreKnown, IsUnknown, IsUnknownOf, IsUnknownAt, IsWhereRead}
+use Rattle.acpi_lint.specs.EntryNumbers.{AreKnown, IsUnknown, IsUnknownOf, IsUnknownAt, IsWhere}
 use Rattle.acpi_lint.specs.Numbered.{at_place, AreNumbersAt}
 use Rattle.acpi_lint.specs.declared.numbered.Numbered.{Numbered}
 use Rattle.acpi_lint.specs.declared.place.Place.{Place}
 use Rattle.acpi_lint.proofs.FirstEntries.{IsFaultAt}
 use Rattle.acpi_lint.proofs.LeastPlaces.{least_as}
 use Rattle.acpi_lint.proofs.SameNumbers.{has_at}
-
--- ---- whether any is known
-
-pub none_known : {IsKnown : ℕ → Type 0} (known : List ℕ) → AreKnown IsKnown known → length known ≡ 0 → (n : ℕ)
-    → ¬ IsKnown n
-none_known known are none n is = let (k, within, _) = (are.all n).1 is in omega (arith, within, none)
-
-pub some_known : {IsKnown : ℕ → Type 0} (known : List ℕ) → AreKnown IsKnown known → length known ≢ 0
-    → (n : ℕ) × IsKnown n
-some_known known are some =
-    (slice_index known 0, (are.all (slice_index known 0)).0 (Contains-get_or known 0 0 (omega (arith, some))))
 
 -- ---- entries of one number
 
@@ -67,18 +54,17 @@ unknown_named read IsKnown entries known found are least =
     (e, stands, (is, λ listed. none ((are.all point).0 listed), unused)))
     least
 
-pub read_place : (c : madt.MadtContents) (p : Place) (b : Bool) → IsTrue b ↔ AreProcessorsRead c
-    → IsWhereRead c (Some p) (then_some b p)
-read_place c p true test = (refl, test.0 refl)
-read_place c p false test = λ read. let no : IsTrue false = test.1 read in absurd cc
+pub place_where : {C : Type 0} (p : Place) (b : Bool) → IsTrue b ↔ C → IsWhere C (Some p) (then_some b p)
+place_where p true test = (refl, test.0 refl)
+place_where p false test = λ holds. let no : IsTrue false = test.1 holds in absurd cc
 
-pub where_all_read : (c : madt.MadtContents) (P : ℕ → ℕ → ℕ → Type 0) (place found : Option Place)
-    → IsWhereRead c place found → FindsLeast P place
-    → FindsLeast (λ at other point. AreProcessorsRead c × P at other point) found
-where_all_read c P None found is none = rw is (λ at other point (_, holds). none at other point holds)
-where_all_read c P (Some p) None not least = λ at other point (read, holds). not read
-where_all_read c P (Some p) (Some r) (is, read) least =
-    least_as (Some r) (λ at other point holds. (read, holds)) (λ at other point (_, holds). holds) (rw is least)
+-- what is found where a condition holds, if it does
+pub where_holds : (C : Type 0) (P : ℕ → ℕ → ℕ → Type 0) (place found : Option Place) → IsWhere C place found
+    → FindsLeast P place → FindsLeast (λ at other point. C × P at other point) found
+where_holds C P None found is none = rw is (λ at other point (_, holds). none at other point holds)
+where_holds C P (Some p) None not least = λ at other point (holds, _). not holds
+where_holds C P (Some p) (Some r) (is, holds) least =
+    least_as (Some r) (λ at other point found. (holds, found)) (λ at other point (_, found). found) (rw is least)
 
 -- ---- entries of one of two numbers
 
@@ -113,16 +99,20 @@ affinity_has_one (srat.ApicDomain v) uid is = cc
 affinity_has_one (srat.X2apicDomain v) uid is = cc
 affinity_has_one e uid is = refl
 
-none_of_gicc : (gicc on : Bool) (uid : ℕ)
-    → option_and_then (λ (p : Processor). if p.on then p.apic_id else None)
-    (if gicc then Some (record { uid = uid; apic_id = None; on = on }) else None) ≡ None
-none_of_gicc false on uid = refl
-none_of_gicc true true uid = refl
-none_of_gicc true false uid = refl
+one_number : (on : Bool) (apic_id : Option ℕ) (n uid : ℕ)
+    → (if on && is_none apic_id then Some n else None) ≡ Some uid → (if on then apic_id else None) ≡ None
+one_number true None n uid is = refl
+one_number true (Some id) n uid is = cc
+one_number false apic_id n uid is = refl
 
-pub processor_has_one : (e : madt.MadtEntry) (uid : ℕ) → gicc_uid_on e ≡ Some uid → apic_id_on e ≡ None
-processor_has_one (madt.Opaque e) uid is = none_of_gicc (is_gicc e) (has_bit (field e 12 4) 0) (field e 8 4)
-processor_has_one e uid is = cc
+of_processor : (p : Option Processor) (uid : ℕ)
+    → option_and_then (λ p. if p.on && is_none p.apic_id then Some p.uid else None) p ≡ Some uid
+    → option_and_then (λ p. if p.on then p.apic_id else None) p ≡ None
+of_processor None uid is = refl
+of_processor (Some p) uid is = one_number p.on p.apic_id p.uid uid is
+
+pub processor_has_one : (e : madt.MadtEntry) (uid : ℕ) → lone_uid_on e ≡ Some uid → apic_id_on e ≡ None
+processor_has_one e uid is = of_processor (processor_of e) uid is
 
 -- the entry at `at` has one of two numbers, which is unknown
 abbrev pub IsUnknownNamedOfTwo : {E : Type 0} → (E → Option ℕ) → (ℕ → Type 0) → (E → Option ℕ) → (ℕ → Type 0)

@@ -2,11 +2,11 @@
 use Rattle.std.specs.Prelude.{◌<◌, ◌↔◌, ℕ, List, AllPairs, Contains, Option, option_map, ◌≡◌, ◌⊎◌, Some, None, MatchOption}
 use Rattle.std.specs.Option.{option_and_then}
 use Rattle.acpi_lint.specs.Rules.Processors as said
-use Rattle.acpi_lint.specs.Rules.Processors.{placed_uid, processor_domain, apic_id_on, gicc_uid_on, placed_apic_id, AreProcessorsRead}
+use Rattle.acpi_lint.specs.Rules.Processors.{placed_uid, processor_domain, apic_id_on, lone_uid_on, placed_apic_id}
 use Rattle.acpi_base.specs.Srat.{SratEntry}
 use Rattle.acpi_base.specs.Entries.{PlacedEntry}
 use Rattle.acpi_lint.specs.Rules.Numbered.{IsNamed}
-use Rattle.acpi_base.specs.Madt.{MadtEntry, MadtContents}
+use Rattle.acpi_base.specs.Madt.{MadtEntry}
 use Rattle.acpi_check.specs.CollectedValues.{Collects}
 use Rattle.acpi_lint.specs.Numbered.{IsUnlikeAt}
 use Rattle.acpi_lint.specs.Places.{FindsLeast}
@@ -65,17 +65,17 @@ abbrev pub IsUnknownAffinity : List ℕ → List ℕ → ℕ → SratEntry → �
 IsUnknownAffinity ids uids at e other point =
     IsUnknown ids at (placed_apic_id e) other point ⊎ IsUnknown uids at (placed_uid e) other point
 
--- the same for a usable processor, for a GIC CPU interface by its UID
+-- the same for a usable processor, by its UID if it has no APIC ID
 abbrev pub IsUnplaced : List ℕ → List ℕ → ℕ → MadtEntry → ℕ → ℕ → Type 0
 IsUnplaced ids uids at e other point =
-    IsUnknown ids at (apic_id_on e) other point ⊎ IsUnknown uids at (gicc_uid_on e) other point
+    IsUnknown ids at (apic_id_on e) other point ⊎ IsUnknown uids at (lone_uid_on e) other point
 
 -- one of these numbers is at `at` and is unknown
 abbrev pub IsUnknownAt : List ℕ → List Numbered → ℕ → ℕ → ℕ → Type 0
 IsUnknownAt known given at other point =
     (g : Numbered) × Contains given g × (g.at ≡ at) × IsUnknown known at (Some g.number) other point
 
--- the place, if the rules read all processors of the MADT
-abbrev pub IsWhereRead : MadtContents → Option Place → Option Place → Type 0
-IsWhereRead c None found = found ≡ None
-IsWhereRead c (Some p) found = MatchOption found (¬ AreProcessorsRead c) (λ r. (r ≡ p) × AreProcessorsRead c)
+-- the place, if the condition holds
+abbrev pub IsWhere : Type 0 → Option Place → Option Place → Type 0
+IsWhere C None found = found ≡ None
+IsWhere C (Some p) found = MatchOption found (¬ C) (λ r. (r ≡ p) × C)

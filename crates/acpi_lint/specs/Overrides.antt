@@ -5,6 +5,7 @@ use Rattle.acpi_base.specs.Entries.{StandsWith}
 use Rattle.acpi_base.specs.Fadt.{is_reduced}
 use Rattle.acpi_base.specs.Madt.{MadtEntry, IoApic, Override, MadtContents}
 use Rattle.acpi_base.specs.Policy.{PolicyValue, inputs_of}
+use Rattle.acpi_lint.specs.Rules.Unbroken.{IsUnbrokenMadt}
 
 -- the entry, which is at `at`, is an override of this ISA interrupt that gives it the interrupt number `other`
 abbrev pub IsOwnOverride : ℕ → ℕ → MadtEntry → ℕ → ℕ → Type 0
@@ -22,5 +23,9 @@ ServesNumber q g (IoApic v) = (v.gsi_base ≤ g) × (g < v.gsi_base + inputs_of 
 ServesNumber q g _ = ⊥
 
 -- by this FADT the hardware is not reduced, and no I/O APIC serves g, although there are some
+abbrev pub IsUnserved : PolicyValue → List ℕ → MadtContents → ℕ → Type 0
+IsUnserved q whole c g = (is_reduced whole ≡ false) × HasIoApic c × (¬ IsServed q c g)
+
+-- the same, and the MADT is unbroken
 abbrev pub IsNowhere : PolicyValue → List ℕ → MadtContents → ℕ → Type 0
-IsNowhere q whole c g = (is_reduced whole ≡ false) × HasIoApic c × (¬ IsServed q c g)
+IsNowhere q whole c g = IsUnserved q whole c g × IsUnbrokenMadt c

@@ -25,9 +25,13 @@ pub record IsLeast (P : ℕ → ℕ → ℕ → Type 0) (p : Place) : Type 0 whe
   pub here : P p.at p.other p.point
   pub least : (at other point : ℕ) → P at other point → IsNotAfter p at other point
 
+-- P holds for no numbers
+abbrev pub HasNone : (ℕ → ℕ → ℕ → Type 0) → Type 0
+HasNone P = (at other point : ℕ) → ¬ P at other point
+
 -- P holds for no numbers, or this is the lowest place where it does
 abbrev pub FindsLeast : (ℕ → ℕ → ℕ → Type 0) → Option Place → Type 0
-FindsLeast P None = (at other point : ℕ) → ¬ P at other point
+FindsLeast P None = HasNone P
 FindsLeast P (Some p) = IsLeast P p
 
 -- ---- what is picked from the entries of a table: the first place

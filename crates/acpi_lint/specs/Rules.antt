@@ -11,3 +11,4 @@ pub mod Sets
 pub mod SlitAdvice
 pub mod Slots
 pub mod SratAdvice
+pub mod Unbroken

@@ -48,6 +48,7 @@ fn in_fadt_madt(policy: &Policy, tables: &CompleteTables<'_>, rule: Rule) -> Opt
 /// The place of a rule on the MADT.
 fn in_madt(
     alloc: Global,
+    policy: &Policy,
     tables: &CompleteTables<'_>,
     rule: Rule,
 ) -> Result<Option<Place>, AllocError>
@@ -56,12 +57,13 @@ fn in_madt(
     let Some(madt) = tables.madt() else {
         return Ok(None);
     };
-    madt_place(alloc, rule, &madt)
+    madt_place(alloc, policy, rule, &madt)
 }
 
 /// The place of a rule on the MADT and the SRAT.
 fn in_madt_srat(
     alloc: Global,
+    policy: &Policy,
     tables: &CompleteTables<'_>,
     rule: Rule,
 ) -> Result<Option<Place>, AllocError>
@@ -73,12 +75,13 @@ fn in_madt_srat(
     let Some(srat) = tables.srat() else {
         return Ok(None);
     };
-    madt_srat_place(alloc, rule, &madt, &srat)
+    madt_srat_place(alloc, policy, rule, &madt, &srat)
 }
 
 /// The place of a rule on the MADT and the PPTT.
 fn in_madt_pptt(
     alloc: Global,
+    policy: &Policy,
     tables: &CompleteTables<'_>,
     rule: Rule,
 ) -> Result<Option<Place>, AllocError>
@@ -90,7 +93,7 @@ fn in_madt_pptt(
     let Some(pptt) = tables.pptt() else {
         return Ok(None);
     };
-    madt_pptt_place(alloc, rule, &madt, &pptt)
+    madt_pptt_place(alloc, policy, rule, &madt, &pptt)
 }
 
 /// The place of a rule on the SRAT.
@@ -130,6 +133,7 @@ fn in_slit(tables: &CompleteTables<'_>, rule: Rule) -> Option<Place>
 /// The place of a rule on the PPTT.
 fn in_pptt(
     alloc: Global,
+    policy: &Policy,
     tables: &CompleteTables<'_>,
     rule: Rule,
 ) -> Result<Option<Place>, AllocError>
@@ -138,7 +142,7 @@ fn in_pptt(
     let Some(pptt) = tables.pptt() else {
         return Ok(None);
     };
-    pptt_place(alloc, rule, &pptt)
+    pptt_place(alloc, policy, rule, &pptt)
 }
 
 // ---- all rules
@@ -158,7 +162,7 @@ fn first_place(
         RuleGroup::Slots => slot_place(alloc, tables, rule),
         RuleGroup::Fadt => Ok(in_fadt(tables, rule)),
         RuleGroup::FadtMadt => Ok(in_fadt_madt(policy, tables, rule)),
-        RuleGroup::Madt => in_madt(alloc, tables, rule),
+        RuleGroup::Madt => in_madt(alloc, policy, tables, rule),
         RuleGroup::MadtEntries => Ok(first_own_place(
             tables.madt_entries(),
             |at| madt_entry_place(rule, at),
@@ -168,8 +172,8 @@ fn first_place(
             tables.madt_entries(),
             |at| unique_number_at(rule, at),
         ),
-        RuleGroup::MadtSrat => in_madt_srat(alloc, tables, rule),
-        RuleGroup::MadtPptt => in_madt_pptt(alloc, tables, rule),
+        RuleGroup::MadtSrat => in_madt_srat(alloc, policy, tables, rule),
+        RuleGroup::MadtPptt => in_madt_pptt(alloc, policy, tables, rule),
         RuleGroup::Srat => in_srat(alloc, tables, rule),
         RuleGroup::SratEntries => Ok(first_own_place(
             tables.srat_entries(),
@@ -177,7 +181,7 @@ fn first_place(
         )),
         RuleGroup::SratSlit => Ok(in_srat_slit(tables, rule)),
         RuleGroup::Slit => Ok(in_slit(tables, rule)),
-        RuleGroup::Pptt => in_pptt(alloc, tables, rule),
+        RuleGroup::Pptt => in_pptt(alloc, policy, tables, rule),
         RuleGroup::PpttEntries => Ok(first_own_place(
             tables.pptt_entries(),
             |at| pptt_entry_place(rule, at),

@@ -5,12 +5,14 @@ ghost use Rattle.std.specs.Prelude.{◌≡◌, ◌≤◌, ◌↔◌, ℕ, length
 ghost use denote.Ref.{Bor};
 ghost use Rattle.acpi_base.specs.Entries.{StandsWith, entries_read_by};
 ghost use Rattle.acpi_lint.specs.Rules.Numbered.{IsNamed};
-ghost use Rattle.acpi_lint.specs.Rules.Processors.{apic_id_of, uid_of, uid_on, placed_apic_id, placed_uid, processor_domain, IsGicc, IsOtherProcessor, AreProcessorsRead, IsLeafId};
+ghost use Rattle.acpi_lint.specs.Rules.Processors.{apic_id_of, uid_of, uid_on, placed_apic_id, placed_uid, processor_domain, IsRawProcessor, IsUnreadProcessor, AreProcessorsRead, AreProcessorsKnown, IsLeafId};
+ghost use Rattle.acpi_lint.specs.Rules.PpttAdvice.{IsNode};
 ghost use Rattle.acpi_base.specs.Madt.{madt_contents};
 ghost use Rattle.acpi_base.specs.Madt as madts;
 ghost use Rattle.acpi_base.specs.Pptt.{pptt_contents};
 ghost use Rattle.acpi_base.specs.Srat.{srat_contents};
 ghost use Rattle.acpi_read.specs.Madts.{madt_value, IsCompleteEntry};
+ghost use Rattle.acpi_read.specs.Pptts.{pptt_value};
 ghost use Rattle.acpi_read.specs.Srats.{srat_value};
 ghost use Rattle.acpi_check.specs.CollectedValues.{Picks};
 ghost use Rattle.acpi_lint.specs.EntryNumbers.{AreGathered, AreKnown, IsAnyNamed};
@@ -19,10 +21,15 @@ use crate::leaves::leaves_of;
 use crate::numbered::Numbered;
 use crate::passes::first_picked;
 use crate::processors::{
-    apic_id_of, is_gicc, placed_apic_id, placed_uid, processor_domain, uid_of, uid_on,
+    CORE_PIC, CORE_PIC_LEN, Processor, RINTC, RINTC_LEN, apic_id_of, placed_apic_id, placed_uid,
+    processor_domain, raw_processor, uid_of, uid_on,
 };
+use crate::unbroken::is_madt_unbroken;
+use acpi_base::Policy;
 use acpi_check::{collected, sorted_unique};
-use acpi_read::{EntryAt, GICC, MadtEntry, SratEntry, Table, TableEntry, TypedEntries};
+use acpi_read::{
+    EntryAt, GICC, GICC_LEN, MadtEntry, PpttEntry, SratEntry, Table, TableEntry, TypedEntries,
+};
 use std::alloc::{AllocError, Global};
 
 // ---- numbers
@@ -71,14 +78,14 @@ pub fn processor_apic_ids(alloc: Global, madt: &Table<'_>) -> Result<Vec<u64>, A
     known_numbers(alloc, madt.entries::<MadtEntry<'_>>(), apic_id_at)
 }
 
-/// The UID that an enabled GICC affinity places.
+/// The UID that an enabled affinity places.
 fn placed_uid_at(at: &EntryAt<SratEntry<'_>>) -> Option<u64>
     ensures { result ≡ placed_uid (srat_value at.now.entry) }
 {
     placed_uid(&at.entry).map(u64::from)
 }
 
-/// The UIDs that the enabled GICC affinities of an SRAT place, in rising order. Allocates for each.
+/// The UIDs that the enabled affinities of an SRAT place, in rising order. Allocates for each.
 pub fn placed_uids(alloc: Global, srat: &Table<'_>) -> Result<Vec<u64>, AllocError>
     ensures { IfOk result
         (λ known. AreKnown (IsNamed placed_uid (srat_contents srat.now).entries) known.items) }
@@ -113,36 +120,41 @@ fn without_places(alloc: Global, given: &[Numbered]) -> Result<Vec<u64>, AllocEr
 }
 
 /// The ACPI processor IDs of a PPTT's leaves. Allocates for each leaf, and below Revision 2 also for each node.
-pub fn leaf_ids(alloc: Global, pptt: &Table<'_>) -> Result<Vec<u64>, AllocError>
+pub fn leaf_ids(alloc: Global, policy: &Policy, pptt: &Table<'_>) -> Result<Vec<u64>, AllocError>
     ensures { IfOk result (λ ids. AreKnown (IsLeafId (pptt_contents pptt.now)) ids.items) }
 {
-    let leaves = leaves_of(alloc, pptt)?;
+    let leaves = leaves_of(alloc, policy, pptt)?;
     let ids = without_places(alloc, &leaves)?;
     sorted_unique(ids)
 }
 
 // ---- entries of a kind
 
-/// Whether the bytes of an entry of a MADT describe processors in a form that no rule reads: a local SAPIC, a core of
-/// another architecture, or a GIC CPU interface that is too short.
-fn is_other_form(bytes: &[u8]) -> bool
+/// The type of a local SAPIC (ACPI 6.5, 5.2.12.10), which no rule reads.
+const SAPIC: u8 = 7;
+
+/// Whether the bytes of an entry of a MADT describe processors in a form that no rule reads: a local SAPIC, or a
+/// structure of another architecture with another length.
+fn is_unread_form(bytes: &[u8]) -> bool
     requires { 2 ≤ length bytes.now }
-    ensures { IsTrue result ↔ IsOtherProcessor (madts.Opaque bytes.now) }
+    ensures { IsTrue result ↔ IsUnreadProcessor (madts.Opaque bytes.now) }
 {
     match bytes[0] {
-        7 | 17 | 24 => true,
-        GICC => !is_gicc(bytes),
+        SAPIC => true,
+        GICC => bytes.len() < GICC_LEN,
+        CORE_PIC => bytes.len() != CORE_PIC_LEN,
+        RINTC => bytes.len() < RINTC_LEN,
         _ => false,
     }
 }
 
 /// Some for an entry of a MADT that describes processors in such a form.
-fn other_processor_at(at: &EntryAt<MadtEntry<'_>>) -> Option<()>
+fn unread_processor_at(at: &EntryAt<MadtEntry<'_>>) -> Option<()>
     requires { IsCompleteEntry at.now.entry }
-    ensures { IsSome result ↔ IsOtherProcessor (madt_value at.now.entry) }
+    ensures { IsSome result ↔ IsUnreadProcessor (madt_value at.now.entry) }
 {
     match at.entry {
-        MadtEntry::Opaque(bytes) if is_other_form(bytes) => Some(()),
+        MadtEntry::Opaque(bytes) if is_unread_form(bytes) => Some(()),
         _ => None,
     }
 }
@@ -151,8 +163,15 @@ fn other_processor_at(at: &EntryAt<MadtEntry<'_>>) -> Option<()>
 pub fn are_processors_read(madt: &Table<'_>) -> bool
     ensures { IsTrue result ↔ AreProcessorsRead (madt_contents madt.now) }
 {
-    let other = first_picked(madt.entries::<MadtEntry<'_>>(), other_processor_at);
-    other.is_none()
+    let unread = first_picked(madt.entries::<MadtEntry<'_>>(), unread_processor_at);
+    unread.is_none()
+}
+
+/// Whether all processors of a MADT are known: the rules read all, and the MADT is unbroken.
+pub fn are_processors_known(policy: &Policy, madt: &Table<'_>) -> bool
+    ensures { IsTrue result ↔ AreProcessorsKnown (madt_contents madt.now) }
+{
+    are_processors_read(madt) && is_madt_unbroken(policy, madt)
 }
 
 /// The UID of a usable processor.
@@ -170,23 +189,38 @@ pub fn is_any_on(madt: &Table<'_>) -> bool
     uid.is_some()
 }
 
-/// Some for a GIC CPU interface that the rules read.
-fn gicc_at(at: &EntryAt<MadtEntry<'_>>) -> Option<()>
-    ensures { IsSome result ↔ IsGicc (madt_value at.now.entry) }
+/// A processor that is not of x86, if the rules read it.
+fn raw_processor_at(at: &EntryAt<MadtEntry<'_>>) -> Option<Processor>
+    ensures { IsSome result ↔ IsRawProcessor (madt_value at.now.entry) }
 {
     match at.entry {
-        MadtEntry::Opaque(bytes) if is_gicc(bytes) => Some(()),
+        MadtEntry::Opaque(bytes) => raw_processor(bytes),
         _ => None,
     }
 }
 
-/// Whether a MADT has a GIC CPU interface that the rules read.
-pub fn has_gicc(madt: &Table<'_>) -> bool
+/// Whether a MADT has a processor that is not of x86 and that the rules read.
+pub fn has_raw_processor(madt: &Table<'_>) -> bool
     ensures { IsTrue result
-        ↔ ((o : ℕ) × StandsWith (madt_contents madt.now).entries o IsGicc) }
+        ↔ ((o : ℕ) × StandsWith (madt_contents madt.now).entries o IsRawProcessor) }
 {
-    let gicc = first_picked(madt.entries::<MadtEntry<'_>>(), gicc_at);
-    gicc.is_some()
+    let processor = first_picked(madt.entries::<MadtEntry<'_>>(), raw_processor_at);
+    processor.is_some()
+}
+
+/// Some for a node.
+fn node_at(at: &EntryAt<PpttEntry<'_>>) -> Option<()>
+    ensures { IsSome result ↔ IsNode (pptt_value at.now.entry) }
+{
+    matches!(at.entry, PpttEntry::Node(_, _)).then_some(())
+}
+
+/// Whether a PPTT has a node.
+pub fn has_node(pptt: &Table<'_>) -> bool
+    ensures { IsTrue result ↔ ((o : ℕ) × StandsWith (pptt_contents pptt.now).entries o IsNode) }
+{
+    let node = first_picked(pptt.entries::<PpttEntry<'_>>(), node_at);
+    node.is_some()
 }
 
 /// The domain into which an enabled affinity puts its processor.

@@ -10,6 +10,8 @@ ghost use Rattle.acpi_lint.specs.Numbered.{at_place, AreNumbersAt};
 
 use crate::numbered::{Numbered, at_place};
 use crate::processors::is_set;
+use crate::unbroken::is_pptt_unbroken;
+use acpi_base::Policy;
 use acpi_check::{binary_search, collected, sorted_unique};
 use acpi_read::{EntryAt, PpttEntry, Table};
 use std::alloc::{AllocError, Global};
@@ -103,15 +105,21 @@ fn unnamed_leaves(alloc: Global, pptt: &Table<'_>) -> Result<Vec<Numbered>, Allo
 /// The lowest Revision of the PPTT that has the flag of a leaf.
 const HAS_LEAVES: u8 = 2;
 
-/// The ACPI processor IDs of a PPTT's leaves, each with its leaf's offset; the offsets rise. Allocates for each leaf,
-/// and below Revision 2 also for each node.
-pub fn leaves_of(alloc: Global, pptt: &Table<'_>) -> Result<Vec<Numbered>, AllocError>
+/// The ACPI processor IDs of a PPTT's leaves, each with its leaf's offset; the offsets rise. Below Revision 2 a PPTT that
+/// is not unbroken has none. Allocates for each leaf, and below Revision 2 also for each node.
+pub fn leaves_of(
+    alloc: Global,
+    policy: &Policy,
+    pptt: &Table<'_>,
+) -> Result<Vec<Numbered>, AllocError>
     ensures { IfOk result (λ leaves. AreNumbersAt (IsLeafAt (pptt_contents pptt.now))
         leaves.items) }
 {
-    if revision(pptt) < HAS_LEAVES {
-        unnamed_leaves(alloc, pptt)
-    } else {
-        said_leaves(alloc, pptt)
+    if revision(pptt) >= HAS_LEAVES {
+        return said_leaves(alloc, pptt);
     }
+    if !is_pptt_unbroken(policy, pptt) {
+        return Ok(Vec::new(alloc));
+    }
+    unnamed_leaves(alloc, pptt)
 }

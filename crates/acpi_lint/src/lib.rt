@@ -61,6 +61,7 @@ mod slit;
 mod slot_advice;
 mod slots;
 mod table_at;
+mod unbroken;
 mod verdicts;
 
 pub use findings::{Findings, lint};

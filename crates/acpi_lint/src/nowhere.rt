@@ -1,11 +1,11 @@
 //! Rules on numbers that are looked up elsewhere and are missing there: UIDs, APIC IDs and x2APIC IDs among those of
-//! the MADT's processors, of the SRAT's affinities or of the PPTT's leaves. Whether the rules read all processors of
-//! the MADT is tested last, since there is mostly nothing to report.
+//! the MADT's processors, of the SRAT's affinities or of the PPTT's leaves. Whether all processors of the MADT are
+//! known is tested last, since there is mostly nothing to report.
 
 ghost use Rattle.std.specs.Prelude.{◌<◌, AllPairs, IfOk};
 ghost use Rattle.acpi_lint.specs.Rules.MadtAdvice.{nmi_uid, IsNmiNowhere, IsNoProcessor};
 ghost use Rattle.acpi_lint.specs.Rules.PpttAdvice.{IsNoLeaf, IsLeafNowhere};
-ghost use Rattle.acpi_lint.specs.Rules.Processors.{uid_on};
+ghost use Rattle.acpi_lint.specs.Rules.Processors.{uid_on, AreProcessorsRead, AreProcessorsKnown};
 ghost use Rattle.acpi_lint.specs.Rules.SratAdvice.{IsAffinityNowhere, IsNoDomain};
 ghost use Rattle.acpi_base.specs.Madt.{madt_contents};
 ghost use Rattle.acpi_base.specs.Pptt.{pptt_contents};
@@ -16,18 +16,19 @@ ghost use Rattle.acpi_read.specs.Entries.{entry_at_value};
 ghost use Rattle.acpi_lint.specs.RuleGroups.{in_madt, in_madt_srat, in_madt_pptt};
 ghost use Rattle.acpi_lint.specs.Rules.Broken.{condition};
 ghost use Rattle.acpi_lint.specs.Places.{FindsOwn, FindsLeast};
-ghost use Rattle.acpi_lint.specs.EntryNumbers.{IsUnknown, IsUnknownOf, IsUnknownAffinity, IsUnplaced, IsUnknownAt, IsWhereRead};
+ghost use Rattle.acpi_lint.specs.EntryNumbers.{IsUnknown, IsUnknownOf, IsUnknownAffinity, IsUnplaced, IsUnknownAt, IsWhere};
 
 use crate::known_numbers::{
-    are_processors_read, has_gicc, is_any_on, is_any_placed, leaf_ids, placed_apic_ids,
-    placed_uids, processor_apic_ids, processor_uids,
+    are_processors_known, are_processors_read, has_node, has_raw_processor, is_any_on,
+    is_any_placed, leaf_ids, placed_apic_ids, placed_uids, processor_apic_ids, processor_uids,
 };
 use crate::leaves::leaves_of;
 use crate::numbered::Numbered;
 use crate::passes::first_picked;
 use crate::place::Place;
-use crate::processors::{apic_id_on, gicc_uid_on, nmi_uid, placed_apic_id, placed_uid, uid_on};
-use acpi_base::Rule;
+use crate::processors::{apic_id_on, lone_uid_on, nmi_uid, placed_apic_id, placed_uid, uid_on};
+use crate::unbroken::{is_pptt_unbroken, is_srat_unbroken};
+use acpi_base::{Policy, Rule};
 use acpi_check::{binary_search, has};
 use acpi_read::{EntryAt, MadtEntry, SratEntry, Table};
 use std::alloc::{AllocError, Global};
@@ -48,9 +49,17 @@ fn unknown_place(known: &[u64], at: u64, number: Option<u32>) -> Option<Place>
     })
 }
 
+/// A place that counts only if all processors of a MADT are known.
+fn where_known(policy: &Policy, madt: &Table<'_>, place: Option<Place>) -> Option<Place>
+    ensures { IsWhere (AreProcessorsKnown (madt_contents madt.now)) place result }
+{
+    let place = place?;
+    are_processors_known(policy, madt).then_some(place)
+}
+
 /// A place that counts only if the rules read all processors of a MADT.
 fn where_read(madt: &Table<'_>, place: Option<Place>) -> Option<Place>
-    ensures { IsWhereRead (madt_contents madt.now) place result }
+    ensures { IsWhere (AreProcessorsRead (madt_contents madt.now)) place result }
 {
     let place = place?;
     are_processors_read(madt).then_some(place)
@@ -58,14 +67,14 @@ fn where_read(madt: &Table<'_>, place: Option<Place>) -> Option<Place>
 
 // ---- the MADT alone
 
-/// The place of a MADT that has no usable processor, if the rules read all processors.
-fn no_processor(madt: &Table<'_>) -> Option<Place>
+/// The place of a MADT that has no usable processor, if all processors are known.
+fn no_processor(policy: &Policy, madt: &Table<'_>) -> Option<Place>
     ensures { FindsLeast (IsNoProcessor (madt_contents madt.now)) result }
 {
     if is_any_on(madt) {
         return None;
     }
-    where_read(madt, Some(Place::at(0)))
+    where_known(policy, madt, Some(Place::at(0)))
 }
 
 /// The place of a local NMI for a UID that is not among these.
@@ -76,31 +85,40 @@ fn unknown_nmi(uids: &[u64], at: &EntryAt<MadtEntry<'_>>) -> Option<Place>
     unknown_place(uids, at.offset, nmi_uid(&at.entry))
 }
 
-/// The first local NMI for a UID that no processor has, if the rules read all processors; `point` is the UID. Allocates
-/// for the UID of each processor.
-fn nmi_nowhere(alloc: Global, madt: &Table<'_>) -> Result<Option<Place>, AllocError>
+/// The first local NMI for a UID that no processor has, if all processors are known; `point` is the UID. Allocates for
+/// the UID of each processor.
+fn nmi_nowhere(
+    alloc: Global,
+    policy: &Policy,
+    madt: &Table<'_>,
+) -> Result<Option<Place>, AllocError>
     ensures { IfOk result (FindsLeast (IsNmiNowhere (madt_contents madt.now))) }
 {
     let uids = processor_uids(alloc, madt)?;
     let uids = uids.as_slice();
     let place = first_picked(madt.entries::<MadtEntry<'_>>(), |at| unknown_nmi(uids, at));
-    Ok(where_read(madt, place))
+    Ok(where_known(policy, madt, place))
 }
 
 /// The place where a rule on the processors of a MADT is broken. None for another rule.
-pub fn madt_place(alloc: Global, rule: Rule, madt: &Table<'_>) -> Result<Option<Place>, AllocError>
+pub fn madt_place(
+    alloc: Global,
+    policy: &Policy,
+    rule: Rule,
+    madt: &Table<'_>,
+) -> Result<Option<Place>, AllocError>
     ensures { IfOk result (FindsLeast (in_madt (condition rule) (madt_contents madt.now))) }
 {
     match rule {
-        Rule::NoProcessor => Ok(no_processor(madt)),
-        Rule::NmiNowhere => nmi_nowhere(alloc, madt),
+        Rule::NoProcessor => Ok(no_processor(policy, madt)),
+        Rule::NmiNowhere => nmi_nowhere(alloc, policy, madt),
         _ => Ok(None),
     }
 }
 
 // ---- the MADT and the SRAT
 
-/// The place of an affinity whose number is unknown: its APIC ID or x2APIC ID, or for a GICC affinity its UID.
+/// The place of an affinity whose number is unknown: its APIC ID or x2APIC ID, or its UID.
 fn unknown_affinity(ids: &[u64], uids: &[u64], at: &EntryAt<SratEntry<'_>>) -> Option<Place>
     requires ids { AllPairs (λ i j. i < j) ids.now }
     requires uids { AllPairs (λ i j. i < j) uids.now }
@@ -113,10 +131,11 @@ fn unknown_affinity(ids: &[u64], uids: &[u64], at: &EntryAt<SratEntry<'_>>) -> O
     }
 }
 
-/// The first affinity of an SRAT that is for no processor of a MADT, if the rules read all processors; `point` is the
-/// number that none has. Allocates for the numbers of each processor.
+/// The first affinity of an SRAT that is for no processor of a MADT, if all processors are known; `point` is the number
+/// that none has. Allocates for the numbers of each processor.
 fn affinity_nowhere(
     alloc: Global,
+    policy: &Policy,
     madt: &Table<'_>,
     srat: &Table<'_>,
 ) -> Result<Option<Place>, AllocError>
@@ -131,29 +150,36 @@ fn affinity_nowhere(
         srat.entries::<SratEntry<'_>>(),
         |at| unknown_affinity(ids, uids, at),
     );
-    Ok(where_read(madt, place))
+    Ok(where_known(policy, madt, place))
 }
 
-/// The place of a usable processor whose number is unknown: its APIC ID or x2APIC ID, or for a GIC CPU
-/// interface its UID.
+/// The place of a usable processor whose number is unknown: its APIC ID, or its UID if it has none.
 fn unplaced(ids: &[u64], uids: &[u64], at: &EntryAt<MadtEntry<'_>>) -> Option<Place>
     requires ids { AllPairs (λ i j. i < j) ids.now }
     requires uids { AllPairs (λ i j. i < j) uids.now }
     ensures { FindsOwn (IsUnplaced ids.now uids.now) (entry_at_value madt_value at.now) result }
 {
-    match gicc_uid_on(&at.entry) {
+    match lone_uid_on(&at.entry) {
         Some(uid) => unknown_place(uids, at.offset, Some(uid)),
         None => unknown_place(ids, at.offset, apic_id_on(&at.entry)),
     }
 }
 
-/// The first usable processor of a MADT for which an SRAT has no affinity, if the SRAT has some, and the
+/// The first usable processor of a MADT for which an SRAT has no affinity, if the SRAT has some and is unbroken, and the
 /// rules read all processors; `point` is its number. Allocates for each affinity.
-fn no_domain(alloc: Global, madt: &Table<'_>, srat: &Table<'_>) -> Result<Option<Place>, AllocError>
+fn no_domain(
+    alloc: Global,
+    policy: &Policy,
+    madt: &Table<'_>,
+    srat: &Table<'_>,
+) -> Result<Option<Place>, AllocError>
     ensures { IfOk result (FindsLeast
         (IsNoDomain (madt_contents madt.now) (srat_contents srat.now))) }
 {
     if !is_any_placed(srat) {
+        return Ok(None);
+    }
+    if !is_srat_unbroken(policy, srat) {
         return Ok(None);
     }
     let ids = placed_apic_ids(alloc, srat)?;
@@ -170,6 +196,7 @@ fn no_domain(alloc: Global, madt: &Table<'_>, srat: &Table<'_>) -> Result<Option
 /// The place where a rule on the processors of a MADT and an SRAT is broken. None for another rule.
 pub fn madt_srat_place(
     alloc: Global,
+    policy: &Policy,
     rule: Rule,
     madt: &Table<'_>,
     srat: &Table<'_>,
@@ -178,8 +205,8 @@ pub fn madt_srat_place(
         (in_madt_srat (condition rule) (madt_contents madt.now) (srat_contents srat.now))) }
 {
     match rule {
-        Rule::AffinityNowhere => affinity_nowhere(alloc, madt, srat),
-        Rule::NoDomain => no_domain(alloc, madt, srat),
+        Rule::AffinityNowhere => affinity_nowhere(alloc, policy, madt, srat),
+        Rule::NoDomain => no_domain(alloc, policy, madt, srat),
         _ => Ok(None),
     }
 }
@@ -194,16 +221,24 @@ fn leafless(ids: &[u64], at: &EntryAt<MadtEntry<'_>>) -> Option<Place>
     unknown_place(ids, at.offset, uid_on(&at.entry))
 }
 
-/// The first usable processor of a MADT for which a PPTT has no leaf, if the PPTT has some, and the rules
-/// read all processors; `point` is its UID. Allocates for each leaf, and below Revision 2 for each node.
-fn no_leaf(alloc: Global, madt: &Table<'_>, pptt: &Table<'_>) -> Result<Option<Place>, AllocError>
+/// The first usable processor of a MADT for which a PPTT has no leaf, if the PPTT has a node and is unbroken, and the
+/// rules read all processors; `point` is its UID. Allocates for each leaf, and below Revision 2 for each node.
+fn no_leaf(
+    alloc: Global,
+    policy: &Policy,
+    madt: &Table<'_>,
+    pptt: &Table<'_>,
+) -> Result<Option<Place>, AllocError>
     ensures { IfOk result (FindsLeast
         (IsNoLeaf (madt_contents madt.now) (pptt_contents pptt.now))) }
 {
-    let ids = leaf_ids(alloc, pptt)?;
-    if ids.is_empty() {
+    if !has_node(pptt) {
         return Ok(None);
     }
+    if !is_pptt_unbroken(policy, pptt) {
+        return Ok(None);
+    }
+    let ids = leaf_ids(alloc, policy, pptt)?;
     let ids = ids.as_slice();
     let place = first_picked(madt.entries::<MadtEntry<'_>>(), |at| leafless(ids, at));
     Ok(where_read(madt, place))
@@ -227,28 +262,29 @@ fn first_unknown(known: &[u64], given: &[Numbered]) -> Option<Place>
     None
 }
 
-/// The first leaf of a PPTT whose ID, `point`, is no processor's UID, if the MADT has a GIC CPU interface, and the
-/// rules read all processors. Allocates for the UID of each processor and for each leaf, and below Revision 2 for
-/// each node.
+/// The first leaf of a PPTT whose ID, `point`, is no processor's UID, if the MADT has a processor that is not of x86,
+/// and all are known. Allocates for the UID of each processor and for each leaf, and below Revision 2 for each node.
 fn leaf_nowhere(
     alloc: Global,
+    policy: &Policy,
     madt: &Table<'_>,
     pptt: &Table<'_>,
 ) -> Result<Option<Place>, AllocError>
     ensures { IfOk result (FindsLeast
         (IsLeafNowhere (madt_contents madt.now) (pptt_contents pptt.now))) }
 {
-    if !has_gicc(madt) {
+    if !has_raw_processor(madt) {
         return Ok(None);
     }
     let uids = processor_uids(alloc, madt)?;
-    let leaves = leaves_of(alloc, pptt)?;
-    Ok(where_read(madt, first_unknown(&uids, &leaves)))
+    let leaves = leaves_of(alloc, policy, pptt)?;
+    Ok(where_known(policy, madt, first_unknown(&uids, &leaves)))
 }
 
 /// The place where a rule on the processors of a MADT and a PPTT is broken. None for another rule.
 pub fn madt_pptt_place(
     alloc: Global,
+    policy: &Policy,
     rule: Rule,
     madt: &Table<'_>,
     pptt: &Table<'_>,
@@ -257,8 +293,8 @@ pub fn madt_pptt_place(
         (in_madt_pptt (condition rule) (madt_contents madt.now) (pptt_contents pptt.now))) }
 {
     match rule {
-        Rule::NoLeaf => no_leaf(alloc, madt, pptt),
-        Rule::LeafNowhere => leaf_nowhere(alloc, madt, pptt),
+        Rule::NoLeaf => no_leaf(alloc, policy, madt, pptt),
+        Rule::LeafNowhere => leaf_nowhere(alloc, policy, madt, pptt),
         _ => Ok(None),
     }
 }

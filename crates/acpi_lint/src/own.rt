@@ -1,6 +1,6 @@
 //! Rules on an entry by itself.
 
-ghost use Rattle.std.specs.Prelude.{◌≡◌, ◌<◌, ◌≤◌, ◌↔◌, length, ℕ, Option, IsTrue, MatchOption};
+ghost use Rattle.std.specs.Prelude.{◌≡◌, ◌<◌, ◌≤◌, ◌↔◌, length, slice_index, ℕ, Option, IsTrue, MatchOption};
 ghost use denote.Ref.{Bor};
 ghost use Rattle.acpi_base.specs.Entries.{entries_read_by};
 ghost use Rattle.acpi_lint.specs.Rules.MadtAdvice as madt_advice;
@@ -22,11 +22,15 @@ ghost use Rattle.acpi_lint.specs.Rules.Broken.{condition};
 
 use crate::passes::first_picked;
 use crate::place::Place;
-use crate::processors::{GICD, any_domain, io_apic_address, is_gicc, is_set};
+use crate::processors::{
+    CORE_PIC, CORE_PIC_LEN, GENERIC_AFFINITY_LEN, GICD, INITIATOR_AFFINITY, ITS_AFFINITY,
+    ITS_AFFINITY_LEN, PORT_AFFINITY, RINTC, RINTC_AFFINITY, RINTC_AFFINITY_LEN, RINTC_LEN,
+    any_domain, io_apic_address, is_set,
+};
 use acpi_base::Rule;
 use acpi_read::{
-    Cache24, EntryAt, GICC, GICC_AFFINITY, GICC_AFFINITY_LEN, MadtEntry, PpttEntry, SratEntry,
-    TableEntry, TypedEntries,
+    Cache24, EntryAt, GICC, GICC_AFFINITY, GICC_AFFINITY_LEN, GICC_LEN, MadtEntry, PpttEntry,
+    SratEntry, TableEntry, TypedEntries,
 };
 
 /// The place that a rule returns for the first entry for which it returns one. None if there is no table.
@@ -52,16 +56,37 @@ fn io_apic_at_zero(at: &EntryAt<MadtEntry<'_>>) -> Option<Place>
     (address == 0).then_some(Place::at(at.offset))
 }
 
-/// Whether neither the stages nor these rules read an entry with these bytes. An opaque entry of a type
-/// that the stages read has another length than its type, which is a separate fault.
-fn is_madt_unread(bytes: &[u8]) -> bool
+/// The types of a GIC MSI frame, a GIC redistributor and a GIC ITS, with their lengths, which a GIC distributor shares
+/// with the first (ACPI 6.5, 5.2.12.15 to 5.2.12.18).
+const MSI_FRAME: u8 = 13;
+
+const MSI_FRAME_LEN: usize = 24;
+
+const GICR: u8 = 14;
+
+const GICR_LEN: usize = 16;
+
+const ITS: u8 = 15;
+
+const ITS_LEN: usize = 20;
+
+/// Whether the stages or these rules read an entry with these bytes. An opaque entry of a type that the stages read has
+/// another length than its type, which is a separate fault.
+fn is_madt_read(bytes: &[u8]) -> bool
     requires { 2 ≤ length bytes.now }
-    ensures { IsTrue result ↔ madt_advice.IsUnreadEntry bytes.now }
+    ensures { IsTrue result
+        ↔ madt_advice.IsReadForm (slice_index bytes.now 0) (length bytes.now) }
 {
+    let size = bytes.len();
     match bytes[0] {
-        0..=5 | 9 | 10 | GICD => false,
-        GICC => !is_gicc(bytes),
-        _ => true,
+        0..=5 | 9 | 10 => true,
+        GICC => size >= GICC_LEN,
+        GICD | MSI_FRAME => size == MSI_FRAME_LEN,
+        GICR => size == GICR_LEN,
+        ITS => size == ITS_LEN,
+        CORE_PIC => size == CORE_PIC_LEN,
+        RINTC => size >= RINTC_LEN,
+        _ => false,
     }
 }
 
@@ -71,7 +96,7 @@ fn madt_unread(at: &EntryAt<MadtEntry<'_>>) -> Option<Place>
     ensures { FindsOwn (λ at. IsMadtUnread) (entry_at_value madt_value at.now) result }
 {
     match at.entry {
-        MadtEntry::Opaque(bytes) if is_madt_unread(bytes) => Some(Place {
+        MadtEntry::Opaque(bytes) if !is_madt_read(bytes) => Some(Place {
             at: at.offset,
             other: u64::from(bytes[0]),
             point: 0,
@@ -95,15 +120,20 @@ pub fn madt_entry_place(rule: Rule, at: &EntryAt<MadtEntry<'_>>) -> Option<Place
 
 // ---- the SRAT
 
-/// Whether neither the stages nor these rules read an entry with these bytes.
-fn is_srat_unread(bytes: &[u8]) -> bool
+/// Whether the stages or these rules read an entry with these bytes.
+fn is_srat_read(bytes: &[u8]) -> bool
     requires { 2 ≤ length bytes.now }
-    ensures { IsTrue result ↔ srat_advice.IsUnreadEntry bytes.now }
+    ensures { IsTrue result
+        ↔ srat_advice.IsReadForm (slice_index bytes.now 0) (length bytes.now) }
 {
+    let size = bytes.len();
     match bytes[0] {
-        0..=2 => false,
-        GICC_AFFINITY => bytes.len() != GICC_AFFINITY_LEN,
-        _ => true,
+        0..=2 => true,
+        GICC_AFFINITY => size == GICC_AFFINITY_LEN,
+        ITS_AFFINITY => size == ITS_AFFINITY_LEN,
+        INITIATOR_AFFINITY | PORT_AFFINITY => size == GENERIC_AFFINITY_LEN,
+        RINTC_AFFINITY => size == RINTC_AFFINITY_LEN,
+        _ => false,
     }
 }
 
@@ -113,7 +143,7 @@ fn srat_unread(at: &EntryAt<SratEntry<'_>>) -> Option<Place>
     ensures { FindsOwn (λ at. IsSratUnread) (entry_at_value srat_value at.now) result }
 {
     match at.entry {
-        SratEntry::Opaque(bytes) if is_srat_unread(bytes) => Some(Place {
+        SratEntry::Opaque(bytes) if !is_srat_read(bytes) => Some(Place {
             at: at.offset,
             other: u64::from(bytes[0]),
             point: 0,

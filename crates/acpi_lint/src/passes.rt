@@ -1,14 +1,14 @@
 //! Passes over the entries of a table, and the faults of a table of entries: codes 32 to 38 (the MADT, ACPI 6.5,
 //! 5.2.12), 41 to 44 (the SRAT, 5.2.16), and 50 and 51 (the PPTT, 5.2.30).
 
-ghost use Rattle.std.specs.Prelude.{Contains};
+ghost use Rattle.std.specs.Prelude.{◌↔◌, Contains, IsTrue};
 ghost use denote.Ref.{Bor};
 ghost use Rattle.acpi_base.specs.Entries.{entries_of, entries_read_by};
 ghost use Rattle.acpi_base.specs.Listed.{HasListed};
 ghost use Rattle.acpi_base.specs.Memory.{Memory};
 ghost use Rattle.acpi_base.specs.TableKinds.{signature_of};
 ghost use Rattle.acpi_check.specs.CollectedValues.{Picks};
-ghost use Rattle.acpi_lint.specs.Places.{IsSoughtEntry, FindsOwn, PicksFirst, FindsLeast};
+ghost use Rattle.acpi_lint.specs.Places.{IsSoughtEntry, FindsOwn, PicksFirst, FindsLeast, HasNone};
 ghost use Rattle.acpi_lint.specs.CompleteTables.{AreCompleteTables};
 ghost use Rattle.acpi_read.specs.EntryTables.{entry_table, IsAbout};
 ghost use Rattle.acpi_read.specs.Entries.{entry_at_value};
@@ -128,6 +128,20 @@ fn table_fault<'a, E: TableEntry<'a> + Copy>(
         Subject::Second => second_single::<E>(policy, code, table),
         Subject::Own => first_sought::<E>(policy, SoughtEntry::Own(code), table),
     }
+}
+
+/// Whether a table has no fault with these two codes: of the cut, and of an entry with another length than its type's.
+pub fn is_unbroken<'a, E: TableEntry<'a> + Copy>(
+    policy: &Policy,
+    cut: Code,
+    length: Code,
+    table: &Table<'a>,
+) -> bool
+    ensures { IsTrue result ↔ (HasNone (E.IsFault policy.now table.now cut)
+        × HasNone (E.IsFault policy.now table.now length)) }
+{
+    table_fault::<E>(policy, cut, table).is_none()
+        && table_fault::<E>(policy, length, table).is_none()
 }
 
 /// The place of the first fault with this code of a set's table of a kind. None for a code of another stage, and if

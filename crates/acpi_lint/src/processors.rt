@@ -4,7 +4,7 @@ ghost use Rattle.std.specs.Prelude.{◌≡◌, ◌<◌, ◌≤◌, ◌||◌, len
 ghost use Rattle.std.specs.Option.{option_map};
 ghost use Rattle.acpi_lint.specs.Rules.MadtAdvice.{io_apic_address, io_apic_id, nonzero_io_apic_address, nmi_uid, gicd};
 ghost use Rattle.acpi_lint.specs.Rules.PpttAdvice.{cache_id};
-ghost use Rattle.acpi_lint.specs.Rules.Processors.{is_gicc, processor_of, uid_of, uid_on, apic_id_of, apic_id_on, gicc_uid_on, is_gicc_affinity, placed_apic_id, placed_uid, processor_domain, any_domain};
+ghost use Rattle.acpi_lint.specs.Rules.Processors.{is_gicc, is_rintc, is_core_pic, raw_processor, processor_of, uid_of, uid_on, apic_id_of, apic_id_on, lone_uid_on, is_gicc_affinity, is_rintc_affinity, is_its_affinity, is_generic_affinity, placed_apic_id, placed_uid, processor_domain, any_domain};
 ghost use Rattle.acpi_base.specs.Number.{has_bit};
 ghost use Rattle.acpi_read.specs.Madts.{madt_value};
 ghost use Rattle.acpi_read.specs.Pptts.{pptt_value};
@@ -21,14 +21,39 @@ use acpi_read::{
 pub struct Processor {
     /// Its UID.
     pub uid: u32,
-    /// Its APIC ID or x2APIC ID: they are one number space. A GIC CPU interface has none.
+    /// Its APIC ID, x2APIC ID or core's ID: they are one number space. A GIC CPU interface and a hart have none.
     pub apic_id: Option<u32>,
-    /// Whether it is usable: Enabled or Online Capable, for a GIC CPU interface Enabled.
+    /// Whether it is usable: Enabled or Online Capable.
     pub on: bool,
 }
 
 /// The type of a GIC distributor (ACPI 6.5, 5.2.12.15).
 pub const GICD: u8 = 12;
+
+/// The type of the interrupt controller of a LoongArch core, and its length in bytes (5.2.12.20).
+pub const CORE_PIC: u8 = 17;
+
+pub const CORE_PIC_LEN: usize = 15;
+
+/// The type of a RISC-V hart's interrupt controller, and its least length (after ACPI 6.5).
+pub const RINTC: u8 = 24;
+
+pub const RINTC_LEN: usize = 20;
+
+/// The types of affinities that the stages do not read, and their lengths (5.2.16.5 to 5.2.16.7, and after ACPI 6.5).
+pub const ITS_AFFINITY: u8 = 4;
+
+pub const ITS_AFFINITY_LEN: usize = 12;
+
+pub const INITIATOR_AFFINITY: u8 = 5;
+
+pub const PORT_AFFINITY: u8 = 6;
+
+pub const GENERIC_AFFINITY_LEN: usize = 32;
+
+pub const RINTC_AFFINITY: u8 = 7;
+
+pub const RINTC_AFFINITY_LEN: usize = 20;
 
 /// Whether a bit of flags is set.
 #[tactic(auto, unfolding(acpi_base::specs::Number::has_bit))]
@@ -39,11 +64,12 @@ pub fn is_set(flags: u32, bit: u32) -> bool
     flags >> bit & 1 == 1
 }
 
-/// Whether the flags of a local APIC or a local x2APIC say Enabled or Online Capable.
-fn is_on(flags: u32) -> bool
-    ensures { result ≡ has_bit flags 0 || has_bit flags 1 }
+/// Whether the flags of a processor say Enabled or Online Capable, which is this bit of them.
+fn is_on(flags: u32, capable: u32) -> bool
+    requires { capable < 32 }
+    ensures { result ≡ has_bit flags 0 || has_bit flags capable }
 {
-    is_set(flags, 0) || is_set(flags, 1)
+    is_set(flags, 0) || is_set(flags, capable)
 }
 
 // ---- the MADT
@@ -56,6 +82,50 @@ pub fn is_gicc(bytes: &[u8]) -> bool
     bytes.len() >= GICC_LEN && bytes[0] == GICC
 }
 
+/// Whether they are the interrupt controller of a hart of at least that length.
+fn is_rintc(bytes: &[u8]) -> bool
+    ensures value { result ≡ is_rintc bytes.now }
+    ensures size { IsTrue result → 20 ≤ length bytes.now }
+{
+    bytes.len() >= RINTC_LEN && bytes[0] == RINTC
+}
+
+/// Whether they are the interrupt controller of a LoongArch core.
+fn is_core_pic(bytes: &[u8]) -> bool
+    ensures value { result ≡ is_core_pic bytes.now }
+    ensures size { IsTrue result → length bytes.now ≡ 15 }
+{
+    bytes.len() == CORE_PIC_LEN && bytes[0] == CORE_PIC
+}
+
+/// The processor that the bytes of one of these describe. None for others.
+pub fn raw_processor(bytes: &[u8]) -> Option<Processor>
+    ensures { option_map processor_value result ≡ raw_processor bytes.now }
+{
+    if is_gicc(bytes) {
+        return Some(Processor {
+            uid: u32_at(bytes, 8),
+            apic_id: None,
+            on: is_on(u32_at(bytes, 12), 3),
+        });
+    }
+    if is_rintc(bytes) {
+        return Some(Processor {
+            uid: u32_at(bytes, 16),
+            apic_id: None,
+            on: is_on(u32_at(bytes, 4), 1),
+        });
+    }
+    if is_core_pic(bytes) {
+        return Some(Processor {
+            uid: u32_at(bytes, 3),
+            apic_id: Some(u32_at(bytes, 7)),
+            on: is_enabled(u32_at(bytes, 11)),
+        });
+    }
+    None
+}
+
 /// The processor that an entry describes. None for another entry.
 fn processor_of(entry: &MadtEntry<'_>) -> Option<Processor>
     ensures { option_map processor_value result ≡ processor_of (madt_value entry.now) }
@@ -64,18 +134,14 @@ fn processor_of(entry: &MadtEntry<'_>) -> Option<Processor>
         MadtEntry::LocalApic(processor) => Some(Processor {
             uid: u32::from(processor.uid),
             apic_id: Some(u32::from(processor.apic_id)),
-            on: is_on(processor.flags),
+            on: is_on(processor.flags, 1),
         }),
         MadtEntry::X2apic(processor) => Some(Processor {
             uid: processor.uid,
             apic_id: Some(processor.x2apic_id),
-            on: is_on(processor.flags),
+            on: is_on(processor.flags, 1),
         }),
-        MadtEntry::Opaque(bytes) if is_gicc(bytes) => Some(Processor {
-            uid: u32_at(bytes, 8),
-            apic_id: None,
-            on: is_enabled(u32_at(bytes, 12)),
-        }),
+        MadtEntry::Opaque(bytes) => raw_processor(bytes),
         _ => None,
     }
 }
@@ -115,14 +181,12 @@ pub fn apic_id_on(entry: &MadtEntry<'_>) -> Option<u32>
     }
 }
 
-/// The UID of a usable GIC CPU interface.
-pub fn gicc_uid_on(entry: &MadtEntry<'_>) -> Option<u32>
-    ensures { result ≡ gicc_uid_on (madt_value entry.now) }
+/// The UID of a usable processor that has no APIC ID.
+pub fn lone_uid_on(entry: &MadtEntry<'_>) -> Option<u32>
+    ensures { result ≡ lone_uid_on (madt_value entry.now) }
 {
-    match entry {
-        MadtEntry::Opaque(_) => uid_on(entry),
-        _ => None,
-    }
+    let processor = processor_of(entry)?;
+    (processor.on && processor.apic_id.is_none()).then_some(processor.uid)
 }
 
 /// The UID to which a local APIC NMI or local x2APIC NMI applies. None if it applies to all processors.
@@ -184,6 +248,32 @@ fn is_gicc_affinity(bytes: &[u8]) -> bool
     bytes.len() == GICC_AFFINITY_LEN && bytes[0] == GICC_AFFINITY && is_enabled(u32_at(bytes, 10))
 }
 
+/// Whether the bytes are the affinity of a hart that is enabled.
+fn is_rintc_affinity(bytes: &[u8]) -> bool
+    ensures value { result ≡ is_rintc_affinity bytes.now }
+    ensures size { IsTrue result → length bytes.now ≡ 20 }
+{
+    bytes.len() == RINTC_AFFINITY_LEN && bytes[0] == RINTC_AFFINITY && is_enabled(u32_at(bytes, 12))
+}
+
+/// Whether the bytes are the affinity of an ITS.
+fn is_its_affinity(bytes: &[u8]) -> bool
+    ensures value { result ≡ is_its_affinity bytes.now }
+    ensures size { IsTrue result → length bytes.now ≡ 12 }
+{
+    bytes.len() == ITS_AFFINITY_LEN && bytes[0] == ITS_AFFINITY
+}
+
+/// Whether the bytes are the affinity of an initiator or a port that is enabled.
+fn is_generic_affinity(bytes: &[u8]) -> bool
+    ensures value { result ≡ is_generic_affinity bytes.now }
+    ensures size { IsTrue result → length bytes.now ≡ 32 }
+{
+    bytes.len() == GENERIC_AFFINITY_LEN
+        && (bytes[0] == INITIATOR_AFFINITY || bytes[0] == PORT_AFFINITY)
+        && is_enabled(u32_at(bytes, 24))
+}
+
 /// The APIC ID or x2APIC ID that an enabled affinity places.
 pub fn placed_apic_id(entry: &SratEntry<'_>) -> Option<u32>
     ensures { result ≡ placed_apic_id (srat_value entry.now) }
@@ -195,12 +285,13 @@ pub fn placed_apic_id(entry: &SratEntry<'_>) -> Option<u32>
     }
 }
 
-/// The UID that an enabled GICC affinity places.
+/// The UID that an enabled affinity of a GIC CPU interface or of a hart places.
 pub fn placed_uid(entry: &SratEntry<'_>) -> Option<u32>
     ensures { result ≡ placed_uid (srat_value entry.now) }
 {
     match entry {
         SratEntry::Opaque(bytes) if is_gicc_affinity(bytes) => Some(u32_at(bytes, 6)),
+        SratEntry::Opaque(bytes) if is_rintc_affinity(bytes) => Some(u32_at(bytes, 8)),
         _ => None,
     }
 }
@@ -213,16 +304,19 @@ pub fn processor_domain(entry: &SratEntry<'_>) -> Option<u32>
         SratEntry::ApicDomain(put) => is_enabled(put.flags).then_some(put.domain),
         SratEntry::X2apicDomain(put) => is_enabled(put.flags).then_some(put.domain),
         SratEntry::Opaque(bytes) if is_gicc_affinity(bytes) => Some(u32_at(bytes, 2)),
+        SratEntry::Opaque(bytes) if is_rintc_affinity(bytes) => Some(u32_at(bytes, 4)),
         _ => None,
     }
 }
 
-/// The same, or the domain of an enabled range of memory.
+/// The same, or the domain of an ITS, of an enabled initiator or port, or of an enabled range of memory.
 pub fn any_domain(entry: &SratEntry<'_>) -> Option<u32>
     ensures { result ≡ any_domain (srat_value entry.now) }
 {
     match entry {
         SratEntry::MemoryRange(range) => is_enabled(range.flags).then_some(range.domain),
+        SratEntry::Opaque(bytes) if is_its_affinity(bytes) => Some(u32_at(bytes, 2)),
+        SratEntry::Opaque(bytes) if is_generic_affinity(bytes) => Some(u32_at(bytes, 4)),
         _ => processor_domain(entry),
     }
 }

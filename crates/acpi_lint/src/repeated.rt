@@ -24,7 +24,7 @@ use crate::processors::{
     apic_id_on, cache_id, gicd, io_apic_id, nonzero_io_apic_address, placed_uid, processor_domain,
     uid_on,
 };
-use acpi_base::Rule;
+use acpi_base::{Policy, Rule};
 use acpi_check::collected;
 use acpi_read::{EntryAt, MadtEntry, PpttEntry, SratEntry, Table, TableEntry, TypedEntries};
 use std::alloc::{AllocError, Global};
@@ -97,19 +97,24 @@ fn same_cache_id(alloc: Global, pptt: &Table<'_>) -> Result<Option<Place>, Alloc
 
 /// The first leaf that has the ACPI processor ID of an earlier one. Allocates for each leaf, and below Revision 2 for
 /// each node.
-fn same_leaf(alloc: Global, pptt: &Table<'_>) -> Result<Option<Place>, AllocError>
+fn same_leaf(alloc: Global, policy: &Policy, pptt: &Table<'_>) -> Result<Option<Place>, AllocError>
     ensures { IfOk result (FindsLeast (IsSameLeaf (pptt_contents pptt.now))) }
 {
-    let leaves = leaves_of(alloc, pptt)?;
+    let leaves = leaves_of(alloc, policy, pptt)?;
     first_repeated(leaves)
 }
 
 /// The place where a rule on the numbers in a PPTT is broken. None for another rule.
-pub fn pptt_place(alloc: Global, rule: Rule, pptt: &Table<'_>) -> Result<Option<Place>, AllocError>
+pub fn pptt_place(
+    alloc: Global,
+    policy: &Policy,
+    rule: Rule,
+    pptt: &Table<'_>,
+) -> Result<Option<Place>, AllocError>
     ensures { IfOk result (FindsLeast (in_pptt (condition rule) (pptt_contents pptt.now))) }
 {
     match rule {
-        Rule::SameLeaf => same_leaf(alloc, pptt),
+        Rule::SameLeaf => same_leaf(alloc, policy, pptt),
         Rule::SameCacheId => same_cache_id(alloc, pptt),
         _ => Ok(None),
     }
@@ -117,7 +122,7 @@ pub fn pptt_place(alloc: Global, rule: Rule, pptt: &Table<'_>) -> Result<Option<
 
 // ---- the SRAT
 
-/// The domain into which an enabled GICC affinity puts the processor with its UID.
+/// The domain into which an enabled affinity of a UID puts its processor.
 fn domain_of_uid(at: &EntryAt<SratEntry<'_>>) -> Option<Numbered>
     ensures { result ≡ domain_of_uid at.now.offset (srat_value at.now.entry) }
 {
@@ -130,8 +135,8 @@ fn domain_of_uid(at: &EntryAt<SratEntry<'_>>) -> Option<Numbered>
     })
 }
 
-/// The first GICC affinity with a UID that a later one puts into another domain; `other` is the first such one, and
-/// `point` the UID. Allocates for each enabled GICC affinity.
+/// The first affinity of a UID that a later one puts into another domain; `other` is the first such one, and `point`
+/// the UID. Allocates for each enabled affinity of a UID.
 fn two_uid_domains(alloc: Global, srat: &Table<'_>) -> Result<Option<Place>, AllocError>
     ensures { IfOk result (FindsLeast (IsTwoUidDomains (srat_contents srat.now))) }
 {

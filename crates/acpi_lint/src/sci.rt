@@ -9,10 +9,11 @@ ghost use Rattle.acpi_read.specs.Entries.{entry_at_value};
 ghost use Rattle.acpi_lint.specs.Places.{FindsOwn, FindsLeast};
 ghost use Rattle.acpi_lint.specs.RuleGroups.{in_fadt_madt};
 ghost use Rattle.acpi_lint.specs.Rules.Broken.{condition};
-ghost use Rattle.acpi_lint.specs.Overrides.{IsOwnOverride, IsOverrideAt, ServesNumber, IsNowhere};
+ghost use Rattle.acpi_lint.specs.Overrides.{IsOwnOverride, IsOverrideAt, ServesNumber, IsUnserved, IsNowhere};
 
 use crate::passes::first_picked;
 use crate::place::Place;
+use crate::unbroken::is_madt_unbroken;
 use acpi_base::field::u16_at;
 use acpi_base::{Policy, Rule};
 use acpi_read::{EntryAt, Fadt, MadtEntry, Table};
@@ -93,14 +94,21 @@ fn is_served(policy: &Policy, madt: &Table<'_>, gsi: u64) -> bool
 
 /// Whether none of the I/O APICs of a MADT serves an interrupt number, although there are some, and the hardware is
 /// not reduced.
-fn is_nowhere(policy: &Policy, fadt: &Fadt<'_>, madt: &Table<'_>, gsi: u64) -> bool
-    ensures { IsTrue result ↔ IsNowhere policy.now fadt.now (madt_contents madt.now) gsi }
+fn is_unserved(policy: &Policy, fadt: &Fadt<'_>, madt: &Table<'_>, gsi: u64) -> bool
+    ensures { IsTrue result ↔ IsUnserved policy.now fadt.now (madt_contents madt.now) gsi }
 {
     !fadt.reduced() && has_io_apic(madt) && !is_served(policy, madt, gsi)
 }
 
+/// The same for a MADT that is unbroken.
+fn is_nowhere(policy: &Policy, fadt: &Fadt<'_>, madt: &Table<'_>, gsi: u64) -> bool
+    ensures { IsTrue result ↔ IsNowhere policy.now fadt.now (madt_contents madt.now) gsi }
+{
+    is_unserved(policy, fadt, madt, gsi) && is_madt_unbroken(policy, madt)
+}
+
 /// SCI_INT, at 46, if the hardware is not reduced, and none of the I/O APICs serves its interrupt number although
-/// there are some.
+/// there are some, and the MADT is unbroken.
 fn sci_nowhere(policy: &Policy, fadt: &Fadt<'_>, madt: &Table<'_>) -> Option<Place>
     ensures { FindsLeast (IsSciNowhere policy.now fadt.now (madt_contents madt.now)) result }
 {

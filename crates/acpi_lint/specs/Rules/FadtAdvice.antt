@@ -6,6 +6,7 @@ use Rattle.acpi_base.specs.Entries.{Stands, StandsWith}
 use Rattle.acpi_base.specs.Fadt.{is_reduced, gas_at}
 use Rattle.acpi_base.specs.Madt.{MadtEntry, Override, OverrideValue, MadtContents}
 use Rattle.acpi_base.specs.Policy.{PolicyValue}
+use Rattle.acpi_lint.specs.Rules.Unbroken.{IsUnbrokenMadt}
 
 -- the minimum length of a FADT of this Revision, that of all its fields; 0 below Revision 3, which has no minimum here
 abbrev pub fields_length : ℕ → ℕ
@@ -67,9 +68,11 @@ abbrev pub IsGsiOf : MadtContents → ℕ → ℕ → Type 0
 IsGsiOf c source g =
     IsFirstOverride c source g ⊎ (((p : ℕ) → ¬ StandsWith c.entries p (IsOverrideOf source)) × (g ≡ source))
 
--- no I/O APIC serves the interrupt number of SCI_INT, at 46, though there are some; applies if the hardware is not reduced
+-- no I/O APIC serves the interrupt number of SCI_INT, at 46, though there are some; applies if the hardware is not reduced, and
+-- the MADT is unbroken
 pub record IsSciNowhere (q : PolicyValue) (whole : List ℕ) (c : MadtContents) (at other point : ℕ) : Type 0 where
   pub not_reduced : is_reduced whole ≡ false
+  pub unbroken : IsUnbrokenMadt c
   pub place : (at ≡ 46) × (other ≡ 0)
   pub number : IsGsiOf c (field whole 46 2) point
   pub some : HasIoApic c

@@ -4,14 +4,14 @@ use Rattle.std.specs.Option.{option_and_then}
 use Rattle.acpi_base.specs.Entries.{AreUnused}
 use Rattle.acpi_base.specs.Madt.{MadtEntry, IoApic, LocalNmi, X2apicNmi, Opaque, MadtContents}
 use Rattle.acpi_lint.specs.Rules.Numbered.{NamesAt, IsNamed}
-use Rattle.acpi_lint.specs.Rules.Processors.{uid_of, uid_on, AreProcessorsRead}
+use Rattle.acpi_lint.specs.Rules.Processors.{uid_of, uid_on, AreProcessorsKnown}
 
 -- ---- processors
 
--- no processor is usable; applies if the rules read all processors
+-- no processor is usable; applies if all processors are known
 abbrev pub IsNoProcessor : MadtContents → ℕ → ℕ → ℕ → Type 0
 IsNoProcessor c at other point =
-    AreProcessorsRead c × ((uid : ℕ) → ¬ IsNamed uid_on c.entries uid) × (at ≡ 0) × AreUnused other point
+    AreProcessorsKnown c × ((uid : ℕ) → ¬ IsNamed uid_on c.entries uid) × (at ≡ 0) × AreUnused other point
 
 -- the UID to which a local APIC NMI or local x2APIC NMI applies; all ones mean all processors (5.2.12.7, 5.2.12.13)
 abbrev pub nmi_uid : MadtEntry → Option ℕ
@@ -19,10 +19,10 @@ nmi_uid (LocalNmi v) = if v.uid == 255 then None else Some v.uid
 nmi_uid (X2apicNmi v) = if v.uid == 2 ^ 32 - 1 then None else Some v.uid
 nmi_uid _ = None
 
--- the NMI applies to the UID `point`, which no processor has; applies if the rules read all processors
+-- the NMI applies to the UID `point`, which no processor has; applies if all processors are known
 abbrev pub IsNmiNowhere : MadtContents → ℕ → ℕ → ℕ → Type 0
 IsNmiNowhere c at other point =
-    AreProcessorsRead c × NamesAt nmi_uid c.entries at point × (¬ IsNamed uid_of c.entries point) × (other ≡ 0)
+    AreProcessorsKnown c × NamesAt nmi_uid c.entries at point × (¬ IsNamed uid_of c.entries point) × (other ≡ 0)
 
 -- ---- interrupt controllers
 
@@ -50,13 +50,16 @@ gicd _ = None
 
 -- ---- entries that are not checked
 
--- the bytes of an entry that neither the stages nor these rules read
-abbrev pub IsUnreadEntry : List ℕ → Type 0
-IsUnreadEntry e =
-    ((6 ≤ slice_index e 0) × (slice_index e 0 ≢ 9) × (slice_index e 0 ≢ 10) × (slice_index e 0 ≢ 11) × (slice_index e 0 ≢ 12))
-    ⊎ ((slice_index e 0 ≡ 11) × (length e < 40))
+-- entries with this type and length are read by the stages (0 to 5, 9, 10), whatever the length, or by these rules: GICC (11),
+-- GICD (12), GIC MSI frames (13), GICR (14), GIC ITS (15), CORE PIC (17) and RINTC (24)
+abbrev pub IsReadForm : ℕ → ℕ → Type 0
+IsReadForm type size =
+    (type ≤ 5) ⊎ (type ≡ 9) ⊎ (type ≡ 10) ⊎ ((type ≡ 11) × (40 ≤ size)) ⊎ ((type ≡ 12) × (size ≡ 24))
+    ⊎ ((type ≡ 13) × (size ≡ 24)) ⊎ ((type ≡ 14) × (size ≡ 16)) ⊎ ((type ≡ 15) × (size ≡ 20))
+    ⊎ ((type ≡ 17) × (size ≡ 15)) ⊎ ((type ≡ 24) × (20 ≤ size))
 
--- the entry is such an entry; `other` is its type
+-- the entry is none of these; `other` is its type
 abbrev pub IsMadtUnread : MadtEntry → ℕ → ℕ → Type 0
 IsMadtUnread e other point =
-    ((bytes : List ℕ) × (e ≡ Opaque bytes) × IsUnreadEntry bytes × (other ≡ slice_index bytes 0)) × (point ≡ 0)
+    ((bytes : List ℕ) × (e ≡ Opaque bytes) × (¬ IsReadForm (slice_index bytes 0) (length bytes))
+    × (other ≡ slice_index bytes 0)) × (point ≡ 0)

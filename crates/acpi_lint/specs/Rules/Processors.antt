@@ -1,16 +1,17 @@
 -- Processors: as the MADT's entries describe them, as the SRAT's entries place them, and as the PPTT's leaves name them.
-use Rattle.std.specs.Prelude.{◌≡◌, ℕ, ◌<◌, ◌≤◌, ◌⊎◌, Bool, List, length, slice_index, Option, Some, None, nat_le, true, ◌==◌, ◌&&◌, ◌||◌, if◌then◌else◌}
+use Rattle.std.specs.Prelude.{◌≡◌, ◌≢◌, ℕ, ◌<◌, ◌≤◌, ◌⊎◌, Bool, List, length, slice_index, Option, Some, None, IsSome, is_none, nat_le, true, ◌==◌, ◌&&◌, ◌||◌, if◌then◌else◌}
 use Rattle.std.specs.Option.{option_and_then, option_map}
 use Rattle.acpi_base.specs.Entries.{StandsWith}
 use Rattle.acpi_base.specs.Number.{field, has_bit}
 use Rattle.acpi_base.specs.Madt as madt
 use Rattle.acpi_base.specs.Srat as srat
 use Rattle.acpi_base.specs.Pptt as pptt
+use Rattle.acpi_lint.specs.Rules.Unbroken.{IsUnbrokenMadt, IsUnbrokenPptt}
 
 -- ---- the MADT (5.2.12)
 
--- a processor: its UID, its APIC ID or x2APIC ID if it has one, and whether it is usable: Enabled or Online Capable; a GIC
--- CPU interface must be Enabled
+-- a processor: its UID, its APIC ID, x2APIC ID or core's ID if it has one, and whether it is usable: Enabled or Online
+-- Capable
 pub record Processor : Type 0 where
   pub uid : ℕ
   pub apic_id : Option ℕ
@@ -20,14 +21,32 @@ pub record Processor : Type 0 where
 abbrev pub is_gicc : List ℕ → Bool
 is_gicc e = (slice_index e 0 == 11) && nat_le 40 (length e)
 
+-- a RISC-V hart's interrupt controller (RINTC, after ACPI 6.5) of at least 20 bytes
+abbrev pub is_rintc : List ℕ → Bool
+is_rintc e = (slice_index e 0 == 24) && nat_le 20 (length e)
+
+-- the interrupt controller of a LoongArch core, CORE PIC (5.2.12.20)
+abbrev pub is_core_pic : List ℕ → Bool
+is_core_pic e = (slice_index e 0 == 17) && (length e == 15)
+
+-- the processor that the bytes of one of these describe
+abbrev pub raw_processor : List ℕ → Option Processor
+raw_processor e =
+    if is_gicc e
+    then Some (record { uid = field e 8 4; apic_id = None; on = has_bit (field e 12 4) 0 || has_bit (field e 12 4) 3 })
+    else if is_rintc e
+    then Some (record { uid = field e 16 4; apic_id = None; on = has_bit (field e 4 4) 0 || has_bit (field e 4 4) 1 })
+    else if is_core_pic e
+    then Some (record { uid = field e 3 4; apic_id = Some (field e 7 4); on = has_bit (field e 11 4) 0 })
+    else None
+
 -- the processor that an entry describes
 abbrev pub processor_of : madt.MadtEntry → Option Processor
 processor_of (madt.LocalApic v) =
     Some (record { uid = v.uid; apic_id = Some v.apic_id; on = has_bit v.flags 0 || has_bit v.flags 1 })
 processor_of (madt.X2apic v) =
     Some (record { uid = v.uid; apic_id = Some v.x2apic_id; on = has_bit v.flags 0 || has_bit v.flags 1 })
-processor_of (madt.Opaque e) =
-    if is_gicc e then Some (record { uid = field e 8 4; apic_id = None; on = has_bit (field e 12 4) 0 }) else None
+processor_of (madt.Opaque e) = raw_processor e
 processor_of _ = None
 
 -- the UID of a processor, and of a usable one
@@ -44,27 +63,31 @@ apic_id_of e = option_and_then (λ p. p.apic_id) (processor_of e)
 abbrev pub apic_id_on : madt.MadtEntry → Option ℕ
 apic_id_on e = option_and_then (λ p. if p.on then p.apic_id else None) (processor_of e)
 
--- the UID of a usable GIC CPU interface
-abbrev pub gicc_uid_on : madt.MadtEntry → Option ℕ
-gicc_uid_on (madt.Opaque e) = uid_on (madt.Opaque e)
-gicc_uid_on _ = None
+-- the UID of a usable processor that has no APIC ID
+abbrev pub lone_uid_on : madt.MadtEntry → Option ℕ
+lone_uid_on e = option_and_then (λ p. if p.on && is_none p.apic_id then Some p.uid else None) (processor_of e)
 
--- the entry is such a GIC CPU interface
-abbrev pub IsGicc : madt.MadtEntry → Type 0
-IsGicc (madt.Opaque e) = is_gicc e ≡ true
-IsGicc _ = ⊥
+-- the entry describes a processor that is not of x86
+abbrev pub IsRawProcessor : madt.MadtEntry → Type 0
+IsRawProcessor (madt.Opaque e) = IsSome (raw_processor e)
+IsRawProcessor _ = ⊥
 
--- the entry describes processors in a form that no rule reads: a local SAPIC (7), a core of another architecture (17, 24),
--- or a GIC CPU interface shorter than 40 bytes
-abbrev pub IsOtherProcessor : madt.MadtEntry → Type 0
-IsOtherProcessor (madt.Opaque e) =
-    (slice_index e 0 ≡ 7) ⊎ (slice_index e 0 ≡ 17) ⊎ (slice_index e 0 ≡ 24) ⊎ ((slice_index e 0 ≡ 11) × (length e < 40))
-IsOtherProcessor _ = ⊥
+-- the entry describes processors in a form that no rule reads: a local SAPIC (7), or one of the above (11, 17, 24) with
+-- another length
+abbrev pub IsUnreadProcessor : madt.MadtEntry → Type 0
+IsUnreadProcessor (madt.Opaque e) =
+    (slice_index e 0 ≡ 7) ⊎ ((slice_index e 0 ≡ 11) × (length e < 40)) ⊎ ((slice_index e 0 ≡ 17) × (length e ≢ 15))
+    ⊎ ((slice_index e 0 ≡ 24) × (length e < 20))
+IsUnreadProcessor _ = ⊥
 
 -- The rules read all processors of the MADT. Entries of types 0 and 9 with another length than theirs do not count: they
 -- are faults of their length.
 abbrev pub AreProcessorsRead : madt.MadtContents → Type 0
-AreProcessorsRead c = (o : ℕ) → ¬ StandsWith c.entries o IsOtherProcessor
+AreProcessorsRead c = (o : ℕ) → ¬ StandsWith c.entries o IsUnreadProcessor
+
+-- and nothing of the MADT is out of sight, so a processor that is not found is not there
+abbrev pub AreProcessorsKnown : madt.MadtContents → Type 0
+AreProcessorsKnown c = AreProcessorsRead c × IsUnbrokenMadt c
 
 -- ---- the SRAT (5.2.16)
 
@@ -72,27 +95,46 @@ AreProcessorsRead c = (o : ℕ) → ¬ StandsWith c.entries o IsOtherProcessor
 abbrev pub is_gicc_affinity : List ℕ → Bool
 is_gicc_affinity e = (slice_index e 0 == 3) && (length e == 18) && has_bit (field e 10 4) 0
 
+-- the affinity of a RISC-V hart, RINTC Affinity (after ACPI 6.5), that is enabled
+abbrev pub is_rintc_affinity : List ℕ → Bool
+is_rintc_affinity e = (slice_index e 0 == 7) && (length e == 20) && has_bit (field e 12 4) 0
+
+-- a GIC ITS affinity (5.2.16.5), which has no flag
+abbrev pub is_its_affinity : List ℕ → Bool
+is_its_affinity e = (slice_index e 0 == 4) && (length e == 12)
+
+-- the affinity of a generic initiator or port (5.2.16.6, 5.2.16.7) that is enabled
+abbrev pub is_generic_affinity : List ℕ → Bool
+is_generic_affinity e =
+    ((slice_index e 0 == 5) || (slice_index e 0 == 6)) && (length e == 32) && has_bit (field e 24 4) 0
+
 -- the APIC ID or x2APIC ID that an enabled affinity places
 abbrev pub placed_apic_id : srat.SratEntry → Option ℕ
 placed_apic_id (srat.ApicDomain v) = if srat.is_enabled v.flags then Some v.apic_id else None
 placed_apic_id (srat.X2apicDomain v) = if srat.is_enabled v.flags then Some v.x2apic_id else None
 placed_apic_id _ = None
 
--- the UID that an enabled GICC affinity places
+-- the UID that an enabled affinity places
 abbrev pub placed_uid : srat.SratEntry → Option ℕ
-placed_uid (srat.Opaque e) = if is_gicc_affinity e then Some (field e 6 4) else None
+placed_uid (srat.Opaque e) =
+    if is_gicc_affinity e then Some (field e 6 4) else if is_rintc_affinity e then Some (field e 8 4) else None
 placed_uid _ = None
 
 -- the domain in which an enabled affinity places its processor
 abbrev pub processor_domain : srat.SratEntry → Option ℕ
 processor_domain (srat.ApicDomain v) = if srat.is_enabled v.flags then Some v.domain else None
 processor_domain (srat.X2apicDomain v) = if srat.is_enabled v.flags then Some v.domain else None
-processor_domain (srat.Opaque e) = if is_gicc_affinity e then Some (field e 2 4) else None
+processor_domain (srat.Opaque e) =
+    if is_gicc_affinity e then Some (field e 2 4) else if is_rintc_affinity e then Some (field e 4 4) else None
 processor_domain _ = None
 
--- the same, or the domain of an enabled range of memory, whatever its length
+-- the same, or the domain of an ITS, of an enabled initiator or port, or of an enabled range of memory, whatever its length
 abbrev pub any_domain : srat.SratEntry → Option ℕ
 any_domain (srat.MemoryRange v) = if srat.is_enabled v.flags then Some v.domain else None
+any_domain (srat.Opaque e) =
+    if is_its_affinity e
+    then Some (field e 2 4)
+    else if is_generic_affinity e then Some (field e 4 4) else processor_domain (srat.Opaque e)
 any_domain e = processor_domain e
 
 -- ---- the PPTT (5.2.30.1)
@@ -102,11 +144,11 @@ abbrev pub IsParent : pptt.PpttContents → ℕ → Type 0
 IsParent c o = (p : ℕ) × pptt.NamesParent c p o
 
 -- the leaf with this ACPI processor ID is at o: a node with a valid ID (bit 1 of its flags) that is marked as a leaf (bit 3);
--- below Revision 2, which has no bit 3, one that no node names as its Parent
+-- below Revision 2, which has no bit 3, one that no node names as its Parent, if the PPTT is unbroken
 abbrev pub IsLeafAt : pptt.PpttContents → ℕ → ℕ → Type 0
 IsLeafAt c o id =
     StandsWith c.entries o (λ e. (v : pptt.NodeValue) × (e ≡ pptt.Node v) × (v.id ≡ id) × (has_bit v.flags 1 ≡ true)
-    × ((2 ≤ c.revision) → has_bit v.flags 3 ≡ true) × (c.revision < 2 → ¬ IsParent c o))
+    × ((2 ≤ c.revision) → has_bit v.flags 3 ≡ true) × (c.revision < 2 → IsUnbrokenPptt c × ¬ IsParent c o))
 
 -- a leaf has this ID
 abbrev pub IsLeafId : pptt.PpttContents → ℕ → Type 0

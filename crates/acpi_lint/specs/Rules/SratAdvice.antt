@@ -3,9 +3,10 @@ use Rattle.std.specs.Prelude.{◌≡◌, ◌≢◌, ℕ, ◌≤◌, ◌⊎◌, L
 use Rattle.acpi_base.specs.Madt.{MadtContents}
 use Rattle.acpi_base.specs.Srat.{SratEntry, Opaque, SratContents}
 use Rattle.acpi_lint.specs.Rules.Numbered.{NamesAt, IsNamed}
-use Rattle.acpi_lint.specs.Rules.Processors.{uid_of, apic_id_of, apic_id_on, gicc_uid_on, placed_apic_id, placed_uid, processor_domain, any_domain, AreProcessorsRead}
+use Rattle.acpi_lint.specs.Rules.Processors.{uid_of, apic_id_of, apic_id_on, lone_uid_on, placed_apic_id, placed_uid, processor_domain, any_domain, AreProcessorsRead, AreProcessorsKnown}
+use Rattle.acpi_lint.specs.Rules.Unbroken.{IsUnbrokenSrat}
 
--- the affinity at o places the processor with this UID in the domain d (5.2.16.4)
+-- the affinity at o places the processor with this UID in the domain d (5.2.16.4, and RINTC Affinity)
 abbrev pub PlacesUid : SratContents → ℕ → ℕ → ℕ → Type 0
 PlacesUid c o uid d = NamesAt placed_uid c.entries o uid × NamesAt processor_domain c.entries o d
 
@@ -19,33 +20,37 @@ pub record IsTwoUidDomains (c : SratContents) (at other point : ℕ) : Type 0 wh
   pub differ : d ≢ f
   pub least : (p : ℕ) → NamesAt placed_uid c.entries p point → at ≤ p
 
--- the affinity is for the number `point`, which no processor of the MADT has: an APIC ID or x2APIC ID, or for a GICC a UID;
--- applies if the rules read all processors
+-- the affinity is for the number `point`, which no processor of the MADT has: an APIC ID, or for types 3 and 7 a UID;
+-- applies if all processors are known
 abbrev pub IsAffinityNowhere : MadtContents → SratContents → ℕ → ℕ → ℕ → Type 0
 IsAffinityNowhere madt srat at other point =
-    AreProcessorsRead madt
+    AreProcessorsKnown madt
     × ((NamesAt placed_apic_id srat.entries at point × ¬ IsNamed apic_id_of madt.entries point)
     ⊎ (NamesAt placed_uid srat.entries at point × ¬ IsNamed uid_of madt.entries point))
     × (other ≡ 0)
 
--- the entry of the MADT is a usable processor whose number `point` no affinity has, though the SRAT has some; applies if the
--- rules read all processors
+-- the entry of the MADT is a usable processor whose number `point` no affinity has, though the SRAT has some: its APIC ID, or
+-- else its UID; applies if the rules read all processors, and the SRAT is unbroken
 abbrev pub IsNoDomain : MadtContents → SratContents → ℕ → ℕ → ℕ → Type 0
 IsNoDomain madt srat at other point =
-    AreProcessorsRead madt × ((d : ℕ) × IsNamed processor_domain srat.entries d)
+    AreProcessorsRead madt × IsUnbrokenSrat srat × ((d : ℕ) × IsNamed processor_domain srat.entries d)
     × ((NamesAt apic_id_on madt.entries at point × ¬ IsNamed placed_apic_id srat.entries point)
-    ⊎ (NamesAt gicc_uid_on madt.entries at point × ¬ IsNamed placed_uid srat.entries point))
+    ⊎ (NamesAt lone_uid_on madt.entries at point × ¬ IsNamed placed_uid srat.entries point))
     × (other ≡ 0)
 
 -- the entry's domain is `point`, and the SLIT has `other` localities, so none with this number (5.2.17)
 abbrev pub IsDomainPastSlit : ℕ → SratEntry → ℕ → ℕ → Type 0
 IsDomainPastSlit localities e other point = (any_domain e ≡ Some point) × (localities ≤ point) × (other ≡ localities)
 
--- the bytes of an entry that neither the stages nor these rules read
-abbrev pub IsUnreadEntry : List ℕ → Type 0
-IsUnreadEntry e = (4 ≤ slice_index e 0) ⊎ ((slice_index e 0 ≡ 3) × (length e ≢ 18))
+-- entries with this type and length are read by the stages (0 to 2), whatever the length, or by these rules: affinities of a GICC
+-- (3), of an ITS (4), of an initiator or a port (5, 6), and of a RINTC (7)
+abbrev pub IsReadForm : ℕ → ℕ → Type 0
+IsReadForm type size =
+    (type ≤ 2) ⊎ ((type ≡ 3) × (size ≡ 18)) ⊎ ((type ≡ 4) × (size ≡ 12)) ⊎ ((type ≡ 5) × (size ≡ 32))
+    ⊎ ((type ≡ 6) × (size ≡ 32)) ⊎ ((type ≡ 7) × (size ≡ 20))
 
--- the entry is such an entry; `other` is its type
+-- the entry is none of these; `other` is its type
 abbrev pub IsSratUnread : SratEntry → ℕ → ℕ → Type 0
 IsSratUnread e other point =
-    ((bytes : List ℕ) × (e ≡ Opaque bytes) × IsUnreadEntry bytes × (other ≡ slice_index bytes 0)) × (point ≡ 0)
+    ((bytes : List ℕ) × (e ≡ Opaque bytes) × (¬ IsReadForm (slice_index bytes 0) (length bytes))
+    × (other ≡ slice_index bytes 0)) × (point ≡ 0)

@@ -1,6 +1,6 @@
 use Rattle.std.proofs.Common.{rules}
 use Rattle.acpi_lint.specs.Rules.Numbered.{IsNamed}
-use Rattle.acpi_lint.specs.Rules.Processors.{apic_id_of, placed_apic_id, placed_uid, uid_of}
+use Rattle.acpi_lint.specs.Rules.Processors.{apic_id_of, placed_apic_id, placed_uid, uid_of, AreProcessorsKnown}
 use Rattle.acpi_base.specs.Madt.{madt_contents}
 use Rattle.acpi_base.specs.Srat.{srat_contents}
 use Rattle.acpi_read.specs.Srats.{srat_value}
@@ -8,7 +8,7 @@ use Rattle.acpi_check.proofs.EntryPasses.Kept.{srat_rising}
 use Rattle.acpi_lint.specs.EntryNumbers.{IsUnknownAffinity}
 use Rattle.acpi_lint.proofs.FirstEntries.{least_of_entries}
 use Rattle.acpi_lint.proofs.LeastPlaces.{least_as}
-use Rattle.acpi_lint.proofs.UnknownOnes.{IsUnknownNamedOfTwo, unknown_of_two, where_all_read}
+use Rattle.acpi_lint.proofs.UnknownOnes.{IsUnknownNamedOfTwo, unknown_of_two, where_holds}
 use Rattle.acpi_lint.proofs.nowhere.affinity_nowhere.Goals as goal
 
 pub returns : goal.returns
@@ -18,11 +18,11 @@ returns c =
     let ids = c.as_slice-ids.result.now in
     let uids = c.as_slice-uids.result.now in
     let found = c.first_picked-place.result in
-    least_as c.where_read.result (λ at other point (read, (sides, unused)). (read, sides, unused))
+    least_as c.where_known.result (λ at other point (read, (sides, unused)). (read, sides, unused))
     (λ at other point (read, sides, unused). (read, (sides, unused)))
-    (where_all_read (madt_contents c.args.madt.now)
+    (where_holds (AreProcessorsKnown (madt_contents c.args.madt.now))
     (IsUnknownNamedOfTwo placed_apic_id (IsNamed apic_id_of others) placed_uid (IsNamed uid_of others) entries) found
-    c.where_read.result c.where_read.ensures
+    c.where_known.result c.where_known.ensures
     (unknown_of_two placed_apic_id placed_uid (IsNamed apic_id_of others) (IsNamed uid_of others) entries ids uids found
     (rw (← c.as_slice-ids.ensures.value) at c.in_ok-ids.ensures)
     (rw (← c.as_slice-uids.ensures.value) at c.in_ok-uids.ensures)

@@ -1,10 +1,10 @@
 use Rattle.std.proofs.Common.{◌≡◌, ℕ}
 use Rattle.acpi_lint.specs.Rules.Numbered.{IsNamed}
-use Rattle.acpi_lint.specs.Rules.Processors.{uid_of, IsLeafAt}
+use Rattle.acpi_lint.specs.Rules.Processors.{uid_of, IsLeafAt, AreProcessorsKnown}
 use Rattle.acpi_base.specs.Madt.{MadtContents, madt_contents}
 use Rattle.acpi_base.specs.Pptt.{PpttContents, pptt_contents}
 use Rattle.acpi_lint.proofs.LeastPlaces.{least_as}
-use Rattle.acpi_lint.proofs.UnknownOnes.{unknown_placed, where_all_read}
+use Rattle.acpi_lint.proofs.UnknownOnes.{unknown_placed, where_holds}
 use Rattle.acpi_lint.proofs.nowhere.leaf_nowhere.Goals as goal
 
 -- the leaf's ID is no processor's UID
@@ -16,10 +16,10 @@ pub returns : goal.returns
 returns c =
     let madt = madt_contents c.args.madt.now in
     let pptt = pptt_contents c.args.pptt.now in
-    let some = c.has_gicc.ensures.0 c.if-not-has_gicc.false in
-    least_as c.where_read.result (λ at other point (read, (stands, none, unused)). (read, some, stands, none, unused))
+    let some = c.has_raw_processor.ensures.0 c.if-not-has_raw_processor.false in
+    least_as c.where_known.result (λ at other point (read, (stands, none, unused)). (read, some, stands, none, unused))
     (λ at other point (read, _, stands, none, unused). (read, (stands, none, unused)))
-    (where_all_read madt (IsUnknownLeaf madt pptt) c.first_unknown.result c.where_read.result c.where_read.ensures
+    (where_holds (AreProcessorsKnown madt) (IsUnknownLeaf madt pptt) c.first_unknown.result c.where_known.result c.where_known.ensures
     (unknown_placed (IsNamed uid_of madt.entries) (IsLeafAt pptt) c.in_ok-uids.uids.items c.in_ok-leaves.leaves.items
     c.first_unknown.result
     c.in_ok-uids.ensures

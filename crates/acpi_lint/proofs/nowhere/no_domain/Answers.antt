@@ -1,6 +1,6 @@
 use Rattle.std.proofs.Common.{rules}
 use Rattle.acpi_lint.specs.Rules.Numbered.{IsNamed}
-use Rattle.acpi_lint.specs.Rules.Processors.{apic_id_on, gicc_uid_on, placed_apic_id, placed_uid}
+use Rattle.acpi_lint.specs.Rules.Processors.{apic_id_on, lone_uid_on, placed_apic_id, placed_uid, AreProcessorsRead}
 use Rattle.acpi_base.specs.Madt.{madt_contents}
 use Rattle.acpi_base.specs.Srat.{srat_contents}
 use Rattle.acpi_read.specs.Madts.{madt_value}
@@ -8,7 +8,7 @@ use Rattle.acpi_check.proofs.EntryPasses.Kept.{madt_rising}
 use Rattle.acpi_lint.specs.EntryNumbers.{IsUnplaced}
 use Rattle.acpi_lint.proofs.FirstEntries.{least_of_entries}
 use Rattle.acpi_lint.proofs.LeastPlaces.{least_as}
-use Rattle.acpi_lint.proofs.UnknownOnes.{IsUnknownNamedOfTwo, unknown_of_two, where_all_read}
+use Rattle.acpi_lint.proofs.UnknownOnes.{IsUnknownNamedOfTwo, unknown_of_two, where_holds}
 use Rattle.acpi_lint.proofs.nowhere.no_domain.Goals as goal
 
 pub returns : goal.returns
@@ -19,13 +19,14 @@ returns c =
     let uids = c.as_slice-uids.result.now in
     let found = c.first_picked-place.result in
     let some = c.is_any_placed.ensures.0 c.if-not-is_any_placed.false in
-    least_as c.where_read.result (λ at other point (read, (sides, unused)). (read, some, sides, unused))
-    (λ at other point (read, _, sides, unused). (read, (sides, unused)))
-    (where_all_read (madt_contents c.args.madt.now)
-    (IsUnknownNamedOfTwo apic_id_on (IsNamed placed_apic_id others) gicc_uid_on (IsNamed placed_uid others) entries)
+    let unbroken = c.is_srat_unbroken.ensures.0 c.if-not-is_srat_unbroken.false in
+    least_as c.where_read.result (λ at other point (read, (sides, unused)). (read, unbroken, some, sides, unused))
+    (λ at other point (read, _, _, sides, unused). (read, (sides, unused)))
+    (where_holds (AreProcessorsRead (madt_contents c.args.madt.now))
+    (IsUnknownNamedOfTwo apic_id_on (IsNamed placed_apic_id others) lone_uid_on (IsNamed placed_uid others) entries)
     found
     c.where_read.result c.where_read.ensures
-    (unknown_of_two apic_id_on gicc_uid_on (IsNamed placed_apic_id others) (IsNamed placed_uid others) entries ids uids
+    (unknown_of_two apic_id_on lone_uid_on (IsNamed placed_apic_id others) (IsNamed placed_uid others) entries ids uids
     found
     (rw (← c.as_slice-ids.ensures.value) at c.in_ok-ids.ensures)
     (rw (← c.as_slice-uids.ensures.value) at c.in_ok-uids.ensures)

@@ -1,6 +1,6 @@
 use Rattle.std.proofs.Common.{rules, arith}
 use Rattle.std.proofs.lemmas.Bool.Decides.{nat_tests}
-use Rattle.acpi_lint.specs.Rules.Processors.{uid_on, IsLeafId}
+use Rattle.acpi_lint.specs.Rules.Processors.{uid_on, IsLeafId, AreProcessorsRead}
 use Rattle.acpi_base.specs.Madt.{madt_contents}
 use Rattle.acpi_base.specs.Pptt.{pptt_contents}
 use Rattle.acpi_read.specs.Madts.{madt_value}
@@ -8,13 +8,8 @@ use Rattle.acpi_check.proofs.EntryPasses.Kept.{madt_rising}
 use Rattle.acpi_lint.specs.EntryNumbers.{IsUnknownOf}
 use Rattle.acpi_lint.proofs.FirstEntries.{least_of_entries}
 use Rattle.acpi_lint.proofs.LeastPlaces.{least_as}
-use Rattle.acpi_lint.proofs.UnknownOnes.{IsUnknownNamed, unknown_named, none_known, some_known, where_all_read}
+use Rattle.acpi_lint.proofs.UnknownOnes.{IsUnknownNamed, unknown_named, where_holds}
 use Rattle.acpi_lint.proofs.nowhere.no_leaf.Goals as goal
-
-pub returns-then-is_empty : goal.returns-then-is_empty
-returns-then-is_empty c = λ at other point (asked, (id, leaf), named, none, unused).
-    none_known c.in_ok-ids.ids.items c.in_ok-ids.ensures
-    (grind (arith, nat_tests, c.is_empty.ensures, c.if-is_empty.true)) id leaf
 
 pub returns : goal.returns
 returns c =
@@ -22,11 +17,11 @@ returns c =
     let IsId = IsLeafId (pptt_contents c.args.pptt.now) in
     let known = c.as_slice-ids.result.now in
     let found = c.first_picked-place.result in
-    let some = some_known c.in_ok-ids.ids.items c.in_ok-ids.ensures
-    (λ none. grind (arith, nat_tests, none, c.is_empty.ensures, c.if-is_empty.false)) in
-    least_as c.where_read.result (λ at other point (read, (named, none, unused)). (read, some, named, none, unused))
-    (λ at other point (read, _, named, none, unused). (read, (named, none, unused)))
-    (where_all_read madt (IsUnknownNamed uid_on IsId madt.entries) found c.where_read.result c.where_read.ensures
+    let some = c.has_node.ensures.0 c.if-not-has_node.false in
+    let unbroken = c.is_pptt_unbroken.ensures.0 c.if-not-is_pptt_unbroken.false in
+    least_as c.where_read.result (λ at other point (read, (named, none, unused)). (read, unbroken, some, named, none, unused))
+    (λ at other point (read, _, _, named, none, unused). (read, (named, none, unused)))
+    (where_holds (AreProcessorsRead madt) (IsUnknownNamed uid_on IsId madt.entries) found c.where_read.result c.where_read.ensures
     (unknown_named uid_on IsId madt.entries known found (rw (← c.as_slice-ids.ensures.value) at c.in_ok-ids.ensures)
     (least_of_entries madt_value (IsUnknownOf uid_on known) 44 found c.first_picked-place.ensures
     c.entries.ensures.entries (madt_rising c.args.madt.now) (λ at picked here answers. search rules))))

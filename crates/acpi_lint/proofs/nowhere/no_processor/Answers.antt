@@ -1,9 +1,9 @@
 use Rattle.std.proofs.Common.{◌≡◌, ℕ, Some, true≢false, refl, sym, ◌∙◌, inr, arith}
 use Rattle.acpi_lint.specs.Rules.Numbered.{IsNamed}
-use Rattle.acpi_lint.specs.Rules.Processors.{uid_on}
+use Rattle.acpi_lint.specs.Rules.Processors.{uid_on, AreProcessorsKnown}
 use Rattle.acpi_base.specs.Madt.{MadtContents, madt_contents}
 use Rattle.acpi_lint.proofs.LeastPlaces.{least_as}
-use Rattle.acpi_lint.proofs.UnknownOnes.{where_all_read}
+use Rattle.acpi_lint.proofs.UnknownOnes.{where_holds}
 use Rattle.acpi_lint.proofs.nowhere.no_processor.Goals as goal
 
 -- no processor is usable, which is found at the place 0
@@ -17,10 +17,10 @@ returns-then-is_any_on c = λ at other point (read, none, place, unused).
 pub returns : goal.returns
 returns c =
     let madt = madt_contents c.args.madt.now in
-    least_as c.where_read.result
+    least_as c.where_known.result
     (λ at other point (read, (none, place, first, second)). (read, none, place, (first, second)))
     (λ at other point (read, none, place, (first, second)). (read, (none, place, first, second)))
-    (where_all_read madt (IsNoneOn madt) (Some c.at.result) c.where_read.result c.where_read.ensures
+    (where_holds (AreProcessorsKnown madt) (IsNoneOn madt) (Some c.at.result) c.where_known.result c.where_known.ensures
     (rw c.at.ensures
     (record {
       here = (
