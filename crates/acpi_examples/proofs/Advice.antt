@@ -1,12 +1,13 @@
 -- What the examples of advice share: one entry or two entries, and the numbers that they say.
 use Rattle.std.proofs.Common.{◌≡◌, ℕ, ◌<◌, [], ◌∷◌, refl, inl, inr, arith}
-use Rattle.std.specs.Prelude.{◌≢◌, ◌⊎◌, Option, Some, List}
+use Rattle.std.specs.Prelude.{◌≢◌, ◌⊎◌, Option, Some, None, List}
 use Rattle.std.specs.List.{AllByRecursion}
 use Rattle.std.proofs.lemmas.Option.{same_Some}
 use Rattle.acpi_base.specs.Entries.{PlacedEntry, Stands}
 use Rattle.acpi_base.specs.Madt.{MadtContents}
 use Rattle.acpi_lint.specs.Rules.Numbered.{NamesAt, IsNamed, IsLater}
-use Rattle.acpi_lint.specs.Rules.Processors.{AreProcessorsRead, IsOtherProcessor}
+use Rattle.acpi_lint.specs.Rules.Processors.{AreProcessorsRead, AreProcessorsKnown, IsUnreadProcessor}
+use Rattle.acpi_lint.specs.Rules.Unbroken.{HasOtherMadtLength}
 use Rattle.acpi_examples.specs.Tables.{placed_entry}
 use Rattle.acpi_examples.specs.Advice.{IsKept}
 use Rattle.acpi_examples.proofs.NamedEntries.{each_entry, none_stands}
@@ -73,5 +74,10 @@ unnamed read entries n none (o, names) = none_stands entries o (λ o e. read e �
 pub other_number : (m n : ℕ) → m ≢ n → ¬ (Some m ≡ Some n)
 other_number m n differ is = differ (same_Some m n is)
 
-pub all_read : (c : MadtContents) → AllByRecursion (λ s. ¬ IsOtherProcessor s.entry) c.entries → AreProcessorsRead c
-all_read c none o = none_stands c.entries o (λ o e. IsOtherProcessor e) none
+pub all_read : (c : MadtContents) → AllByRecursion (λ s. ¬ IsUnreadProcessor s.entry) c.entries → AreProcessorsRead c
+all_read c none o = none_stands c.entries o (λ o e. IsUnreadProcessor e) none
+
+pub all_known : (c : MadtContents) → c.cut ≡ None → AllByRecursion (λ s. ¬ IsUnreadProcessor s.entry) c.entries
+    → AllByRecursion (λ s. ¬ HasOtherMadtLength s.entry) c.entries → AreProcessorsKnown c
+all_known c filled read lengths =
+    (all_read c read, (filled, λ o. none_stands c.entries o (λ o e. HasOtherMadtLength e) lengths))

@@ -3,6 +3,7 @@ use Rattle.std.proofs.Common.{◌≡◌, ℕ, ◌+◌, ◌*◌, ◌<◌, ◌≤�
 use Rattle.std.specs.Prelude.{◌≢◌}
 use Rattle.std.specs.List.{AllByRecursion}
 use Rattle.std.proofs.lemmas.Bool.{both_ways}
+use Rattle.std.proofs.lemmas.Option.{none-some}
 use Rattle.acpi_base.specs.Number.{field}
 use Rattle.acpi_base.specs.Across.{IsIoApic, IsServed}
 use Rattle.acpi_base.specs.Entries.{Stands, StandsWith}
@@ -10,6 +11,7 @@ use Rattle.acpi_base.specs.Fadt.{has_flag, gas_at}
 use Rattle.acpi_base.specs.Madt.{Override, MadtContents, ServesFrom}
 use Rattle.acpi_base.specs.Policy.{PolicyValue, inputs_of}
 use Rattle.acpi_lint.specs.Rules.FadtAdvice.{DoFieldsDiffer, IsBlockDiffers, IsOverrideOf, IsGsiOf}
+use Rattle.acpi_lint.specs.Rules.Unbroken.{HasOtherMadtLength, IsUnbrokenMadt}
 use Rattle.acpi_examples.specs.Advice.{one_entry, processor}
 use Rattle.acpi_examples.specs.AdviceFadt.{facs_fadt, dsdt_fadt, block_fadt, io_apic_entry, overridden, twice_overridden, AreOfRevision, AreAddressesOdd, AreBlocksOdd, AreScisNowhere, IsFadtAdvised}
 use Rattle.acpi_examples.proofs.NamedEntries.{each_entry, none_stands, never}
@@ -166,6 +168,7 @@ unfolding field has_flag
 scis_nowhere q = record {
   nowhere = λ inputs. record {
     not_reduced = refl;
+    unbroken = unbroken 0;
     place = (refl, refl);
     number = inl (record {
       at = 56;
@@ -181,6 +184,8 @@ scis_nowhere q = record {
   };
   first = λ inputs. record {
     not_reduced = refl;
+    unbroken = (refl, λ o. none_stands twice_overridden.entries o (λ o e. HasOtherMadtLength e)
+        (never, (never, (never, tt))));
     place = (refl, refl);
     number = inl (record {
       at = 56;
@@ -197,6 +202,7 @@ scis_nowhere q = record {
   };
   own = λ inputs. record {
     not_reduced = refl;
+    unbroken = unbroken 0;
     place = (refl, refl);
     number = inr (not_overridden, refl);
     some = (44, (_, (0, omega arith, refl), tt));
@@ -211,7 +217,12 @@ scis_nowhere q = record {
   no_io_apic =
       λ at other point it. none_stands (one_entry 8 (processor 1)).entries it.some.0 (λ o e. IsIoApic e) (never, tt)
       it.some.1;
+  cut = λ at other point it. none-some 66 (sym it.unbroken.0);
 }
+  where
+    unbroken : (bus : ℕ) → IsUnbrokenMadt (overridden bus)
+    unbroken bus =
+        (refl, λ o. none_stands (overridden bus).entries o (λ o e. HasOtherMadtLength e) (never, (never, tt)))
 
 pub fadt_advised : (q : PolicyValue) → IsFadtAdvised q
 fadt_advised q = record {

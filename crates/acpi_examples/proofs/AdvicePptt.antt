@@ -6,14 +6,15 @@ use Rattle.std.proofs.lemmas.Bool.{both_ways, cases_lt}
 use Rattle.std.proofs.lemmas.Nat.{pow_pos}
 use Rattle.std.proofs.lemmas.Option.{none-some, same_Some}
 use Rattle.acpi_base.specs.Number.{field, has_bit}
-use Rattle.acpi_base.specs.Pptt.{Node, CacheValue, Cache, parent_of}
-use Rattle.acpi_lint.specs.Rules.Processors.{uid_of, uid_on, IsGicc, IsParent, IsLeafAt, IsLeafId}
+use Rattle.acpi_base.specs.Pptt.{Node, CacheValue, Cache, parent_of, HasOtherPpttLength}
+use Rattle.acpi_lint.specs.Rules.Processors.{uid_of, uid_on, IsRawProcessor, IsParent, IsLeafAt, IsLeafId}
 use Rattle.acpi_lint.specs.Rules.Numbered.{IsNamed}
-use Rattle.acpi_lint.specs.Rules.PpttAdvice.{IsPowerOfTwo, HasOddShape, IsCacheShape, cache_id}
-use Rattle.acpi_examples.specs.Advice.{one_entry, processor, gicc}
+use Rattle.acpi_lint.specs.Rules.PpttAdvice.{IsPowerOfTwo, HasOddShape, IsCacheShape, cache_id, IsNode}
+use Rattle.acpi_lint.specs.Rules.Unbroken.{IsUnbrokenPptt}
+use Rattle.acpi_examples.specs.Advice.{one_entry, processor, gicc, core_pic}
 use Rattle.acpi_examples.specs.AdvicePptt.{two_nodes, one_node, one_cache, AreSameLeaves, AreCacheShapes, AreSameCacheIds, AreNoLeaves, AreLeavesNowhere, IsPpttAdvised}
 use Rattle.acpi_examples.proofs.NamedEntries.{each_entry, none_stands, never}
-use Rattle.acpi_examples.proofs.Advice.{both_say, two_differ, unnamed, other_number, all_read}
+use Rattle.acpi_examples.proofs.Advice.{both_say, two_differ, unnamed, other_number, all_read, all_known}
 
 -- ---- leaves
 
@@ -21,6 +22,14 @@ unparented : (o : ℕ) → o ≢ 0 → ¬ IsParent (two_nodes 1 2 0) o
 unparented o some (p, names) =
     none_stands (two_nodes 1 2 0).entries p (λ p e. parent_of e ≡ Some o)
     ((λ is. some (sym (same_Some 0 o is))), ((λ is. some (sym (same_Some 0 o is))), tt)) names
+
+unbroken : (revision flags parent : ℕ) → IsUnbrokenPptt (two_nodes revision flags parent)
+unbroken revision flags parent =
+    (refl, λ o. none_stands (two_nodes revision flags parent).entries o (λ o e. HasOtherPpttLength e) (never, (never, tt)))
+
+one_unbroken : (flags id : ℕ) → IsUnbrokenPptt (one_node flags id)
+one_unbroken flags id =
+    (refl, λ o. none_stands (one_node flags id).entries o (λ o e. HasOtherPpttLength e) (never, tt))
 
 first_alone : (o n : ℕ) → IsLeafAt (two_nodes 2 2 36) o n → o ≡ 36
 unfolding has_bit
@@ -36,7 +45,7 @@ first_alone o n (e, stands, (v, is, same, valid, new, old)) =
 second_alone : (o n : ℕ) → IsLeafAt (two_nodes 1 2 36) o n → o ≡ 56
 second_alone o n (e, stands, (v, is, same, valid, new, old)) =
     each_entry (two_nodes 1 2 36).entries (λ o e. ¬ IsParent (two_nodes 1 2 36) o → o ≡ 56)
-    ((λ none. absurd (none (56, (_, (1, omega arith, refl), refl)))), ((λ _. refl), tt)) o e stands (old (omega arith))
+    ((λ none. absurd (none (56, (_, (1, omega arith, refl), refl)))), ((λ _. refl), tt)) o e stands (old (omega arith)).1
 
 same_leaves : AreSameLeaves
 unfolding has_bit
@@ -58,12 +67,12 @@ same_leaves = record {
     here = (
       _,
       (1, omega arith, refl),
-      (_, refl, refl, refl, (λ new. absurd (omega arith)), (λ _. unparented 56 (λ same. omega arith))),
+      (_, refl, refl, refl, (λ new. absurd (omega arith)), (λ _. (unbroken 1 2 0, unparented 56 (λ same. omega arith)))),
     );
     earlier = (
       _,
       (0, omega arith, refl),
-      (_, refl, refl, refl, (λ new. absurd (omega arith)), (λ _. unparented 36 (λ same. omega arith))),
+      (_, refl, refl, refl, (λ new. absurd (omega arith)), (λ _. (unbroken 1 2 0, unparented 36 (λ same. omega arith)))),
     );
     before = omega arith;
     first = λ p leaf. each_entry (two_nodes 1 2 0).entries (λ o e. 36 ≤ o) (omega arith, (omega arith, tt)) p leaf.0
@@ -75,6 +84,14 @@ same_leaves = record {
     second_alone at point it.here,
     second_alone other point it.earlier,
   );
+  old_cut = λ at other point it. none-some 76 (sym (it.here.2.5 (omega arith)).0.0);
+  cut = record {
+    here = (_, (1, omega arith, refl), (_, refl, refl, refl, (λ _. refl), (λ old. absurd (omega arith))));
+    earlier = (_, (0, omega arith, refl), (_, refl, refl, refl, (λ _. refl), (λ old. absurd (omega arith))));
+    before = omega arith;
+    first = λ p leaf. each_entry (two_nodes 2 10 36).entries (λ o e. 36 ≤ o) (omega arith, (omega arith, tt)) p leaf.0
+        leaf.1;
+  };
 }
 
 -- ---- caches
@@ -149,18 +166,29 @@ unfolding has_bit
 no_leaves = record {
   none = (
     all_read (one_entry 8 (processor 2)) (never, tt),
-    (7, (36, leaf 7)),
+    one_unbroken 10 7,
+    (36, (_, (0, omega arith, refl), tt)),
     (_, (0, omega arith, refl), refl),
     (λ it. omega (arith, leaf_id 10 7 3 it)),
     refl,
   );
   has =
       λ at other point it. none_stands (one_entry 8 (processor 2)).entries at (λ o e. uid_on e ≡ Some point)
-      ((λ is. it.3 (subst (IsLeafId (one_node 10 3)) (same_Some 3 point is) (36, leaf 3))), tt) it.2;
+      ((λ is. it.4 (subst (IsLeafId (one_node 10 3)) (same_Some 3 point is) (36, leaf 3))), tt) it.3;
   off =
       λ at other point it. none_stands (one_entry 8 (processor 0)).entries at (λ o e. uid_on e ≡ Some point)
-      (none-some point, tt) it.2;
-  no_leaf = λ at other point it. no_leaf 7 it.1.0 it.1.1;
+      (none-some point, tt) it.3;
+  no_leaf = (
+    all_read (one_entry 8 (processor 2)) (never, tt),
+    one_unbroken 8 7,
+    (36, (_, (0, omega arith, refl), tt)),
+    (_, (0, omega arith, refl), refl),
+    no_leaf 7 3,
+    refl,
+  );
+  no_node =
+      λ at other point it. none_stands (one_cache 0 0 0).entries it.2.0 (λ o e. IsNode e) (never, tt) it.2.1;
+  cut = λ at other point it. none-some 56 (sym it.1.0);
   not_read = λ at other point it. it.0 52 (_, (1, omega arith, refl), inl refl);
 }
 
@@ -168,7 +196,7 @@ leaves_nowhere : AreLeavesNowhere
 unfolding has_bit field
 leaves_nowhere = record {
   nowhere = (
-    all_read (one_entry 40 (gicc 3 0)) ((λ is. omega arith), tt),
+    all_known (one_entry 40 (gicc 3 0)) refl ((λ is. omega (arith, is)), tt) ((λ is. omega (arith, is)), tt),
     (44, (_, (0, omega arith, refl), refl)),
     leaf 7,
     unnamed uid_of (one_entry 40 (gicc 3 0)).entries 7 (other_number 3 7 (λ same. omega arith), tt),
@@ -177,9 +205,18 @@ leaves_nowhere = record {
   known =
       λ at other point it. it.3 (subst (IsNamed uid_of (one_entry 40 (gicc 3 0)).entries)
       (leaf_id 10 3 point (at, it.2)) (44, (_, (0, omega arith, refl), refl)));
+  core = (
+    all_known (one_entry 15 (core_pic 3 5 0)) refl ((λ is. omega (arith, is)), tt) ((λ is. omega (arith, is)), tt),
+    (44, (_, (0, omega arith, refl), refl)),
+    leaf 7,
+    unnamed uid_of (one_entry 15 (core_pic 3 5 0)).entries 7 (other_number 3 7 (λ same. omega arith), tt),
+    refl,
+  );
   no_gicc =
-      λ at other point it. none_stands (one_entry 8 (processor 1)).entries it.1.0 (λ o e. IsGicc e) (never, tt) it.1.1;
-  not_read = λ at other point it. it.0 84 (_, (1, omega arith, refl), inr (inr (inr (refl, omega arith))));
+      λ at other point it. none_stands (one_entry 8 (processor 1)).entries it.1.0 (λ o e. IsRawProcessor e) (never, tt)
+      it.1.1;
+  not_read = λ at other point it. it.0.0 84 (_, (1, omega arith, refl), inr (inl (refl, omega arith)));
+  cut = λ at other point it. none-some 84 (sym it.0.1.0);
 }
 
 pub pptt_advised : IsPpttAdvised

@@ -6,7 +6,7 @@ use Rattle.acpi_base.specs.Madt.{MadtEntry, IoApic, Override, MadtContents}
 use Rattle.acpi_lint.specs.Rules.FadtAdvice.{IsFadtOfRevision, IsFacsDiffers, IsDsdtDiffers, IsBlockDiffers, IsSciNowhere}
 use Rattle.acpi_examples.specs.Tables.{table, placed_entry}
 use Rattle.acpi_examples.specs.Madts.{said_madt}
-use Rattle.acpi_examples.specs.Advice.{IsKept, one_entry, two_entries, processor}
+use Rattle.acpi_examples.specs.Advice.{IsKept, one_entry, two_entries, processor, cut_madt}
 
 -- ---- the FADTs
 
@@ -116,7 +116,7 @@ pub record AreBlocksOdd : Type 0 where
   pub in_memory : IsKept (IsBlockDiffers (block_fadt 0 4 0 5))
 
 -- SCI_INT 9 has the number 24 by its first override, and SCI_INT 24 by none, which an I/O APIC with 24 inputs does not serve;
--- not so with 25, without the override, if that is of another bus, on reduced hardware, or without an I/O APIC
+-- not so with 25, without the override, if that is of another bus, on reduced hardware, without an I/O APIC, or if the MADT is cut
 pub record AreScisNowhere (q : PolicyValue) : Type 0 where
   pub nowhere : inputs_of q 0xfec00000 ≡ 24 → IsSciNowhere q (sci_fadt 9 0) (overridden 0) 0x2e 0 24
   pub first : inputs_of q 0xfec00000 ≡ 24 → IsSciNowhere q (sci_fadt 9 0) twice_overridden 0x2e 0 24
@@ -126,6 +126,7 @@ pub record AreScisNowhere (q : PolicyValue) : Type 0 where
   pub other_bus : inputs_of q 0xfec00000 ≡ 24 → IsKept (IsSciNowhere q (sci_fadt 9 0) (overridden 1))
   pub reduced : IsKept (IsSciNowhere q (sci_fadt 9 0x10) (overridden 0))
   pub no_io_apic : IsKept (IsSciNowhere q (sci_fadt 9 0) (one_entry 8 (processor 1)))
+  pub cut : IsKept (IsSciNowhere q (sci_fadt 9 0) (cut_madt (overridden 0)))
 
 -- all of them
 pub record IsFadtAdvised (q : PolicyValue) : Type 0 where

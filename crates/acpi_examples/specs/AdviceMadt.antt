@@ -6,7 +6,7 @@ use Rattle.acpi_lint.specs.Rules.Numbered.{OnEntry, Repeats}
 use Rattle.acpi_lint.specs.Rules.Processors.{uid_on, apic_id_on}
 use Rattle.acpi_examples.specs.Tables.{placed_entry}
 use Rattle.acpi_examples.specs.Madts.{said_madt}
-use Rattle.acpi_examples.specs.Advice.{IsKept, one_entry, two_entries, processor, gicc, short_gicc, sapic}
+use Rattle.acpi_examples.specs.Advice.{IsKept, one_entry, two_entries, processor, gicc, rintc, core_pic, short_gicc, sapic, cut_madt}
 
 -- ---- the MADTs
 
@@ -51,20 +51,21 @@ small_entry type = Opaque (type ∷ 4 ∷ 0 ∷ 0 ∷ [])
 -- entries that the rules read, and entries with another length than their type's, which is a fault
 abbrev pub read_entries : MadtContents
 read_entries =
-    said_madt 132
+    said_madt 163
     (placed_entry 44 (processor 1)
     ∷ placed_entry 52 (gicc 4 1)
     ∷ placed_entry 92 distributor
     ∷ placed_entry 116 (small_entry 5)
     ∷ placed_entry 120 (small_entry 9)
     ∷ placed_entry 124 (small_entry 10)
-    ∷ placed_entry 128 (small_entry 12)
+    ∷ placed_entry 128 (core_pic 5 6 1)
+    ∷ placed_entry 143 (rintc 6 1)
     ∷ [])
 
 -- ---- what they state
 
--- UIDs and APIC IDs: two usable processors have one; bit 1 is Online Capable, except for a GIC CPU interface; not so if the
--- second is not usable, or has another. Of three the first is named, not the second.
+-- UIDs and APIC IDs: two usable processors have one; Online Capable is bit 1, for a GIC CPU interface bit 3, and a core has no
+-- such bit; not so if the second is not usable, or has another. Of three the first is named, not the second.
 pub record AreSameProcessors : Type 0 where
   pub uid : Repeats uid_on (two_processors 3 6 2).entries 0x34 0x2c 3
   pub third : Repeats uid_on three_processors.entries 0x44 0x2c 3
@@ -72,18 +73,26 @@ pub record AreSameProcessors : Type 0 where
   pub uids_differ : IsKept (Repeats uid_on (two_processors 4 5 2).entries)
   pub uid_off : IsKept (Repeats uid_on (two_processors 3 5 0).entries)
   pub gicc_uid : Repeats uid_on (two_entries 8 (processor 1) 40 (gicc 3 1)).entries 0x34 0x2c 3
-  pub gicc_off : IsKept (Repeats uid_on (two_entries 8 (processor 1) 40 (gicc 3 2)).entries)
+  pub gicc_capable : Repeats uid_on (two_entries 8 (processor 1) 40 (gicc 3 8)).entries 0x34 0x2c 3
+  pub gicc_off : IsKept (Repeats uid_on (two_entries 8 (processor 1) 40 (gicc 3 6)).entries)
+  pub rintc_uid : Repeats uid_on (two_entries 8 (processor 1) 20 (rintc 3 2)).entries 0x34 0x2c 3
+  pub rintc_off : IsKept (Repeats uid_on (two_entries 8 (processor 1) 20 (rintc 3 12)).entries)
+  pub core_id : Repeats apic_id_on (two_entries 8 (processor 1) 15 (core_pic 4 5 1)).entries 0x34 0x2c 5
+  pub core_off : IsKept (Repeats apic_id_on (two_entries 8 (processor 1) 15 (core_pic 4 5 2)).entries)
   pub id : Repeats apic_id_on (two_processors 4 5 2).entries 0x34 0x2c 5
   pub ids_differ : IsKept (Repeats apic_id_on (two_processors 3 6 2).entries)
   pub id_off : IsKept (Repeats apic_id_on (two_processors 3 5 0).entries)
 
--- no processor is usable, or there is none; not so if one is Online Capable, or if a local SAPIC is not read
+-- no processor is usable, or there is none; not so if one is Online Capable, if a local SAPIC is not read, or if the MADT is cut
+-- or has an entry of a wrong length
 pub record AreNoProcessors : Type 0 where
   pub off : IsNoProcessor (one_entry 8 (processor 0)) 0 0 0
   pub empty : IsNoProcessor (said_madt 44 []) 0 0 0
   pub capable : IsKept (IsNoProcessor (one_entry 8 (processor 2)))
   pub gicc_on : IsKept (IsNoProcessor (one_entry 40 (gicc 3 1)))
   pub not_read : IsKept (IsNoProcessor (one_entry 16 sapic))
+  pub cut : IsKept (IsNoProcessor (cut_madt (said_madt 44 [])))
+  pub wrong_length : IsKept (IsNoProcessor (one_entry 4 (small_entry 0)))
 
 -- NMIs of the UID of no processor; not so if a processor that is not usable has it, if it means all processors, or if a local
 -- SAPIC is not read. 0xFF means all processors only in a local APIC NMI.
@@ -107,11 +116,13 @@ pub record AreControllers : Type 0 where
   pub second : Repeats gicd (two_entries 24 distributor 24 distributor).entries 0x44 0x2c 0
   pub one : IsKept (Repeats gicd (one_entry 24 distributor).entries)
 
--- entries that are not read, from type 6 on; not so entries of a type that is read, whatever their length, except for a GIC CPU
--- interface that is too short
+-- entries that are not read, of type 6, or of a type that only these rules read and of another length; not so entries of a type
+-- that the stages read, whatever their length
 pub record AreMadtUnread : Type 0 where
   pub six : OnEntry IsMadtUnread (one_entry 4 (small_entry 6)).entries 0x2c 6 0
   pub short : OnEntry IsMadtUnread (one_entry 39 short_gicc).entries 0x2c 11 0
+  pub small_distributor : OnEntry IsMadtUnread (one_entry 4 (small_entry 12)).entries 0x2c 12 0
+  pub small_core : OnEntry IsMadtUnread (one_entry 4 (small_entry 17)).entries 0x2c 17 0
   pub all_read : IsKept (OnEntry IsMadtUnread read_entries.entries)
 
 -- all of them
