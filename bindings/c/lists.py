@@ -83,7 +83,7 @@ def sentences(enum):
 
 
 def read_crates():
-    codes, rules = BASE / "Codes.antt", BASE / "Lint" / "Rules.antt"
+    codes, rules = BASE / "Codes.antt", BASE / "Rules.antt"
     stage_numbers = numbers(codes, "stage_number")
     code_rows = rows(codes, "code_row", r'(\d+), stage\.(\w+), codes "(\w+)"')
     rule_rows = rows(rules, "rule_row", r'(\d+), codes "(\w+)"')

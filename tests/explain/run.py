@@ -146,7 +146,7 @@ def structures(tests):
     tests.says("advice NoLeaf 0x2c 0x0 0x0", "the PPTT's leaves have the IDs none", sets.NO_REVISION)
     tests.says("no 18 LeafUnknown 0x24 0x0 0x7", "the MADT's processors have the UIDs 0 to 2, 300", sets.LEAF, without=[MISMATCH])
     tests.says("advice AffinityNowhere 0x30 0x0 0x16", "the MADT's processors have the UIDs 21", sets.ARM, without=[MISMATCH])
-    texts = ["  0x2c entry type 11 length 80: gicc uid 21 flags 0x1", "the SRAT's enabled GICC affinities have the UIDs 22"]
+    texts = ["  0x2c entry type 11 length 80: gicc uid 21 flags 0x1", "the SRAT's enabled affinities of types 3 and 7 have the UIDs 22"]
     tests.says("advice NoDomain 0x2c 0x0 0x15", texts, sets.ARM, without=[MISMATCH])
     served = "  0x3c serves 0 to 31 (0x0 to 0x1f), with 32 inputs"
     tests.says("no 7 GsiClash 0x3c 0x48 0x18", served, "example.img.txt", "--default-inputs", "32", without=[MISMATCH])

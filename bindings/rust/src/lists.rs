@@ -432,7 +432,7 @@ numbered! {
         BlockDiffers = 107,
         /// The hardware is not reduced, the MADT has I/O APICs, and none of them serves the interrupt number of the
         /// SCI. That number is given by the first interrupt source override of bus 0 with SCI_INT as its Source
-        /// (5.2.12.5); without one it is SCI_INT itself.
+        /// (5.2.12.5); without one it is SCI_INT itself. Applies only if the MADT is unbroken.
         ///
         /// Numbers: `at` is 0x2e (46), the offset of SCI_INT in the FADT, `point` is the interrupt number.
         SciNowhere = 108,
@@ -441,7 +441,7 @@ numbered! {
         /// Numbers: `at` is the structure's offset, `other` that of the first usable one with this UID, `point` is the
         /// UID.
         SameUid = 109,
-        /// A usable processor has the APIC ID or X2APIC ID of an earlier usable one.
+        /// A usable processor has the APIC ID, X2APIC ID or core ID of an earlier usable one.
         ///
         /// Numbers: `at` is the structure's offset, `other` that of the first usable one with this ID, `point` is the
         /// ID.
@@ -461,7 +461,7 @@ numbered! {
         SameIoApicAddress = 113,
         /// A Local APIC NMI (5.2.12.7) or Local x2APIC NMI (5.2.12.13) names a UID that no processor has, usable or
         /// not. 0xff in the first kind and 0xffffffff in the second mean all processors. Applies only if all processors
-        /// are read.
+        /// are read and the MADT is unbroken.
         ///
         /// Numbers: `at` is the structure's offset, `point` is the UID.
         NmiNowhere = 114,
@@ -469,28 +469,30 @@ numbered! {
         ///
         /// Numbers: `at` is the structure's offset, `other` that of the first one.
         SecondGicd = 115,
-        /// The MADT has no usable processor. Applies only if all processors are read.
+        /// The MADT has no usable processor. Applies only if all processors are read and the MADT is unbroken.
         ///
         /// Numbers: all 0.
         NoProcessor = 116,
-        /// Two GICC affinities assign the same ACPI Processor UID to different proximity domains (5.2.16.4). For
-        /// processors with an APIC ID this is the fault TwoDomains.
+        /// Two affinities of types 3 and 7 assign the same ACPI Processor UID to different proximity domains
+        /// (5.2.16.4). For processors with an APIC ID this is the fault TwoDomains.
         ///
         /// Numbers: `at` is the offset of the first affinity with this UID, `other` that of the one with another
         /// domain, `point` is the UID.
         TwoUidDomains = 117,
         /// No processor of the MADT, usable or not, has the APIC ID or X2APIC ID that an affinity names, or the UID
-        /// that a GICC affinity names. Applies only if all processors are read.
+        /// that an affinity of type 3 or 7 names. Applies only if all processors are read and the MADT is unbroken.
         ///
         /// Numbers: `at` is the affinity's offset, `point` is its APIC ID, X2APIC ID or UID.
         AffinityNowhere = 118,
-        /// The SRAT has affinities, but none names the APIC ID or X2APIC ID of a usable processor of the MADT, or, of a
-        /// usable GICC, no GICC affinity names its UID. Applies only if all processors are read.
+        /// The SRAT has affinities, but none names a usable processor of the MADT: its APIC ID, X2APIC ID or core ID,
+        /// or its UID if it has none of these. Applies only if all processors are read and the SRAT is unbroken.
         ///
-        /// Numbers: `at` is the processor's offset in the MADT, `point` is its APIC ID or X2APIC ID, of a GICC its UID.
+        /// Numbers: `at` is the processor's offset in the MADT, `point` is its APIC ID or X2APIC ID, of a GICC or a
+        /// RINTC its UID.
         NoDomain = 119,
-        /// The proximity domain of an affinity, or of an enabled memory range of any length, is N or above, where N is
-        /// the SLIT's number of localities (5.2.17).
+        /// The proximity domain of an affinity, of an ITS (type 4), of an enabled initiator or port (types 5 and 6), or
+        /// of an enabled memory range of any length, is N or above, where N is the SLIT's number of localities
+        /// (5.2.17).
         ///
         /// Numbers: `at` is the offset in the SRAT, `other` is N, `point` is the domain.
         DomainPastSlit = 120,
@@ -514,24 +516,25 @@ numbered! {
         /// Numbers: `at` is the cache's offset, `other` that of the first cache with this Cache ID, `point` is the
         /// Cache ID.
         SameCacheId = 124,
-        /// The PPTT has leaves, but none has the UID of a usable processor of the MADT. Applies only if all processors
-        /// are read.
+        /// The PPTT has nodes, but no leaf has the UID of a usable processor of the MADT. Applies only if all
+        /// processors are read and the PPTT is unbroken.
         ///
         /// Numbers: `at` is the processor's offset in the MADT, `point` is its UID.
         NoLeaf = 125,
-        /// The MADT has a GICC of 40 bytes or more, and no processor, usable or not, has the ACPI Processor ID of a
-        /// leaf as its UID. Applies only if all processors are read. For a MADT with types 0 to 5, 9 and 10 only, this
-        /// is the fault LeafUnknown.
+        /// The MADT has a processor of type 11, 17 or 24, and no processor, usable or not, has the ACPI Processor ID of
+        /// a leaf as its UID. Applies only if all processors are read and the MADT is unbroken. For a MADT with types 0
+        /// to 5, 9 and 10 only, this is the fault LeafUnknown.
         ///
         /// Numbers: `at` is the leaf's offset, `point` is its ACPI Processor ID.
         LeafNowhere = 126,
-        /// The MADT has a structure that no stage and no rule looks at: one of a type other than 0 to 5 and 9 to 12, or
-        /// a GICC (11) shorter than 40 bytes. `acpiset` uses only its type and length.
+        /// The MADT has a structure that no stage and no rule looks at: one of a type other than 0 to 5, 9 to 12, 17
+        /// and 24, a GICC (11) shorter than 40 bytes, a CORE PIC (17) of other than 15, or a RINTC (24) shorter than
+        /// 20. `acpiset` uses only its type and length.
         ///
         /// Numbers: `at` is the offset of the first one, `other` its type.
         MadtUnread = 127,
-        /// The SRAT has a structure that no stage and no rule looks at: one of type 4 or above, or one of type 3 whose
-        /// length is not 18. `acpiset` uses only its type and length.
+        /// The SRAT has a structure that no stage and no rule looks at: one of type 8 or above, or one of types 3 to 7
+        /// whose length is not 18, 12, 32, 32 or 20. `acpiset` uses only its type and length.
         ///
         /// Numbers: `at` is the offset of the first one, `other` its type.
         SratUnread = 128,

@@ -127,15 +127,14 @@ unread : AreMadtUnread
 unread = record {
   six = (_, (0, omega arith, refl), ((_, refl, (λ is. omega (arith, is)), refl), refl));
   short = (_, (0, omega arith, refl), ((_, refl, (λ is. omega (arith, is)), refl), refl));
-  small_distributor = (_, (0, omega arith, refl), ((_, refl, (λ is. omega (arith, is)), refl), refl));
   small_core = (_, (0, omega arith, refl), ((_, refl, (λ is. omega (arith, is)), refl), refl));
   all_read =
       λ at other point it. none_stands read_entries.entries at (λ o e. IsMadtUnread e other point) (
         (λ h. of_processor h.0.0 h.0.1),
         (
-          read_bytes _ other point (inr (inr (inr (inl (refl, omega arith))))),
+          read_bytes _ other point (inr (inr (inr (inr (inl (refl, omega arith)))))),
           (
-            read_bytes _ other point (inr (inr (inr (inr (inl (refl, refl)))))),
+            read_bytes _ other point (inr (inr (inr (inl refl)))),
             (
               read_bytes _ other point (inl (omega arith)),
               (
@@ -143,10 +142,10 @@ unread = record {
                 (
                   read_bytes _ other point (inr (inr (inl refl))),
                   (
-                    read_bytes _ other point (inr (inr (inr (inr (inr (inr (inr (inr (inl (refl, refl)))))))))),
+                    read_bytes _ other point (inr (inr (inr (inl refl)))),
                     (
-                      read_bytes _ other point (inr (inr (inr (inr (inr (inr (inr (inr (inr (refl, omega arith)))))))))),
-                      tt,
+                      read_bytes _ other point (inr (inr (inr (inr (inr (inl (refl, refl))))))),
+                      (read_bytes _ other point (inr (inr (inr (inr (inr (inr (refl, omega arith))))))), tt),
                     ),
                   ),
                 ),

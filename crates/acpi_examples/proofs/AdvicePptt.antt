@@ -25,7 +25,8 @@ unparented o some (p, names) =
 
 unbroken : (revision flags parent : ℕ) → IsUnbrokenPptt (two_nodes revision flags parent)
 unbroken revision flags parent =
-    (refl, λ o. none_stands (two_nodes revision flags parent).entries o (λ o e. HasOtherPpttLength e) (never, (never, tt)))
+    (refl, λ o. none_stands (two_nodes revision flags parent).entries o (λ o e. HasOtherPpttLength e) (never, (never,
+    tt)))
 
 one_unbroken : (flags id : ℕ) → IsUnbrokenPptt (one_node flags id)
 one_unbroken flags id =
@@ -45,7 +46,8 @@ first_alone o n (e, stands, (v, is, same, valid, new, old)) =
 second_alone : (o n : ℕ) → IsLeafAt (two_nodes 1 2 36) o n → o ≡ 56
 second_alone o n (e, stands, (v, is, same, valid, new, old)) =
     each_entry (two_nodes 1 2 36).entries (λ o e. ¬ IsParent (two_nodes 1 2 36) o → o ≡ 56)
-    ((λ none. absurd (none (56, (_, (1, omega arith, refl), refl)))), ((λ _. refl), tt)) o e stands (old (omega arith)).1
+    ((λ none. absurd (none (56, (_, (1, omega arith, refl), refl)))), ((λ _. refl), tt)) o e stands (old (omega
+    arith)).1
 
 same_leaves : AreSameLeaves
 unfolding has_bit
@@ -67,12 +69,14 @@ same_leaves = record {
     here = (
       _,
       (1, omega arith, refl),
-      (_, refl, refl, refl, (λ new. absurd (omega arith)), (λ _. (unbroken 1 2 0, unparented 56 (λ same. omega arith)))),
+      (_, refl, refl, refl, (λ new. absurd (omega arith)), (λ _. (unbroken 1 2 0, unparented 56 (λ same. omega
+      arith)))),
     );
     earlier = (
       _,
       (0, omega arith, refl),
-      (_, refl, refl, refl, (λ new. absurd (omega arith)), (λ _. (unbroken 1 2 0, unparented 36 (λ same. omega arith)))),
+      (_, refl, refl, refl, (λ new. absurd (omega arith)), (λ _. (unbroken 1 2 0, unparented 36 (λ same. omega
+      arith)))),
     );
     before = omega arith;
     first = λ p leaf. each_entry (two_nodes 1 2 0).entries (λ o e. 36 ≤ o) (omega arith, (omega arith, tt)) p leaf.0

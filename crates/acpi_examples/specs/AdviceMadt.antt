@@ -51,15 +51,16 @@ small_entry type = Opaque (type ∷ 4 ∷ 0 ∷ 0 ∷ [])
 -- entries that the rules read, and entries with another length than their type's, which is a fault
 abbrev pub read_entries : MadtContents
 read_entries =
-    said_madt 163
+    said_madt 167
     (placed_entry 44 (processor 1)
     ∷ placed_entry 52 (gicc 4 1)
     ∷ placed_entry 92 distributor
     ∷ placed_entry 116 (small_entry 5)
     ∷ placed_entry 120 (small_entry 9)
     ∷ placed_entry 124 (small_entry 10)
-    ∷ placed_entry 128 (core_pic 5 6 1)
-    ∷ placed_entry 143 (rintc 6 1)
+    ∷ placed_entry 128 (small_entry 12)
+    ∷ placed_entry 132 (core_pic 5 6 1)
+    ∷ placed_entry 147 (rintc 6 1)
     ∷ [])
 
 -- ---- what they state
@@ -116,12 +117,11 @@ pub record AreControllers : Type 0 where
   pub second : Repeats gicd (two_entries 24 distributor 24 distributor).entries 0x44 0x2c 0
   pub one : IsKept (Repeats gicd (one_entry 24 distributor).entries)
 
--- entries that are not read, of type 6, or of a type that only these rules read and of another length; not so entries of a type
+-- entries that are not read, of type 6, or of types 11, 17 and 24 with another length; not so a distributor, or an entry of a type
 -- that the stages read, whatever their length
 pub record AreMadtUnread : Type 0 where
   pub six : OnEntry IsMadtUnread (one_entry 4 (small_entry 6)).entries 0x2c 6 0
   pub short : OnEntry IsMadtUnread (one_entry 39 short_gicc).entries 0x2c 11 0
-  pub small_distributor : OnEntry IsMadtUnread (one_entry 4 (small_entry 12)).entries 0x2c 12 0
   pub small_core : OnEntry IsMadtUnread (one_entry 4 (small_entry 17)).entries 0x2c 17 0
   pub all_read : IsKept (OnEntry IsMadtUnread read_entries.entries)
 

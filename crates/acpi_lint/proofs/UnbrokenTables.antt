@@ -71,14 +71,16 @@ srat_from _ is = absurd is
 pub srat_unbroken : (c : srat.SratContents)
     → (HasNone (srat.SratFault c code.SratEntryCut) × HasNone (srat.SratFault c code.SratEntryLength))
     ↔ IsUnbrokenSrat c
-srat_unbroken c = unbroken HasOtherSratLength (srat.SratEntryFault code.SratEntryLength) srat_to srat_from c.entries c.cut
+srat_unbroken c =
+    unbroken HasOtherSratLength (srat.SratEntryFault code.SratEntryLength) srat_to srat_from c.entries c.cut
 
 pub pptt_unbroken : (c : pptt.PpttContents)
     → (HasNone (pptt.PpttFault c code.PpttEntryCut) × HasNone (pptt.PpttFault c code.PpttEntryLength))
     ↔ IsUnbrokenPptt c
 pptt_unbroken c =
     let same =
-    unbroken pptt.HasOtherPpttLength (pptt.PpttEntryFault code.PpttEntryLength) (λ e is. is) (λ e is. is) c.entries c.cut
+    unbroken pptt.HasOtherPpttLength (pptt.PpttEntryFault code.PpttEntryLength) (λ e is. is) (λ e is. is) c.entries
+    c.cut
     in (
       λ (no_cut, none). same.0 (
         λ at other point (is, (o, p)). no_cut at other point (is, o, p),

@@ -56,20 +56,6 @@ fn io_apic_at_zero(at: &EntryAt<MadtEntry<'_>>) -> Option<Place>
     (address == 0).then_some(Place::at(at.offset))
 }
 
-/// The types of a GIC MSI frame, a GIC redistributor and a GIC ITS, with their lengths, which a GIC distributor shares
-/// with the first (ACPI 6.5, 5.2.12.15 to 5.2.12.18).
-const MSI_FRAME: u8 = 13;
-
-const MSI_FRAME_LEN: usize = 24;
-
-const GICR: u8 = 14;
-
-const GICR_LEN: usize = 16;
-
-const ITS: u8 = 15;
-
-const ITS_LEN: usize = 20;
-
 /// Whether the stages or these rules read an entry with these bytes. An opaque entry of a type that the stages read has
 /// another length than its type, which is a separate fault.
 fn is_madt_read(bytes: &[u8]) -> bool
@@ -79,11 +65,8 @@ fn is_madt_read(bytes: &[u8]) -> bool
 {
     let size = bytes.len();
     match bytes[0] {
-        0..=5 | 9 | 10 => true,
+        0..=5 | 9 | 10 | GICD => true,
         GICC => size >= GICC_LEN,
-        GICD | MSI_FRAME => size == MSI_FRAME_LEN,
-        GICR => size == GICR_LEN,
-        ITS => size == ITS_LEN,
         CORE_PIC => size == CORE_PIC_LEN,
         RINTC => size >= RINTC_LEN,
         _ => false,

@@ -14,10 +14,10 @@ PAIRS = {37, 39, 40, 45, 57, 109, 110, 112, 113, 115, 117, 122, 124}
 # Where a rule looks for a number and does not find it: the table, what is there, of which types, and which field.
 LOOKED_IN = {
     59: ("APIC", "the MADT's processors have the UIDs", (0, 9), "uid"),
-    114: ("APIC", "the MADT's processors have the UIDs", (0, 9, 11), "uid"),
-    118: ("APIC", "the MADT's processors have the APIC IDs", (0, 9), "id"),
+    114: ("APIC", "the MADT's processors have the UIDs", (0, 9, 11, 17, 24), "uid"),
+    118: ("APIC", "the MADT's processors have the APIC IDs", (0, 9, 17), "id"),
     125: ("PPTT", "the PPTT's leaves have the IDs", (0,), "id"),
-    126: ("APIC", "the MADT's processors have the UIDs", (0, 9, 11), "uid"),
+    126: ("APIC", "the MADT's processors have the UIDs", (0, 9, 11, 17, 24), "uid"),
 }
 
 
@@ -154,7 +154,7 @@ def srat(report, code, at, other, point):
     elif code == 57:
         processors(report, point)
     elif code == 118:
-        looked_for(report, 114 if is_one(found, "gicc") else 118)
+        looked_for(report, 114 if is_one(found, "gicc") or is_one(found, "rintc") else 118)
     elif code == 120 and (slit := report.table("SLIT")):
         report.field(slit, "the number of localities", 36, 8)
         report.say(f"the SLIT has {known(slit.number(36, 8))} localities, numbered from 0")
@@ -262,8 +262,8 @@ def leaves(table):
 def affinities(report, processor):
     """The numbers of the SRAT's affinities, of the kind that a processor would have."""
     types, name, what = (0, 2), "id", "affinities have the IDs"
-    if is_one(processor, "gicc"):
-        types, name, what = (3,), "uid", "GICC affinities have the UIDs"
+    if is_one(processor, "gicc") or is_one(processor, "rintc"):
+        types, name, what = (3, 7), "uid", "affinities of types 3 and 7 have the UIDs"
     table = report.tables.first("SRAT")
     enabled = (one for one in table.structures(*types) if one.fields.get("flags", 0) & 1) if table else ()
     report.say(f"the SRAT's enabled {what} {in_ranges({one.fields[name] for one in enabled})}")
@@ -302,8 +302,8 @@ def sci(report):
 def is_advised(signature, kind, size):
     """Whether rules of advice look at a type that no stage looks at."""
     if signature == "SRAT":
-        return kind == 3 and size == 18
-    return kind == 12 or kind == 11 and size >= 40
+        return size == {3: 18, 4: 12, 5: 32, 6: 32, 7: 20}.get(kind)
+    return kind == 12 or kind == 11 and size >= 40 or kind == 17 and size == 15 or kind == 24 and size >= 20
 
 
 def unread(report, signature):

@@ -8,7 +8,11 @@ FIRST = {"APIC": 44, "SRAT": 48, "PPTT": 36}
 # What `show` writes of a structure, by table, type and length: its word, and of each field the name, the offset and the size in
 # bytes, with an x where it is hex. Of those with a - `show` writes type and length alone.
 CACHE = "cache flags:4/4x next:8/4x size:12/4 sets:16/4 ways:20/1 attributes:21/1x line:22/2"
-GICC = "-gicc uid:8/4 flags:12/4x"
+# Those of at least this length.
+LONGER = {
+    ("APIC", 11): (40, "-gicc uid:8/4 flags:12/4x"),
+    ("APIC", 24): (20, "-rintc uid:16/4 hart:8/8 flags:4/4x"),
+}
 LAYOUTS = {
     ("APIC", 0, 8): "lapic uid:2/1 id:3/1 flags:4/4x",
     ("APIC", 1, 12): "ioapic id:2/1 address:4/4x base:8/4",
@@ -21,7 +25,12 @@ LAYOUTS = {
     ("SRAT", 0, 16): "cpu id:3/1 domain:2/1+9/3 flags:4/4x",
     ("SRAT", 1, 40): "memory domain:2/4 base:8/8x length:16/8x flags:28/4x",
     ("SRAT", 2, 24): "cpu id:8/4 domain:4/4 flags:12/4x",
+    ("APIC", 17, 15): "-core-pic uid:3/4 id:7/4 flags:11/4x",
     ("SRAT", 3, 18): "-gicc uid:6/4 domain:2/4 flags:10/4x",
+    ("SRAT", 4, 12): "-its domain:2/4 id:8/4",
+    ("SRAT", 5, 32): "-initiator domain:4/4 flags:24/4x",
+    ("SRAT", 6, 32): "-port domain:4/4 flags:24/4x",
+    ("SRAT", 7, 20): "-rintc uid:8/4 domain:4/4 flags:12/4x",
     ("PPTT", 1, 24): CACHE,
     ("PPTT", 1, 28): CACHE + " id:24/4",
 }
@@ -44,10 +53,13 @@ UNREAD = {
     ("APIC", 14): "GIC redistributor",
     ("APIC", 15): "GIC ITS",
     ("APIC", 16): "multiprocessor wakeup",
+    ("APIC", 17): "CORE PIC",
+    ("APIC", 24): "RINTC",
     ("SRAT", 3): "GICC affinity",
     ("SRAT", 4): "GIC ITS affinity",
     ("SRAT", 5): "generic initiator affinity",
     ("SRAT", 6): "generic port affinity",
+    ("SRAT", 7): "RINTC affinity",
 }
 
 
@@ -62,7 +74,7 @@ def parsed(layout):
 
 
 PARSED = {key: parsed(layout) for key, layout in LAYOUTS.items()}
-PARSED_GICC = parsed(GICC)
+PARSED_LONGER = {key: (least, parsed(layout)) for key, (least, layout) in LONGER.items()}
 PARSED_NODE = parsed("node flags:4/4x parent:8/4x id:12/4")
 OPAQUE = ("", False, [])
 
@@ -70,8 +82,9 @@ OPAQUE = ("", False, [])
 def layout_of(signature, data, at):
     """The layout of the structure at an offset of a table."""
     kind, size = data[at], data[at + 1]
-    if kind == 11 and size >= 40 and signature == "APIC":
-        return PARSED_GICC
+    least, layout = PARSED_LONGER.get((signature, kind), (256, OPAQUE))
+    if size >= least:
+        return layout
     if kind == 0 and size >= 20 and signature == "PPTT" and size == 20 + 4 * little(data, at + 16, 4):
         return PARSED_NODE
     return PARSED.get((signature, kind, size), OPAQUE)
@@ -103,7 +116,7 @@ class Structure:
         return little(self.data, at, size)
 
     def shown(self):
-        """The line that `show` writes of it; of a GICC or a GICC affinity its fields are said too."""
+        """The line that `show` writes of it; of those that only rules of advice read, their fields are said too."""
         told = [self.word]
         for name, _, is_hex in self.places:
             value = f"{self.fields[name]:#x}" if is_hex else str(self.fields[name])

@@ -73,7 +73,8 @@ returns-in-MadtEntries c =
     as_rule c.args.image.now c.args.policy.now c.first_own_place.result
     (is_of_group (condition c.args.rule) c.group.ensures c.in-MadtEntries.is)
     (own_madt c.args.image.now c.args.policy.now madt_value (on_madt_entry (condition c.args.rule))
-    c.first_own_place.result _ c.madt_entries.result c.requires c.madt_entries.ensures c.first_own_place.ensures (λ at picked answers. search rules))
+    c.first_own_place.result _ c.madt_entries.result c.requires c.madt_entries.ensures c.first_own_place.ensures
+    (λ at picked answers. search rules))
 
 pub returns-in-SratEntries : goal.returns-in-SratEntries
 returns-in-SratEntries c =
@@ -97,6 +98,7 @@ pub returns-in-MadtNumbers : goal.returns-in-MadtNumbers
 returns-in-MadtNumbers c =
     each_rule c.args.image.now c.args.policy.now c.repeated.result
     (is_of_group (condition c.args.rule) c.group.ensures c.in-MadtNumbers.is)
-    (repeated_madt c.args.image.now c.args.policy.now madt_value (unique_number (condition c.args.rule)) c.repeated.result _
+    (repeated_madt c.args.image.now c.args.policy.now madt_value (unique_number (condition c.args.rule))
+    c.repeated.result _
     c.madt_entries-in-MadtNumbers.result c.requires c.madt_entries-in-MadtNumbers.ensures c.repeated.ensures
     (λ at picked answers. search rules))

@@ -7,5 +7,6 @@ use Rattle.acpi_lint.proofs.known_numbers.has_raw_processor.Goals as goal
 pub returns : goal.returns
 returns c =
     rw c.is_some.ensures
-    (any_of_entries madt_value IsRawProcessor c.first_picked-processor.result c.first_picked-processor.ensures c.entries.ensures.entries
+    (any_of_entries madt_value IsRawProcessor c.first_picked-processor.result c.first_picked-processor.ensures
+    c.entries.ensures.entries
     (λ at picked answers. search rules))

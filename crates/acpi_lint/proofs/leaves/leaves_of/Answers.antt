@@ -14,7 +14,8 @@ pub returns-then-not-is_pptt_unbroken : goal.returns-then-not-is_pptt_unbroken
 returns-then-not-is_pptt_unbroken c =
     no_leaves (pptt_contents c.args.pptt.now) c.new.result.items
     (omega (arith, c.if-revision-ge-HAS_LEAVES.false, c.revision.ensures))
-    (λ unbroken. true≢false (sym (c.is_pptt_unbroken.ensures.1 unbroken) ∙ c.if-not-is_pptt_unbroken.true)) c.new.ensures.items
+    (λ unbroken. true≢false (sym (c.is_pptt_unbroken.ensures.1 unbroken) ∙ c.if-not-is_pptt_unbroken.true))
+    c.new.ensures.items
 
 pub returns : goal.returns
 returns c =

@@ -19,7 +19,8 @@ returns c =
     let some = c.has_raw_processor.ensures.0 c.if-not-has_raw_processor.false in
     least_as c.where_known.result (λ at other point (read, (stands, none, unused)). (read, some, stands, none, unused))
     (λ at other point (read, _, stands, none, unused). (read, (stands, none, unused)))
-    (where_holds (AreProcessorsKnown madt) (IsUnknownLeaf madt pptt) c.first_unknown.result c.where_known.result c.where_known.ensures
+    (where_holds (AreProcessorsKnown madt) (IsUnknownLeaf madt pptt) c.first_unknown.result c.where_known.result
+    c.where_known.ensures
     (unknown_placed (IsNamed uid_of madt.entries) (IsLeafAt pptt) c.in_ok-uids.uids.items c.in_ok-leaves.leaves.items
     c.first_unknown.result
     c.in_ok-uids.ensures

@@ -18,7 +18,8 @@ returns c =
     let found = c.first_picked-place.result in
     least_as c.where_known.result (λ at other point (read, (named, none, unused)). (read, named, none, unused))
     (λ at other point (read, named, none, unused). (read, (named, none, unused)))
-    (where_holds (AreProcessorsKnown madt) (IsUnknownNamed nmi_uid (IsNamed uid_of madt.entries) madt.entries) found c.where_known.result
+    (where_holds (AreProcessorsKnown madt) (IsUnknownNamed nmi_uid (IsNamed uid_of madt.entries) madt.entries) found
+    c.where_known.result
     c.where_known.ensures
     (unknown_named nmi_uid (IsNamed uid_of madt.entries) madt.entries uids found
     (rw (← c.as_slice-uids.ensures.value) at c.in_ok-uids.ensures)

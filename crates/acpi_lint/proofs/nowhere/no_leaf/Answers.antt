@@ -19,9 +19,11 @@ returns c =
     let found = c.first_picked-place.result in
     let some = c.has_node.ensures.0 c.if-not-has_node.false in
     let unbroken = c.is_pptt_unbroken.ensures.0 c.if-not-is_pptt_unbroken.false in
-    least_as c.where_read.result (λ at other point (read, (named, none, unused)). (read, unbroken, some, named, none, unused))
+    least_as c.where_read.result (λ at other point (read, (named, none, unused)). (read, unbroken, some, named, none,
+    unused))
     (λ at other point (read, _, _, named, none, unused). (read, (named, none, unused)))
-    (where_holds (AreProcessorsRead madt) (IsUnknownNamed uid_on IsId madt.entries) found c.where_read.result c.where_read.ensures
+    (where_holds (AreProcessorsRead madt) (IsUnknownNamed uid_on IsId madt.entries) found c.where_read.result
+    c.where_read.ensures
     (unknown_named uid_on IsId madt.entries known found (rw (← c.as_slice-ids.ensures.value) at c.in_ok-ids.ensures)
     (least_of_entries madt_value (IsUnknownOf uid_on known) 44 found c.first_picked-place.ensures
     c.entries.ensures.entries (madt_rising c.args.madt.now) (λ at picked here answers. search rules))))
