@@ -29,20 +29,36 @@ LAST_LENGTH = 276
 
 SYSTEM_IO = 1
 
-# Types of entries of the MADT (5.2.12) and of the SRAT (5.2.16).
-GICC, GICD = 11, 12
-GICC_LENGTH = 40
-OTHER_PROCESSORS = (7, 17, 24)
-GICC_AFFINITY = 3
-GICC_AFFINITY_LENGTH = 18
+# Types of entries of the MADT (5.2.12): a distributor, and processors that no stage reads. Nor does a rule read a local SAPIC.
+# An RINTC is of ACPI 6.6.
+GICD = 12
+SAPIC, GICC, CORE_PIC, RINTC = 7, 11, 17, 24
 ALL_PROCESSORS = {4: 0xFF, 10: 0xFFFFFFFF}
+
+# The lengths of processors of the MADT and of its entries that no stage reads, by their types, and of the entries of the SRAT.
+MADT_LENGTHS = {0: [8], 9: [16], GICC: range(40, 256), GICD: [24], 13: [24], 14: [16], 15: [20], CORE_PIC: [15]}
+MADT_LENGTHS[RINTC] = range(20, 256)
+SRAT_LENGTHS = {0: [16], 1: [40], 2: [24], 3: [18], 4: [12], 5: [32], 6: [32], 7: [20]}
+
+# Of each type of processor the places, by offset and size, of its UID, its APIC ID, if it has one, and its flags, and the flags of
+# which one says that it is on (5.2.12.2, 5.2.12.12, 5.2.12.14, 5.2.12.20).
+PROCESSORS = {
+    0: ((2, 1), (3, 1), (4, 4), 0b11), 9: ((12, 4), (4, 4), (8, 4), 0b11), GICC: ((8, 4), None, (12, 4), 0b1001),
+    CORE_PIC: ((3, 4), (7, 4), (11, 4), 0b1), RINTC: ((16, 4), None, (4, 4), 0b11),
+}
+# Of each type of entry of the SRAT (5.2.16) where its flags are, of which bit 0 is Enabled: a GIC ITS affinity, type 4, has none.
+# Of an affinity of a processor the place of the number that it names: an APIC ID, or in two types a UID.
+FLAGS_AT = {0: 4, 1: 28, 2: 12, 3: 10, 5: 24, 6: 24, 7: 12}
+NAMED = {0: (3, 1), 2: (8, 4), 3: (6, 4), 7: (8, 4)}
+OF_UID = (3, 7)
 
 
 @dataclass(frozen=True)
 class Processor:
-    """A processor of the MADT (5.2.12.2, 5.2.12.12, 5.2.12.14). One of a GIC has no APIC ID."""
+    """A processor of the MADT. One of a GIC, and a hart of RISC-V, has no APIC ID."""
 
     offset: int
+    kind: int
     uid: int
     apic_id: int | None
     is_on: bool
@@ -50,7 +66,7 @@ class Processor:
 
 @dataclass(frozen=True)
 class Affinity:
-    """An enabled affinity of a processor: its number is an APIC ID, or a UID (5.2.16.1, 5.2.16.3, 5.2.16.4)."""
+    """An enabled affinity of a processor: its number is an APIC ID, or a UID."""
 
     offset: int
     number: int
@@ -58,28 +74,36 @@ class Affinity:
     is_of_uid: bool
 
 
+def has_length(entry, lengths):
+    """Whether an entry is of one of these types and has a length of its type."""
+    return len(entry) in lengths.get(entry.kind, ())
+
+
 def processor_of(entry):
     """The processor that an entry of the MADT describes, or None."""
-    n, shape = entry.number, (entry.kind, len(entry))
-    if shape == (0, 8):
-        return Processor(entry.offset, n(2, 1), n(3, 1), n(4, 4) & 0b11 != 0)
-    if shape == (9, 16):
-        return Processor(entry.offset, n(12, 4), n(4, 4), n(8, 4) & 0b11 != 0)
-    if entry.kind == GICC and len(entry) >= GICC_LENGTH:
-        return Processor(entry.offset, n(8, 4), None, n(12, 4) & 1 != 0)
-    return None
+    if entry.kind not in PROCESSORS or not has_length(entry, MADT_LENGTHS):
+        return None
+    uid, apic_id, flags, on = PROCESSORS[entry.kind]
+    n = entry.number
+    return Processor(entry.offset, entry.kind, n(*uid), n(*apic_id) if apic_id else None, n(*flags) & on != 0)
+
+
+def is_unread_processor(entry):
+    """Whether an entry of the MADT is a processor that no rule reads."""
+    return entry.kind in (SAPIC, GICC, CORE_PIC, RINTC) and not has_length(entry, MADT_LENGTHS)
+
+
+def has_domain(entry):
+    """Whether an entry of the SRAT puts something into a domain: it has a length of its type, and is enabled if it has flags."""
+    at = FLAGS_AT.get(entry.kind)
+    return has_length(entry, SRAT_LENGTHS) and (at is None or is_enabled(entry.number(at, 4)))
 
 
 def affinity_of(entry):
-    """The affinity that an entry of the SRAT describes, or None."""
-    n, shape = entry.number, (entry.kind, len(entry))
-    if shape == (0, 16) and is_enabled(n(4, 4)):
-        return Affinity(entry.offset, n(3, 1), domain_of(entry), False)
-    if shape == (2, 24) and is_enabled(n(12, 4)):
-        return Affinity(entry.offset, n(8, 4), domain_of(entry), False)
-    if shape == (GICC_AFFINITY, GICC_AFFINITY_LENGTH) and is_enabled(n(10, 4)):
-        return Affinity(entry.offset, n(6, 4), domain_of(entry), True)
-    return None
+    """The affinity that an entry of the SRAT with a domain describes, or None if it is of no processor."""
+    if entry.kind not in NAMED:
+        return None
+    return Affinity(entry.offset, entry.number(*NAMED[entry.kind]), domain_of(entry), entry.kind in OF_UID)
 
 
 class Facts:
@@ -93,11 +117,12 @@ class Facts:
         srat_entries = self.srat.entries if self.srat else []
         self.processors = [it for it in map(processor_of, madt_entries) if it]
         self.on = [it for it in self.processors if it.is_on]
-        self.affinities = [it for it in map(affinity_of, srat_entries) if it]
-        self.has_gicc = any(it.apic_id is None for it in self.processors)
-        # processors that no rule reads
-        self.is_mixed = any(entry.kind in OTHER_PROCESSORS or is_short_gicc(entry) for entry in madt_entries)
-        self.knows_processors = self.madt is not None and not self.is_mixed
+        self.with_domain = [entry for entry in srat_entries if has_domain(entry)]
+        self.affinities = [it for it in map(affinity_of, self.with_domain) if it]
+        self.nodes = self.pptt.typed(0) if self.pptt else []
+        self.is_mixed = any(map(is_unread_processor, madt_entries))
+        # whether the rules read all processors that the MADT may have
+        self.knows_processors = self.madt is not None and self.madt.is_unbroken() and not self.is_mixed
 
     @cached_property
     def uids(self):
@@ -109,16 +134,14 @@ class Facts:
 
     @cached_property
     def leaves(self):
-        """The leaves of the PPTT (5.2.30.1). Before Revision 2 they have no flag, and are what is no parent."""
-        nodes = [node for node in (self.pptt.typed(0) if self.pptt else []) if node.number(4, 4) >> 1 & 1]
-        if self.pptt and self.tables.table(b"PPTT").number(8, 1) >= 2:
-            return [node for node in nodes if node.number(4, 4) >> 3 & 1]
-        parents = {node.number(8, 4) for node in (self.pptt.typed(0) if self.pptt else [])}
-        return [node for node in nodes if node.offset not in parents]
-
-
-def is_short_gicc(entry):
-    return entry.kind == GICC and len(entry) < GICC_LENGTH
+        """The leaves of the PPTT (5.2.30.1). Before Revision 2 they have no flag, and are what is no parent, where all are read."""
+        named = [node for node in self.nodes if node.number(4, 4) >> 1 & 1]
+        if self.nodes and self.tables.table(b"PPTT").number(8, 1) >= 2:
+            return [node for node in named if node.number(4, 4) >> 3 & 1]
+        if not self.pptt or not self.pptt.is_unbroken():
+            return []
+        parents = {node.number(8, 4) for node in self.nodes}
+        return [node for node in named if node.offset not in parents]
 
 
 def same(name, numbered):
@@ -177,7 +200,7 @@ def sci_advice(facts):
     numbers = [entry.number(4, 4) for entry in overrides if entry.number(2, 1) == 0 and entry.number(3, 1) == sci]
     gsi = numbers[0] if numbers else sci
     spans = served(facts.madt, facts.policy)
-    if spans and gsi not in Numbers(spans):
+    if spans and facts.madt.is_unbroken() and gsi not in Numbers(spans):
         yield Finding("SciNowhere", 46, 0, gsi)
 
 
@@ -194,7 +217,7 @@ def madt_advice(facts):
     controllers = [entry.offset for entry in facts.madt.entries if entry.kind == GICD]
     for offset in controllers[1:]:
         yield Finding("SecondGicd", offset, controllers[0])
-    if not facts.is_mixed and not facts.on:
+    if facts.knows_processors and not facts.on:
         yield Finding("NoProcessor")
 
 
@@ -208,7 +231,7 @@ def io_apic_advice(io_apics):
 
 
 def nmi_advice(facts):
-    if facts.is_mixed:
+    if not facts.knows_processors:
         return
     for entry in facts.madt.typed(4, 10):
         uid = entry.number(2, 1) if entry.kind == 4 else entry.number(4, 4)
@@ -226,18 +249,15 @@ def srat_advice(facts):
             earlier = first.setdefault(it.number, it)
             if it.domain != earlier.domain:
                 yield Finding("TwoUidDomains", earlier.offset, it.offset, it.number)
-    if not facts.knows_processors:
-        return
-    for it in facts.affinities:
+    for it in facts.affinities if facts.knows_processors else []:
         if it.number not in (facts.uids if it.is_of_uid else facts.apic_ids):
             yield Finding("AffinityNowhere", it.offset, 0, it.number)
-    yield from domain_advice(facts)
+    if facts.affinities and facts.srat.is_unbroken() and not facts.is_mixed:
+        yield from domain_advice(facts)
 
 
 def domain_advice(facts):
-    """Processors that are on and in no domain, where the SRAT has some."""
-    if not facts.affinities:
-        return
+    """Processors that are on and in no domain."""
     named = {(it.is_of_uid, it.number) for it in facts.affinities}
     for it in facts.on:
         is_of_uid = it.apic_id is None
@@ -251,12 +271,9 @@ def slit_advice(facts):
     count = slit_count(table)
     if count is None:
         return
-    ranges = facts.srat.typed(1) if facts.srat else []
-    domains = [(it.offset, it.domain) for it in facts.affinities]
-    domains += [(entry.offset, domain_of(entry)) for entry in ranges if is_enabled(entry.number(28, 4))]
-    for offset, domain in domains:
-        if domain >= count:
-            yield Finding("DomainPastSlit", offset, count, domain)
+    for entry in facts.with_domain:
+        if domain_of(entry) >= count:
+            yield Finding("DomainPastSlit", entry.offset, count, domain_of(entry))
     for i in range(count):
         for j in range(i + 1, count):
             here, there = 44 + count * i + j, 44 + count * j + i
@@ -288,14 +305,12 @@ def has_odd_shape(cache):
 
 
 def leaf_advice(facts):
-    if facts.is_mixed:
-        return
-    if facts.leaves:
+    if facts.nodes and facts.pptt.is_unbroken() and not facts.is_mixed:
         ids = {node.number(12, 4) for node in facts.leaves}
         for it in facts.on:
             if it.uid not in ids:
                 yield Finding("NoLeaf", it.offset, 0, it.uid)
-    if facts.has_gicc:
+    if facts.knows_processors and any(it.kind in (GICC, CORE_PIC, RINTC) for it in facts.processors):
         for node in facts.leaves:
             if node.number(12, 4) not in facts.uids:
                 yield Finding("LeafNowhere", node.offset, 0, node.number(12, 4))
@@ -305,12 +320,11 @@ def leaf_advice(facts):
 
 
 def unread(facts):
-    for entry in facts.madt.entries if facts.madt else []:
-        if entry.kind not in (*range(6), 9, 10, GICC, GICD) or is_short_gicc(entry):
-            yield Finding("MadtUnread", entry.offset, entry.kind)
-    for entry in facts.srat.entries if facts.srat else []:
-        if entry.kind not in range(4) or (entry.kind == GICC_AFFINITY and len(entry) != GICC_AFFINITY_LENGTH):
-            yield Finding("SratUnread", entry.offset, entry.kind)
+    """Those of a type, or with a length, that neither a stage nor a rule reads."""
+    for name, table, lengths in (("MadtUnread", facts.madt, MADT_LENGTHS), ("SratUnread", facts.srat, SRAT_LENGTHS)):
+        for entry in table.entries if table else []:
+            if entry.kind not in table.LENGTHS and not has_length(entry, lengths):
+                yield Finding(name, entry.offset, entry.kind)
 
 
 def all_advice(tables, policy):

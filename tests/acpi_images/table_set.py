@@ -77,6 +77,10 @@ class Entries:
         """Those of these types that have a length of their type."""
         return [entry for entry in self.entries if entry.kind in kinds and self.is_typed(entry)]
 
+    def is_unbroken(self):
+        """Whether there is no cut, and no entry of a type that the stages read has a length that is none of its type."""
+        return self.cut is None and all(self.is_typed(entry) for entry in self.entries if entry.kind in self.LENGTHS)
+
 
 class MadtEntries(Entries):
     FIRST = 44
@@ -120,10 +124,10 @@ def is_enabled(flags):
 
 
 def domain_of(entry):
-    """The proximity domain of an SRAT entry of type 0, 1, 2 or 3 (5.2.16)."""
+    """The proximity domain of an SRAT entry of type 0 to 7 (5.2.16)."""
     if entry.kind == 0:
         return entry.number(2, 1) + (entry.number(9, 3) << 8)
-    return entry.number(4 if entry.kind == 2 else 2, 4)
+    return entry.number(4 if entry.kind in (2, 5, 6, 7) else 2, 4)
 
 
 # ---- the tables

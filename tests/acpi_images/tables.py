@@ -167,6 +167,16 @@ def gicd(length=24):
     return bytes([12, length]) + bytes(length - 2)
 
 
+def core_pic(uid, core_id, flags=1, length=15):
+    """A core of LoongArch (5.2.12.20), of which a shorter one is cut off."""
+    return (bytes([17, length, 1]) + number(uid, 4) + number(core_id, 4) + number(flags, 4) + bytes(240))[:length]
+
+
+def rintc(uid, flags=1, length=36):
+    """A hart of RISC-V (RINTC, of ACPI 6.6) with hart ID 0, of which a shorter one is cut off."""
+    return (bytes([24, length, 1, 0]) + number(flags, 4) + bytes(8) + number(uid, 4) + bytes(240))[:length]
+
+
 def other(kind, length=8):
     """An entry of a type, and nothing in it."""
     return bytes([kind, length]) + bytes(length - 2)
@@ -201,6 +211,21 @@ def x2apic_domain(x2apic_id, domain, flags=1, reserved=0):
 def uid_domain(uid, domain, flags=1, length=18):
     """A GICC affinity (5.2.16.4), of which a shorter one is cut off."""
     return (bytes([3, length]) + number(domain, 4) + number(uid, 4) + number(flags, 4) + bytes(240))[:length]
+
+
+def hart_domain(uid, domain, flags=1, length=20):
+    """An RINTC affinity (of ACPI 6.6), of which a shorter one is cut off."""
+    return (bytes([7, length, 0, 0]) + number(domain, 4) + number(uid, 4) + number(flags, 4) + bytes(240))[:length]
+
+
+def its_domain(domain, length=12):
+    """A GIC ITS affinity (5.2.16.5), which has no flags, and of which a shorter one is cut off."""
+    return (bytes([4, length]) + number(domain, 4) + bytes(240))[:length]
+
+
+def device_domain(kind, domain, flags=1, length=32):
+    """A generic initiator affinity (type 5, 5.2.16.6) or port affinity (type 6, 5.2.16.7), of which a shorter one is cut off."""
+    return (bytes([kind, length, 0, 0]) + number(domain, 4) + bytes(16) + number(flags, 4) + bytes(240))[:length]
 
 
 # ---- SLIT (5.2.17)

@@ -3,6 +3,7 @@
 
 from functools import cache as once
 
+from ..advice import MADT_LENGTHS
 from ..known.judged import JUDGED
 from ..known.linted import EXPECTED
 from ..known.mistakes import MISTAKES, UNCHANGED
@@ -11,6 +12,7 @@ from ..program import IMAGES, firmware_text
 from ..table_set import MadtEntries, PpttEntries, SratEntries, TableSet, complete_table, entries_of
 from ..tables import *
 from ..text import Image, read
+from .sets import further_domain, further_processor
 
 KINDS = {b"APIC": MadtEntries, b"SRAT": SratEntries, b"PPTT": PpttEntries}
 LENGTH_AT, REVISION_AT, SUM_AT = 4, 8, 9
@@ -46,13 +48,14 @@ def madt_entry(dice):
     make = dice.choice((
         lambda: lapic(small(dice), small(dice), flags(dice)),
         lambda: x2apic(small(dice), small(dice), flags(dice)),
-        lambda: gicc(small(dice), flags(dice), dice.choice((39, 40, 41, 76, 80, 82))),
+        *[lambda: further_processor(dice, lambda: small(dice), flags(dice))] * 3,
         lambda: io_apic(small(dice), small(dice), byte(dice)),
         lambda: override(byte(dice), small(dice), dice.choice((0, 0, 2, 8, 13)), dice.choice((0, 0, 0, 1))),
         lambda: nmi_source(small(dice), dice.choice((0, 0, 2))),
         lambda: dice.choice(local_nmis(small(dice), 1, dice.choice((0, 0, 2)))),
         lambda: lapic_address(small(dice)),
-        lambda: gicd(dice.choice((2, 24))),
+        lambda: gicd(dice.choice((2, 23, 24, 24, 25))),
+        lambda: other(*dice.choice(((13, 23), (13, 24), (13, 25), (14, 15), (14, 16), (14, 17), (15, 19), (15, 20), (15, 21)))),
         lambda: other(dice.choice((6, 7, 8, 13, 14, 15, 16, 17, 23, 24, 25, 255)), dice.choice((2, 8, 16))),
     ))
     return make()
@@ -64,9 +67,9 @@ def srat_entry(dice):
     make = dice.choice((
         lambda: apic_domain(small(dice), small(dice), flags(dice)),
         lambda: x2apic_domain(small(dice), small(dice), flags(dice)),
-        lambda: uid_domain(small(dice), small(dice), flags(dice), dice.choice((17, 18, 18, 18, 19))),
+        *[lambda: further_domain(dice, lambda: small(dice), flags(dice))] * 3,
         lambda: memory(base(), size(), flags(dice), small(dice)),
-        lambda: other(dice.choice((3, 4, 5, 6, 255)), dice.choice((2, 12, 20))),
+        lambda: other(dice.choice((3, 4, 5, 6, 7, 8, 255)), dice.choice((2, 12, 20))),
     ))
     return make()
 
@@ -123,7 +126,7 @@ def new_madt(dice):
     """A MADT, in half of the cases without entries that hide which processors there are."""
     entries = several(dice, madt_entry)
     if dice.random() < 0.5:
-        entries = [it for it in entries if it[0] not in (7, 17, 24) and (it[0] != 11 or it[1] >= 40)]
+        entries = [it for it in entries if it[0] not in (7, 11, 17, 24) or it[1] in MADT_LENGTHS.get(it[0], ())]
     return madt(*entries)
 
 

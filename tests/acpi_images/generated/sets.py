@@ -6,7 +6,10 @@ from types import SimpleNamespace
 
 from .. import tables as built
 from ..table_set import Policy
-from ..tables import REDUCED, RESET_REG_SUP, gicc, gicd, lapic, nmi_source, number, override, summed, uid_domain
+from ..tables import (
+    REDUCED, RESET_REG_SUP, core_pic, device_domain, gicc, gicd, hart_domain, its_domain, lapic, nmi_source, number, override,
+    rintc, summed, uid_domain,
+)
 from ..text import TOP
 
 RSDP_SIZE, LONG_RSDP_SIZE, HEADER_SIZE, FACS_SIZE = 20, 36, 36, 64
@@ -65,8 +68,28 @@ def flagged_entries(flags):
 
 
 def other_entry(dice, kinds):
-    size = dice.choice((2, 3, 8, 18, 20, 24, 39, 40, 80))
+    size = dice.choice((2, 3, 8, 12, 15, 16, 18, 20, 24, 32, 39, 40, 80))
     return bytes([dice.choice(kinds), size]) + bytes(dice.choice((0, 1, 2, 255)) for _ in range(size - 2))
+
+
+def further_processor(dice, drawn, flags):
+    """A GICC, a CORE PIC or an RINTC, whose UID and ID are drawn. Some are a byte too short or too long to be read."""
+    make = dice.choice((
+        lambda: gicc(drawn(), flags, dice.choice((39, 40, 41, 76, 80, 82))),
+        lambda: core_pic(drawn(), drawn(), flags, dice.choice((14, 15, 15, 15, 15, 16))),
+        lambda: rintc(drawn(), flags, dice.choice((19, 20, 21, 36, 36, 36))),
+    ))
+    return make()
+
+
+def further_domain(dice, drawn, flags):
+    """An affinity of a GICC, an RINTC, an ITS, an initiator or a port, whose UID and domain are drawn. Some lengths are wrong."""
+    more = dice.choice((-1, 0, 0, 0, 0, 0, 0, 1))
+    of_uid = lambda: uid_domain(drawn(), drawn(), flags, 18 + more)
+    of_hart = lambda: hart_domain(drawn(), drawn(), flags, 20 + more)
+    of_its = lambda: its_domain(drawn(), 12 + more)
+    of_device = lambda: device_domain(dice.choice((5, 6)), drawn(), flags, 32 + more)
+    return dice.choice((of_uid, of_uid, of_hart, of_hart, of_its, of_device))()
 
 
 # ---- PPTT (5.2.30)
@@ -189,11 +212,11 @@ class MadeSet:
         entries += [dice.choice(more)() for _ in range(dice.choice((0, 1, 2)))]
         entries += [lapic_address(0xFEE00000)] * dice.choice((0, 0, 1))
         if dice.random() < 0.1:
-            entries.append(other_entry(dice, (6, 7, 8, 11, 12, 13, 15, 17, 24, 255)))
+            entries.append(other_entry(dice, (6, 7, 8, 11, 12, 13, 14, 15, 17, 24, 255)))
         if dice.random() < 0.15:
             entries += [gicd()] * dice.choice((0, 1, 2))
-            sizes = [dice.choice((39, 40, 80, 80)) for _ in range(dice.choice((1, 2)))]
-            entries += [gicc(dice.choice((0, 1, 77)), dice.choice((0, 1, 1)), size) for size in sizes]
+            uid, flags = lambda: dice.choice((0, 1, 77)), lambda: dice.choice((0, 1, 1, 2, 8))
+            entries += [further_processor(dice, uid, flags()) for _ in range(dice.choice((1, 2)))]
         dice.shuffle(entries)
         return entries
 
@@ -208,8 +231,9 @@ class MadeSet:
             entries.append(memory(base, size, dice.choice((1, 1, 3, 5, 0, 2)), dice.randrange(3)))
             base += size + dice.choice((0, 0, 1, 0x1000))
         if dice.random() < 0.2:
-            entries.append(other_entry(dice, (3, 3, 4, 5, 255)))
-        entries += [uid_domain(dice.randrange(2), dice.randrange(3)) for _ in range(dice.choice((0, 0, 0, 2)))]
+            entries.append(other_entry(dice, (3, 3, 4, 5, 6, 7, 255)))
+        enabled = lambda: dice.choice((1, 1, 1, 0))
+        entries += [further_domain(dice, partial(dice.randrange, 3), enabled()) for _ in range(dice.choice((0, 0, 0, 3)))]
         dice.shuffle(entries)
         return entries
 

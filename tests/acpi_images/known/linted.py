@@ -6,6 +6,7 @@ A set is kept as small as its rule lets it, so other rules are often broken besi
 from __future__ import annotations
 
 from dataclasses import dataclass
+from functools import partial
 
 from ..tables import *
 from .rows import with_numbers
@@ -246,13 +247,16 @@ sci(
 )
 sci(
     "an SCI of 200, and an override that is too long", 200, [SERVED, changed(override(200, 5) + bytes(2), {1: 12})],
-    "no 6 MadtEntryLength 0x40", "advice SciNowhere 0x2e 0x0 0xc8",
+    "no 6 MadtEntryLength 0x40",
 )
 sci("an SCI of 200, and an I/O APIC that is too long", 200, [changed(SERVED + bytes(2), {1: 14})], "no 6 MadtEntryLength 0x34")
+sci("an SCI of 200, and an override after the cut", 200, [SERVED, b"\2\0", override(200, 5)], "no 6 MadtEntryCut 0x40")
 sci(
-    "an SCI of 200, and an override after the cut", 200, [SERVED, b"\2\0", override(200, 5)], "no 6 MadtEntryCut 0x40",
-    "advice SciNowhere 0x2e 0x0 0xc8",
+    "an SCI of 200, and entries that no stage reads", 200, [SERVED, other(7, 3), other(13, 3)], "yes",
+    "advice SciNowhere 0x2e 0x0 0xc8", "advice MadtUnread 0x40 0x7",
 )
+sci("an SCI of 200, and a processor that is too short", 200, [SERVED, other(0, 7)], "no 6 MadtEntryLength 0x40")
+sci("an SCI of 200, and a byte after the last entry", 200, [SERVED, b"\0"], "no 6 MadtEntryCut 0x40")
 
 # ---- processors with one UID, and with one APIC ID
 processors("two UIDs and two APIC IDs", [lapic(0, 0), lapic(1, 1)])
@@ -272,7 +276,20 @@ processors("one UID of two GICCs", [gicc(7), gicc(7)], "SameUid 0x7c 0x2c 0x7")
 processors("one UID of two GICCs of 40 bytes", [gicc(7, length=40), gicc(7, length=40)], "SameUid 0x54 0x2c 0x7")
 processors("one UID of two GICCs, one of them too short", [gicc(7), gicc(7, length=39)], "MadtUnread 0x7c 0xb")
 processors("one UID of two GICCs, one of them off", [gicc(7), gicc(7, 2)])
-processors("one UID of two GICCs, one of them online capable", [gicc(7), gicc(7, 8)])
+processors("one UID of two GICCs, one of them online capable", [gicc(7), gicc(7, 8)], "SameUid 0x7c 0x2c 0x7")
+for name, entries, *advice in (
+    ("an RINTC and a GICC", [rintc(7), gicc(7)], "SameUid 0x50 0x2c 0x7"),
+    ("a GICC and an RINTC of 20 bytes that is on by bit 1", [gicc(7), rintc(7, 2, 20)], "SameUid 0x7c 0x2c 0x7"),
+    ("two RINTCs, one of them off", [rintc(7), rintc(7, 0xFFFFFFFC)]),
+    ("two RINTCs, one of them too short", [rintc(7), rintc(7, length=19)], "MadtUnread 0x50 0x18"),
+    ("a CORE PIC and an x2APIC", [core_pic(7, 1), x2apic(7, 2)], "SameUid 0x3b 0x2c 0x7"),
+    ("two CORE PICs, one of them off", [core_pic(7, 1), core_pic(7, 2, 0xFFFFFFFE)]),
+    ("two CORE PICs, one of them too short", [core_pic(7, 1), core_pic(7, 2, length=14)], "MadtUnread 0x3b 0x11"),
+    ("two CORE PICs, one of them too long", [core_pic(7, 1), core_pic(7, 2, length=16)], "MadtUnread 0x3b 0x11"),
+):
+    processors(f"one UID of {name}", entries, *advice)
+UIDS_APART = [gicc(7), gicc(0x1000007), rintc(0x2000007), core_pic(0x3000007, 1), core_pic(0x4000007, 0x1000001)]
+processors("five UIDs and two APIC IDs, the high bits apart", UIDS_APART)
 expected(
     "one UID of two local APICs, one of them too long", listed(madt(lapic(1, 0), changed(lapic(1, 1) + bytes(4), {1: 12}))),
     "no 6 MadtEntryLength 0x34",
@@ -289,7 +306,15 @@ processors("one APIC ID twice, the first one off", [lapic(0, 5, 0), lapic(1, 5)]
 processors("one APIC ID twice, online capable", [lapic(0, 5, 2), lapic(1, 5)], "SameApicId 0x34 0x2c 0x5")
 processors("one APIC ID of a local APIC and an x2APIC", [lapic(0, 5), x2apic(1, 5)], "SameApicId 0x34 0x2c 0x5")
 processors("two APIC IDs of x2APICs with one low byte", [x2apic(0, 5), x2apic(1, 0x105)])
+for name, entries, *advice in (
+    ("a CORE PIC and a local APIC", [core_pic(1, 5), lapic(2, 5)], "SameApicId 0x3b 0x2c 0x5"),
+    ("an x2APIC and a CORE PIC", [x2apic(1, 5), core_pic(2, 5)], "SameApicId 0x3c 0x2c 0x5"),
+    ("two CORE PICs, one of them off", [core_pic(1, 5), core_pic(2, 5, 2)]),
+    ("two CORE PICs, one of them too long", [core_pic(1, 5), core_pic(2, 5, length=16)], "MadtUnread 0x3b 0x11"),
+):
+    processors(f"one APIC ID of {name}", entries, *advice)
 processors("a GICC has no APIC ID", [lapic(1, 0), gicc(0)])
+processors("an RINTC has no APIC ID", [lapic(1, 0), rintc(0), rintc(2)])
 processors(
     "one UID and one APIC ID, at two places", [lapic(0, 0), lapic(1, 0), lapic(1, 2)], "SameUid 0x3c 0x34 0x1", "SameApicId 0x34 0x2c",
 )
@@ -329,35 +354,28 @@ processors("a local APIC NMI of a GICC of 40 bytes", [ON, gicc(48, length=40), l
 processors("a local APIC NMI of an APIC ID", [lapic(0, 48), lapic_nmi(48, 1)], "NmiNowhere 0x34 0x0 0x30")
 processors("a local APIC NMI before its processor", [lapic_nmi(3, 1), lapic(3, 0)])
 processors("two local NMIs of no processor", [ON, lapic_nmi(255, 1), x2apic_nmi(9, 1), lapic_nmi(8, 1)], "NmiNowhere 0x3a 0x0 0x9")
-for kind in (7, 17, 24):
-    for length in (2, 8, 255):
-        processors(
-            f"a local APIC NMI of no processor, and an entry of type {kind} and length {length}",
-            [ON, lapic_nmi(48, 1), other(kind, length)], f"MadtUnread 0x3a {kind:#x} 0x0",
-        )
+for name, entry in (("a CORE PIC", core_pic(48, 1, 0)), ("an RINTC", rintc(48, 0)), ("an RINTC of 20 bytes", rintc(48, 0, 20))):
+    processors(f"a local APIC NMI of {name} that is off", [ON, entry, lapic_nmi(48, 1)])
+processors("a local APIC NMI of the ID of a CORE PIC", [ON, core_pic(1, 48), lapic_nmi(48, 1)], "NmiNowhere 0x43 0x0 0x30")
 for kind in (6, 8, 13, 16, 18, 23, 25, 255):
     processors(
         f"a local APIC NMI of no processor, and an entry of type {kind}", [ON, lapic_nmi(48, 1), other(kind)], "NmiNowhere 0x34 0x0 0x30",
         f"MadtUnread 0x3a {kind:#x} 0x0",
     )
-processors("a local APIC NMI of no processor, and a GICC of 39 bytes", [ON, lapic_nmi(48, 1), gicc(1, length=39)], "MadtUnread 0x3a 0xb")
-processors(
-    "a local APIC NMI of no processor, and a GICC of 40 bytes", [ON, lapic_nmi(48, 1), gicc(1, length=40)], "NmiNowhere 0x34 0x0 0x30",
-)
 expected(
     "a local APIC NMI of no processor, which is too long", listed(madt(ON, changed(lapic_nmi(48, 1) + b"\0", {1: 7}))),
     "no 6 MadtEntryLength 0x34",
 )
 expected(
     "a local APIC NMI of no processor, and what would be an entry of type 7 after the cut",
-    listed(madt(ON, lapic_nmi(48, 1), b"\1\0", other(7))), "no 6 MadtEntryCut 0x3a", "advice NmiNowhere 0x34 0x0 0x30",
+    listed(madt(ON, lapic_nmi(48, 1), b"\1\0", other(7))), "no 6 MadtEntryCut 0x3a",
 )
 
 # ---- distributors
 processors("one distributor", [gicc(0), gicd()])
 processors("two distributors", [gicc(0), gicd(), gicd()], "SecondGicd 0x94 0x7c")
 processors("three distributors", [gicd(), gicc(0), gicd(), gicd()], "SecondGicd 0x94 0x2c")
-processors("two distributors of two bytes", [gicd(2), gicd(2), ON], "SecondGicd 0x2e 0x2c")
+processors("two distributors of two bytes", [gicd(2), gicd(2), ON], "SecondGicd 0x2e 0x2c", "MadtUnread 0x2c 0xc")
 
 # ---- no processor
 processors("a MADT of its fixed fields", [], "NoProcessor")
@@ -365,21 +383,24 @@ processors("an I/O APIC alone", [SERVED], "NoProcessor")
 processors("processors that are off", [lapic(0, 0, 0), x2apic(1, 1, 4), gicc(2, 2)], "NoProcessor")
 processors("a processor that is online capable", [lapic(0, 0, 2)])
 processors("an x2APIC that is online capable", [x2apic(0, 0, 2)])
-processors("a GICC that is online capable", [gicc(0, 8)], "NoProcessor")
-processors("a GICC with all flags but one", [gicc(0, 0xFFFFFFFE)], "NoProcessor")
+processors("a GICC that is online capable", [gicc(0, 8)])
+processors("a GICC with all flags but two", [gicc(0, 0xFFFFFFF6)], "NoProcessor")
 processors("a GICC of 40 bytes alone", [gicc(0, length=40)])
-processors("a GICC of 39 bytes alone", [gicc(0, length=39)], "MadtUnread 0x2c 0xb")
-processors("an entry of type 7 alone", [other(7)], "MadtUnread 0x2c 0x7")
-processors("an entry of type 24 after a processor that is off", [lapic(0, 0, 0), other(24)], "MadtUnread 0x34 0x18")
+for name, entry, *advice in (
+    ("an RINTC", rintc(0)), ("an RINTC that is on by bit 1", rintc(0, 2)), ("an RINTC of 20 bytes", rintc(0, length=20)),
+    ("an RINTC with all flags but two", rintc(0, 0xFFFFFFFC), "NoProcessor"), ("a CORE PIC", core_pic(0, 0)),
+    ("a CORE PIC with all flags but one", core_pic(0, 0, 0xFFFFFFFE), "NoProcessor"),
+    ("a CORE PIC of 14 bytes", core_pic(0, 0, length=14), "MadtUnread 0x2c 0x11"),
+    ("a CORE PIC of 16 bytes", core_pic(0, 0, length=16), "MadtUnread 0x2c 0x11"),
+    ("an RINTC of 19 bytes", rintc(0, length=19), "MadtUnread 0x2c 0x18"),
+):
+    processors(f"{name} alone", [entry], *advice)
 expected("a MADT of 43 bytes", listed(table(b"APIC", bytes(7))), "no 6 MadtShort")
 expected(
     "a MADT that does not sum to 0 is read", listed(changed(madt(lapic(0, 0, 0)), {9: 0})), "no 3 TableSum 0x1 0x3000",
     "advice NoProcessor",
 )
-expected(
-    "a processor that is too long alone", listed(madt(changed(lapic(0, 0) + b"\0", {1: 9}))), "no 6 MadtEntryLength 0x2c",
-    "advice NoProcessor",
-)
+expected("a processor that is too long alone", listed(madt(changed(lapic(0, 0) + b"\0", {1: 9}))), "no 6 MadtEntryLength 0x2c")
 advised("no MADT", listed())
 
 # ---- domains by UID; no MADT says which processors there are
@@ -405,7 +426,15 @@ for name, entries, *advice in (
     ),
     ("two domains, the high bits apart", [uid_domain(5, 0), uid_domain(5, 0x1000000)], "TwoUidDomains 0x30 0x42 0x5"),
     ("two UIDs, the high bits apart", [uid_domain(5, 0), uid_domain(0x1000005, 1)]),
+    ("two UIDs of harts, the high bits apart", [hart_domain(5, 0), hart_domain(0x1000005, 1)]),
     ("a UID and an APIC ID", [uid_domain(5, 0), apic_domain(5, 1), x2apic_domain(5, 2)]),
+    ("a UID of a hart in two domains", [hart_domain(5, 0), hart_domain(5, 1)], "TwoUidDomains 0x30 0x44 0x5"),
+    ("a UID in a domain of a GICC and in one of a hart", [uid_domain(5, 0), hart_domain(5, 1)], "TwoUidDomains 0x30 0x42 0x5"),
+    ("a UID in a domain of a hart and in one of a GICC", [hart_domain(5, 0), uid_domain(5, 1)], "TwoUidDomains 0x30 0x44 0x5"),
+    ("a UID in one domain of a GICC and of a hart", [uid_domain(5, 1), hart_domain(5, 1)]),
+    ("a UID in two domains, that of a hart not enabled", [uid_domain(5, 0), hart_domain(5, 1, 2)]),
+    ("a UID in two domains, that of a hart too short", [uid_domain(5, 0), hart_domain(5, 1, length=19)], "SratUnread 0x42 0x7"),
+    ("a UID in two domains, that of a hart too long", [uid_domain(5, 0), hart_domain(5, 1, length=21)], "SratUnread 0x42 0x7"),
     ("a UID in two domains, the second entry too short", [uid_domain(5, 0), uid_domain(5, 1, length=17)], "SratUnread 0x42 0x3"),
     ("a UID in two domains, the second entry too long", [uid_domain(5, 0), uid_domain(5, 1, length=19)], "SratUnread 0x42 0x3"),
 ):
@@ -445,7 +474,8 @@ domains(
     "NoDomain 0x2c 0x0 0x5",
 )
 domains("a GICC in no domain", [gicc(5), gicc(6)], [uid_domain(5, 0)], "NoDomain 0x7c 0x0 0x6")
-domains("a GICC in no domain that is off", [gicc(5), gicc(6, 8)], [uid_domain(5, 0)])
+domains("a GICC in no domain that is off", [gicc(5), gicc(6, 0xFFFFFFF6)], [uid_domain(5, 0)])
+domains("a GICC in no domain that is online capable", [gicc(5), gicc(6, 8)], [uid_domain(5, 0)], "NoDomain 0x7c 0x0 0x6")
 domains("an affinity of a GICC that is off", [gicc(5), gicc(6, 0)], [uid_domain(5, 0), uid_domain(6, 1)])
 domains("an affinity of no GICC", [gicc(5)], [uid_domain(5, 0), uid_domain(6, 0)], "AffinityNowhere 0x42 0x0 0x6")
 domains("an affinity of the UID of a local APIC", [lapic(5, 9)], [uid_domain(5, 0)], "NoDomain 0x2c 0x0 0x9")
@@ -454,8 +484,40 @@ domains(
     "NoDomain 0x2c 0x0 0x9",
 )
 domains("affinities of both kinds", [lapic(5, 9), gicc(7)], [uid_domain(7, 0), apic_domain(9, 0)])
-for entry, line in ((other(7), "MadtUnread 0x34 0x7"), (gicc(0, length=39), "MadtUnread 0x34 0xb")):
-    domains(f"an affinity of another processor, and an entry of type {entry[0]}", [lapic(0, 6), entry], [apic_domain(7, 0)], line)
+HART_5 = hart_domain(5, 0)
+for name, entries, affinities, *advice in (
+    ("an RINTC in a domain", [rintc(5)], [HART_5]),
+    ("an RINTC in a domain, by the entry of a GICC", [rintc(5)], [uid_domain(5, 0)]),
+    ("a GICC in a domain, by the entry of an RINTC", [gicc(5)], [HART_5]),
+    ("an RINTC in no domain", [rintc(5), rintc(6)], [HART_5], "NoDomain 0x50 0x0 0x6"),
+    ("an RINTC in no domain that is on by bit 1", [rintc(5), rintc(6, 2)], [HART_5], "NoDomain 0x50 0x0 0x6"),
+    ("an RINTC in no domain that is off", [rintc(5), rintc(6, 4)], [HART_5]),
+    ("an RINTC and its affinity, not enabled", [rintc(5), rintc(6)], [HART_5, hart_domain(6, 0, 2)], "NoDomain 0x50 0x0 0x6"),
+    (
+        "an RINTC and its affinity of 21 bytes", [rintc(5), rintc(6)], [HART_5, hart_domain(6, 0, length=21)],
+        "NoDomain 0x50 0x0 0x6", "SratUnread 0x44 0x7",
+    ),
+    ("an RINTC affinity of 21 bytes alone", [rintc(5)], [hart_domain(5, 0, length=21)], "SratUnread 0x30 0x7"),
+    ("an affinity of no RINTC", [rintc(5)], [HART_5, hart_domain(6, 0)], "AffinityNowhere 0x44 0x0 0x6"),
+    ("an affinity of no RINTC that is not enabled", [rintc(5)], [HART_5, hart_domain(6, 0, 0)]),
+    ("an affinity of an RINTC that is off", [rintc(5), rintc(6, 0)], [HART_5, hart_domain(6, 1)]),
+    ("an affinity of a hart ID", [rintc(5)], [HART_5, hart_domain(0, 0)], "AffinityNowhere 0x44"),
+    (
+        "an RINTC and an affinity of its UID as an APIC ID", [rintc(5)], [apic_domain(5, 0)], "AffinityNowhere 0x30 0x0 0x5",
+        "NoDomain 0x2c 0x0 0x5",
+    ),
+    ("a CORE PIC in a domain", [core_pic(5, 9)], [apic_domain(9, 0)]),
+    ("a CORE PIC in a domain, by the longer entry", [core_pic(5, 0x109)], [x2apic_domain(0x109, 0)]),
+    ("a CORE PIC in no domain", [core_pic(5, 9), core_pic(6, 10)], [apic_domain(9, 0)], "NoDomain 0x3b 0x0 0xa"),
+    ("a CORE PIC in no domain that is off", [core_pic(5, 9), core_pic(6, 10, 2)], [apic_domain(9, 0)]),
+    ("an affinity of a CORE PIC that is off", [core_pic(5, 9), core_pic(6, 10, 0)], [apic_domain(9, 0), apic_domain(10, 0)]),
+    ("an affinity of the UID of a CORE PIC", [core_pic(5, 9)], [HART_5], "NoDomain 0x2c 0x0 0x9"),
+    (
+        "an affinity of the ID of a CORE PIC as a UID", [core_pic(5, 9)], [hart_domain(9, 0)], "AffinityNowhere 0x30 0x0 0x9",
+        "NoDomain 0x2c 0x0 0x9",
+    ),
+):
+    domains(name, entries, affinities, *advice)
 domains(
     "an affinity of another processor, and an entry of type 14", [lapic(0, 6), other(14)], [apic_domain(7, 0)],
     "AffinityNowhere 0x30 0x0 0x7", "NoDomain 0x2c 0x0 0x6", "MadtUnread 0x34 0xe",
@@ -491,6 +553,20 @@ localities(
     "what is not enabled past the distances", 2,
     [memory_of(3, 0, 16, 2), apic_domain(0, 3, 0), x2apic_domain(0, 3, 2), uid_domain(0, 3, 0)],
 )
+for name, placed in (
+    ("an ITS", its_domain), ("an initiator", partial(device_domain, 5)), ("a port", partial(device_domain, 6)),
+    ("an RINTC", partial(hart_domain, 0)),
+):
+    localities(f"{name} in the last domain", 2, [placed(1)])
+    localities(f"{name} past the distances", 2, [placed(2)], "DomainPastSlit 0x30 0x2 0x2")
+    localities(f"{name} far past the distances", 2, [placed(0x1000001)], "DomainPastSlit 0x30 0x2 0x1000001")
+    if name != "an ITS":
+        localities(f"{name} past the distances, not enabled", 2, [placed(2, 0xFFFFFFFE)])
+for entry in (
+    its_domain(2, 11), its_domain(2, 13), device_domain(5, 2, 1, 31), device_domain(5, 2, 1, 33), device_domain(6, 2, 1, 31),
+    device_domain(6, 2, 1, 33), hart_domain(0, 2, 1, 19), hart_domain(0, 2, 1, 21),
+):
+    localities(f"type {entry[0]} of {len(entry)} bytes past the distances", 2, [entry], f"SratUnread 0x30 {entry[0]:#x}")
 localities("memory before a processor", 2, [memory_of(0, 0, 16), memory_of(2, 16, 16), apic_domain(0, 3)], "DomainPastSlit 0x58 0x2 0x2")
 localities("a processor before memory", 2, [apic_domain(0, 9), memory_of(2, 16, 16)], "DomainPastSlit 0x30 0x2 0x9")
 localities("no localities", 0, [apic_domain(0, 0)], "DomainPastSlit 0x30")
@@ -549,9 +625,8 @@ expected(
     "no 14 ParentCycle 0x24 0x0 0x1",
 )
 expected(
-    "a parent of an entry that is no node is a leaf of Revision 1",
+    "two nodes of one ID are no leaves of Revision 1 beside one of a wrong length",
     listed(pptt(named(3), named(3), node(36, length=24) + bytes(4), revision=1)), "no 12 PpttEntryLength 0x4c",
-    "advice SameLeaf 0x38 0x24 0x3",
 )
 expected("a second leaf of one ID after the cut", listed(pptt(leaf(3), b"\1\1", leaf(3))), "no 12 PpttEntryCut 0x38")
 TWO_PROCESSORS = (lapic(0, 0), lapic(1, 1))
@@ -562,18 +637,25 @@ hierarchy("a processor that is no leaf, and is off", [leaf(0)], processors=(lapi
 hierarchy("a processor that is no leaf, and is online capable", [leaf(0)], "NoLeaf 0x34 0x0 0x1", processors=(lapic(0, 0), lapic(1, 1, 2)))
 hierarchy("an x2APIC that is no leaf", [leaf(0)], "NoLeaf 0x34 0x0 0x100", processors=(lapic(0, 0), x2apic(0x100, 1)))
 hierarchy("a processor whose APIC ID is that of a leaf", [leaf(0)], "NoLeaf 0x34 0x0 0x5", processors=(lapic(0, 1), lapic(5, 0)))
-hierarchy("processors, and no leaf", [named(0), shaped_cache(0)], processors=TWO_PROCESSORS)
+hierarchy("processors, and no leaf", [named(0), shaped_cache(0)], "NoLeaf 0x2c", processors=TWO_PROCESSORS)
+hierarchy("processors, and a node of Revision 1 that is no leaf", [node()], "NoLeaf 0x2c", processors=TWO_PROCESSORS, revision=1)
+hierarchy("processors, and no node", [shaped_cache(0), other(2, 20)], processors=TWO_PROCESSORS)
 hierarchy("processors, and a PPTT without entries", [], processors=TWO_PROCESSORS)
+hierarchy("a processor that is no leaf, and another entry", [leaf(0), other(2)], "NoLeaf 0x34 0x0 0x1", processors=TWO_PROCESSORS)
 hierarchy("a processor that is no leaf, and a node of Revision 1", [named(0)], "NoLeaf 0x34 0x0 0x1", processors=TWO_PROCESSORS, revision=1)
 hierarchy("processors that are parents in Revision 1", [named(0), named(1, 36)], "NoLeaf 0x2c", processors=TWO_PROCESSORS, revision=1)
-for kind in (7, 17, 24):
-    hierarchy(
-        f"a processor that is no leaf, and an entry of type {kind}", [leaf(0)], f"MadtUnread 0x3c {kind:#x} 0x0",
-        processors=(*TWO_PROCESSORS, other(kind)),
-    )
+for name, entries, *advice in (
+    ("a GICC that is no leaf, and is online capable", (gicc(0), gicc(6, 8)), "NoLeaf 0x7c 0x0 0x6"),
+    ("an RINTC that is no leaf", (rintc(0), rintc(6)), "NoLeaf 0x50 0x0 0x6"),
+    ("an RINTC that is no leaf, and is on by bit 1", (rintc(0), rintc(6, 2)), "NoLeaf 0x50 0x0 0x6"),
+    ("an RINTC that is no leaf, and is off", (rintc(0), rintc(6, 4))),
+    ("a CORE PIC that is no leaf", (core_pic(0, 1), core_pic(6, 0)), "NoLeaf 0x3b 0x0 0x6"),
+    ("a CORE PIC that is no leaf, and is off", (core_pic(0, 1), core_pic(6, 0, 2))),
+):
+    hierarchy(name, [leaf(0)], *advice, processors=entries)
 hierarchy("leaves, and no MADT", [leaf(0), leaf(9)])
 
-# ---- the PPTT: leaves of GICCs
+# ---- the PPTT: leaves of processors that stage 18 does not know
 hierarchy("a leaf of each GICC", [leaf(7), leaf(6)], processors=(gicc(6), gicc(7)))
 hierarchy("a leaf of no GICC", [leaf(6), leaf(9), leaf(8)], "LeafNowhere 0x38 0x0 0x9", processors=[gicc(6)])
 hierarchy("a GICC that is no leaf, and a leaf of none", [leaf(9)], "NoLeaf 0x2c 0x0 0x6", "LeafNowhere 0x24 0x0 0x9", processors=[gicc(6)])
@@ -582,11 +664,66 @@ hierarchy("a leaf of a local APIC beside a GICC", [leaf(6), leaf(9)], processors
 hierarchy("a leaf of no GICC, which are off", [leaf(9)], "NoProcessor", "LeafNowhere 0x24 0x0 0x9", processors=[gicc(6, 0)])
 hierarchy("a leaf of no GICC of 40 bytes", [leaf(6), leaf(9)], "LeafNowhere 0x38 0x0 0x9", processors=[gicc(6, length=40)])
 hierarchy("a leaf of no GICC, one of them too short", [leaf(6), leaf(9)], "MadtUnread 0x7c 0xb", processors=(gicc(6), gicc(9, length=39)))
-hierarchy("a leaf of no GICC, and an entry of type 24", [leaf(6), leaf(9)], "MadtUnread 0x7c 0x18", processors=(gicc(6), other(24)))
+for name, processor in (("an RINTC", rintc(6)), ("an RINTC of 20 bytes", rintc(6, length=20)), ("a CORE PIC", core_pic(6, 9))):
+    hierarchy(f"a leaf of {name}", [leaf(6)], processors=[processor])
+    hierarchy(f"a leaf of none beside {name}", [leaf(6), leaf(9)], "LeafNowhere 0x38 0x0 0x9", processors=[processor])
+    hierarchy(f"a leaf of a local APIC beside {name}", [leaf(6), leaf(9)], processors=(processor, lapic(9, 0)))
+for processor in (rintc(6, 0), core_pic(6, 9, 0)):
+    name = f"a leaf of none beside type {processor[0]} that is off"
+    hierarchy(name, [leaf(9)], "NoProcessor", "LeafNowhere 0x24 0x0 0x9", processors=[processor])
+for processor in (rintc(6, length=19), core_pic(6, 9, length=14), core_pic(6, 9, length=16)):
+    name = f"a leaf of none beside type {processor[0]} of {len(processor)} bytes"
+    hierarchy(name, [leaf(6), leaf(9)], f"MadtUnread 0x2c {processor[0]:#x}", processors=[processor])
 hierarchy("a leaf of no GICC, in Revision 1", [named(6), named(9)], "LeafNowhere 0x38 0x0 0x9", processors=[gicc(6)], revision=1)
 hierarchy("an ID of a node that is no leaf, and of no GICC", [leaf(6), named(9)], processors=[gicc(6)])
 expected("a leaf of no local APIC", listed(pptt(leaf(0), leaf(9)), madt(lapic(0, 0))), "no 18 LeafUnknown 0x38 0x0 0x9")
 hierarchy("a leaf of no local APIC, and a distributor", [leaf(0), leaf(9)], processors=(lapic(0, 0), gicd()))
+
+# ---- what is nowhere, and processors that no rule reads
+for kind, read, unread in ((7, (), (2, 8, 255)), (11, (40,), (2, 39)), (17, (15,), (2, 14, 16, 255)), (24, (20, 255), (2, 19))):
+    for length in (*read, *unread):
+        entry = other(kind, length)
+        for name, at, tables, *advice in (
+            ("a local APIC NMI of no processor", 0x3A, [madt(ON, lapic_nmi(48, 1), entry)], "NmiNowhere 0x34 0x0 0x30"),
+            ("no processor that is on", 0x34, [madt(lapic(0, 0, 0), entry)], "NoProcessor"),
+            (
+                "an affinity of another processor", 0x34, [madt(lapic(0, 6), entry), srat(apic_domain(7, 0))],
+                "AffinityNowhere 0x30 0x0 0x7", "NoDomain 0x2c 0x0 0x6",
+            ),
+            ("a processor that is no leaf", 0x3C, [madt(*TWO_PROCESSORS, entry), pptt(leaf(0))], "NoLeaf 0x34 0x0 0x1"),
+            ("a leaf of no GICC", 0x7C, [madt(gicc(6), entry), pptt(leaf(6), leaf(9))], "LeafNowhere 0x38 0x0 0x9"),
+        ):
+            advice = advice if length in read else [f"MadtUnread {at:#x} {kind:#x}"]
+            advised(f"{name}, and an entry of type {kind} and length {length}", listed(*tables), *advice)
+
+# ---- what is sought in a table that has a cut, or a wrong length, after its last entry: it may be there, and nothing is told
+THREE_AFFINITIES = [apic_domain(0, 0), apic_domain(1, 0), apic_domain(7, 0)]
+for what, tail, fault in (
+    ("nothing", b"", ""), ("a cut", b"\0\0" + other(7), "EntryCut"), ("a wrong length", other(1, 13), "EntryLength"),
+):
+    two, two_and_more, arm = madt(*TWO_PROCESSORS), madt(*TWO_PROCESSORS, tail), madt(gicc(6))
+    for is_told, stage, signature, at, name, tables, advice in (
+        (False, 6, "MADT", 0x3A, "a local NMI of no processor", [madt(ON, lapic_nmi(48, 1), tail)], "NmiNowhere 0x34 0x0 0x30"),
+        (False, 6, "MADT", 0x34, "no processor that is on", [madt(lapic(0, 0, 0), tail)], "NoProcessor"),
+        (False, 6, "MADT", 0x3C, "an affinity of none", [two_and_more, srat(*THREE_AFFINITIES)], "AffinityNowhere 0x50 0x0 0x7"),
+        (False, 6, "MADT", 0x7C, "a leaf of no GICC", [madt(gicc(6), tail), pptt(leaf(6), leaf(9))], "LeafNowhere 0x38 0x0 0x9"),
+        (False, 9, "SRAT", 0x40, "a processor in no domain", [two, srat(apic_domain(0, 0), tail)], "NoDomain 0x34 0x0 0x1"),
+        (False, 12, "PPTT", 0x38, "a processor that is no leaf", [two, pptt(leaf(0), tail)], "NoLeaf 0x34 0x0 0x1"),
+        # in Revision 1 a leaf is a node that no other one names
+        (False, 12, "PPTT", 0x4C, "two leaves", [pptt(named(3), named(3), tail, revision=1)], "SameLeaf 0x38 0x24 0x3"),
+        (False, 12, "PPTT", 0x4C, "a leaf of none", [arm, pptt(named(6), named(9), tail, revision=1)], "LeafNowhere 0x38 0x0 0x9"),
+        # what is sought in another table is told, and what this one has
+        (True, 6, "MADT", 0x3C, "one UID twice", [madt(lapic(1, 0), lapic(1, 1), tail)], "SameUid 0x34 0x2c 0x1"),
+        (True, 6, "MADT", 0x3C, "a processor in no domain", [two_and_more, srat(apic_domain(0, 0))], "NoDomain 0x34 0x0 0x1"),
+        (True, 6, "MADT", 0x3C, "a processor that is no leaf", [two_and_more, pptt(leaf(0))], "NoLeaf 0x34 0x0 0x1"),
+        (True, 9, "SRAT", 0x60, "an affinity of none", [two, srat(*THREE_AFFINITIES, tail)], "AffinityNowhere 0x50 0x0 0x7"),
+        (True, 9, "SRAT", 0x54, "two domains", [srat(uid_domain(5, 0), uid_domain(5, 1), tail)], "TwoUidDomains 0x30 0x42 0x5"),
+        (True, 12, "PPTT", 0x4C, "a leaf of none of Revision 2", [arm, pptt(leaf(6), leaf(9), tail)], "LeafNowhere 0x38 0x0 0x9"),
+        (True, 12, "PPTT", 0x4C, "two leaves of Revision 2", [pptt(leaf(3), leaf(3), tail)], "SameLeaf 0x38 0x24 0x3"),
+    ):
+        first_line = f"no {stage} {signature.title()}{fault} {at:#x}" if fault else "yes"
+        told = [f"advice {advice}"] if is_told or not fault else []
+        expected(f"{name}, and {what} at {at:#x} of the {signature}", listed(*tables), first_line, *told)
 
 
 # ---- the PPTT: caches
@@ -628,21 +765,29 @@ caches("a Cache ID and a cache of 24 bytes", [shaped_cache(CACHE_ID_VALID, lengt
 
 # ---- entries that nothing reads
 for kind in (0, 1, 2, 3, 4, 5, 9, 10):
-    # of a length that is none of their type
-    expected(f"an entry of type {kind} of 200 bytes", listed(madt(ON, other(kind, 200))), "no 6 MadtEntryLength 0x34")
-processors("an entry of type 11 of 40 bytes", [ON, gicc(1, length=40)])
-processors("an entry of type 12", [ON, gicd(2)])
-for kind in (6, 7, 8, 13, 14, 15, 16, 17, 24, 128, 255):
-    processors(f"an entry of type {kind}", [ON, other(kind, 2)], f"MadtUnread 0x34 {kind:#x} 0x0")
+    # of a length that is none of their type: there may be a processor that is on
+    expected(f"an entry of type {kind} of 200 bytes", listed(madt(lapic(0, 0, 0), other(kind, 200))), "no 6 MadtEntryLength 0x34")
+for kind, read, unread in (
+    (11, (40, 80, 255), (2, 39)), (12, (24,), (2, 23, 25)), (13, (24,), (2, 23, 25)), (14, (16,), (2, 15, 17)),
+    (15, (20,), (2, 19, 21)), (17, (15,), (2, 14, 16)), (24, (20, 36, 255), (2, 19)),
+    *((kind, (), (2, 24)) for kind in (6, 7, 8, 16, 18, 23, 25, 128, 255)),
+):
+    for length in (*read, *unread):
+        advice = [] if length in read else [f"MadtUnread 0x34 {kind:#x}"]
+        processors(f"an entry of type {kind} and length {length}", [ON, other(kind, length)], *advice)
 processors("entries of types 13 to 16", [ON, gicc(1), *map(other, range(13, 17))], "MadtUnread 0x84 0xd")
 processors("an entry of type 11 of 39 bytes before others", [ON, gicc(1, length=39), other(13)], "MadtUnread 0x34 0xb")
 expected("an entry of type 13 after the cut", listed(madt(ON, b"\1\1", other(13))), "no 6 MadtEntryCut 0x34")
 for kind in (0, 1, 2):
-    expected(f"an SRAT entry of type {kind} of 200 bytes", listed(srat(other(kind, 200))), "no 9 SratEntryLength 0x30")
-for length, *advice in ((2, "SratUnread 0x30 0x3"), (17, "SratUnread 0x30 0x3"), (18,), (19, "SratUnread 0x30 0x3")):
-    advised(f"an SRAT entry of type 3 of {length} bytes", listed(srat(uid_domain(1, 1, length=length))), *advice)
-for kind in (4, 5, 6, 7, 255):
-    advised(f"an SRAT entry of type {kind}", listed(srat(memory(0, 1), other(kind))), f"SratUnread 0x58 {kind:#x} 0x0")
+    tables = madt(*TWO_PROCESSORS), srat(apic_domain(0, 0), other(kind, 200))
+    expected(f"an SRAT entry of type {kind} of 200 bytes", listed(*tables), "no 9 SratEntryLength 0x40")
+for kind in (0, 1):
+    tables = madt(*TWO_PROCESSORS), pptt(leaf(0), other(kind, 200))
+    expected(f"a PPTT entry of type {kind} of 200 bytes", listed(*tables), "no 12 PpttEntryLength 0x38")
+for kind, right in ((3, 18), (4, 12), (5, 32), (6, 32), (7, 20), (8, None), (255, None)):
+    for length in (2, 12, 20) if right is None else (2, right - 1, right, right + 1):
+        advice = [] if length == right else [f"SratUnread 0x58 {kind:#x}"]
+        advised(f"an SRAT entry of type {kind} of {length} bytes", listed(srat(memory(0, 1), other(kind, length))), *advice)
 advised("SRAT entries of types 3 to 6", listed(srat(uid_domain(1, 1), other(5), other(3), other(4))), "SratUnread 0x42 0x5")
 
 # ---- many faults
@@ -666,70 +811,69 @@ expected(
     "no 1 RsdpSum 0xe0000", "no 2 RootSum 0x1000", "no 3 TableSum 0x0 0x2000", "no 4 PmEventLength 0x58", "no 4 PmTimerLength 0x5b",
     "no 4 GpeLength 0x5c", "no 5 FacsAlign 0x7004", "no 5 FacsSignature 0x7004", "no 5 FacsLength 0x7004", "advice NoProcessor",
 )
-expected(
-    "39 faults, and every rule of advice but NoProcessor",
-    {
-        RSDP_AT: changed(extended_rsdp(), {0: ord("X")}),
-        XSDT_AT: changed(xsdt(0x2000, 0x3000, 0x4000, 0x5000, 0x6000, 0x8000, 0x9000, 0xA000, 0xB000, 0xC000, 0xD000, 0x2000), {9: 0}),
-        0x2000: revised(
-            full_fadt(
-                length=244, _40=number(0xA020000, 4), _46=number(200, 2), _56=number(0x600, 4), _88=b"\3", _89=b"\1", _91=b"\3\1",
-                _112=number(RESET_REG_SUP, 4), _132=number(0x7004, 8), _140=number(0xA010000, 8), _148=generic_address(0x604),
-            ),
-            6,
+# A set of many faults, whose tables of entries have no cut and no wrong length, and what makes one of each in three of them.
+MANY_FAULTS = {
+    RSDP_AT: changed(extended_rsdp(), {0: ord("X")}),
+    XSDT_AT: changed(xsdt(0x2000, 0x3000, 0x4000, 0x5000, 0x6000, 0x8000, 0x9000, 0xA000, 0xB000, 0xC000, 0xD000, 0x2000), {9: 0}),
+    0x2000: revised(
+        full_fadt(
+            length=244, _40=number(0xA020000, 4), _46=number(200, 2), _56=number(0x600, 4), _88=b"\3", _89=b"\1", _91=b"\3\1",
+            _112=number(RESET_REG_SUP, 4), _132=number(0x7004, 8), _140=number(0xA010000, 8), _148=generic_address(0x604),
         ),
-        0x3000: madt(
-            io_apic(0, 0, 0),  # 0x2C, serves 0 to 23
-            io_apic(0xFEC00000, 20, 0),  # 0x38, serves 20 to 43
-            io_apic(0xFEC00000, 0xFFFFFFF0, 1),  # 0x44
-            override(5, 5),  # 0x50
-            override(5, 9, 2, bus=1),  # 0x5A
-            lapic_address(0xFEE00000),  # 0x64
-            lapic_address(0xFEE00000),  # 0x70
-            nmi_source(50),  # 0x7C
-            lapic(1, 1),  # 0x84
-            lapic(1, 1),  # 0x8C
-            gicc(7),  # 0x94
-            lapic_nmi(9, 0),  # 0xE4
-            gicd(),  # 0xEA
-            gicd(),  # 0x102
-            other(13),  # 0x11A
-            changed(lapic(7, 7), {1: 7})[:7],  # 0x122
-            b"\7\0",  # 0x129
-        ),
-        0x4000: srat(
-            apic_domain(1, 0),  # 0x30
-            x2apic_domain(1, 1),  # 0x40
-            uid_domain(5, 0),  # 0x58
-            uid_domain(5, 1),  # 0x6A
-            memory(0x1000, 0x2000),  # 0x7C
-            memory_of(9, 0x2000, 0x1000),  # 0xA4
-            memory(0xFFFFFFFFFFFFF000, 0x1001),  # 0xCC
-            other(5),  # 0xF4
-            other(2, 12),  # 0xFC
-            bytes(1),  # 0x108
-        ),
-        0x5000: slit(2, [11, 9, 20, 10]),
-        0x6000: pptt(
-            node(81, resources=[36]),  # 0x24
-            node(60),  # 0x3C, its own parent
-            leaf(8),  # 0x50
-            leaf(8),  # 0x64
-            shaped_cache(SETS_VALID | CACHE_ID_VALID, sets=0, cache_id=4),  # 0x78
-            shaped_cache(CACHE_ID_VALID, cache_id=4),  # 0x94
-            cache(176),  # 0xB0, its own next level
-            cache(1),  # 0xC8
-            other(0, 16),  # 0xE0
-            bytes(1),  # 0xF0
-            revision=3,
-        ),
-        0x7004: b"FACT\x3f\0\0\0",
-        0x9000: changed(hpet(), {4: 35}),
-        0xA000: hpet()[:55],
-        0xB000: changed(hpet(), {9: 0}),
-        0xC000: srat(),
-        0xD000: DSDT,
-    },
+        6,
+    ),
+    0x3000: madt(
+        io_apic(0, 0, 0),  # 0x2C, serves 0 to 23
+        io_apic(0xFEC00000, 20, 0),  # 0x38, serves 20 to 43
+        io_apic(0xFEC00000, 0xFFFFFFF0, 1),  # 0x44
+        override(5, 5),  # 0x50
+        override(5, 9, 2, bus=1),  # 0x5A
+        lapic_address(0xFEE00000),  # 0x64
+        lapic_address(0xFEE00000),  # 0x70
+        nmi_source(50),  # 0x7C
+        lapic(1, 1),  # 0x84
+        lapic(1, 1),  # 0x8C
+        gicc(7),  # 0x94
+        lapic_nmi(9, 0),  # 0xE4
+        gicd(),  # 0xEA
+        gicd(),  # 0x102
+        other(13),  # 0x11A
+    ),
+    0x4000: srat(
+        apic_domain(1, 0),  # 0x30
+        x2apic_domain(1, 1),  # 0x40
+        uid_domain(5, 0),  # 0x58
+        uid_domain(5, 1),  # 0x6A
+        memory(0x1000, 0x2000),  # 0x7C
+        memory_of(9, 0x2000, 0x1000),  # 0xA4
+        memory(0xFFFFFFFFFFFFF000, 0x1001),  # 0xCC
+        other(5),  # 0xF4
+    ),
+    0x5000: slit(2, [11, 9, 20, 10]),
+    0x6000: pptt(
+        node(81, resources=[36]),  # 0x24
+        node(60),  # 0x3C, its own parent
+        leaf(8),  # 0x50
+        leaf(8),  # 0x64
+        shaped_cache(SETS_VALID | CACHE_ID_VALID, sets=0, cache_id=4),  # 0x78
+        shaped_cache(CACHE_ID_VALID, cache_id=4),  # 0x94
+        cache(176),  # 0xB0, its own next level
+        cache(1),  # 0xC8
+        revision=3,
+    ),
+    0x7004: b"FACT\x3f\0\0\0",
+    0x9000: changed(hpet(), {4: 35}),
+    0xA000: hpet()[:55],
+    0xB000: changed(hpet(), {9: 0}),
+    0xC000: srat(),
+    0xD000: DSDT,
+}
+TAILS = {
+    0x3000: changed(lapic(7, 7), {1: 7})[:7] + b"\7\0",  # 0x122, 0x129
+    0x4000: other(2, 12) + bytes(1),  # 0xFC, 0x108
+    0x6000: other(0, 16) + bytes(1),  # 0xE0, 0xF0
+}
+FOUND_IN_MANY = (
     "no 1 RsdpSignature 0xe0000", "no 1 RsdpSum 0xe0000", "no 1 RsdpExtendedSum 0xe0000", "no 2 RootSum 0x1100",
     "no 3 TableHeaderOut 0x5 0x8000", "no 3 TableLength 0x6 0x9000", "no 3 TableOut 0x7 0xa000", "no 3 TableSum 0x8 0xb000",
     "no 4 PmEventLength 0x58", "no 4 PmControlLength 0x59", "no 4 PmTimerLength 0x5b", "no 4 GpeLength 0x5c", "no 4 ResetRegister 0x74",
@@ -748,6 +892,16 @@ expected(
     "advice DomainPastSlit 0xa4 0x2 0x9", "advice SlitDiffers 0x2d 0x2e", "advice SameLeaf 0x64 0x50 0x8", "advice CacheShape 0x78",
     "advice SameCacheId 0x94 0x78 0x4", "advice NoLeaf 0x84 0x0 0x1", "advice LeafNowhere 0x50 0x0 0x8", "advice MadtUnread 0x11a 0xd",
     "advice SratUnread 0xf4 0x5",
+)
+# What is not told where a table in which it is sought has a cut or a wrong length.
+SOUGHT = ("SciNowhere", "NmiNowhere", "AffinityNowhere", "NoDomain", "NoLeaf", "LeafNowhere")
+expected(
+    "33 faults, and every rule of advice but NoProcessor", MANY_FAULTS, *(line for line in FOUND_IN_MANY if "Entry" not in line),
+)
+expected(
+    "39 faults, and every rule of advice but those on what is not in a table",
+    {**MANY_FAULTS, **{at: table(it[:4], it[36:] + TAILS[at], it[8]) for at, it in MANY_FAULTS.items() if at in TAILS}},
+    *(line for line in FOUND_IN_MANY if line.split()[1] not in SOUGHT),
 )
 expected(
     "each fault of the MADT's entries, and of the interrupt numbers",
