@@ -21,15 +21,14 @@ fn has_fault(image: &Image, fadt: &Fadt<'_>, address: u64, code: Code) -> bool
     requires some { address ≢ 0 }
     ensures { IsTrue result ↔ NamedFacsFault image.now fadt.now code address }
 {
-    let question = match code {
-        Code::FacsAlign => return address % 64 != 0,
-        Code::FacsHeaderOut => Question::Header,
-        Code::FacsSignature => Question::Signature(*b"FACS"),
-        Code::FacsLength => Question::Length,
-        Code::FacsOut => Question::Bytes,
-        _ => return false,
-    };
-    fails(image, address, Frame::FACS, question)
+    match code {
+        Code::FacsAlign => address % 64 != 0,
+        Code::FacsHeaderOut => fails(image, address, Frame::FACS, Question::Header),
+        Code::FacsSignature => fails(image, address, Frame::FACS, Question::Signature(*b"FACS")),
+        Code::FacsLength => fails(image, address, Frame::FACS, Question::Length),
+        Code::FacsOut => fails(image, address, Frame::FACS, Question::Bytes),
+        _ => false,
+    }
 }
 
 /// The fault with this code of the FACS that a FADT names, at its address, or at 0 if none is named.

@@ -61,19 +61,25 @@ fn sought_place<'a, E: TableEntry<'a>>(
         (IsSoughtEntry (entry_table E.first E.said_by (E.IsOwn policy.now) E.IsSingle) sought)
         (entry_at_value E.value at.now) result }
 {
-    let (is_sought, other) = match sought {
-        SoughtEntry::Own(code) => (at.entry.has_fault(policy, code), 0),
-        SoughtEntry::Single => (at.entry.single_code().is_some(), 0),
-        SoughtEntry::SingleAfter(first) => (
-            at.offset > first && at.entry.single_code().is_some(),
-            first,
-        ),
-    };
-    is_sought.then_some(Place {
-        at: at.offset,
-        other,
-        point: 0,
-    })
+    match sought {
+        SoughtEntry::Own(code) => at
+            .entry
+            .has_fault(policy, code)
+            .then_some(Place::at(at.offset)),
+        SoughtEntry::Single => at
+            .entry
+            .single_code()
+            .is_some()
+            .then_some(Place::at(at.offset)),
+        SoughtEntry::SingleAfter(first) if at.offset > first => {
+            at.entry.single_code().is_some().then_some(Place {
+                at: at.offset,
+                other: first,
+                point: 0,
+            })
+        }
+        SoughtEntry::SingleAfter(_) => None,
+    }
 }
 
 /// The place of the first entry that is looked for, if the table does not end before the offset of its first entry.

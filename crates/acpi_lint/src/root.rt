@@ -30,16 +30,23 @@ fn has_fault(image: &Image, root: RootPlace, code: Code) -> bool
     requires { IsSlotWidth root.width }
     ensures { IsTrue result ↔ RootTableFault image.now root.address root.width code }
 {
-    let question = match code {
-        Code::RootHeaderOut => Question::Header,
-        Code::RootSignature => Question::Signature(root.signature()),
-        Code::RootLength => Question::Length,
-        Code::RootOut => Question::Bytes,
-        Code::RootRagged => return is_ragged(image, root),
-        Code::RootSum => Question::Sum,
-        _ => return false,
-    };
-    fails(image, root.address, Frame::TABLE, question)
+    let address = root.address;
+    match code {
+        Code::RootHeaderOut => fails(image, address, Frame::TABLE, Question::Header),
+        Code::RootSignature => {
+            fails(
+                image,
+                address,
+                Frame::TABLE,
+                Question::Signature(root.signature()),
+            )
+        }
+        Code::RootLength => fails(image, address, Frame::TABLE, Question::Length),
+        Code::RootOut => fails(image, address, Frame::TABLE, Question::Bytes),
+        Code::RootRagged => is_ragged(image, root),
+        Code::RootSum => fails(image, address, Frame::TABLE, Question::Sum),
+        _ => false,
+    }
 }
 
 /// The fault of the root table with this code: the RSDP names no root table, or the one that it names has it. There

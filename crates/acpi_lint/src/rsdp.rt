@@ -1,7 +1,9 @@
 //! Codes 1 to 7: the RSDP (ACPI 6.5, 5.2.5.3).
 
-ghost use Rattle.std.specs.Prelude.{◌↔◌, IsTrue};
-ghost use Rattle.acpi_base.specs.Rsdp.{RsdpFault};
+ghost use Rattle.std.specs.Prelude.{◌≡◌, ◌↔◌, IsTrue, Some, length};
+ghost use Rattle.acpi_base.specs.Frames.{FrameFault};
+ghost use Rattle.acpi_base.specs.Memory.{bytes_at};
+ghost use Rattle.acpi_base.specs.Rsdp.{RsdpFault, IsExtended, extended_frame};
 ghost use Rattle.acpi_base.specs.declared.stage.Stage.{Stage};
 ghost use Rattle.acpi_lint.specs.Places.{FindsLeast};
 ghost use Rattle.acpi_lint.specs.StageFaults.{IsFaultOfStage};
@@ -11,6 +13,16 @@ use acpi_base::field::{is_signed, u8_at};
 use acpi_base::{Code, Frame, Image, Policy, Question, sum};
 use acpi_read::{Rsdp, fails};
 
+/// Whether the RSDP at an address, which begins with `head`, has the extended form, and this question about that fails.
+fn is_extended_fault(image: &Image, address: u64, head: &[u8], question: Question) -> bool
+    requires head { bytes_at image.now address 20 ≡ Some head.now }
+    requires long { length head.now ≡ 20 }
+    ensures { IsTrue result ↔ (IsExtended image.now address
+        × FrameFault extended_frame image.now address question) }
+{
+    u8_at(head, 15) >= 2 && fails(image, address, Frame::EXTENDED_RSDP, question)
+}
+
 /// Whether the RSDP at an address has the fault with this code. Each code is looked for, even if earlier bytes are
 /// wrong.
 fn has_fault(image: &Image, address: u64, code: Code) -> bool
@@ -19,16 +31,15 @@ fn has_fault(image: &Image, address: u64, code: Code) -> bool
     let Some(head) = image.window(address, Rsdp::SHORT_LENGTH) else {
         return code == Code::RsdpOut;
     };
-    let question = match code {
-        Code::RsdpSignature => return !is_signed(head, b"RSD PTR "),
-        Code::RsdpSum => return sum(head) != 0,
-        Code::RsdpTailOut => Question::Header,
-        Code::RsdpLength => Question::Length,
-        Code::RsdpLongOut => Question::Bytes,
-        Code::RsdpExtendedSum => Question::Sum,
-        _ => return false,
-    };
-    u8_at(head, 15) >= 2 && fails(image, address, Frame::EXTENDED_RSDP, question)
+    match code {
+        Code::RsdpSignature => !is_signed(head, b"RSD PTR "),
+        Code::RsdpSum => sum(head) != 0,
+        Code::RsdpTailOut => is_extended_fault(image, address, head, Question::Header),
+        Code::RsdpLength => is_extended_fault(image, address, head, Question::Length),
+        Code::RsdpLongOut => is_extended_fault(image, address, head, Question::Bytes),
+        Code::RsdpExtendedSum => is_extended_fault(image, address, head, Question::Sum),
+        _ => false,
+    }
 }
 
 /// The fault of the RSDP with this code: it has at most one, which is reported at its address.

@@ -19,8 +19,14 @@ returns c =
     let found = c.first_picked-place.result in
     let some = c.has_node.ensures.0 c.if-not-has_node.false in
     let unbroken = c.is_pptt_unbroken.ensures.0 c.if-not-is_pptt_unbroken.false in
-    least_as c.where_read.result (λ at other point (read, (named, none, unused)). (read, unbroken, some, named, none,
-    unused))
+    least_as c.where_read.result (λ at other point (read, (named, none, unused)). (
+      read,
+      unbroken,
+      some,
+      named,
+      none,
+      unused,
+    ))
     (λ at other point (read, _, _, named, none, unused). (read, (named, none, unused)))
     (where_holds (AreProcessorsRead madt) (IsUnknownNamed uid_on IsId madt.entries) found c.where_read.result
     c.where_read.ensures
