@@ -30,14 +30,13 @@ LAST_LENGTH = 276
 SYSTEM_IO = 1
 
 # Types of entries of the MADT (5.2.12): a distributor, and processors that no stage reads. Nor does a rule read a local SAPIC.
-# An RINTC is of ACPI 6.6.
+# An RINTC came after ACPI 6.5.
 GICD = 12
 SAPIC, GICC, CORE_PIC, RINTC = 7, 11, 17, 24
 ALL_PROCESSORS = {4: 0xFF, 10: 0xFFFFFFFF}
 
-# The lengths of processors of the MADT and of its entries that no stage reads, by their types, and of the entries of the SRAT.
-MADT_LENGTHS = {0: [8], 9: [16], GICC: range(40, 256), GICD: [24], 13: [24], 14: [16], 15: [20], CORE_PIC: [15]}
-MADT_LENGTHS[RINTC] = range(20, 256)
+# The lengths of processors of the MADT and of its entries that only rules read, by their types, and of the entries of the SRAT.
+MADT_LENGTHS = {0: [8], 9: [16], GICC: range(40, 256), GICD: range(2, 256), CORE_PIC: [15], RINTC: range(20, 256)}
 SRAT_LENGTHS = {0: [16], 1: [40], 2: [24], 3: [18], 4: [12], 5: [32], 6: [32], 7: [20]}
 
 # Of each type of processor the places, by offset and size, of its UID, its APIC ID, if it has one, and its flags, and the flags of

@@ -173,7 +173,7 @@ def core_pic(uid, core_id, flags=1, length=15):
 
 
 def rintc(uid, flags=1, length=36):
-    """A hart of RISC-V (RINTC, of ACPI 6.6) with hart ID 0, of which a shorter one is cut off."""
+    """A hart of RISC-V (RINTC, after ACPI 6.5) with hart ID 0, of which a shorter one is cut off."""
     return (bytes([24, length, 1, 0]) + number(flags, 4) + bytes(8) + number(uid, 4) + bytes(240))[:length]
 
 
@@ -214,7 +214,7 @@ def uid_domain(uid, domain, flags=1, length=18):
 
 
 def hart_domain(uid, domain, flags=1, length=20):
-    """An RINTC affinity (of ACPI 6.6), of which a shorter one is cut off."""
+    """An RINTC affinity (after ACPI 6.5), of which a shorter one is cut off."""
     return (bytes([7, length, 0, 0]) + number(domain, 4) + number(uid, 4) + number(flags, 4) + bytes(240))[:length]
 
 

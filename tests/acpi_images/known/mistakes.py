@@ -16,7 +16,8 @@ from .rows import with_numbers
 UNCHANGED = [
     ("sb-q35-default", "", ["yes"]), ("sb-q35-numa4-dist", "", ["yes"]), ("sb-pc-nvdimm-numa", "", ["no 10 Overlap 0x90 0xb8 0x100000000"]),
     ("sb-pc-nvdimm-numa", "--hotplug apart", ["yes"]), ("ovmf-q35", "", ["yes"]), ("mv-acpi", "", ["yes"]),
-    ("q10-efi-virt-smp4", "", ["yes"]), ("q11-efi-virt-caches", "", ["yes", "advice ListedTwice 0x3 0x2 0x47fc198e"]),
+    ("q10-efi-virt-smp4", "", ["yes", "advice MadtUnread 0x184 0xd 0x0"]),
+    ("q11-efi-virt-caches", "", ["yes", "advice ListedTwice 0x3 0x2 0x47fc198e", "advice MadtUnread 0x2c4 0xe 0x0"]),
 ]
 
 
@@ -65,10 +66,10 @@ def of_pc(name, signature, changes, *lines, **more):
 
 def of_arm(name, signature, changes, *lines, **more):
     """A mistake in the set of an Arm machine, whose PPTT is listed in two slots and has caches and 8 leaves, and whose MADT has
-    a GICC for each from 0x44 on. What the set deserves as it is comes after the first of `lines`."""
+    a GICC for each from 0x44 on, and entries that nothing reads. What the set deserves as it is comes after `lines`."""
     before, *advice = lines
-    all_lines = (before, "advice ListedTwice 0x3 0x2 0x47fc198e", *advice)
-    MISTAKES.append(Mistake(name, "q11-efi-virt-caches", signature, changes, list(map(with_numbers, all_lines)), **more))
+    slots, unread = "advice ListedTwice 0x3 0x2 0x47fc198e", "advice MadtUnread 0x2c4 0xe"
+    MISTAKES.append(Mistake(name, "q11-efi-virt-caches", signature, changes, list(map(with_numbers, (before, slots, *advice, unread))), **more))
 
 
 # ---- what check sees
