@@ -9,7 +9,7 @@ use Rattle.acpi_lint.specs.Places.{IsFacsFaultOf, FindsLeast}
 use Rattle.acpi_lint.specs.StageFaults.{IsFaultOfStage}
 use Rattle.acpi_lint.specs.declared.place.Place.{Place}
 use Rattle.acpi_lint.proofs.LeastPlaces.{least_as}
-use Rattle.acpi_lint.proofs.OfSets.{of_table, of_no_table}
+use Rattle.acpi_lint.proofs.OfTables.{of_table, of_no_table}
 
 -- faults of the stage are those of the table
 faults_as : (m : Memory) (q : PolicyValue) (fault : Code) (found : Option Place)

@@ -17,7 +17,7 @@ use Rattle.acpi_lint.specs.StageFaults.{IsFaultOfStage}
 use Rattle.acpi_lint.specs.declared.listed_slots.Slot.{Slot}
 use Rattle.acpi_lint.specs.declared.place.Place.{Place}
 use Rattle.acpi_lint.proofs.LeastPlaces.{least_as}
-use Rattle.acpi_lint.proofs.OfSets.{of_table, of_no_table}
+use Rattle.acpi_lint.proofs.OfTables.{of_table, of_no_table}
 
 -- ---- a set that lists none
 

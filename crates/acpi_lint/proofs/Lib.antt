@@ -11,7 +11,6 @@ mod LeafNumbers
 mod LeastPlaces
 mod ListedSlots
 mod NamedPlaces
-mod OfSets
 mod OfTables
 mod OneAdvice
 mod OneCodes
@@ -19,7 +18,6 @@ mod PowersOfTwo
 mod Reported
 mod RisingLists
 mod RootPlaces
-mod RuleGroups
 mod SameNumbers
 mod SciGsis
 mod SecondTables

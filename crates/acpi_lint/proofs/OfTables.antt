@@ -1,13 +1,13 @@
--- From what is found in a table to what is found in the set that lists it.
-use Rattle.std.proofs.Common.{◌≡◌, ℕ, ◌≤◌, List, length, Option, Some, None, Result, Ok, Err, refl, ap, arith}
+-- From what is found in a table to what is found in the set that lists it, and for the rules that look at it.
+use Rattle.std.proofs.Common.{◌≡◌, ℕ, ◌≤◌, List, length, Option, Some, None, Result, Ok, Err, refl, ap, arith, ◌<◌, sym, ◌∙◌, subst}
 use Rattle.std.specs.Prelude.{◌↔◌, IfOk, MatchOption, option_map}
 use Rattle.std.proofs.lemmas.Option.{same_Some}
 use denote.Ref.{Bor}
 use Rattle.acpi_base.specs.Contents.{HasPptt}
 use Rattle.acpi_base.specs.Entries.{PlacedEntry}
 use Rattle.acpi_lint.specs.Rules.Numbered.{OnEntry, Repeats}
-use Rattle.acpi_lint.specs.Rules.Sets.{OfFadt, OfMadt, OfSrat, OfSlit}
-use Rattle.acpi_base.specs.Listed.{fadt_signature, madt_signature, srat_signature, slit_signature, pptt_signature, HasListed}
+use Rattle.acpi_lint.specs.Rules.Broken.{OfFadt, OfMadt, OfSrat, OfSlit, Condition, Holds, Slots, Fadt, FadtMadt, Madt, MadtEntries, MadtNumbers, MadtSrat, MadtPptt, Srat, SratEntries, SratSlit, Slit, Pptt, PpttEntries}
+use Rattle.acpi_base.specs.Listed.{fadt_signature, madt_signature, srat_signature, slit_signature, pptt_signature, HasListed, IsListedTable}
 use Rattle.acpi_base.specs.Madt.{MadtEntry, madt_contents}
 use Rattle.acpi_base.specs.Memory.{Memory}
 use Rattle.acpi_base.specs.Policy.{PolicyValue}
@@ -15,7 +15,6 @@ use Rattle.acpi_base.specs.Pptt.{PpttEntry, pptt_contents}
 use Rattle.acpi_lint.specs.Rules.SratAdvice.{IsDomainPastSlit}
 use Rattle.acpi_base.specs.Slit.{SlitContents, slit_contents, HasSlitSize}
 use Rattle.acpi_base.specs.Srat.{SratEntry, srat_contents}
-use Rattle.acpi_base.specs.declared.table_kind.TableKind.TheVariants as kind
 use Rattle.acpi_base.proofs.Faults.ListedTables.{of_listed}
 use Rattle.acpi_read.specs.Slits.{HasRows}
 use Rattle.acpi_read.specs.Entries.{entry_at_value}
@@ -25,13 +24,77 @@ use Rattle.acpi_check.proofs.EntryPasses.Kept.{AreRising, madt_rising, srat_risi
 use Rattle.acpi_lint.specs.EntryNumbers.{FindsRepeated}
 use Rattle.acpi_lint.specs.Places.{PicksFirst, FindsOwn, FindsLeast}
 use Rattle.acpi_lint.specs.Numbered.{at_place}
-use Rattle.acpi_lint.specs.CompleteTables.{IsFound, IsLong, AreEntries, AreCompleteTables}
+use Rattle.acpi_lint.specs.CompleteTables.{IsFound, IsLong, AreEntries, AreCompleteTables, table_of}
 use Rattle.acpi_lint.specs.declared.numbered.Numbered.{Numbered}
 use Rattle.acpi_lint.specs.declared.place.Place.{Place}
 use Rattle.acpi_lint.specs.declared.complete_tables.CompleteTables.{CompleteTables}
 use Rattle.acpi_lint.proofs.CollectedNumbers.{each_ok, repeated_read}
 use Rattle.acpi_lint.proofs.FirstEntries.{least_of_entries}
 use Rattle.acpi_lint.proofs.LeastPlaces.{least_as}
+use Rattle.acpi_base.specs.Root.{IsSlot}
+use Rattle.acpi_base.specs.TableKinds.{signature_of}
+use Rattle.acpi_base.specs.declared.table_kind.TableKind.{TableKind}
+use Rattle.acpi_lint.specs.Slots.{IsRootOf, AreSlots, AreFirstSlots}
+use Rattle.acpi_lint.specs.RuleGroups.{group_of, as_group, Finds}
+use Rattle.acpi_lint.specs.declared.advice.RuleGroup.{RuleGroup}
+use Rattle.acpi_base.specs.declared.table_kind.TableKind.TheVariants as kind
+
+pub of_table : {m : Memory} {p : ℕ} {signature whole : List ℕ} (P : List ℕ → ℕ → ℕ → ℕ → Type 0) (found : Option Place)
+    → IsListedTable m p signature whole → FindsLeast (P whole) found
+    → FindsLeast (λ at other point. HasListed m p signature (λ bytes. P bytes at other point)) found
+of_table {whole = whole} P found listed first =
+    least_as found (λ at other point holds. (whole, listed, holds))
+    (λ at other point has. of_listed (λ bytes. P bytes at other point) listed has) first
+
+pub of_no_table : {m : Memory} {p : ℕ} {signature : List ℕ} (P : List ℕ → ℕ → ℕ → ℕ → Type 0)
+    → ((whole : List ℕ) → ¬ IsListedTable m p signature whole)
+    → FindsLeast (λ at other point. HasListed m p signature (λ bytes. P bytes at other point)) None
+of_no_table P none = λ at other point (whole, listed, holds). none whole listed
+
+-- what is found in the table that was looked for, if there is one, is found in the set
+pub of_found : (m : Memory) (p : ℕ) (signature : List ℕ) {whole : List ℕ} {found : Option (List ℕ)}
+    (P : List ℕ → ℕ → ℕ → ℕ → Type 0) (place : Option Place) → IsFound m p signature found → found ≡ Some whole
+    → FindsLeast (P whole) place
+    → FindsLeast (λ at other point. HasListed m p signature (λ bytes. P bytes at other point)) place
+of_found m p signature P place looked is least = of_table P place (rw is at looked) least
+
+pub of_not_found : (m : Memory) (p : ℕ) (signature : List ℕ) {found : Option (List ℕ)}
+    (P : List ℕ → ℕ → ℕ → ℕ → Type 0) → IsFound m p signature found → found ≡ None
+    → FindsLeast (λ at other point. HasListed m p signature (λ bytes. P bytes at other point)) None
+of_not_found m p signature P looked is = of_no_table P (rw is at looked)
+
+-- what a table that is found and long enough says is what the set says
+pub some_long : (m : Memory) (p : ℕ) (signature : List ℕ) (P : List ℕ → ℕ → ℕ → ℕ → Type 0) {X : Type 0}
+    {found : Option (List ℕ)} {whole : List ℕ} (r : Result (Option Place) X) → IsFound m p signature found
+    → found ≡ Some whole → IfOk r (FindsLeast (P whole))
+    → IfOk r (FindsLeast (λ at other point. HasListed m p signature (λ bytes. P bytes at other point)))
+some_long m p signature P (Ok place) looked is least = of_found m p signature P place looked is least
+some_long m p signature P (Err e) looked is least = tt
+
+-- a table that is not found, or too short, says nothing, if those that are too short say nothing
+pub none_long : (m : Memory) (p : ℕ) (signature : List ℕ) (least : ℕ) (P : List ℕ → ℕ → ℕ → ℕ → Type 0)
+    (found : Option (List ℕ)) → IsFound m p signature found → IsLong least found None
+    → ((whole : List ℕ) → length whole < least → (at other point : ℕ) → ¬ P whole at other point)
+    → FindsLeast (λ at other point. HasListed m p signature (λ bytes. P bytes at other point)) None
+none_long m p signature least P None looked long short = of_no_table P looked
+none_long m p signature least P (Some bytes) looked long short =
+    of_table P None looked (short bytes (long bytes refl))
+
+-- the root table and the table of each kind are those of the set
+pub are_whole : {m : Memory} {p : ℕ} (tables : CompleteTables)
+    → IsRootOf m p tables.root → AreSlots m (IsSlot m p) tables.slots.items → AreFirstSlots m p tables.firsts
+    → IsFound m p fadt_signature tables.fadt → IsFound m p madt_signature tables.madt
+    → IsFound m p srat_signature tables.srat → IsFound m p slit_signature tables.slit
+    → IsFound m p pptt_signature tables.pptt → AreCompleteTables m p tables
+are_whole {m} {p} tables root slots firsts fadt madt srat slit pptt =
+    record { root = root; slots = slots; firsts = firsts; listed = listed }
+  where
+    listed : (k : TableKind) → IsFound m p (signature_of k) (table_of tables k)
+    listed kind.Fadt = fadt
+    listed kind.Madt = madt
+    listed kind.Srat = srat
+    listed kind.Slit = slit
+    listed kind.Pptt = pptt
 
 -- ---- the tables of a set
 
@@ -291,3 +354,46 @@ with_localities m q P slit n found rows lifts least =
       ),
     ))
     least
+
+-- ---- the rules of a group: what is found for the relation of a condition is found for the condition
+
+-- a condition is that of its group
+in_group : (c : Condition) → as_group (group_of c) c ≡ c
+in_group (Slots P) = refl
+in_group (Fadt P) = refl
+in_group (FadtMadt P) = refl
+in_group (Madt P) = refl
+in_group (MadtEntries P) = refl
+in_group (MadtNumbers read) = refl
+in_group (MadtSrat P) = refl
+in_group (MadtPptt P) = refl
+in_group (Srat P) = refl
+in_group (SratEntries P) = refl
+in_group (SratSlit P) = refl
+in_group (Slit P) = refl
+in_group (Pptt P) = refl
+in_group (PpttEntries P) = refl
+
+pub is_of_group : (c : Condition) {found g : RuleGroup} → found ≡ group_of c → found ≡ g → as_group g c ≡ c
+is_of_group c is same = subst (λ (h : RuleGroup). as_group h c ≡ c) (sym is ∙ same) (in_group c)
+
+pub as_rule : (m : Memory) (q : PolicyValue) {k c : Condition} (found : Option Place) → k ≡ c
+    → FindsLeast (Holds k m q) found → FindsLeast (Holds c m q) found
+as_rule m q found is = subst (λ (d : Condition). FindsLeast (Holds d m q) found) is
+
+pub each_rule : (m : Memory) (q : PolicyValue) {k c : Condition} {X : Type 0} (result : Result (Option Place) X) → k ≡ c
+    → IfOk result (FindsLeast (Holds k m q)) → IfOk result (FindsLeast (Holds c m q))
+each_rule m q result is = subst (λ (d : Condition). IfOk result (FindsLeast (Holds d m q))) is
+
+-- the same for what is found in the tables of a set
+pub each_set : (m : Memory) (q : PolicyValue) {k c : Condition} {X : Type 0} {tables : CompleteTables}
+    (result : Result (Option Place) X) → k ≡ c → AreCompleteTables m q.rsdp tables → IfOk result (Finds k tables)
+    → IfOk result (FindsLeast (Holds c m q))
+each_set m q (Ok found) is are finds = as_rule m q found is (finds m q are)
+each_set m q (Err e) is are finds = tt
+
+pub each_found : (c : Condition) {X : Type 0} {tables : CompleteTables} (result : Result (Option Place) X)
+    → ((m : Memory) (q : PolicyValue) → AreCompleteTables m q.rsdp tables → IfOk result (FindsLeast (Holds c m q)))
+    → IfOk result (Finds c tables)
+each_found c (Ok found) finds = finds
+each_found c (Err e) finds = tt

@@ -32,7 +32,7 @@ use Rattle.acpi_lint.specs.StageFaults.{FindsFirstAt, IsPlaceOf}
 use Rattle.acpi_lint.specs.CompleteTables.{IsFound, IsLong}
 use Rattle.acpi_lint.specs.declared.place.Place.{Place}
 use Rattle.acpi_lint.proofs.ShortTables.{no_madt_entry, no_srat_entry}
-use Rattle.acpi_lint.proofs.OfSets.{none_long}
+use Rattle.acpi_lint.proofs.OfTables.{none_long}
 use Rattle.acpi_lint.proofs.StageVerdicts.{place, place_not_after}
 
 -- ---- their codes

@@ -10,7 +10,7 @@ use Rattle.acpi_base.specs.declared.code.Code.TheVariants as code
 use Rattle.acpi_base.proofs.Slit.{slit_size, slit_count, slit_distance}
 use Rattle.acpi_read.specs.Slits.{HasRows}
 use Rattle.acpi_read.proofs.SlitCells.{cell_at, distance_at, right_size}
-use Rattle.acpi_lint.specs.Places.{IsLeast, FindsLeast, IsRowDiffers, IsSizedDiffers}
+use Rattle.acpi_lint.specs.Places.{IsLeast, FindsLeast, IsRowDiffers}
 use Rattle.acpi_lint.specs.declared.place.Place.{Place}
 use Rattle.acpi_lint.proofs.LeastPlaces.{least_as}
 
@@ -264,8 +264,9 @@ first_row c i p none first =
 pub no_row : (c : SlitContents) (i : ℕ) → NoneBefore c i → c.count ≤ i → FindsLeast (IsSlitDiffers c) None
 no_row c i none all = λ at other point found. none found.i (omega (arith, found.here.row)) at other point (found, refl)
 
-pub sized : (whole : List ℕ) (n : ℕ) (found : Option Place) → HasRows whole n
-    → FindsLeast (IsSlitDiffers (slit_contents whole)) found → FindsLeast (IsSizedDiffers (slit_contents whole)) found
-sized whole n found rows least =
-    least_as found (λ at other point differs. (right_size whole n rows, differs))
-    (λ at other point (size, differs). differs) least
+pub sized : (P : SlitContents → ℕ → ℕ → ℕ → Type 0) (whole : List ℕ) (n : ℕ) (found : Option Place) → HasRows whole n
+    → FindsLeast (P (slit_contents whole)) found
+    → FindsLeast (λ at other point. HasSlitSize (slit_contents whole) × P (slit_contents whole) at other point) found
+unfolding slit_contents
+sized P whole n found rows least =
+    least_as found (λ at other point holds. (rw rows.count rows.size, holds)) (λ at other point (_, holds). holds) least

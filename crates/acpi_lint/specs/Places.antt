@@ -7,7 +7,7 @@ use Rattle.acpi_lint.specs.Rules.FadtAdvice.{DoFieldsDiffer}
 use Rattle.acpi_base.specs.declared.code.Code.{Code}
 use Rattle.acpi_base.specs.Facs.{NamedFacsFault}
 use Rattle.acpi_base.specs.Memory.{Memory}
-use Rattle.acpi_base.specs.Slit.{SlitContents, HasSlitSize}
+use Rattle.acpi_base.specs.Slit.{SlitContents}
 use Rattle.acpi_lint.specs.Rules.SlitAdvice.{IsSlitDiffers}
 use Rattle.acpi_read.specs.EntryTables.{EntryTable}
 use Rattle.acpi_lint.specs.declared.place.Place.{Place}
@@ -90,7 +90,3 @@ IsFacsFaultOf m fadt fault at other point = (116 ≤ length fadt) × IsFacsFault
 -- a distance from this locality differs
 abbrev pub IsRowDiffers : SlitContents → ℕ → ℕ → ℕ → ℕ → Type 0
 IsRowDiffers c i at other point = (differs : IsSlitDiffers c at other point) × (differs.i ≡ i)
-
--- a distance in a table that has the right size differs
-abbrev pub IsSizedDiffers : SlitContents → ℕ → ℕ → ℕ → Type 0
-IsSizedDiffers c at other point = HasSlitSize c × IsSlitDiffers c at other point

@@ -11,8 +11,8 @@ use Rattle.acpi_lint.specs.Places.{FindsLeast}
 use Rattle.acpi_lint.specs.Rules.Broken.{Condition, Holds, Slots, Fadt, FadtMadt, Madt, MadtEntries, MadtNumbers, MadtSrat, MadtPptt, Srat, SratEntries, SratSlit, Slit, Pptt, PpttEntries}
 use Rattle.acpi_lint.specs.declared.complete_tables.CompleteTables.{CompleteTables}
 use Rattle.acpi_lint.specs.declared.place.Place.{Place}
-use Rattle.acpi_lint.specs.declared.rule_group.RuleGroup.{RuleGroup}
-use Rattle.acpi_lint.specs.declared.rule_group.RuleGroup.TheVariants as group
+use Rattle.acpi_lint.specs.declared.advice.RuleGroup.{RuleGroup}
+use Rattle.acpi_lint.specs.declared.advice.RuleGroup.TheVariants as group
 
 -- the group of the rules with a condition
 abbrev pub group_of : Condition → RuleGroup

@@ -7,7 +7,6 @@ pub mod MadtAdvice
 pub mod Numbered
 pub mod PpttAdvice
 pub mod Processors
-pub mod Sets
 pub mod SlitAdvice
 pub mod Slots
 pub mod SratAdvice

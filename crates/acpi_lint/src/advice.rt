@@ -1,10 +1,10 @@
 //! The first finding of each rule of advice. A rule on a table finds nothing if the set lists no complete one with all
 //! its fields.
 
-ghost use Rattle.std.specs.Prelude.{IfOk};
+ghost use Rattle.std.specs.Prelude.{◌≡◌, IfOk};
 ghost use Rattle.acpi_lint.specs.CompleteTables.{AreCompleteTables};
 ghost use Rattle.acpi_lint.specs.Places.{FindsLeast};
-ghost use Rattle.acpi_lint.specs.RuleGroups.{in_fadt, in_fadt_madt, in_madt, on_madt_entry, unique_number, in_madt_srat, in_madt_pptt, in_srat, on_srat_entry, on_srat_entry_with, in_slit, in_pptt, on_pptt_entry, Finds, FindsBy};
+ghost use Rattle.acpi_lint.specs.RuleGroups.{in_fadt, in_fadt_madt, in_madt, on_madt_entry, unique_number, in_madt_srat, in_madt_pptt, in_srat, on_srat_entry, on_srat_entry_with, in_slit, in_pptt, on_pptt_entry, group_of, Finds, FindsBy};
 ghost use Rattle.acpi_lint.specs.Rules.Broken as broken;
 ghost use Rattle.acpi_lint.specs.Rules.Broken.{condition, IsBroken};
 ghost use Rattle.acpi_lint.specs.Rules.Findings.{AreFirstAdvice};
@@ -18,12 +18,82 @@ use crate::own::{
 };
 use crate::place::Place;
 use crate::repeated::{pptt_place, repeated, srat_place, unique_number_at};
-use crate::rule_group::{RuleGroup, group};
 use crate::sci::fadt_madt_place;
 use crate::slit::{rows, slit_place};
 use crate::slot_advice::slot_place;
 use acpi_base::{Advice, Image, Policy, Rule, TableKind};
 use std::alloc::{AllocError, Global};
+
+// ---- rules by what they look at: those of a group share a finder
+
+/// What the rules of a group look at.
+#[derive(Clone, Copy)]
+enum RuleGroup {
+    /// The slots of the root table.
+    Slots,
+    /// Fields of the FADT.
+    Fadt,
+    /// The FADT and the MADT.
+    FadtMadt,
+    /// The MADT.
+    Madt,
+    /// Each entry of the MADT by itself.
+    MadtEntries,
+    /// A number of entries of the MADT, which should be unique.
+    MadtNumbers,
+    /// The MADT and the SRAT.
+    MadtSrat,
+    /// The MADT and the PPTT.
+    MadtPptt,
+    /// The SRAT.
+    Srat,
+    /// Each entry of the SRAT by itself.
+    SratEntries,
+    /// Each entry of the SRAT, with the SLIT.
+    SratSlit,
+    /// The SLIT.
+    Slit,
+    /// The PPTT.
+    Pptt,
+    /// Each entry of the PPTT by itself.
+    PpttEntries,
+}
+
+/// The group of a rule.
+fn group(rule: Rule) -> RuleGroup
+    ensures { result ≡ group_of (condition rule) }
+{
+    match rule {
+        Rule::ListedTwice => RuleGroup::Slots,
+        Rule::SecondTable => RuleGroup::Slots,
+        Rule::ListedApart => RuleGroup::Slots,
+        Rule::FadtOfRevision => RuleGroup::Fadt,
+        Rule::FacsDiffers => RuleGroup::Fadt,
+        Rule::DsdtDiffers => RuleGroup::Fadt,
+        Rule::BlockDiffers => RuleGroup::Fadt,
+        Rule::SciNowhere => RuleGroup::FadtMadt,
+        Rule::SameUid => RuleGroup::MadtNumbers,
+        Rule::SameApicId => RuleGroup::MadtNumbers,
+        Rule::IoApicAtZero => RuleGroup::MadtEntries,
+        Rule::SameIoApicId => RuleGroup::MadtNumbers,
+        Rule::SameIoApicAddress => RuleGroup::MadtNumbers,
+        Rule::NmiNowhere => RuleGroup::Madt,
+        Rule::SecondGicd => RuleGroup::MadtNumbers,
+        Rule::NoProcessor => RuleGroup::Madt,
+        Rule::TwoUidDomains => RuleGroup::Srat,
+        Rule::AffinityNowhere => RuleGroup::MadtSrat,
+        Rule::NoDomain => RuleGroup::MadtSrat,
+        Rule::DomainPastSlit => RuleGroup::SratSlit,
+        Rule::SlitDiffers => RuleGroup::Slit,
+        Rule::SameLeaf => RuleGroup::Pptt,
+        Rule::CacheShape => RuleGroup::PpttEntries,
+        Rule::SameCacheId => RuleGroup::Pptt,
+        Rule::NoLeaf => RuleGroup::MadtPptt,
+        Rule::LeafNowhere => RuleGroup::MadtPptt,
+        Rule::MadtUnread => RuleGroup::MadtEntries,
+        Rule::SratUnread => RuleGroup::SratEntries,
+    }
+}
 
 // ---- rules on tables of a set
 

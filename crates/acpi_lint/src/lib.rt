@@ -55,7 +55,6 @@ mod references;
 mod repeated;
 mod root;
 mod rsdp;
-mod rule_group;
 mod sci;
 mod slit;
 mod slot_advice;

@@ -5,7 +5,7 @@ ghost use Rattle.acpi_base.specs.Slit.{slit_contents, HasSlitSize, SlitFault};
 ghost use Rattle.acpi_lint.specs.Rules.SlitAdvice.{IsSlitDiffers};
 ghost use Rattle.acpi_base.specs.declared.code.Code.{Code};
 ghost use Rattle.acpi_read.specs.Slits.{HasRows};
-ghost use Rattle.acpi_lint.specs.Places.{FindsLeast, IsRowDiffers, IsSizedDiffers};
+ghost use Rattle.acpi_lint.specs.Places.{FindsLeast, IsRowDiffers};
 ghost use Rattle.acpi_lint.specs.RuleGroups.{IsSizedBroken};
 ghost use Rattle.acpi_lint.specs.Rules.Broken.{condition};
 
@@ -123,21 +123,13 @@ fn rows_differ(bytes: &[u8], count: usize) -> Option<Place>
     None
 }
 
-/// The place of the first distance of a SLIT that differs from the distance back: the offsets of both cells. None if
-/// the SLIT does not have the right size.
-fn slit_differs(table: Table<'_>) -> Option<Place>
-    ensures { FindsLeast (IsSizedDiffers (slit_contents table.entry)) result }
-{
-    let bytes = table.bytes();
-    rows_differ(bytes, rows(bytes)?)
-}
-
 /// The place where a rule on a SLIT is broken, whose cells are read only if it has the right size. None for another rule.
 pub fn slit_place(rule: Rule, slit: Table<'_>) -> Option<Place>
     ensures { FindsLeast (IsSizedBroken (condition rule) (slit_contents slit.entry)) result }
 {
+    let bytes = slit.bytes();
     match rule {
-        Rule::SlitDiffers => slit_differs(slit),
+        Rule::SlitDiffers => rows_differ(bytes, rows(bytes)?),
         _ => None,
     }
 }

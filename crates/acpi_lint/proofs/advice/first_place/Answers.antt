@@ -4,8 +4,7 @@ use Rattle.acpi_read.specs.Srats.{srat_value}
 use Rattle.std.proofs.Common.{rules}
 use Rattle.acpi_lint.specs.RuleGroups.{on_madt_entry, unique_number, on_srat_entry, on_pptt_entry}
 use Rattle.acpi_lint.specs.Rules.Broken.{condition}
-use Rattle.acpi_lint.proofs.OfTables.{own_madt, own_srat, own_pptt, repeated_madt}
-use Rattle.acpi_lint.proofs.RuleGroups.{is_of_group, as_rule, each_rule, each_set}
+use Rattle.acpi_lint.proofs.OfTables.{own_madt, own_srat, own_pptt, repeated_madt, is_of_group, as_rule, each_rule, each_set}
 use Rattle.acpi_lint.proofs.advice.first_place.Goals as goal
 
 pub returns-in-Slots : goal.returns-in-Slots

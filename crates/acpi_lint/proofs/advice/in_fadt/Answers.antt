@@ -1,5 +1,5 @@
 use Rattle.std.proofs.Common.{◌≡◌, Option, None, rules}
-use Rattle.acpi_lint.specs.Rules.Sets.{OfFadt}
+use Rattle.acpi_lint.specs.Rules.Broken.{OfFadt}
 use Rattle.acpi_lint.specs.RuleGroups.{in_fadt}
 use Rattle.acpi_lint.specs.Rules.Broken.{condition}
 use Rattle.acpi_lint.proofs.OfTables.{fadt_lifts, not_there, there}

@@ -1,6 +1,6 @@
 use Rattle.std.proofs.Common.{◌≡◌, None, rules}
 use Rattle.acpi_base.specs.Madt.{madt_contents}
-use Rattle.acpi_lint.specs.Rules.Sets.{OfFadt, OfMadt}
+use Rattle.acpi_lint.specs.Rules.Broken.{OfFadt, OfMadt}
 use Rattle.acpi_lint.specs.RuleGroups.{in_fadt_madt}
 use Rattle.acpi_lint.specs.Rules.Broken.{condition}
 use Rattle.acpi_lint.proofs.OfTables.{fadt_lifts, madt_lifts, first_missing, second_missing, both_there}

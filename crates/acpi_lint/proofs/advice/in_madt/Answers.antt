@@ -1,5 +1,5 @@
 use Rattle.acpi_base.specs.Madt.{madt_contents}
-use Rattle.acpi_lint.specs.Rules.Sets.{OfMadt}
+use Rattle.acpi_lint.specs.Rules.Broken.{OfMadt}
 use Rattle.acpi_lint.specs.RuleGroups.{in_madt}
 use Rattle.acpi_lint.specs.Rules.Broken.{condition}
 use Rattle.acpi_lint.proofs.CollectedNumbers.{each_ok}

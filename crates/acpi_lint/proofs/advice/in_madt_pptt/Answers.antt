@@ -1,7 +1,7 @@
 use Rattle.acpi_base.specs.Contents.{HasPptt}
 use Rattle.acpi_base.specs.Madt.{madt_contents}
 use Rattle.acpi_base.specs.Pptt.{pptt_contents}
-use Rattle.acpi_lint.specs.Rules.Sets.{OfMadt}
+use Rattle.acpi_lint.specs.Rules.Broken.{OfMadt}
 use Rattle.acpi_lint.specs.RuleGroups.{in_madt_pptt}
 use Rattle.acpi_lint.specs.Rules.Broken.{condition}
 use Rattle.acpi_lint.proofs.CollectedNumbers.{each_ok}

@@ -1,6 +1,6 @@
 use Rattle.acpi_base.specs.Madt.{madt_contents}
 use Rattle.acpi_base.specs.Srat.{srat_contents}
-use Rattle.acpi_lint.specs.Rules.Sets.{OfMadt, OfSrat}
+use Rattle.acpi_lint.specs.Rules.Broken.{OfMadt, OfSrat}
 use Rattle.acpi_lint.specs.RuleGroups.{in_madt_srat}
 use Rattle.acpi_lint.specs.Rules.Broken.{condition}
 use Rattle.acpi_lint.proofs.CollectedNumbers.{each_ok}

@@ -1,5 +1,5 @@
 use Rattle.acpi_base.specs.Srat.{srat_contents}
-use Rattle.acpi_lint.specs.Rules.Sets.{OfSrat}
+use Rattle.acpi_lint.specs.Rules.Broken.{OfSrat}
 use Rattle.acpi_lint.specs.RuleGroups.{in_srat}
 use Rattle.acpi_lint.specs.Rules.Broken.{condition}
 use Rattle.acpi_lint.proofs.CollectedNumbers.{each_ok}

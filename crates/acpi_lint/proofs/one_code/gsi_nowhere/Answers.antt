@@ -6,7 +6,7 @@ use Rattle.acpi_base.specs.declared.stage.Stage.TheVariants as stage
 use Rattle.acpi_base.specs.declared.table_kind.TableKind.TheVariants as kind
 use Rattle.acpi_base.proofs.Across.Served.{excludes}
 use Rattle.acpi_lint.proofs.ShortTables.{no_madt_entry}
-use Rattle.acpi_lint.proofs.OfSets.{some_long, none_long}
+use Rattle.acpi_lint.proofs.OfTables.{some_long, none_long}
 use Rattle.acpi_lint.proofs.OneCodes.{one_gsi_nowhere}
 use Rattle.acpi_lint.proofs.StageVerdicts.{verdict_found}
 use Rattle.acpi_lint.proofs.one_code.gsi_nowhere.Goals as goal

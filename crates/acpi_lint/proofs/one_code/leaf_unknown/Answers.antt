@@ -9,7 +9,7 @@ use Rattle.acpi_base.specs.declared.code.Code.TheVariants as code
 use Rattle.acpi_base.specs.declared.stage.Stage.TheVariants as stage
 use Rattle.acpi_base.specs.declared.table_kind.TableKind.TheVariants as kind
 use Rattle.acpi_base.proofs.Across.Leaves.{excludes}
-use Rattle.acpi_lint.proofs.OfSets.{of_found, of_not_found, some_long}
+use Rattle.acpi_lint.proofs.OfTables.{of_found, of_not_found, some_long}
 use Rattle.acpi_lint.proofs.OneCodes.{one_leaf_unknown}
 use Rattle.acpi_lint.proofs.StageVerdicts.{verdict_found}
 use Rattle.acpi_lint.proofs.one_code.leaf_unknown.Goals as goal

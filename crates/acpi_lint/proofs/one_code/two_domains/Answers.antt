@@ -10,7 +10,7 @@ use Rattle.acpi_base.specs.declared.stage.Stage.TheVariants as stage
 use Rattle.acpi_base.specs.declared.table_kind.TableKind.TheVariants as kind
 use Rattle.acpi_base.proofs.Across.Domains.{excludes}
 use Rattle.acpi_lint.proofs.ShortTables.{no_madt_entry, no_srat_entry}
-use Rattle.acpi_lint.proofs.OfSets.{of_found, some_long, none_long}
+use Rattle.acpi_lint.proofs.OfTables.{of_found, some_long, none_long}
 use Rattle.acpi_lint.proofs.OneCodes.{one_two_domains}
 use Rattle.acpi_lint.proofs.StageVerdicts.{verdict_found}
 use Rattle.acpi_lint.proofs.one_code.two_domains.Goals as goal

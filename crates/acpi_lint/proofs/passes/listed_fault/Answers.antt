@@ -1,6 +1,6 @@
 use Rattle.std.proofs.Common.{◌≡◌, None, sym, ◌∙◌, rules}
 use Rattle.acpi_base.specs.TableKinds.{signature_of}
-use Rattle.acpi_lint.proofs.OfSets.{of_found, of_not_found}
+use Rattle.acpi_lint.proofs.OfTables.{of_found, of_not_found}
 use Rattle.acpi_lint.proofs.passes.listed_fault.Goals as goal
 
 pub returns-in_err-table : goal.returns-in_err-table

@@ -1,4 +1,9 @@
+use Rattle.acpi_lint.specs.Rules.SlitAdvice.{IsSlitDiffers}
+use Rattle.acpi_lint.proofs.SlitFaults.{sized}
 use Rattle.acpi_lint.proofs.slit.slit_place.Goals as goal
 
-pub returns-in-SlitDiffers : goal.returns-in-SlitDiffers
-returns-in-SlitDiffers c = rw c.in-SlitDiffers.is c.slit_differs.ensures
+pub returns-in_ok-rows-in-SlitDiffers : goal.returns-in_ok-rows-in-SlitDiffers
+returns-in_ok-rows-in-SlitDiffers c =
+    let same = c.bytes-bytes.ensures.bytes in
+    rw c.in-SlitDiffers.is (sized IsSlitDiffers c.args.slit _ c.rows_differ.result
+    (rw same at c.in_ok-rows-in-SlitDiffers.ensures) (rw same at c.rows_differ.ensures))

@@ -1,6 +1,6 @@
 use Rattle.acpi_lint.specs.Rules.Broken.{Slots}
 use Rattle.acpi_lint.specs.Rules.Slots.{IsListedTwice}
-use Rattle.acpi_lint.proofs.RuleGroups.{each_found}
+use Rattle.acpi_lint.proofs.OfTables.{each_found}
 use Rattle.acpi_lint.proofs.slot_advice.slot_place.Goals as goal
 
 pub returns-in-ListedTwice : goal.returns-in-ListedTwice

@@ -1,4 +1,4 @@
-use Rattle.acpi_lint.proofs.OfSets.{are_whole}
+use Rattle.acpi_lint.proofs.OfTables.{are_whole}
 use Rattle.acpi_lint.proofs.complete_tables.CompleteTables.of.Goals as goal
 
 pub returns : goal.returns
