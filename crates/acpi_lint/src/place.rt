@@ -2,7 +2,7 @@
 
 /// Where something is found: up to three numbers, whose meaning depends on the fault or the advice. Those that it
 /// does not use are 0. Places compare by `at`, then by `other`, then by `point`.
-#[derive(Clone, Copy, PartialEq, Eq, PartialOrd, Ord)]
+#[derive(Clone, Copy, PartialEq, PartialOrd)]
 pub struct Place {
     /// Where it is reported.
     pub at: u64,
