@@ -21,17 +21,17 @@ BYTES_OF_A_CHECK = 4_000_000_000
 # Minutes of one processor that a proof from nothing took; and that of a crate's tests, over the proof that is kept of the crate. The
 # processors are shared by these.
 MINUTES = {
-    "acpi_graph": 1.5,
-    "acpi_base": 7,
-    "acpi_read": 6,
-    "acpi_confirm": 6,
-    "acpi_check": 8.5,
-    "acpi_write": 6,
-    "acpi_lint": 8,
+    "acpi_graph": 0.6,
+    "acpi_base": 6.5,
+    "acpi_read": 4.5,
+    "acpi_confirm": 3.6,
+    "acpi_check": 5,
+    "acpi_write": 4.5,
+    "acpi_lint": 6,
     "acpi_examples": 1,
-    "acpi_c": 6,
-    "acpi_arguments": 10,
-    "acpi_cli": 12,
+    "acpi_c": 4,
+    "acpi_arguments": 6.6,
+    "acpi_cli": 7.6,
 }
 MINUTES_OF_TESTS = {"acpi_c": 3, "acpi_cli": 6, "acpi_tests": 20}
 

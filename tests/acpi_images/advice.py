@@ -40,7 +40,7 @@ MADT_LENGTHS = {0: [8], 9: [16], GICC: range(40, 256), GICD: range(2, 256), CORE
 SRAT_LENGTHS = {0: [16], 1: [40], 2: [24], 3: [18], 4: [12], 5: [32], 6: [32], 7: [20]}
 
 # Of each type of processor the places, by offset and size, of its UID, its APIC ID, if it has one, and its flags, and the flags of
-# which one says that it is on (5.2.12.2, 5.2.12.12, 5.2.12.14, 5.2.12.20).
+# which one makes it usable (5.2.12.2, 5.2.12.12, 5.2.12.14, 5.2.12.20).
 PROCESSORS = {
     0: ((2, 1), (3, 1), (4, 4), 0b11), 9: ((12, 4), (4, 4), (8, 4), 0b11), GICC: ((8, 4), None, (12, 4), 0b1001),
     CORE_PIC: ((3, 4), (7, 4), (11, 4), 0b1), RINTC: ((16, 4), None, (4, 4), 0b11),
@@ -121,7 +121,7 @@ class Facts:
         self.nodes = self.pptt.typed(0) if self.pptt else []
         self.is_mixed = any(map(is_unread_processor, madt_entries))
         # whether the rules read all processors that the MADT may have
-        self.knows_processors = self.madt is not None and self.madt.is_unbroken() and not self.is_mixed
+        self.knows_processors = self.madt is not None and self.madt.is_well_formed() and not self.is_mixed
 
     @cached_property
     def uids(self):
@@ -137,7 +137,7 @@ class Facts:
         named = [node for node in self.nodes if node.number(4, 4) >> 1 & 1]
         if self.nodes and self.tables.table(b"PPTT").number(8, 1) >= 2:
             return [node for node in named if node.number(4, 4) >> 3 & 1]
-        if not self.pptt or not self.pptt.is_unbroken():
+        if not self.pptt or not self.pptt.is_well_formed():
             return []
         parents = {node.number(8, 4) for node in self.nodes}
         return [node for node in named if node.offset not in parents]
@@ -199,7 +199,7 @@ def sci_advice(facts):
     numbers = [entry.number(4, 4) for entry in overrides if entry.number(2, 1) == 0 and entry.number(3, 1) == sci]
     gsi = numbers[0] if numbers else sci
     spans = served(facts.madt, facts.policy)
-    if spans and facts.madt.is_unbroken() and gsi not in Numbers(spans):
+    if spans and facts.madt.is_well_formed() and gsi not in Numbers(spans):
         yield Finding("SciNowhere", 46, 0, gsi)
 
 
@@ -251,7 +251,7 @@ def srat_advice(facts):
     for it in facts.affinities if facts.knows_processors else []:
         if it.number not in (facts.uids if it.is_of_uid else facts.apic_ids):
             yield Finding("AffinityNowhere", it.offset, 0, it.number)
-    if facts.affinities and facts.srat.is_unbroken() and not facts.is_mixed:
+    if facts.affinities and facts.srat.is_well_formed() and not facts.is_mixed:
         yield from domain_advice(facts)
 
 
@@ -304,7 +304,7 @@ def has_odd_shape(cache):
 
 
 def leaf_advice(facts):
-    if facts.nodes and facts.pptt.is_unbroken() and not facts.is_mixed:
+    if facts.nodes and facts.pptt.is_well_formed() and not facts.is_mixed:
         ids = {node.number(12, 4) for node in facts.leaves}
         for it in facts.on:
             if it.uid not in ids:

@@ -77,7 +77,7 @@ class Entries:
         """Those of these types that have a length of their type."""
         return [entry for entry in self.entries if entry.kind in kinds and self.is_typed(entry)]
 
-    def is_unbroken(self):
+    def is_well_formed(self):
         """Whether there is no cut, and no entry of a type that the stages read has a length that is none of its type."""
         return self.cut is None and all(self.is_typed(entry) for entry in self.entries if entry.kind in self.LENGTHS)
 

@@ -432,7 +432,7 @@ numbered! {
         BlockDiffers = 107,
         /// The hardware is not reduced, the MADT has I/O APICs, and none of them serves the interrupt number of the
         /// SCI. That number is given by the first interrupt source override of bus 0 with SCI_INT as its Source
-        /// (5.2.12.5); without one it is SCI_INT itself. Applies only if the MADT is unbroken.
+        /// (5.2.12.5); without one it is SCI_INT itself. Applies only if the MADT is well-formed.
         ///
         /// Numbers: `at` is 0x2e (46), the offset of SCI_INT in the FADT, `point` is the interrupt number.
         SciNowhere = 108,
@@ -461,7 +461,7 @@ numbered! {
         SameIoApicAddress = 113,
         /// A Local APIC NMI (5.2.12.7) or Local x2APIC NMI (5.2.12.13) names a UID that no processor has, usable or
         /// not. 0xff in the first kind and 0xffffffff in the second mean all processors. Applies only if all processors
-        /// are read and the MADT is unbroken.
+        /// are read and the MADT is well-formed.
         ///
         /// Numbers: `at` is the structure's offset, `point` is the UID.
         NmiNowhere = 114,
@@ -469,7 +469,7 @@ numbered! {
         ///
         /// Numbers: `at` is the structure's offset, `other` that of the first one.
         SecondGicd = 115,
-        /// The MADT has no usable processor. Applies only if all processors are read and the MADT is unbroken.
+        /// The MADT has no usable processor. Applies only if all processors are read and the MADT is well-formed.
         ///
         /// Numbers: all 0.
         NoProcessor = 116,
@@ -480,15 +480,16 @@ numbered! {
         /// domain, `point` is the UID.
         TwoUidDomains = 117,
         /// No processor of the MADT, usable or not, has the APIC ID or X2APIC ID that an affinity names, or the UID
-        /// that an affinity of type 3 or 7 names. Applies only if all processors are read and the MADT is unbroken.
+        /// that an affinity of type 3 or 7 names. Applies only if all processors are read and the MADT is well-formed.
         ///
         /// Numbers: `at` is the affinity's offset, `point` is its APIC ID, X2APIC ID or UID.
         AffinityNowhere = 118,
-        /// The SRAT has affinities, but none names a usable processor of the MADT: its APIC ID, X2APIC ID or core ID,
-        /// or its UID if it has none of these. Applies only if all processors are read and the SRAT is unbroken.
+        /// A usable processor of the MADT is named by no affinity, although the SRAT has affinities: neither by its
+        /// APIC ID, X2APIC ID or core ID, nor, if it has none of these, by its UID. Applies only if all processors are
+        /// read and the SRAT is well-formed.
         ///
-        /// Numbers: `at` is the processor's offset in the MADT, `point` is its APIC ID or X2APIC ID, of a GICC or a
-        /// RINTC its UID.
+        /// Numbers: `at` is the processor's offset in the MADT, `point` is its APIC ID, X2APIC ID or core ID, of a GICC
+        /// or an RINTC its UID.
         NoDomain = 119,
         /// The proximity domain of an affinity, of an ITS (type 4), of an enabled initiator or port (types 5 and 6), or
         /// of an enabled memory range of any length, is N or above, where N is the SLIT's number of localities
@@ -516,25 +517,26 @@ numbered! {
         /// Numbers: `at` is the cache's offset, `other` that of the first cache with this Cache ID, `point` is the
         /// Cache ID.
         SameCacheId = 124,
-        /// The PPTT has nodes, but no leaf has the UID of a usable processor of the MADT. Applies only if all
-        /// processors are read and the PPTT is unbroken.
+        /// A usable processor of the MADT has a UID that no leaf of the PPTT has, although the PPTT has nodes. Applies
+        /// only if all processors are read and the PPTT is well-formed.
         ///
         /// Numbers: `at` is the processor's offset in the MADT, `point` is its UID.
         NoLeaf = 125,
         /// The MADT has a processor of type 11, 17 or 24, and no processor, usable or not, has the ACPI Processor ID of
-        /// a leaf as its UID. Applies only if all processors are read and the MADT is unbroken. For a MADT with types 0
-        /// to 5, 9 and 10 only, this is the fault LeafUnknown.
+        /// a leaf as its UID. Applies only if all processors are read and the MADT is well-formed. For a MADT with
+        /// types 0 to 5, 9 and 10 only, this is the fault LeafUnknown.
         ///
         /// Numbers: `at` is the leaf's offset, `point` is its ACPI Processor ID.
         LeafNowhere = 126,
         /// The MADT has a structure that no stage and no rule looks at: one of a type other than 0 to 5, 9 to 12, 17
-        /// and 24, a GICC (11) shorter than 40 bytes, a CORE PIC (17) of other than 15, or a RINTC (24) shorter than
+        /// and 24, a GICC (11) shorter than 40 bytes, a CORE PIC (17) of other than 15, or an RINTC (24) shorter than
         /// 20. `acpiset` uses only its type and length.
         ///
         /// Numbers: `at` is the offset of the first one, `other` its type.
         MadtUnread = 127,
-        /// The SRAT has a structure that no stage and no rule looks at: one of type 8 or above, or one of types 3 to 7
-        /// whose length is not 18, 12, 32, 32 or 20. `acpiset` uses only its type and length.
+        /// The SRAT has a structure that no stage and no rule looks at: one of type 8 or above, of type 3 of other than
+        /// 18 bytes, 4 of other than 12, 5 or 6 of other than 32, or 7 of other than 20. `acpiset` uses only its type
+        /// and length.
         ///
         /// Numbers: `at` is the offset of the first one, `other` its type.
         SratUnread = 128,

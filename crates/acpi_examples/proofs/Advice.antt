@@ -7,7 +7,7 @@ use Rattle.acpi_base.specs.Entries.{PlacedEntry, Stands}
 use Rattle.acpi_base.specs.Madt.{MadtContents}
 use Rattle.acpi_lint.specs.Rules.Numbered.{NamesAt, IsNamed, IsLater}
 use Rattle.acpi_lint.specs.Rules.Processors.{AreProcessorsRead, AreProcessorsKnown, IsUnreadProcessor}
-use Rattle.acpi_lint.specs.Rules.Unbroken.{HasOtherMadtLength}
+use Rattle.acpi_lint.specs.Rules.WellFormed.{HasOtherMadtLength}
 use Rattle.acpi_examples.specs.Tables.{placed_entry}
 use Rattle.acpi_examples.specs.Advice.{IsKept}
 use Rattle.acpi_examples.proofs.NamedEntries.{each_entry, none_stands}

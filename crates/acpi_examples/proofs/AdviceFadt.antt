@@ -11,7 +11,7 @@ use Rattle.acpi_base.specs.Fadt.{has_flag, gas_at}
 use Rattle.acpi_base.specs.Madt.{Override, MadtContents, ServesFrom}
 use Rattle.acpi_base.specs.Policy.{PolicyValue, inputs_of}
 use Rattle.acpi_lint.specs.Rules.FadtAdvice.{DoFieldsDiffer, IsBlockDiffers, IsOverrideOf, IsGsiOf}
-use Rattle.acpi_lint.specs.Rules.Unbroken.{HasOtherMadtLength, IsUnbrokenMadt}
+use Rattle.acpi_lint.specs.Rules.WellFormed.{HasOtherMadtLength, IsWellFormedMadt}
 use Rattle.acpi_examples.specs.Advice.{one_entry, processor}
 use Rattle.acpi_examples.specs.AdviceFadt.{facs_fadt, dsdt_fadt, block_fadt, io_apic_entry, overridden, twice_overridden, AreOfRevision, AreAddressesOdd, AreBlocksOdd, AreScisNowhere, IsFadtAdvised}
 use Rattle.acpi_examples.proofs.NamedEntries.{each_entry, none_stands, never}
@@ -168,7 +168,7 @@ unfolding field has_flag
 scis_nowhere q = record {
   nowhere = λ inputs. record {
     not_reduced = refl;
-    unbroken = unbroken 0;
+    well_formed = well_formed 0;
     place = (refl, refl);
     number = inl (record {
       at = 56;
@@ -184,7 +184,7 @@ scis_nowhere q = record {
   };
   first = λ inputs. record {
     not_reduced = refl;
-    unbroken = (refl, λ o. none_stands twice_overridden.entries o (λ o e. HasOtherMadtLength e)
+    well_formed = (refl, λ o. none_stands twice_overridden.entries o (λ o e. HasOtherMadtLength e)
         (never, (never, (never, tt))));
     place = (refl, refl);
     number = inl (record {
@@ -202,7 +202,7 @@ scis_nowhere q = record {
   };
   own = λ inputs. record {
     not_reduced = refl;
-    unbroken = unbroken 0;
+    well_formed = well_formed 0;
     place = (refl, refl);
     number = inr (not_overridden, refl);
     some = (44, (_, (0, omega arith, refl), tt));
@@ -217,11 +217,11 @@ scis_nowhere q = record {
   no_io_apic =
       λ at other point it. none_stands (one_entry 8 (processor 1)).entries it.some.0 (λ o e. IsIoApic e) (never, tt)
       it.some.1;
-  cut = λ at other point it. none-some 66 (sym it.unbroken.0);
+  cut = λ at other point it. none-some 66 (sym it.well_formed.0);
 }
   where
-    unbroken : (bus : ℕ) → IsUnbrokenMadt (overridden bus)
-    unbroken bus =
+    well_formed : (bus : ℕ) → IsWellFormedMadt (overridden bus)
+    well_formed bus =
         (refl, λ o. none_stands (overridden bus).entries o (λ o e. HasOtherMadtLength e) (never, (never, tt)))
 
 pub fadt_advised : (q : PolicyValue) → IsFadtAdvised q

@@ -128,6 +128,7 @@ unread = record {
   six = (_, (0, omega arith, refl), ((_, refl, (λ is. omega (arith, is)), refl), refl));
   short = (_, (0, omega arith, refl), ((_, refl, (λ is. omega (arith, is)), refl), refl));
   small_core = (_, (0, omega arith, refl), ((_, refl, (λ is. omega (arith, is)), refl), refl));
+  small_hart = (_, (0, omega arith, refl), ((_, refl, (λ is. omega (arith, is)), refl), refl));
   all_read =
       λ at other point it. none_stands read_entries.entries at (λ o e. IsMadtUnread e other point) (
         (λ h. of_processor h.0.0 h.0.1),

@@ -7,10 +7,10 @@ use Rattle.std.proofs.lemmas.Nat.{pow_pos}
 use Rattle.std.proofs.lemmas.Option.{none-some, same_Some}
 use Rattle.acpi_base.specs.Number.{field, has_bit}
 use Rattle.acpi_base.specs.Pptt.{Node, CacheValue, Cache, parent_of, HasOtherPpttLength}
-use Rattle.acpi_lint.specs.Rules.Processors.{uid_of, uid_on, IsRawProcessor, IsParent, IsLeafAt, IsLeafId}
+use Rattle.acpi_lint.specs.Rules.Processors.{uid_of, uid_on, IsOpaqueProcessor, IsParent, IsLeafAt, IsLeafId}
 use Rattle.acpi_lint.specs.Rules.Numbered.{IsNamed}
 use Rattle.acpi_lint.specs.Rules.PpttAdvice.{IsPowerOfTwo, HasOddShape, IsCacheShape, cache_id, IsNode}
-use Rattle.acpi_lint.specs.Rules.Unbroken.{IsUnbrokenPptt}
+use Rattle.acpi_lint.specs.Rules.WellFormed.{IsWellFormedPptt}
 use Rattle.acpi_examples.specs.Advice.{one_entry, processor, gicc, core_pic}
 use Rattle.acpi_examples.specs.AdvicePptt.{two_nodes, one_node, one_cache, AreSameLeaves, AreCacheShapes, AreSameCacheIds, AreNoLeaves, AreLeavesNowhere, IsPpttAdvised}
 use Rattle.acpi_examples.proofs.NamedEntries.{each_entry, none_stands, never}
@@ -23,13 +23,13 @@ unparented o some (p, names) =
     none_stands (two_nodes 1 2 0).entries p (λ p e. parent_of e ≡ Some o)
     ((λ is. some (sym (same_Some 0 o is))), ((λ is. some (sym (same_Some 0 o is))), tt)) names
 
-unbroken : (revision flags parent : ℕ) → IsUnbrokenPptt (two_nodes revision flags parent)
-unbroken revision flags parent =
+well_formed : (revision flags parent : ℕ) → IsWellFormedPptt (two_nodes revision flags parent)
+well_formed revision flags parent =
     (refl, λ o. none_stands (two_nodes revision flags parent).entries o (λ o e. HasOtherPpttLength e) (never, (never,
     tt)))
 
-one_unbroken : (flags id : ℕ) → IsUnbrokenPptt (one_node flags id)
-one_unbroken flags id =
+one_well_formed : (flags id : ℕ) → IsWellFormedPptt (one_node flags id)
+one_well_formed flags id =
     (refl, λ o. none_stands (one_node flags id).entries o (λ o e. HasOtherPpttLength e) (never, tt))
 
 first_alone : (o n : ℕ) → IsLeafAt (two_nodes 2 2 36) o n → o ≡ 36
@@ -69,13 +69,13 @@ same_leaves = record {
     here = (
       _,
       (1, omega arith, refl),
-      (_, refl, refl, refl, (λ new. absurd (omega arith)), (λ _. (unbroken 1 2 0, unparented 56 (λ same. omega
+      (_, refl, refl, refl, (λ new. absurd (omega arith)), (λ _. (well_formed 1 2 0, unparented 56 (λ same. omega
       arith)))),
     );
     earlier = (
       _,
       (0, omega arith, refl),
-      (_, refl, refl, refl, (λ new. absurd (omega arith)), (λ _. (unbroken 1 2 0, unparented 36 (λ same. omega
+      (_, refl, refl, refl, (λ new. absurd (omega arith)), (λ _. (well_formed 1 2 0, unparented 36 (λ same. omega
       arith)))),
     );
     before = omega arith;
@@ -170,7 +170,7 @@ unfolding has_bit
 no_leaves = record {
   none = (
     all_read (one_entry 8 (processor 2)) (never, tt),
-    one_unbroken 10 7,
+    one_well_formed 10 7,
     (36, (_, (0, omega arith, refl), tt)),
     (_, (0, omega arith, refl), refl),
     (λ it. omega (arith, leaf_id 10 7 3 it)),
@@ -184,7 +184,7 @@ no_leaves = record {
       (none-some point, tt) it.3;
   no_leaf = (
     all_read (one_entry 8 (processor 2)) (never, tt),
-    one_unbroken 8 7,
+    one_well_formed 8 7,
     (36, (_, (0, omega arith, refl), tt)),
     (_, (0, omega arith, refl), refl),
     no_leaf 7 3,
@@ -217,7 +217,8 @@ leaves_nowhere = record {
     refl,
   );
   no_gicc =
-      λ at other point it. none_stands (one_entry 8 (processor 1)).entries it.1.0 (λ o e. IsRawProcessor e) (never, tt)
+      λ at other point it. none_stands (one_entry 8 (processor 1)).entries it.1.0 (λ o e. IsOpaqueProcessor e) (never,
+      tt)
       it.1.1;
   not_read = λ at other point it. it.0.0 84 (_, (1, omega arith, refl), inr (inl (refl, omega arith)));
   cut = λ at other point it. none-some 84 (sym it.0.1.0);

@@ -8,8 +8,8 @@ use Rattle.acpi_base.specs.Madt.{MadtEntry, MadtContents}
 use Rattle.acpi_base.specs.Srat.{SratEntry, Opaque, SratContents}
 use Rattle.acpi_base.specs.Slit.{distance}
 use Rattle.acpi_lint.specs.Rules.Numbered.{NamesAt, IsNamed}
-use Rattle.acpi_lint.specs.Rules.Processors.{uid_of, apic_id_of, apic_id_on, lone_uid_on, placed_apic_id, placed_uid, processor_domain}
-use Rattle.acpi_lint.specs.Rules.Unbroken.{HasOtherSratLength, IsUnbrokenSrat}
+use Rattle.acpi_lint.specs.Rules.Processors.{uid_of, apic_id_of, apic_id_on, uid_on_without_id, placed_apic_id, placed_uid, processor_domain}
+use Rattle.acpi_lint.specs.Rules.WellFormed.{HasOtherSratLength, IsWellFormedSrat}
 use Rattle.acpi_lint.specs.Rules.SratAdvice.{IsTwoUidDomains, IsAffinityNowhere, IsNoDomain, IsDomainPastSlit, IsReadForm, IsSratUnread}
 use Rattle.acpi_examples.specs.Slits.{low_diagonal}
 use Rattle.acpi_examples.specs.Advice.{IsKept, one_entry, processor, gicc, rintc, core_pic}
@@ -140,7 +140,7 @@ affinities_nowhere = record {
 -- if the numbers of a processor are those of affinities, the rule is kept
 processor_placed : (size : ℕ) (e : MadtEntry) (srat : SratContents)
     → ((n : ℕ) → apic_id_on e ≡ Some n → IsNamed placed_apic_id srat.entries n)
-    → ((n : ℕ) → lone_uid_on e ≡ Some n → IsNamed placed_uid srat.entries n)
+    → ((n : ℕ) → uid_on_without_id e ≡ Some n → IsNamed placed_uid srat.entries n)
     → IsKept (IsNoDomain (one_entry size e) srat)
 processor_placed size e srat ids uids at other point it =
     elim it.3 [
@@ -148,7 +148,7 @@ processor_placed size e srat ids uids at other point it =
           none_stands (one_entry size e).entries at (λ o e. apic_id_on e ≡ Some point)
           ((λ is. none (ids point is)), tt) here
       | inr (here, none) ↦
-          none_stands (one_entry size e).entries at (λ o e. lone_uid_on e ≡ Some point)
+          none_stands (one_entry size e).entries at (λ o e. uid_on_without_id e ≡ Some point)
           ((λ is. none (uids point is)), tt) here
     ]
 
@@ -157,7 +157,7 @@ unfolding has_bit field
 no_domains = record {
   none = (
     all_read (one_entry 8 (processor 2)) (never, tt),
-    unbroken 16 (apic_affinity 6 0 1) never,
+    well_formed 16 (apic_affinity 6 0 1) never,
     (0, (48, (_, (0, omega arith, refl), refl))),
     inl (
       (_, (0, omega arith, refl), refl),
@@ -178,7 +178,7 @@ no_domains = record {
       (none-some it.2.0, tt) it.2.1;
   gicc_none = (
     all_read (one_entry 40 (gicc 3 1)) ((λ is. omega (arith, is)), tt),
-    unbroken 18 (gicc_affinity 4 0 1) (λ is. omega (arith, is)),
+    well_formed 18 (gicc_affinity 4 0 1) (λ is. omega (arith, is)),
     (0, (48, (_, (0, omega arith, refl), refl))),
     inr (
       (_, (0, omega arith, refl), refl),
@@ -192,7 +192,7 @@ no_domains = record {
       (48, (_, (0, omega arith, refl), refl)));
   core_none = (
     all_read (one_entry 15 (core_pic 3 5 1)) ((λ is. omega (arith, is)), tt),
-    unbroken 18 (gicc_affinity 3 0 1) (λ is. omega (arith, is)),
+    well_formed 18 (gicc_affinity 3 0 1) (λ is. omega (arith, is)),
     (0, (48, (_, (0, omega arith, refl), refl))),
     inl (
       (_, (0, omega arith, refl), refl),
@@ -204,8 +204,8 @@ no_domains = record {
   cut = λ at other point it. none-some 64 (sym it.1.0);
 }
   where
-    unbroken : (size : ℕ) (e : SratEntry) → ¬ HasOtherSratLength e → IsUnbrokenSrat (one_affinity size e)
-    unbroken size e valid =
+    well_formed : (size : ℕ) (e : SratEntry) → ¬ HasOtherSratLength e → IsWellFormedSrat (one_affinity size e)
+    well_formed size e valid =
         (refl, λ o. none_stands (one_affinity size e).entries o (λ o e. HasOtherSratLength e) (valid, tt))
 
 -- ---- domains and localities

@@ -40,7 +40,7 @@ abbrev pub cut_madt : MadtContents → MadtContents
 cut_madt c =
     record { size = c.size + 1; address = c.address; flags = c.flags; entries = c.entries; cut = Some c.size }
 
--- one of 39 bytes, which no rule reads
+-- a GIC CPU interface of 39 bytes, which no rule reads
 abbrev pub short_gicc : MadtEntry
 short_gicc = Opaque (11 ∷ 39 ∷ replicate 6 0 ++ 3 ∷ 0 ∷ 0 ∷ 0 ∷ 1 ∷ 0 ∷ 0 ∷ 0 ∷ replicate 23 0)
 

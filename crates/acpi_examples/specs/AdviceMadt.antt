@@ -123,6 +123,7 @@ pub record AreMadtUnread : Type 0 where
   pub six : OnEntry IsMadtUnread (one_entry 4 (small_entry 6)).entries 0x2c 6 0
   pub short : OnEntry IsMadtUnread (one_entry 39 short_gicc).entries 0x2c 11 0
   pub small_core : OnEntry IsMadtUnread (one_entry 4 (small_entry 17)).entries 0x2c 17 0
+  pub small_hart : OnEntry IsMadtUnread (one_entry 4 (small_entry 24)).entries 0x2c 24 0
   pub all_read : IsKept (OnEntry IsMadtUnread read_entries.entries)
 
 -- all of them

@@ -10,7 +10,7 @@ use Rattle.acpi_base.specs.Entries.{PlacedEntry}
 use Rattle.acpi_base.proofs.Elements.{no_element}
 use Rattle.acpi_lint.specs.Rules.Numbered.{NamesAt}
 use Rattle.acpi_lint.specs.Rules.Processors.{IsParent, IsLeafAt}
-use Rattle.acpi_lint.specs.Rules.Unbroken.{IsUnbrokenPptt}
+use Rattle.acpi_lint.specs.Rules.WellFormed.{IsWellFormedPptt}
 use Rattle.acpi_base.specs.Number.{has_bit}
 use Rattle.acpi_base.specs.Pptt.{PpttEntry, Node, Cache, Opaque, NodeValue, PpttContents, parent_of}
 use Rattle.acpi_check.proofs.EntryPasses.Kept.{kept_has, kept_from}
@@ -59,17 +59,17 @@ valid_node (Opaque e) id is = cc
 valid_of : (v : NodeValue) (id : ℕ) → v.id ≡ id → has_bit v.flags 1 ≡ true → valid_id (Node v) ≡ Some id
 valid_of v id is valid = rw (valid, is) refl
 
-pub unnamed_are_leaves : (c : PpttContents) → c.revision < 2 → IsUnbrokenPptt c → (o id : ℕ)
+pub unnamed_are_leaves : (c : PpttContents) → c.revision < 2 → IsWellFormedPptt c → (o id : ℕ)
     → IsUnnamedAt c o id ↔ IsLeafAt c o id
-unnamed_are_leaves c old unbroken o id = (
+unnamed_are_leaves c old well_formed o id = (
   λ ((e, stands, names), unnamed).
       let (v, is, here, valid) = valid_node e id names in
-      (e, stands, (v, is, here, valid, λ recent. absurd (omega arith), λ less. (unbroken, unnamed))),
+      (e, stands, (v, is, here, valid, λ recent. absurd (omega arith), λ less. (well_formed, unnamed))),
   λ (e, stands, (v, is, here, valid, said, unnamed)). ((e, stands, rw is (valid_of v id here valid)), (unnamed old).1),
 )
 
 -- without that there are none
-pub no_leaves : (c : PpttContents) (none : List Numbered) → c.revision < 2 → ¬ IsUnbrokenPptt c → none ≡ []
+pub no_leaves : (c : PpttContents) (none : List Numbered) → c.revision < 2 → ¬ IsWellFormedPptt c → none ≡ []
     → AreNumbersAt (IsLeafAt c) none
 no_leaves c none old broken is = rw is (record {
   rise = λ i j d before within. omega arith;

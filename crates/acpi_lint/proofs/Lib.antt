@@ -28,6 +28,6 @@ mod SortedNumbers
 mod StageVerdicts
 mod TablesAt
 mod UidDomains
-mod UnbrokenTables
+mod WellFormedTables
 mod UnknownOnes
 mod UnlikeNumbers

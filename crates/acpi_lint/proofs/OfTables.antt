@@ -6,7 +6,7 @@ use denote.Ref.{Bor}
 use Rattle.acpi_base.specs.Contents.{HasPptt}
 use Rattle.acpi_base.specs.Entries.{PlacedEntry}
 use Rattle.acpi_lint.specs.Rules.Numbered.{OnEntry, Repeats}
-use Rattle.acpi_lint.specs.Rules.Broken.{OfFadt, OfMadt, OfSrat, OfSlit, Condition, Holds, Slots, Fadt, FadtMadt, Madt, MadtEntries, MadtNumbers, MadtSrat, MadtPptt, Srat, SratEntries, SratSlit, Slit, Pptt, PpttEntries}
+use Rattle.acpi_lint.specs.Rules.Broken.{OfFadt, OfMadt, OfSrat, OfSlit, Condition, HoldsAt, Slots, Fadt, FadtMadt, Madt, MadtEntries, MadtNumbers, MadtSrat, MadtPptt, Srat, SratEntries, SratSlit, Slit, Pptt, PpttEntries}
 use Rattle.acpi_base.specs.Listed.{fadt_signature, madt_signature, srat_signature, slit_signature, pptt_signature, HasListed, IsListedTable}
 use Rattle.acpi_base.specs.Madt.{MadtEntry, madt_contents}
 use Rattle.acpi_base.specs.Memory.{Memory}
@@ -378,22 +378,22 @@ pub is_of_group : (c : Condition) {found g : RuleGroup} → found ≡ group_of c
 is_of_group c is same = subst (λ (h : RuleGroup). as_group h c ≡ c) (sym is ∙ same) (in_group c)
 
 pub as_rule : (m : Memory) (q : PolicyValue) {k c : Condition} (found : Option Place) → k ≡ c
-    → FindsLeast (Holds k m q) found → FindsLeast (Holds c m q) found
-as_rule m q found is = subst (λ (d : Condition). FindsLeast (Holds d m q) found) is
+    → FindsLeast (HoldsAt k m q) found → FindsLeast (HoldsAt c m q) found
+as_rule m q found is = subst (λ (d : Condition). FindsLeast (HoldsAt d m q) found) is
 
 pub each_rule : (m : Memory) (q : PolicyValue) {k c : Condition} {X : Type 0} (result : Result (Option Place) X) → k ≡ c
-    → IfOk result (FindsLeast (Holds k m q)) → IfOk result (FindsLeast (Holds c m q))
-each_rule m q result is = subst (λ (d : Condition). IfOk result (FindsLeast (Holds d m q))) is
+    → IfOk result (FindsLeast (HoldsAt k m q)) → IfOk result (FindsLeast (HoldsAt c m q))
+each_rule m q result is = subst (λ (d : Condition). IfOk result (FindsLeast (HoldsAt d m q))) is
 
 -- the same for what is found in the tables of a set
 pub each_set : (m : Memory) (q : PolicyValue) {k c : Condition} {X : Type 0} {tables : CompleteTables}
     (result : Result (Option Place) X) → k ≡ c → AreCompleteTables m q.rsdp tables → IfOk result (Finds k tables)
-    → IfOk result (FindsLeast (Holds c m q))
+    → IfOk result (FindsLeast (HoldsAt c m q))
 each_set m q (Ok found) is are finds = as_rule m q found is (finds m q are)
 each_set m q (Err e) is are finds = tt
 
 pub each_found : (c : Condition) {X : Type 0} {tables : CompleteTables} (result : Result (Option Place) X)
-    → ((m : Memory) (q : PolicyValue) → AreCompleteTables m q.rsdp tables → IfOk result (FindsLeast (Holds c m q)))
+    → ((m : Memory) (q : PolicyValue) → AreCompleteTables m q.rsdp tables → IfOk result (FindsLeast (HoldsAt c m q)))
     → IfOk result (Finds c tables)
 each_found c (Ok found) finds = finds
 each_found c (Err e) finds = tt

@@ -95,15 +95,15 @@ pub nowhere_at : (q : PolicyValue) (whole : List ℕ) (c : MadtContents) (g : �
 nowhere_at q whole c g b is one test =
     finds_one (record { at = 46; other = 0; point = g }) b (
       λ true.
-          let ((fixed, some, nowhere), unbroken) = test.0 true in
+          let ((fixed, some, nowhere), well_formed) = test.0 true in
           record {
             not_reduced = fixed;
-            unbroken = unbroken;
+            well_formed = well_formed;
             place = (refl, refl);
             number = is;
             some = some;
             nowhere = nowhere;
           },
-      λ broken. test.1 ((broken.not_reduced, broken.some, broken.nowhere), broken.unbroken),
+      λ broken. test.1 ((broken.not_reduced, broken.some, broken.nowhere), broken.well_formed),
     )
     (λ at other point broken. (broken.place.0, broken.place.1, one point broken.number))

@@ -7,7 +7,7 @@ use Rattle.std.proofs.lemmas.List.{get_or_default}
 use Rattle.std.proofs.lemmas.Option.{none-some, same_Some}
 use Rattle.acpi_base.specs.Entries.{PlacedEntry}
 use Rattle.acpi_lint.specs.Rules.Numbered.{NamesAt}
-use Rattle.acpi_lint.specs.Rules.Processors.{Processor, processor_of, apic_id_on, lone_uid_on, placed_apic_id, placed_uid}
+use Rattle.acpi_lint.specs.Rules.Processors.{Processor, processor_of, apic_id_on, uid_on_without_id, placed_apic_id, placed_uid}
 use Rattle.acpi_base.specs.Madt as madt
 use Rattle.acpi_base.specs.Srat as srat
 use Rattle.acpi_lint.specs.Places.{FindsOwn, FindsLeast}
@@ -111,7 +111,7 @@ of_processor : (p : Option Processor) (uid : ℕ)
 of_processor None uid is = refl
 of_processor (Some p) uid is = one_number p.on p.apic_id p.uid uid is
 
-pub processor_has_one : (e : madt.MadtEntry) (uid : ℕ) → lone_uid_on e ≡ Some uid → apic_id_on e ≡ None
+pub processor_has_one : (e : madt.MadtEntry) (uid : ℕ) → uid_on_without_id e ≡ Some uid → apic_id_on e ≡ None
 processor_has_one e uid is = of_processor (processor_of e) uid is
 
 -- the entry at `at` has one of two numbers, which is unknown

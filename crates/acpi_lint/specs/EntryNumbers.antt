@@ -2,7 +2,7 @@
 use Rattle.std.specs.Prelude.{◌<◌, ◌↔◌, ℕ, List, AllPairs, Contains, Option, option_map, ◌≡◌, ◌⊎◌, Some, None, MatchOption}
 use Rattle.std.specs.Option.{option_and_then}
 use Rattle.acpi_lint.specs.Rules.Processors as said
-use Rattle.acpi_lint.specs.Rules.Processors.{placed_uid, processor_domain, apic_id_on, lone_uid_on, placed_apic_id}
+use Rattle.acpi_lint.specs.Rules.Processors.{placed_uid, processor_domain, apic_id_on, uid_on_without_id, placed_apic_id}
 use Rattle.acpi_base.specs.Srat.{SratEntry}
 use Rattle.acpi_base.specs.Entries.{PlacedEntry}
 use Rattle.acpi_lint.specs.Rules.Numbered.{IsNamed}
@@ -68,7 +68,7 @@ IsUnknownAffinity ids uids at e other point =
 -- the same for a usable processor, by its UID if it has no APIC ID
 abbrev pub IsUnplaced : List ℕ → List ℕ → ℕ → MadtEntry → ℕ → ℕ → Type 0
 IsUnplaced ids uids at e other point =
-    IsUnknown ids at (apic_id_on e) other point ⊎ IsUnknown uids at (lone_uid_on e) other point
+    IsUnknown ids at (apic_id_on e) other point ⊎ IsUnknown uids at (uid_on_without_id e) other point
 
 -- one of these numbers is at `at` and is unknown
 abbrev pub IsUnknownAt : List ℕ → List Numbered → ℕ → ℕ → ℕ → Type 0

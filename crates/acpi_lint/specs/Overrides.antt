@@ -5,7 +5,7 @@ use Rattle.acpi_base.specs.Entries.{StandsWith}
 use Rattle.acpi_base.specs.Fadt.{is_reduced}
 use Rattle.acpi_base.specs.Madt.{MadtEntry, IoApic, Override, MadtContents}
 use Rattle.acpi_base.specs.Policy.{PolicyValue, inputs_of}
-use Rattle.acpi_lint.specs.Rules.Unbroken.{IsUnbrokenMadt}
+use Rattle.acpi_lint.specs.Rules.WellFormed.{IsWellFormedMadt}
 
 -- the entry, which is at `at`, is an override of this ISA interrupt that gives it the interrupt number `other`
 abbrev pub IsOwnOverride : ℕ → ℕ → MadtEntry → ℕ → ℕ → Type 0
@@ -26,6 +26,6 @@ ServesNumber q g _ = ⊥
 abbrev pub IsUnserved : PolicyValue → List ℕ → MadtContents → ℕ → Type 0
 IsUnserved q whole c g = (is_reduced whole ≡ false) × HasIoApic c × (¬ IsServed q c g)
 
--- the same, and the MADT is unbroken
+-- the same, and the MADT is well-formed
 abbrev pub IsNowhere : PolicyValue → List ℕ → MadtContents → ℕ → Type 0
-IsNowhere q whole c g = IsUnserved q whole c g × IsUnbrokenMadt c
+IsNowhere q whole c g = IsUnserved q whole c g × IsWellFormedMadt c

@@ -1,4 +1,4 @@
--- The rules that a finder serves: those that look at the same.
+-- The rules that a finder serves: those that look at the same tables or entries.
 use Rattle.std.specs.Prelude.{ℕ, List, Option, None}
 use Rattle.acpi_base.specs.Madt.{MadtEntry, MadtContents}
 use Rattle.acpi_base.specs.Memory.{Memory}
@@ -8,7 +8,7 @@ use Rattle.acpi_base.specs.Slit.{SlitContents, HasSlitSize}
 use Rattle.acpi_base.specs.Srat.{SratEntry, SratContents}
 use Rattle.acpi_lint.specs.CompleteTables.{AreCompleteTables}
 use Rattle.acpi_lint.specs.Places.{FindsLeast}
-use Rattle.acpi_lint.specs.Rules.Broken.{Condition, Holds, Slots, Fadt, FadtMadt, Madt, MadtEntries, MadtNumbers, MadtSrat, MadtPptt, Srat, SratEntries, SratSlit, Slit, Pptt, PpttEntries}
+use Rattle.acpi_lint.specs.Rules.Broken.{Condition, HoldsAt, Slots, Fadt, FadtMadt, Madt, MadtEntries, MadtNumbers, MadtSrat, MadtPptt, Srat, SratEntries, SratSlit, Slit, Pptt, PpttEntries}
 use Rattle.acpi_lint.specs.declared.complete_tables.CompleteTables.{CompleteTables}
 use Rattle.acpi_lint.specs.declared.place.Place.{Place}
 use Rattle.acpi_lint.specs.declared.advice.RuleGroup.{RuleGroup}
@@ -31,7 +31,7 @@ group_of (Slit P) = group.Slit
 group_of (Pptt P) = group.Pptt
 group_of (PpttEntries P) = group.PpttEntries
 
--- ---- the relation of a condition of a group; nothing is related by that of another
+-- ---- the relation of a condition if it is of the group, otherwise one that never holds
 
 abbrev pub in_slots : Condition → Memory → ℕ → ℕ → ℕ → ℕ → Type 0
 in_slots (Slots P) = P
@@ -73,17 +73,17 @@ abbrev pub on_srat_entry : Condition → SratEntry → ℕ → ℕ → Type 0
 on_srat_entry (SratEntries P) = P
 on_srat_entry _ = λ e other point. ⊥
 
-abbrev pub on_srat_entry_with : Condition → ℕ → SratEntry → ℕ → ℕ → Type 0
-on_srat_entry_with (SratSlit P) = P
-on_srat_entry_with _ = λ localities e other point. ⊥
+abbrev pub on_srat_slit_entry : Condition → ℕ → SratEntry → ℕ → ℕ → Type 0
+on_srat_slit_entry (SratSlit P) = P
+on_srat_slit_entry _ = λ localities e other point. ⊥
 
 abbrev pub in_slit : Condition → SlitContents → ℕ → ℕ → ℕ → Type 0
 in_slit (Slit P) = P
 in_slit _ = λ slit at other point. ⊥
 
 -- the same in a table that has the right size
-abbrev pub IsSizedBroken : Condition → SlitContents → ℕ → ℕ → ℕ → Type 0
-IsSizedBroken c slit at other point = HasSlitSize slit × in_slit c slit at other point
+abbrev pub in_sized_slit : Condition → SlitContents → ℕ → ℕ → ℕ → Type 0
+in_sized_slit c slit at other point = HasSlitSize slit × in_slit c slit at other point
 
 abbrev pub in_pptt : Condition → PpttContents → ℕ → ℕ → ℕ → Type 0
 in_pptt (Pptt P) = P
@@ -105,7 +105,7 @@ as_group group.MadtSrat c = MadtSrat (in_madt_srat c)
 as_group group.MadtPptt c = MadtPptt (in_madt_pptt c)
 as_group group.Srat c = Srat (in_srat c)
 as_group group.SratEntries c = SratEntries (on_srat_entry c)
-as_group group.SratSlit c = SratSlit (on_srat_entry_with c)
+as_group group.SratSlit c = SratSlit (on_srat_slit_entry c)
 as_group group.Slit c = Slit (in_slit c)
 as_group group.Pptt c = Pptt (in_pptt c)
 as_group group.PpttEntries c = PpttEntries (on_pptt_entry c)
@@ -115,8 +115,8 @@ as_group group.PpttEntries c = PpttEntries (on_pptt_entry c)
 -- the condition holds nowhere in the set with these tables, or this is the first place where it does
 abbrev pub Finds : Condition → CompleteTables → Option Place → Type 0
 Finds c tables found =
-    (m : Memory) (q : PolicyValue) → AreCompleteTables m q.rsdp tables → FindsLeast (Holds c m q) found
+    (m : Memory) (q : PolicyValue) → AreCompleteTables m q.rsdp tables → FindsLeast (HoldsAt c m q) found
 
 -- the same with the settings of a policy
 abbrev pub FindsBy : Condition → PolicyValue → CompleteTables → Option Place → Type 0
-FindsBy c q tables found = (m : Memory) → AreCompleteTables m q.rsdp tables → FindsLeast (Holds c m q) found
+FindsBy c q tables found = (m : Memory) → AreCompleteTables m q.rsdp tables → FindsLeast (HoldsAt c m q) found

@@ -10,4 +10,4 @@ pub mod Processors
 pub mod SlitAdvice
 pub mod Slots
 pub mod SratAdvice
-pub mod Unbroken
+pub mod WellFormed

@@ -4,7 +4,7 @@
 ghost use Rattle.std.specs.Prelude.{◌≡◌, IfOk};
 ghost use Rattle.acpi_lint.specs.CompleteTables.{AreCompleteTables};
 ghost use Rattle.acpi_lint.specs.Places.{FindsLeast};
-ghost use Rattle.acpi_lint.specs.RuleGroups.{in_fadt, in_fadt_madt, in_madt, on_madt_entry, unique_number, in_madt_srat, in_madt_pptt, in_srat, on_srat_entry, on_srat_entry_with, in_slit, in_pptt, on_pptt_entry, group_of, Finds, FindsBy};
+ghost use Rattle.acpi_lint.specs.RuleGroups.{in_fadt, in_fadt_madt, in_madt, on_madt_entry, unique_number, in_madt_srat, in_madt_pptt, in_srat, on_srat_entry, on_srat_slit_entry, in_slit, in_pptt, on_pptt_entry, group_of, Finds, FindsBy};
 ghost use Rattle.acpi_lint.specs.Rules.Broken as broken;
 ghost use Rattle.acpi_lint.specs.Rules.Broken.{condition, IsBroken};
 ghost use Rattle.acpi_lint.specs.Rules.Findings.{AreFirstAdvice};
@@ -14,7 +14,7 @@ use crate::complete_tables::CompleteTables;
 use crate::fadt_advice::fadt_place;
 use crate::nowhere::{madt_place, madt_pptt_place, madt_srat_place};
 use crate::own::{
-    first_own_place, madt_entry_place, pptt_entry_place, srat_entry_place, srat_entry_place_with,
+    first_own_place, madt_entry_place, pptt_entry_place, srat_entry_place, srat_slit_entry_place,
 };
 use crate::place::Place;
 use crate::repeated::{pptt_place, repeated, srat_place, unique_number_at};
@@ -39,7 +39,7 @@ enum RuleGroup {
     Madt,
     /// Each entry of the MADT by itself.
     MadtEntries,
-    /// A number of entries of the MADT, which should be unique.
+    /// A number that each entry of the MADT may have, and that should be unique.
     MadtNumbers,
     /// The MADT and the SRAT.
     MadtSrat,
@@ -98,7 +98,7 @@ fn group(rule: Rule) -> RuleGroup
 // ---- rules on tables of a set
 
 /// The place of a rule on the FADT.
-fn in_fadt(tables: &CompleteTables<'_>, rule: Rule) -> Option<Place>
+fn listed_fadt_place(tables: &CompleteTables<'_>, rule: Rule) -> Option<Place>
     ensures { Finds (broken.Fadt (in_fadt (condition rule))) tables.now result }
 {
     let fadt = tables.fadt()?;
@@ -106,7 +106,7 @@ fn in_fadt(tables: &CompleteTables<'_>, rule: Rule) -> Option<Place>
 }
 
 /// The place of a rule on the FADT and the MADT.
-fn in_fadt_madt(policy: &Policy, tables: &CompleteTables<'_>, rule: Rule) -> Option<Place>
+fn listed_fadt_madt_place(policy: &Policy, tables: &CompleteTables<'_>, rule: Rule) -> Option<Place>
     ensures { FindsBy (broken.FadtMadt (in_fadt_madt (condition rule))) policy.now tables.now
         result }
 {
@@ -116,7 +116,7 @@ fn in_fadt_madt(policy: &Policy, tables: &CompleteTables<'_>, rule: Rule) -> Opt
 }
 
 /// The place of a rule on the MADT.
-fn in_madt(
+fn listed_madt_place(
     alloc: Global,
     policy: &Policy,
     tables: &CompleteTables<'_>,
@@ -131,7 +131,7 @@ fn in_madt(
 }
 
 /// The place of a rule on the MADT and the SRAT.
-fn in_madt_srat(
+fn listed_madt_srat_place(
     alloc: Global,
     policy: &Policy,
     tables: &CompleteTables<'_>,
@@ -149,7 +149,7 @@ fn in_madt_srat(
 }
 
 /// The place of a rule on the MADT and the PPTT.
-fn in_madt_pptt(
+fn listed_madt_pptt_place(
     alloc: Global,
     policy: &Policy,
     tables: &CompleteTables<'_>,
@@ -167,7 +167,7 @@ fn in_madt_pptt(
 }
 
 /// The place of a rule on the SRAT.
-fn in_srat(
+fn listed_srat_place(
     alloc: Global,
     tables: &CompleteTables<'_>,
     rule: Rule,
@@ -181,19 +181,19 @@ fn in_srat(
 }
 
 /// The place of a rule on each entry of the SRAT with the SLIT.
-fn in_srat_slit(tables: &CompleteTables<'_>, rule: Rule) -> Option<Place>
-    ensures { Finds (broken.SratSlit (on_srat_entry_with (condition rule))) tables.now result }
+fn listed_srat_slit_place(tables: &CompleteTables<'_>, rule: Rule) -> Option<Place>
+    ensures { Finds (broken.SratSlit (on_srat_slit_entry (condition rule))) tables.now result }
 {
     let slit = tables.table(TableKind::Slit)?;
     let localities = rows(slit.bytes())? as u64;
     first_own_place(
         tables.srat_entries(),
-        |at| srat_entry_place_with(rule, localities, at),
+        |at| srat_slit_entry_place(rule, localities, at),
     )
 }
 
 /// The place of a rule on the SLIT.
-fn in_slit(tables: &CompleteTables<'_>, rule: Rule) -> Option<Place>
+fn listed_slit_place(tables: &CompleteTables<'_>, rule: Rule) -> Option<Place>
     ensures { Finds (broken.Slit (in_slit (condition rule))) tables.now result }
 {
     let slit = tables.table(TableKind::Slit)?;
@@ -201,7 +201,7 @@ fn in_slit(tables: &CompleteTables<'_>, rule: Rule) -> Option<Place>
 }
 
 /// The place of a rule on the PPTT.
-fn in_pptt(
+fn listed_pptt_place(
     alloc: Global,
     policy: &Policy,
     tables: &CompleteTables<'_>,
@@ -230,9 +230,9 @@ fn first_place(
 {
     match group(rule) {
         RuleGroup::Slots => slot_place(alloc, tables, rule),
-        RuleGroup::Fadt => Ok(in_fadt(tables, rule)),
-        RuleGroup::FadtMadt => Ok(in_fadt_madt(policy, tables, rule)),
-        RuleGroup::Madt => in_madt(alloc, policy, tables, rule),
+        RuleGroup::Fadt => Ok(listed_fadt_place(tables, rule)),
+        RuleGroup::FadtMadt => Ok(listed_fadt_madt_place(policy, tables, rule)),
+        RuleGroup::Madt => listed_madt_place(alloc, policy, tables, rule),
         RuleGroup::MadtEntries => Ok(first_own_place(
             tables.madt_entries(),
             |at| madt_entry_place(rule, at),
@@ -242,16 +242,16 @@ fn first_place(
             tables.madt_entries(),
             |at| unique_number_at(rule, at),
         ),
-        RuleGroup::MadtSrat => in_madt_srat(alloc, policy, tables, rule),
-        RuleGroup::MadtPptt => in_madt_pptt(alloc, policy, tables, rule),
-        RuleGroup::Srat => in_srat(alloc, tables, rule),
+        RuleGroup::MadtSrat => listed_madt_srat_place(alloc, policy, tables, rule),
+        RuleGroup::MadtPptt => listed_madt_pptt_place(alloc, policy, tables, rule),
+        RuleGroup::Srat => listed_srat_place(alloc, tables, rule),
         RuleGroup::SratEntries => Ok(first_own_place(
             tables.srat_entries(),
             |at| srat_entry_place(rule, at),
         )),
-        RuleGroup::SratSlit => Ok(in_srat_slit(tables, rule)),
-        RuleGroup::Slit => Ok(in_slit(tables, rule)),
-        RuleGroup::Pptt => in_pptt(alloc, policy, tables, rule),
+        RuleGroup::SratSlit => Ok(listed_srat_slit_place(tables, rule)),
+        RuleGroup::Slit => Ok(listed_slit_place(tables, rule)),
+        RuleGroup::Pptt => listed_pptt_place(alloc, policy, tables, rule),
         RuleGroup::PpttEntries => Ok(first_own_place(
             tables.pptt_entries(),
             |at| pptt_entry_place(rule, at),

@@ -5,7 +5,7 @@ ghost use Rattle.std.specs.Prelude.{◌≡◌, ◌≤◌, ◌↔◌, ℕ, length
 ghost use denote.Ref.{Bor};
 ghost use Rattle.acpi_base.specs.Entries.{StandsWith, entries_read_by};
 ghost use Rattle.acpi_lint.specs.Rules.Numbered.{IsNamed};
-ghost use Rattle.acpi_lint.specs.Rules.Processors.{apic_id_of, uid_of, uid_on, placed_apic_id, placed_uid, processor_domain, IsRawProcessor, IsUnreadProcessor, AreProcessorsRead, AreProcessorsKnown, IsLeafId};
+ghost use Rattle.acpi_lint.specs.Rules.Processors.{apic_id_of, uid_of, uid_on, placed_apic_id, placed_uid, processor_domain, IsOpaqueProcessor, IsUnreadProcessor, AreProcessorsRead, AreProcessorsKnown, IsLeafId};
 ghost use Rattle.acpi_lint.specs.Rules.PpttAdvice.{IsNode};
 ghost use Rattle.acpi_base.specs.Madt.{madt_contents};
 ghost use Rattle.acpi_base.specs.Madt as madts;
@@ -22,9 +22,9 @@ use crate::numbered::Numbered;
 use crate::passes::first_picked;
 use crate::processors::{
     CORE_PIC, CORE_PIC_LEN, Processor, RINTC, RINTC_LEN, apic_id_of, placed_apic_id, placed_uid,
-    processor_domain, raw_processor, uid_of, uid_on,
+    processor_domain, opaque_processor, uid_of, uid_on,
 };
-use crate::unbroken::is_madt_unbroken;
+use crate::well_formed::is_madt_well_formed;
 use acpi_base::Policy;
 use acpi_check::{collected, sorted_unique};
 use acpi_read::{
@@ -63,14 +63,14 @@ pub fn processor_uids(alloc: Global, madt: &Table<'_>) -> Result<Vec<u64>, Alloc
     known_numbers(alloc, madt.entries::<MadtEntry<'_>>(), uid_at)
 }
 
-/// The APIC ID or x2APIC ID of a processor that has one.
+/// The APIC ID, x2APIC ID or core's ID of a processor that has one.
 fn apic_id_at(at: &EntryAt<MadtEntry<'_>>) -> Option<u64>
     ensures { result ≡ apic_id_of (madt_value at.now.entry) }
 {
     apic_id_of(&at.entry).map(u64::from)
 }
 
-/// The APIC IDs and x2APIC IDs of a MADT's processors, in rising order. Allocates for each.
+/// The APIC IDs, x2APIC IDs and cores' IDs of a MADT's processors, in rising order. Allocates for each.
 pub fn processor_apic_ids(alloc: Global, madt: &Table<'_>) -> Result<Vec<u64>, AllocError>
     ensures { IfOk result
         (λ known. AreKnown (IsNamed apic_id_of (madt_contents madt.now).entries) known.items) }
@@ -133,9 +133,9 @@ pub fn leaf_ids(alloc: Global, policy: &Policy, pptt: &Table<'_>) -> Result<Vec<
 /// The type of a local SAPIC (ACPI 6.5, 5.2.12.10), which no rule reads.
 const SAPIC: u8 = 7;
 
-/// Whether the bytes of an entry of a MADT describe processors in a form that no rule reads: a local SAPIC, or a
-/// structure of another architecture with another length.
-fn is_unread_form(bytes: &[u8]) -> bool
+/// Whether the bytes of an entry of a MADT describe a processor that no rule reads: a local SAPIC, or a GICC, CORE PIC
+/// or RINTC of a length that is not read.
+fn is_unread_processor(bytes: &[u8]) -> bool
     requires { 2 ≤ length bytes.now }
     ensures { IsTrue result ↔ IsUnreadProcessor (madts.Opaque bytes.now) }
 {
@@ -148,13 +148,13 @@ fn is_unread_form(bytes: &[u8]) -> bool
     }
 }
 
-/// Some for an entry of a MADT that describes processors in such a form.
+/// Some for an entry of a MADT that describes such a processor.
 fn unread_processor_at(at: &EntryAt<MadtEntry<'_>>) -> Option<()>
     requires { IsCompleteEntry at.now.entry }
     ensures { IsSome result ↔ IsUnreadProcessor (madt_value at.now.entry) }
 {
     match at.entry {
-        MadtEntry::Opaque(bytes) if is_unread_form(bytes) => Some(()),
+        MadtEntry::Opaque(bytes) if is_unread_processor(bytes) => Some(()),
         _ => None,
     }
 }
@@ -167,11 +167,11 @@ pub fn are_processors_read(madt: &Table<'_>) -> bool
     unread.is_none()
 }
 
-/// Whether all processors of a MADT are known: the rules read all, and the MADT is unbroken.
+/// Whether all processors of a MADT are known: the rules read all, and the MADT is well-formed.
 pub fn are_processors_known(policy: &Policy, madt: &Table<'_>) -> bool
     ensures { IsTrue result ↔ AreProcessorsKnown (madt_contents madt.now) }
 {
-    are_processors_read(madt) && is_madt_unbroken(policy, madt)
+    are_processors_read(madt) && is_madt_well_formed(policy, madt)
 }
 
 /// The UID of a usable processor.
@@ -190,21 +190,21 @@ pub fn is_any_on(madt: &Table<'_>) -> bool
 }
 
 /// A processor that is not of x86, if the rules read it.
-fn raw_processor_at(at: &EntryAt<MadtEntry<'_>>) -> Option<Processor>
-    ensures { IsSome result ↔ IsRawProcessor (madt_value at.now.entry) }
+fn opaque_processor_at(at: &EntryAt<MadtEntry<'_>>) -> Option<Processor>
+    ensures { IsSome result ↔ IsOpaqueProcessor (madt_value at.now.entry) }
 {
     match at.entry {
-        MadtEntry::Opaque(bytes) => raw_processor(bytes),
+        MadtEntry::Opaque(bytes) => opaque_processor(bytes),
         _ => None,
     }
 }
 
 /// Whether a MADT has a processor that is not of x86 and that the rules read.
-pub fn has_raw_processor(madt: &Table<'_>) -> bool
+pub fn has_opaque_processor(madt: &Table<'_>) -> bool
     ensures { IsTrue result
-        ↔ ((o : ℕ) × StandsWith (madt_contents madt.now).entries o IsRawProcessor) }
+        ↔ ((o : ℕ) × StandsWith (madt_contents madt.now).entries o IsOpaqueProcessor) }
 {
-    let processor = first_picked(madt.entries::<MadtEntry<'_>>(), raw_processor_at);
+    let processor = first_picked(madt.entries::<MadtEntry<'_>>(), opaque_processor_at);
     processor.is_some()
 }
 

@@ -10,7 +10,7 @@ ghost use Rattle.acpi_lint.specs.Numbered.{at_place, AreNumbersAt};
 
 use crate::numbered::{Numbered, at_place};
 use crate::processors::is_set;
-use crate::unbroken::is_pptt_unbroken;
+use crate::well_formed::is_pptt_well_formed;
 use acpi_base::Policy;
 use acpi_check::{binary_search, collected, sorted_unique};
 use acpi_read::{EntryAt, PpttEntry, Table};
@@ -105,8 +105,8 @@ fn unnamed_leaves(alloc: Global, pptt: &Table<'_>) -> Result<Vec<Numbered>, Allo
 /// The lowest Revision of the PPTT that has the flag of a leaf.
 const HAS_LEAVES: u8 = 2;
 
-/// The ACPI processor IDs of a PPTT's leaves, each with its leaf's offset; the offsets rise. Below Revision 2 a PPTT that
-/// is not unbroken has none. Allocates for each leaf, and below Revision 2 also for each node.
+/// The ACPI processor IDs of a PPTT's leaves, each with its leaf's offset; the offsets rise. Below Revision 2 a PPTT has
+/// leaves only if it is well-formed. Allocates for each leaf, and below Revision 2 also for each node.
 pub fn leaves_of(
     alloc: Global,
     policy: &Policy,
@@ -118,7 +118,7 @@ pub fn leaves_of(
     if revision(pptt) >= HAS_LEAVES {
         return said_leaves(alloc, pptt);
     }
-    if !is_pptt_unbroken(policy, pptt) {
+    if !is_pptt_well_formed(policy, pptt) {
         return Ok(Vec::new(alloc));
     }
     unnamed_leaves(alloc, pptt)

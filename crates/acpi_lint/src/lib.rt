@@ -60,7 +60,7 @@ mod slit;
 mod slot_advice;
 mod slots;
 mod table_at;
-mod unbroken;
+mod well_formed;
 mod verdicts;
 
 pub use findings::{Findings, lint};

@@ -19,15 +19,15 @@ ghost use Rattle.acpi_lint.specs.Places.{FindsOwn, FindsLeast};
 ghost use Rattle.acpi_lint.specs.EntryNumbers.{IsUnknown, IsUnknownOf, IsUnknownAffinity, IsUnplaced, IsUnknownAt, IsWhere};
 
 use crate::known_numbers::{
-    are_processors_known, are_processors_read, has_node, has_raw_processor, is_any_on,
+    are_processors_known, are_processors_read, has_node, has_opaque_processor, is_any_on,
     is_any_placed, leaf_ids, placed_apic_ids, placed_uids, processor_apic_ids, processor_uids,
 };
 use crate::leaves::leaves_of;
 use crate::numbered::Numbered;
 use crate::passes::first_picked;
 use crate::place::Place;
-use crate::processors::{apic_id_on, lone_uid_on, nmi_uid, placed_apic_id, placed_uid, uid_on};
-use crate::unbroken::{is_pptt_unbroken, is_srat_unbroken};
+use crate::processors::{apic_id_on, uid_on_without_id, nmi_uid, placed_apic_id, placed_uid, uid_on};
+use crate::well_formed::{is_pptt_well_formed, is_srat_well_formed};
 use acpi_base::{Policy, Rule};
 use acpi_check::{binary_search, has};
 use acpi_read::{EntryAt, MadtEntry, SratEntry, Table};
@@ -159,13 +159,13 @@ fn unplaced(ids: &[u64], uids: &[u64], at: &EntryAt<MadtEntry<'_>>) -> Option<Pl
     requires uids { AllPairs (λ i j. i < j) uids.now }
     ensures { FindsOwn (IsUnplaced ids.now uids.now) (entry_at_value madt_value at.now) result }
 {
-    match lone_uid_on(&at.entry) {
+    match uid_on_without_id(&at.entry) {
         Some(uid) => unknown_place(uids, at.offset, Some(uid)),
         None => unknown_place(ids, at.offset, apic_id_on(&at.entry)),
     }
 }
 
-/// The first usable processor of a MADT for which an SRAT has no affinity, if the SRAT has some and is unbroken, and the
+/// The first usable processor of a MADT for which an SRAT has no affinity, if the SRAT has some and is well-formed, and the
 /// rules read all processors; `point` is its number. Allocates for each affinity.
 fn no_domain(
     alloc: Global,
@@ -179,7 +179,7 @@ fn no_domain(
     if !is_any_placed(srat) {
         return Ok(None);
     }
-    if !is_srat_unbroken(policy, srat) {
+    if !is_srat_well_formed(policy, srat) {
         return Ok(None);
     }
     let ids = placed_apic_ids(alloc, srat)?;
@@ -221,7 +221,7 @@ fn leafless(ids: &[u64], at: &EntryAt<MadtEntry<'_>>) -> Option<Place>
     unknown_place(ids, at.offset, uid_on(&at.entry))
 }
 
-/// The first usable processor of a MADT for which a PPTT has no leaf, if the PPTT has a node and is unbroken, and the
+/// The first usable processor of a MADT for which a PPTT has no leaf, if the PPTT has a node and is well-formed, and the
 /// rules read all processors; `point` is its UID. Allocates for each leaf, and below Revision 2 for each node.
 fn no_leaf(
     alloc: Global,
@@ -235,7 +235,7 @@ fn no_leaf(
     if !has_node(pptt) {
         return Ok(None);
     }
-    if !is_pptt_unbroken(policy, pptt) {
+    if !is_pptt_well_formed(policy, pptt) {
         return Ok(None);
     }
     let ids = leaf_ids(alloc, policy, pptt)?;
@@ -273,7 +273,7 @@ fn leaf_nowhere(
     ensures { IfOk result (FindsLeast
         (IsLeafNowhere (madt_contents madt.now) (pptt_contents pptt.now))) }
 {
-    if !has_raw_processor(madt) {
+    if !has_opaque_processor(madt) {
         return Ok(None);
     }
     let uids = processor_uids(alloc, madt)?;

@@ -17,7 +17,7 @@ ghost use Rattle.acpi_read.specs.Srats.{srat_value};
 ghost use Rattle.acpi_read.specs.Entries.{entry_at_value};
 ghost use Rattle.acpi_check.specs.CollectedValues.{Picks};
 ghost use Rattle.acpi_lint.specs.Places.{PicksFirst, FindsOwn};
-ghost use Rattle.acpi_lint.specs.RuleGroups.{on_madt_entry, on_srat_entry, on_srat_entry_with, on_pptt_entry};
+ghost use Rattle.acpi_lint.specs.RuleGroups.{on_madt_entry, on_srat_entry, on_srat_slit_entry, on_pptt_entry};
 ghost use Rattle.acpi_lint.specs.Rules.Broken.{condition};
 
 use crate::passes::first_picked;
@@ -162,12 +162,12 @@ pub fn srat_entry_place(rule: Rule, at: &EntryAt<SratEntry<'_>>) -> Option<Place
 
 /// The place of an entry of an SRAT that breaks a rule with a SLIT, which has this many localities. None for another
 /// rule.
-pub fn srat_entry_place_with(
+pub fn srat_slit_entry_place(
     rule: Rule,
     localities: u64,
     at: &EntryAt<SratEntry<'_>>,
 ) -> Option<Place>
-    ensures { FindsOwn (λ at. on_srat_entry_with (condition rule) localities)
+    ensures { FindsOwn (λ at. on_srat_slit_entry (condition rule) localities)
         (entry_at_value srat_value at.now) result }
 {
     match rule {

@@ -137,7 +137,7 @@ fn table_fault<'a, E: TableEntry<'a> + Copy>(
 }
 
 /// Whether a table has no fault with these two codes: of the cut, and of an entry with another length than its type's.
-pub fn is_unbroken<'a, E: TableEntry<'a> + Copy>(
+pub fn is_well_formed<'a, E: TableEntry<'a> + Copy>(
     policy: &Policy,
     cut: Code,
     length: Code,

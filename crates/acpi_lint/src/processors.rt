@@ -4,7 +4,7 @@ ghost use Rattle.std.specs.Prelude.{◌≡◌, ◌<◌, ◌≤◌, ◌||◌, len
 ghost use Rattle.std.specs.Option.{option_map};
 ghost use Rattle.acpi_lint.specs.Rules.MadtAdvice.{io_apic_address, io_apic_id, nonzero_io_apic_address, nmi_uid, gicd};
 ghost use Rattle.acpi_lint.specs.Rules.PpttAdvice.{cache_id};
-ghost use Rattle.acpi_lint.specs.Rules.Processors.{is_gicc, is_rintc, is_core_pic, raw_processor, processor_of, uid_of, uid_on, apic_id_of, apic_id_on, lone_uid_on, is_gicc_affinity, is_rintc_affinity, is_its_affinity, is_generic_affinity, placed_apic_id, placed_uid, processor_domain, any_domain};
+ghost use Rattle.acpi_lint.specs.Rules.Processors.{is_gicc, is_rintc, is_core_pic, opaque_processor, processor_of, uid_of, uid_on, apic_id_of, apic_id_on, uid_on_without_id, is_gicc_affinity, is_rintc_affinity, is_its_affinity, is_generic_affinity, placed_apic_id, placed_uid, processor_domain, any_domain};
 ghost use Rattle.acpi_base.specs.Number.{has_bit};
 ghost use Rattle.acpi_read.specs.Madts.{madt_value};
 ghost use Rattle.acpi_read.specs.Pptts.{pptt_value};
@@ -64,7 +64,7 @@ pub fn is_set(flags: u32, bit: u32) -> bool
     flags >> bit & 1 == 1
 }
 
-/// Whether the flags of a processor say Enabled or Online Capable, which is this bit of them.
+/// Whether Enabled, bit 0, or Online Capable, the bit `capable`, is set in a processor's flags.
 fn is_on(flags: u32, capable: u32) -> bool
     requires { capable < 32 }
     ensures { result ≡ has_bit flags 0 || has_bit flags capable }
@@ -74,7 +74,7 @@ fn is_on(flags: u32, capable: u32) -> bool
 
 // ---- the MADT
 
-/// Whether the bytes are a GIC CPU interface of at least that length.
+/// Whether the bytes are a GIC CPU interface of at least `GICC_LEN` bytes.
 pub fn is_gicc(bytes: &[u8]) -> bool
     ensures value { result ≡ is_gicc bytes.now }
     ensures size { IsTrue result → 40 ≤ length bytes.now }
@@ -82,7 +82,7 @@ pub fn is_gicc(bytes: &[u8]) -> bool
     bytes.len() >= GICC_LEN && bytes[0] == GICC
 }
 
-/// Whether they are the interrupt controller of a hart of at least that length.
+/// Whether they are a hart's interrupt controller of at least `RINTC_LEN` bytes.
 fn is_rintc(bytes: &[u8]) -> bool
     ensures value { result ≡ is_rintc bytes.now }
     ensures size { IsTrue result → 20 ≤ length bytes.now }
@@ -99,8 +99,8 @@ fn is_core_pic(bytes: &[u8]) -> bool
 }
 
 /// The processor that the bytes of one of these describe. None for others.
-pub fn raw_processor(bytes: &[u8]) -> Option<Processor>
-    ensures { option_map processor_value result ≡ raw_processor bytes.now }
+pub fn opaque_processor(bytes: &[u8]) -> Option<Processor>
+    ensures { option_map processor_value result ≡ opaque_processor bytes.now }
 {
     if is_gicc(bytes) {
         return Some(Processor {
@@ -141,7 +141,7 @@ fn processor_of(entry: &MadtEntry<'_>) -> Option<Processor>
             apic_id: Some(processor.x2apic_id),
             on: is_on(processor.flags, 1),
         }),
-        MadtEntry::Opaque(bytes) => raw_processor(bytes),
+        MadtEntry::Opaque(bytes) => opaque_processor(bytes),
         _ => None,
     }
 }
@@ -162,7 +162,7 @@ pub fn uid_on(entry: &MadtEntry<'_>) -> Option<u32>
     processor.on.then_some(processor.uid)
 }
 
-/// The APIC ID or x2APIC ID of a processor that has one.
+/// The APIC ID, x2APIC ID or core's ID of a processor that has one.
 pub fn apic_id_of(entry: &MadtEntry<'_>) -> Option<u32>
     ensures { result ≡ apic_id_of (madt_value entry.now) }
 {
@@ -182,8 +182,8 @@ pub fn apic_id_on(entry: &MadtEntry<'_>) -> Option<u32>
 }
 
 /// The UID of a usable processor that has no APIC ID.
-pub fn lone_uid_on(entry: &MadtEntry<'_>) -> Option<u32>
-    ensures { result ≡ lone_uid_on (madt_value entry.now) }
+pub fn uid_on_without_id(entry: &MadtEntry<'_>) -> Option<u32>
+    ensures { result ≡ uid_on_without_id (madt_value entry.now) }
 {
     let processor = processor_of(entry)?;
     (processor.on && processor.apic_id.is_none()).then_some(processor.uid)

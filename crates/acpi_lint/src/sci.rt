@@ -13,7 +13,7 @@ ghost use Rattle.acpi_lint.specs.Overrides.{IsOwnOverride, IsOverrideAt, ServesN
 
 use crate::passes::first_picked;
 use crate::place::Place;
-use crate::unbroken::is_madt_unbroken;
+use crate::well_formed::is_madt_well_formed;
 use acpi_base::field::u16_at;
 use acpi_base::{Policy, Rule};
 use acpi_read::{EntryAt, Fadt, MadtEntry, Table};
@@ -100,15 +100,15 @@ fn is_unserved(policy: &Policy, fadt: &Fadt<'_>, madt: &Table<'_>, gsi: u64) -> 
     !fadt.reduced() && has_io_apic(madt) && !is_served(policy, madt, gsi)
 }
 
-/// The same for a MADT that is unbroken.
+/// The same for a MADT that is well-formed.
 fn is_nowhere(policy: &Policy, fadt: &Fadt<'_>, madt: &Table<'_>, gsi: u64) -> bool
     ensures { IsTrue result ↔ IsNowhere policy.now fadt.now (madt_contents madt.now) gsi }
 {
-    is_unserved(policy, fadt, madt, gsi) && is_madt_unbroken(policy, madt)
+    is_unserved(policy, fadt, madt, gsi) && is_madt_well_formed(policy, madt)
 }
 
 /// SCI_INT, at 46, if the hardware is not reduced, and none of the I/O APICs serves its interrupt number although
-/// there are some, and the MADT is unbroken.
+/// there are some, and the MADT is well-formed.
 fn sci_nowhere(policy: &Policy, fadt: &Fadt<'_>, madt: &Table<'_>) -> Option<Place>
     ensures { FindsLeast (IsSciNowhere policy.now fadt.now (madt_contents madt.now)) result }
 {

@@ -6,7 +6,7 @@ ghost use Rattle.acpi_lint.specs.Rules.SlitAdvice.{IsSlitDiffers};
 ghost use Rattle.acpi_base.specs.declared.code.Code.{Code};
 ghost use Rattle.acpi_read.specs.Slits.{HasRows};
 ghost use Rattle.acpi_lint.specs.Places.{FindsLeast, IsRowDiffers};
-ghost use Rattle.acpi_lint.specs.RuleGroups.{IsSizedBroken};
+ghost use Rattle.acpi_lint.specs.RuleGroups.{in_sized_slit};
 ghost use Rattle.acpi_lint.specs.Rules.Broken.{condition};
 
 use crate::place::Place;
@@ -125,7 +125,7 @@ fn rows_differ(bytes: &[u8], count: usize) -> Option<Place>
 
 /// The place where a rule on a SLIT is broken, whose cells are read only if it has the right size. None for another rule.
 pub fn slit_place(rule: Rule, slit: Table<'_>) -> Option<Place>
-    ensures { FindsLeast (IsSizedBroken (condition rule) (slit_contents slit.entry)) result }
+    ensures { FindsLeast (in_sized_slit (condition rule) (slit_contents slit.entry)) result }
 {
     let bytes = slit.bytes();
     match rule {

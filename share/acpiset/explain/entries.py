@@ -113,7 +113,7 @@ def madt(report, code, at, other, point):
         return
     if code == 116:
         report.field(table, "its beginning", 0, 44)
-        listing(report, "the MADT's processors:", table.structures(0, 9, 11))
+        listing(report, "the MADT's processors:", table.structures(0, 9, 11, 17, 24))
         return
     found = report.named(table, "the structure", at)
     second = report.named(table, "the other structure", other) if code in PAIRS else None

@@ -8,11 +8,6 @@ FIRST = {"APIC": 44, "SRAT": 48, "PPTT": 36}
 # What `show` writes of a structure, by table, type and length: its word, and of each field the name, the offset and the size in
 # bytes, with an x where it is hex. Of those with a - `show` writes type and length alone.
 CACHE = "cache flags:4/4x next:8/4x size:12/4 sets:16/4 ways:20/1 attributes:21/1x line:22/2"
-# Those of at least this length.
-LONGER = {
-    ("APIC", 11): (40, "-gicc uid:8/4 flags:12/4x"),
-    ("APIC", 24): (20, "-rintc uid:16/4 hart:8/8 flags:4/4x"),
-}
 LAYOUTS = {
     ("APIC", 0, 8): "lapic uid:2/1 id:3/1 flags:4/4x",
     ("APIC", 1, 12): "ioapic id:2/1 address:4/4x base:8/4",
@@ -22,10 +17,10 @@ LAYOUTS = {
     ("APIC", 5, 12): "lapic-address :4/8x",
     ("APIC", 9, 16): "x2apic uid:12/4 id:4/4 flags:8/4x",
     ("APIC", 10, 12): "x2apic-nmi uid:4/4 flags:2/2x lint:8/1",
+    ("APIC", 17, 15): "-core-pic uid:3/4 id:7/4 flags:11/4x",
     ("SRAT", 0, 16): "cpu id:3/1 domain:2/1+9/3 flags:4/4x",
     ("SRAT", 1, 40): "memory domain:2/4 base:8/8x length:16/8x flags:28/4x",
     ("SRAT", 2, 24): "cpu id:8/4 domain:4/4 flags:12/4x",
-    ("APIC", 17, 15): "-core-pic uid:3/4 id:7/4 flags:11/4x",
     ("SRAT", 3, 18): "-gicc uid:6/4 domain:2/4 flags:10/4x",
     ("SRAT", 4, 12): "-its domain:2/4 id:8/4",
     ("SRAT", 5, 32): "-initiator domain:4/4 flags:24/4x",
@@ -33,6 +28,12 @@ LAYOUTS = {
     ("SRAT", 7, 20): "-rintc uid:8/4 domain:4/4 flags:12/4x",
     ("PPTT", 1, 24): CACHE,
     ("PPTT", 1, 28): CACHE + " id:24/4",
+}
+
+# The same for types of at least a length.
+LONGER = {
+    ("APIC", 11): (40, "-gicc uid:8/4 flags:12/4x"),
+    ("APIC", 24): (20, "-rintc uid:16/4 hart:8/8 flags:4/4x"),
 }
 
 # The length that a type has.

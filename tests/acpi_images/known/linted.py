@@ -787,7 +787,7 @@ for kind, right in ((3, 18), (4, 12), (5, 32), (6, 32), (7, 20), (8, None), (255
     for length in (2, 12, 20) if right is None else (2, right - 1, right, right + 1):
         advice = [] if length == right else [f"SratUnread 0x58 {kind:#x}"]
         advised(f"an SRAT entry of type {kind} of {length} bytes", listed(srat(memory(0, 1), other(kind, length))), *advice)
-advised("SRAT entries of types 3 to 6", listed(srat(uid_domain(1, 1), other(5), other(3), other(4))), "SratUnread 0x42 0x5")
+advised("a GICC affinity, and entries of types 5, 3 and 4 of 8 bytes", listed(srat(uid_domain(1, 1), other(5), other(3), other(4))), "SratUnread 0x42 0x5")
 
 # ---- many faults
 expected(

@@ -1,4 +1,4 @@
--- When each rule of advice is broken. Offsets and numbers are as the tables' own rules say.
+-- When each rule of advice is broken. What `at`, `other` and `point` mean is in the file of each table.
 use Rattle.std.specs.Prelude.{ℕ, ◌≤◌, List, length, Option}
 use Rattle.acpi_base.specs.Memory.{Memory}
 use Rattle.acpi_base.specs.Policy.{PolicyValue}
@@ -47,7 +47,7 @@ pub data Condition : Type 1 where
   FadtMadt : (PolicyValue → List ℕ → MadtContents → ℕ → ℕ → ℕ → Type 0) → Condition
   Madt : (MadtContents → ℕ → ℕ → ℕ → Type 0) → Condition
   MadtEntries : (MadtEntry → ℕ → ℕ → Type 0) → Condition  -- each entry by itself
-  MadtNumbers : (MadtEntry → Option ℕ) → Condition  -- a number of entries, which should be unique
+  MadtNumbers : (MadtEntry → Option ℕ) → Condition  -- a number that each entry may have, and that should be unique
   MadtSrat : (MadtContents → SratContents → ℕ → ℕ → ℕ → Type 0) → Condition
   MadtPptt : (MadtContents → PpttContents → ℕ → ℕ → ℕ → Type 0) → Condition
   Srat : (SratContents → ℕ → ℕ → ℕ → Type 0) → Condition
@@ -89,23 +89,23 @@ condition rule.MadtUnread = MadtEntries IsMadtUnread
 condition rule.SratUnread = SratEntries IsSratUnread
 
 -- the condition holds in a set for these numbers
-abbrev pub Holds : Condition → Memory → PolicyValue → ℕ → ℕ → ℕ → Type 0
-Holds (Slots P) m q at other point = P m q.rsdp at other point
-Holds (Fadt P) m q at other point = OfFadt m q (λ fadt. P fadt at other point)
-Holds (FadtMadt P) m q at other point = OfFadt m q (λ fadt. OfMadt m q (λ madt. P q fadt madt at other point))
-Holds (Madt P) m q at other point = OfMadt m q (λ madt. P madt at other point)
-Holds (MadtEntries P) m q at other point = OfMadt m q (λ madt. OnEntry P madt.entries at other point)
-Holds (MadtNumbers read) m q at other point = OfMadt m q (λ madt. Repeats read madt.entries at other point)
-Holds (MadtSrat P) m q at other point = OfMadt m q (λ madt. OfSrat m q (λ srat. P madt srat at other point))
-Holds (MadtPptt P) m q at other point = OfMadt m q (λ madt. HasPptt m q (λ pptt. P madt pptt at other point))
-Holds (Srat P) m q at other point = OfSrat m q (λ srat. P srat at other point)
-Holds (SratEntries P) m q at other point = OfSrat m q (λ srat. OnEntry P srat.entries at other point)
-Holds (SratSlit P) m q at other point =
+abbrev pub HoldsAt : Condition → Memory → PolicyValue → ℕ → ℕ → ℕ → Type 0
+HoldsAt (Slots P) m q at other point = P m q.rsdp at other point
+HoldsAt (Fadt P) m q at other point = OfFadt m q (λ fadt. P fadt at other point)
+HoldsAt (FadtMadt P) m q at other point = OfFadt m q (λ fadt. OfMadt m q (λ madt. P q fadt madt at other point))
+HoldsAt (Madt P) m q at other point = OfMadt m q (λ madt. P madt at other point)
+HoldsAt (MadtEntries P) m q at other point = OfMadt m q (λ madt. OnEntry P madt.entries at other point)
+HoldsAt (MadtNumbers read) m q at other point = OfMadt m q (λ madt. Repeats read madt.entries at other point)
+HoldsAt (MadtSrat P) m q at other point = OfMadt m q (λ madt. OfSrat m q (λ srat. P madt srat at other point))
+HoldsAt (MadtPptt P) m q at other point = OfMadt m q (λ madt. HasPptt m q (λ pptt. P madt pptt at other point))
+HoldsAt (Srat P) m q at other point = OfSrat m q (λ srat. P srat at other point)
+HoldsAt (SratEntries P) m q at other point = OfSrat m q (λ srat. OnEntry P srat.entries at other point)
+HoldsAt (SratSlit P) m q at other point =
     OfSrat m q (λ srat. OfSlit m q (λ slit. OnEntry (P slit.count) srat.entries at other point))
-Holds (Slit P) m q at other point = OfSlit m q (λ slit. P slit at other point)
-Holds (Pptt P) m q at other point = HasPptt m q (λ pptt. P pptt at other point)
-Holds (PpttEntries P) m q at other point = HasPptt m q (λ pptt. OnEntry P pptt.entries at other point)
+HoldsAt (Slit P) m q at other point = OfSlit m q (λ slit. P slit at other point)
+HoldsAt (Pptt P) m q at other point = HasPptt m q (λ pptt. P pptt at other point)
+HoldsAt (PpttEntries P) m q at other point = HasPptt m q (λ pptt. OnEntry P pptt.entries at other point)
 
 -- the rule is broken at these numbers
 abbrev pub IsBroken : Rule → Memory → PolicyValue → ℕ → ℕ → ℕ → Type 0
-IsBroken r = Holds (condition r)
+IsBroken r = HoldsAt (condition r)

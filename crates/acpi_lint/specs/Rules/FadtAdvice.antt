@@ -6,7 +6,7 @@ use Rattle.acpi_base.specs.Entries.{Stands, StandsWith}
 use Rattle.acpi_base.specs.Fadt.{is_reduced, gas_at}
 use Rattle.acpi_base.specs.Madt.{MadtEntry, Override, OverrideValue, MadtContents}
 use Rattle.acpi_base.specs.Policy.{PolicyValue}
-use Rattle.acpi_lint.specs.Rules.Unbroken.{IsUnbrokenMadt}
+use Rattle.acpi_lint.specs.Rules.WellFormed.{IsWellFormedMadt}
 
 -- the minimum length of a FADT of this Revision, that of all its fields; 0 below Revision 3, which has no minimum here
 abbrev pub fields_length : ℕ → ℕ
@@ -69,10 +69,10 @@ IsGsiOf c source g =
     IsFirstOverride c source g ⊎ (((p : ℕ) → ¬ StandsWith c.entries p (IsOverrideOf source)) × (g ≡ source))
 
 -- no I/O APIC serves the interrupt number of SCI_INT, at 46, though there are some; applies if the hardware is not reduced, and
--- the MADT is unbroken
+-- the MADT is well-formed
 pub record IsSciNowhere (q : PolicyValue) (whole : List ℕ) (c : MadtContents) (at other point : ℕ) : Type 0 where
   pub not_reduced : is_reduced whole ≡ false
-  pub unbroken : IsUnbrokenMadt c
+  pub well_formed : IsWellFormedMadt c
   pub place : (at ≡ 46) × (other ≡ 0)
   pub number : IsGsiOf c (field whole 46 2) point
   pub some : HasIoApic c

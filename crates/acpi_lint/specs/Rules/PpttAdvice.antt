@@ -5,8 +5,8 @@ use Rattle.acpi_base.specs.Number.{has_bit}
 use Rattle.acpi_base.specs.Madt.{MadtContents}
 use Rattle.acpi_base.specs.Pptt.{PpttEntry, Node, Cache, CacheValue, PpttContents}
 use Rattle.acpi_lint.specs.Rules.Numbered.{NamesAt, IsNamed, IsLater, Repeats}
-use Rattle.acpi_lint.specs.Rules.Processors.{uid_of, uid_on, AreProcessorsRead, AreProcessorsKnown, IsRawProcessor, IsLeafAt, IsLeafId}
-use Rattle.acpi_lint.specs.Rules.Unbroken.{IsUnbrokenPptt}
+use Rattle.acpi_lint.specs.Rules.Processors.{uid_of, uid_on, AreProcessorsRead, AreProcessorsKnown, IsOpaqueProcessor, IsLeafAt, IsLeafId}
+use Rattle.acpi_lint.specs.Rules.WellFormed.{IsWellFormedPptt}
 
 -- the entry is a node
 abbrev pub IsNode : PpttEntry → Type 0
@@ -39,16 +39,16 @@ abbrev pub IsSameCacheId : PpttContents → ℕ → ℕ → ℕ → Type 0
 IsSameCacheId c at other point = (3 ≤ c.revision) × Repeats cache_id c.entries at other point
 
 -- the entry of the MADT is a usable processor whose UID `point` no leaf has, though the PPTT has a node; applies if the rules
--- read all processors, and the PPTT is unbroken
+-- read all processors, and the PPTT is well-formed
 abbrev pub IsNoLeaf : MadtContents → PpttContents → ℕ → ℕ → ℕ → Type 0
 IsNoLeaf madt pptt at other point =
-    AreProcessorsRead madt × IsUnbrokenPptt pptt × ((o : ℕ) × StandsWith pptt.entries o IsNode)
+    AreProcessorsRead madt × IsWellFormedPptt pptt × ((o : ℕ) × StandsWith pptt.entries o IsNode)
     × NamesAt uid_on madt.entries at point
     × (¬ IsLeafId pptt point) × (other ≡ 0)
 
--- the leaf's ID `point` is no processor's UID; applies if all processors are known and the MADT has one that is not of x86, to
--- which stage 18 does not apply
+-- the leaf's ID `point` is no processor's UID; applies if all processors are known and the MADT has a processor of type 11, 17 or
+-- 24, with which stage 18 checks nothing
 abbrev pub IsLeafNowhere : MadtContents → PpttContents → ℕ → ℕ → ℕ → Type 0
 IsLeafNowhere madt pptt at other point =
-    AreProcessorsKnown madt × ((o : ℕ) × StandsWith madt.entries o IsRawProcessor) × IsLeafAt pptt at point
+    AreProcessorsKnown madt × ((o : ℕ) × StandsWith madt.entries o IsOpaqueProcessor) × IsLeafAt pptt at point
     × (¬ IsNamed uid_of madt.entries point) × (other ≡ 0)

@@ -6,7 +6,7 @@ use Rattle.acpi_base.specs.Number.{field, has_bit}
 use Rattle.acpi_base.specs.Madt as madt
 use Rattle.acpi_base.specs.Srat as srat
 use Rattle.acpi_base.specs.Pptt as pptt
-use Rattle.acpi_lint.specs.Rules.Unbroken.{IsUnbrokenMadt, IsUnbrokenPptt}
+use Rattle.acpi_lint.specs.Rules.WellFormed.{IsWellFormedMadt, IsWellFormedPptt}
 
 -- ---- the MADT (5.2.12)
 
@@ -30,8 +30,8 @@ abbrev pub is_core_pic : List ℕ → Bool
 is_core_pic e = (slice_index e 0 == 17) && (length e == 15)
 
 -- the processor that the bytes of one of these describe
-abbrev pub raw_processor : List ℕ → Option Processor
-raw_processor e =
+abbrev pub opaque_processor : List ℕ → Option Processor
+opaque_processor e =
     if is_gicc e
     then Some (record { uid = field e 8 4; apic_id = None; on = has_bit (field e 12 4) 0 || has_bit (field e 12 4) 3 })
     else if is_rintc e
@@ -46,7 +46,7 @@ processor_of (madt.LocalApic v) =
     Some (record { uid = v.uid; apic_id = Some v.apic_id; on = has_bit v.flags 0 || has_bit v.flags 1 })
 processor_of (madt.X2apic v) =
     Some (record { uid = v.uid; apic_id = Some v.x2apic_id; on = has_bit v.flags 0 || has_bit v.flags 1 })
-processor_of (madt.Opaque e) = raw_processor e
+processor_of (madt.Opaque e) = opaque_processor e
 processor_of _ = None
 
 -- the UID of a processor, and of a usable one
@@ -64,13 +64,13 @@ abbrev pub apic_id_on : madt.MadtEntry → Option ℕ
 apic_id_on e = option_and_then (λ p. if p.on then p.apic_id else None) (processor_of e)
 
 -- the UID of a usable processor that has no APIC ID
-abbrev pub lone_uid_on : madt.MadtEntry → Option ℕ
-lone_uid_on e = option_and_then (λ p. if p.on && is_none p.apic_id then Some p.uid else None) (processor_of e)
+abbrev pub uid_on_without_id : madt.MadtEntry → Option ℕ
+uid_on_without_id e = option_and_then (λ p. if p.on && is_none p.apic_id then Some p.uid else None) (processor_of e)
 
 -- the entry describes a processor that is not of x86
-abbrev pub IsRawProcessor : madt.MadtEntry → Type 0
-IsRawProcessor (madt.Opaque e) = IsSome (raw_processor e)
-IsRawProcessor _ = ⊥
+abbrev pub IsOpaqueProcessor : madt.MadtEntry → Type 0
+IsOpaqueProcessor (madt.Opaque e) = IsSome (opaque_processor e)
+IsOpaqueProcessor _ = ⊥
 
 -- the entry describes processors in a form that no rule reads: a local SAPIC (7), or one of the above (11, 17, 24) with
 -- another length
@@ -85,9 +85,9 @@ IsUnreadProcessor _ = ⊥
 abbrev pub AreProcessorsRead : madt.MadtContents → Type 0
 AreProcessorsRead c = (o : ℕ) → ¬ StandsWith c.entries o IsUnreadProcessor
 
--- and nothing of the MADT is out of sight, so a processor that is not found is not there
+-- and the MADT is well-formed, so a processor that is not found does not exist
 abbrev pub AreProcessorsKnown : madt.MadtContents → Type 0
-AreProcessorsKnown c = AreProcessorsRead c × IsUnbrokenMadt c
+AreProcessorsKnown c = AreProcessorsRead c × IsWellFormedMadt c
 
 -- ---- the SRAT (5.2.16)
 
@@ -144,11 +144,11 @@ abbrev pub IsParent : pptt.PpttContents → ℕ → Type 0
 IsParent c o = (p : ℕ) × pptt.NamesParent c p o
 
 -- the leaf with this ACPI processor ID is at o: a node with a valid ID (bit 1 of its flags) that is marked as a leaf (bit 3);
--- below Revision 2, which has no bit 3, one that no node names as its Parent, if the PPTT is unbroken
+-- below Revision 2, which has no bit 3, one that no node names as its Parent, if the PPTT is well-formed
 abbrev pub IsLeafAt : pptt.PpttContents → ℕ → ℕ → Type 0
 IsLeafAt c o id =
     StandsWith c.entries o (λ e. (v : pptt.NodeValue) × (e ≡ pptt.Node v) × (v.id ≡ id) × (has_bit v.flags 1 ≡ true)
-    × ((2 ≤ c.revision) → has_bit v.flags 3 ≡ true) × (c.revision < 2 → IsUnbrokenPptt c × ¬ IsParent c o))
+    × ((2 ≤ c.revision) → has_bit v.flags 3 ≡ true) × (c.revision < 2 → IsWellFormedPptt c × ¬ IsParent c o))
 
 -- a leaf has this ID
 abbrev pub IsLeafId : pptt.PpttContents → ℕ → Type 0

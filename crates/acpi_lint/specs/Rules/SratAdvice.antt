@@ -3,8 +3,8 @@ use Rattle.std.specs.Prelude.{◌≡◌, ◌≢◌, ℕ, ◌≤◌, ◌⊎◌, L
 use Rattle.acpi_base.specs.Madt.{MadtContents}
 use Rattle.acpi_base.specs.Srat.{SratEntry, Opaque, SratContents}
 use Rattle.acpi_lint.specs.Rules.Numbered.{NamesAt, IsNamed}
-use Rattle.acpi_lint.specs.Rules.Processors.{uid_of, apic_id_of, apic_id_on, lone_uid_on, placed_apic_id, placed_uid, processor_domain, any_domain, AreProcessorsRead, AreProcessorsKnown}
-use Rattle.acpi_lint.specs.Rules.Unbroken.{IsUnbrokenSrat}
+use Rattle.acpi_lint.specs.Rules.Processors.{uid_of, apic_id_of, apic_id_on, uid_on_without_id, placed_apic_id, placed_uid, processor_domain, any_domain, AreProcessorsRead, AreProcessorsKnown}
+use Rattle.acpi_lint.specs.Rules.WellFormed.{IsWellFormedSrat}
 
 -- the affinity at o places the processor with this UID in the domain d (5.2.16.4, and RINTC Affinity)
 abbrev pub PlacesUid : SratContents → ℕ → ℕ → ℕ → Type 0
@@ -30,12 +30,12 @@ IsAffinityNowhere madt srat at other point =
     × (other ≡ 0)
 
 -- the entry of the MADT is a usable processor whose number `point` no affinity has, though the SRAT has some: its APIC ID, or
--- else its UID; applies if the rules read all processors, and the SRAT is unbroken
+-- else its UID; applies if the rules read all processors, and the SRAT is well-formed
 abbrev pub IsNoDomain : MadtContents → SratContents → ℕ → ℕ → ℕ → Type 0
 IsNoDomain madt srat at other point =
-    AreProcessorsRead madt × IsUnbrokenSrat srat × ((d : ℕ) × IsNamed processor_domain srat.entries d)
+    AreProcessorsRead madt × IsWellFormedSrat srat × ((d : ℕ) × IsNamed processor_domain srat.entries d)
     × ((NamesAt apic_id_on madt.entries at point × ¬ IsNamed placed_apic_id srat.entries point)
-    ⊎ (NamesAt lone_uid_on madt.entries at point × ¬ IsNamed placed_uid srat.entries point))
+    ⊎ (NamesAt uid_on_without_id madt.entries at point × ¬ IsNamed placed_uid srat.entries point))
     × (other ≡ 0)
 
 -- the entry's domain is `point`, and the SLIT has `other` localities, so none with this number (5.2.17)
@@ -43,7 +43,7 @@ abbrev pub IsDomainPastSlit : ℕ → SratEntry → ℕ → ℕ → Type 0
 IsDomainPastSlit localities e other point = (any_domain e ≡ Some point) × (localities ≤ point) × (other ≡ localities)
 
 -- entries with this type and length are read by the stages (0 to 2), whatever the length, or by these rules: affinities of a GICC
--- (3), of an ITS (4), of an initiator or a port (5, 6), and of a RINTC (7)
+-- (3), of an ITS (4), of an initiator or a port (5, 6), and of an RINTC (7)
 abbrev pub IsReadForm : ℕ → ℕ → Type 0
 IsReadForm type size =
     (type ≤ 2) ⊎ ((type ≡ 3) × (size ≡ 18)) ⊎ ((type ≡ 4) × (size ≡ 12)) ⊎ ((type ≡ 5) × (size ≡ 32))

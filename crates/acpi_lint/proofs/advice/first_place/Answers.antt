@@ -15,57 +15,57 @@ returns-in-Slots c =
 
 pub returns-in-Madt : goal.returns-in-Madt
 returns-in-Madt c =
-    each_set c.args.image.now c.args.policy.now c.in_madt.result
+    each_set c.args.image.now c.args.policy.now c.listed_madt_place.result
     (is_of_group (condition c.args.rule) c.group.ensures c.in-Madt.is) c.requires
-    c.in_madt.ensures
+    c.listed_madt_place.ensures
 
 pub returns-in-MadtSrat : goal.returns-in-MadtSrat
 returns-in-MadtSrat c =
-    each_set c.args.image.now c.args.policy.now c.in_madt_srat.result
+    each_set c.args.image.now c.args.policy.now c.listed_madt_srat_place.result
     (is_of_group (condition c.args.rule) c.group.ensures c.in-MadtSrat.is) c.requires
-    c.in_madt_srat.ensures
+    c.listed_madt_srat_place.ensures
 
 pub returns-in-MadtPptt : goal.returns-in-MadtPptt
 returns-in-MadtPptt c =
-    each_set c.args.image.now c.args.policy.now c.in_madt_pptt.result
+    each_set c.args.image.now c.args.policy.now c.listed_madt_pptt_place.result
     (is_of_group (condition c.args.rule) c.group.ensures c.in-MadtPptt.is) c.requires
-    c.in_madt_pptt.ensures
+    c.listed_madt_pptt_place.ensures
 
 pub returns-in-Srat : goal.returns-in-Srat
 returns-in-Srat c =
-    each_set c.args.image.now c.args.policy.now c.in_srat.result
+    each_set c.args.image.now c.args.policy.now c.listed_srat_place.result
     (is_of_group (condition c.args.rule) c.group.ensures c.in-Srat.is) c.requires
-    c.in_srat.ensures
+    c.listed_srat_place.ensures
 
 pub returns-in-Pptt : goal.returns-in-Pptt
 returns-in-Pptt c =
-    each_set c.args.image.now c.args.policy.now c.in_pptt.result
+    each_set c.args.image.now c.args.policy.now c.listed_pptt_place.result
     (is_of_group (condition c.args.rule) c.group.ensures c.in-Pptt.is) c.requires
-    c.in_pptt.ensures
+    c.listed_pptt_place.ensures
 
 pub returns-in-Fadt : goal.returns-in-Fadt
 returns-in-Fadt c =
-    as_rule c.args.image.now c.args.policy.now c.in_fadt.result
+    as_rule c.args.image.now c.args.policy.now c.listed_fadt_place.result
     (is_of_group (condition c.args.rule) c.group.ensures c.in-Fadt.is)
-    (c.in_fadt.ensures c.args.image.now c.args.policy.now c.requires)
+    (c.listed_fadt_place.ensures c.args.image.now c.args.policy.now c.requires)
 
 pub returns-in-SratSlit : goal.returns-in-SratSlit
 returns-in-SratSlit c =
-    as_rule c.args.image.now c.args.policy.now c.in_srat_slit.result
+    as_rule c.args.image.now c.args.policy.now c.listed_srat_slit_place.result
     (is_of_group (condition c.args.rule) c.group.ensures c.in-SratSlit.is)
-    (c.in_srat_slit.ensures c.args.image.now c.args.policy.now c.requires)
+    (c.listed_srat_slit_place.ensures c.args.image.now c.args.policy.now c.requires)
 
 pub returns-in-Slit : goal.returns-in-Slit
 returns-in-Slit c =
-    as_rule c.args.image.now c.args.policy.now c.in_slit.result
+    as_rule c.args.image.now c.args.policy.now c.listed_slit_place.result
     (is_of_group (condition c.args.rule) c.group.ensures c.in-Slit.is)
-    (c.in_slit.ensures c.args.image.now c.args.policy.now c.requires)
+    (c.listed_slit_place.ensures c.args.image.now c.args.policy.now c.requires)
 
 pub returns-in-FadtMadt : goal.returns-in-FadtMadt
 returns-in-FadtMadt c =
-    as_rule c.args.image.now c.args.policy.now c.in_fadt_madt.result
+    as_rule c.args.image.now c.args.policy.now c.listed_fadt_madt_place.result
     (is_of_group (condition c.args.rule) c.group.ensures c.in-FadtMadt.is)
-    (c.in_fadt_madt.ensures c.args.image.now c.requires)
+    (c.listed_fadt_madt_place.ensures c.args.image.now c.requires)
 
 pub returns-in-MadtEntries : goal.returns-in-MadtEntries
 returns-in-MadtEntries c =

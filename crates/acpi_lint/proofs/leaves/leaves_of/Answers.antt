@@ -10,11 +10,11 @@ returns-then-revision-ge-HAS_LEAVES c =
     (omega (arith, c.if-revision-ge-HAS_LEAVES.true, c.revision.ensures)))
     c.said_leaves.ensures
 
-pub returns-then-not-is_pptt_unbroken : goal.returns-then-not-is_pptt_unbroken
-returns-then-not-is_pptt_unbroken c =
+pub returns-then-not-is_pptt_well_formed : goal.returns-then-not-is_pptt_well_formed
+returns-then-not-is_pptt_well_formed c =
     no_leaves (pptt_contents c.args.pptt.now) c.new.result.items
     (omega (arith, c.if-revision-ge-HAS_LEAVES.false, c.revision.ensures))
-    (λ unbroken. true≢false (sym (c.is_pptt_unbroken.ensures.1 unbroken) ∙ c.if-not-is_pptt_unbroken.true))
+    (λ well_formed. true≢false (sym (c.is_pptt_well_formed.ensures.1 well_formed) ∙ c.if-not-is_pptt_well_formed.true))
     c.new.ensures.items
 
 pub returns : goal.returns
@@ -22,5 +22,5 @@ returns c =
     leaves_as c.unnamed_leaves.result
     (unnamed_are_leaves (pptt_contents c.args.pptt.now)
     (omega (arith, c.if-revision-ge-HAS_LEAVES.false, c.revision.ensures))
-    (c.is_pptt_unbroken.ensures.0 c.if-not-is_pptt_unbroken.false))
+    (c.is_pptt_well_formed.ensures.0 c.if-not-is_pptt_well_formed.false))
     c.unnamed_leaves.ensures

@@ -16,7 +16,7 @@ pub returns : goal.returns
 returns c =
     let madt = madt_contents c.args.madt.now in
     let pptt = pptt_contents c.args.pptt.now in
-    let some = c.has_raw_processor.ensures.0 c.if-not-has_raw_processor.false in
+    let some = c.has_opaque_processor.ensures.0 c.if-not-has_opaque_processor.false in
     least_as c.where_known.result (λ at other point (read, (stands, none, unused)). (read, some, stands, none, unused))
     (λ at other point (read, _, stands, none, unused). (read, (stands, none, unused)))
     (where_holds (AreProcessorsKnown madt) (IsUnknownLeaf madt pptt) c.first_unknown.result c.where_known.result

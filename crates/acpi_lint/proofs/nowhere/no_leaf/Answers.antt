@@ -18,10 +18,10 @@ returns c =
     let known = c.as_slice-ids.result.now in
     let found = c.first_picked-place.result in
     let some = c.has_node.ensures.0 c.if-not-has_node.false in
-    let unbroken = c.is_pptt_unbroken.ensures.0 c.if-not-is_pptt_unbroken.false in
+    let well_formed = c.is_pptt_well_formed.ensures.0 c.if-not-is_pptt_well_formed.false in
     least_as c.where_read.result (λ at other point (read, (named, none, unused)). (
       read,
-      unbroken,
+      well_formed,
       some,
       named,
       none,

@@ -1,0 +1,94 @@
+-- A table of entries is well-formed exactly if it has no fault of the cut, and none of an entry's length.
+use Rattle.std.proofs.Common.{◌≡◌, ℕ, List, Option, Some, None, Bool, true, false, IsTrue, refl, sym, ◌∙◌, inl, inr}
+use Rattle.std.specs.Option.{is_none}
+use Rattle.std.specs.Prelude.{◌↔◌}
+use Rattle.std.proofs.lemmas.Option.{none-some}
+use Rattle.acpi_base.proofs.Options.{cases_Option}
+use Rattle.acpi_base.specs.Entries.{PlacedEntry, StandsWith, AreUnused}
+use Rattle.acpi_base.specs.Madt as madt
+use Rattle.acpi_base.specs.Policy.{PolicyValue}
+use Rattle.acpi_base.specs.Pptt as pptt
+use Rattle.acpi_base.specs.Srat as srat
+use Rattle.acpi_base.specs.declared.code.Code.TheVariants as code
+use Rattle.acpi_lint.specs.Places.{HasNone, IsLeast, FindsLeast}
+use Rattle.acpi_lint.specs.Rules.WellFormed.{IsWellFormed, IsWellFormedMadt, IsWellFormedSrat, IsWellFormedPptt, HasOtherMadtLength, HasOtherSratLength}
+use Rattle.acpi_lint.specs.declared.place.Place.{Place}
+
+pub none_found : (P : ℕ → ℕ → ℕ → Type 0) (found : Option Place) → FindsLeast P found
+    → IsTrue (is_none found) ↔ HasNone P
+none_found P None none = (λ is. none, λ is. refl)
+none_found P (Some p) first = (λ is. cc, λ none. absurd (none p.at p.other p.point first.here))
+
+module _ {E : Type 0} (IsOther IsWrong : E → Type 0) (to : (e : E) → IsOther e → IsWrong e)
+    (from : (e : E) → IsWrong e → IsOther e) (entries : List (PlacedEntry E)) (cut : Option ℕ) where
+  -- the two faults
+  abbrev HasNoneOfTwo : Type 0
+  HasNoneOfTwo =
+      HasNone (λ at other point. (cut ≡ Some at) × AreUnused other point)
+      × HasNone (λ at other point. StandsWith entries at IsWrong × AreUnused other point)
+
+  well_formed : HasNoneOfTwo ↔ IsWellFormed IsOther entries cut
+  well_formed = (
+    λ (no_cut, none). (
+      elim (cases_Option cut) [
+        | inr is ↦ is
+        | inl (at, is) ↦ absurd (no_cut at 0 0 (is, (refl, refl)))
+      ],
+      λ o (e, stands, other). none o 0 0 ((e, stands, to e other), (refl, refl)),
+    ),
+    λ (no_cut, none). (
+      λ at other point (is, _). none-some at (sym no_cut ∙ is),
+      λ at other point ((e, stands, wrong), _). none at (e, stands, from e wrong),
+    ),
+  )
+
+-- ---- each table
+
+madt_to : (q : PolicyValue) (e : madt.MadtEntry) → HasOtherMadtLength e
+    → madt.MadtEntryFault q code.MadtEntryLength e
+madt_to q (madt.Opaque e) is = is
+madt_to q _ is = absurd is
+
+madt_from : (q : PolicyValue) (e : madt.MadtEntry) → madt.MadtEntryFault q code.MadtEntryLength e
+    → HasOtherMadtLength e
+madt_from q (madt.Opaque e) is = is
+madt_from q _ is = absurd is
+
+pub madt_well_formed : (q : PolicyValue) (c : madt.MadtContents)
+    → (HasNone (madt.MadtFault q c code.MadtEntryCut) × HasNone (madt.MadtFault q c code.MadtEntryLength))
+    ↔ IsWellFormedMadt c
+madt_well_formed q c =
+    well_formed HasOtherMadtLength (madt.MadtEntryFault q code.MadtEntryLength) (madt_to q) (madt_from q)
+    c.entries c.cut
+
+srat_to : (e : srat.SratEntry) → HasOtherSratLength e → srat.SratEntryFault code.SratEntryLength e
+srat_to (srat.Opaque e) is = is
+srat_to _ is = absurd is
+
+srat_from : (e : srat.SratEntry) → srat.SratEntryFault code.SratEntryLength e → HasOtherSratLength e
+srat_from (srat.Opaque e) is = is
+srat_from _ is = absurd is
+
+pub srat_well_formed : (c : srat.SratContents)
+    → (HasNone (srat.SratFault c code.SratEntryCut) × HasNone (srat.SratFault c code.SratEntryLength))
+    ↔ IsWellFormedSrat c
+srat_well_formed c =
+    well_formed HasOtherSratLength (srat.SratEntryFault code.SratEntryLength) srat_to srat_from c.entries c.cut
+
+pub pptt_well_formed : (c : pptt.PpttContents)
+    → (HasNone (pptt.PpttFault c code.PpttEntryCut) × HasNone (pptt.PpttFault c code.PpttEntryLength))
+    ↔ IsWellFormedPptt c
+pptt_well_formed c =
+    let same =
+    well_formed pptt.HasOtherPpttLength (pptt.PpttEntryFault code.PpttEntryLength) (λ e is. is) (λ e is. is) c.entries
+    c.cut
+    in (
+      λ (no_cut, none). same.0 (
+        λ at other point (is, (o, p)). no_cut at other point (is, o, p),
+        λ at other point (is, (o, p)). none at other point (is, o, p),
+      ),
+      λ is. let (no_cut, none) = same.1 is in (
+        λ at other point (cut, o, p). no_cut at other point (cut, (o, p)),
+        λ at other point (wrong, o, p). none at other point (wrong, (o, p)),
+      ),
+    )

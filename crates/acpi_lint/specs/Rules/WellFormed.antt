@@ -1,0 +1,33 @@
+-- Tables of entries that are well-formed: their entries fill them, and none has a type that the stages read with another length
+-- than its type's. Only of such a table is it known what is not in it.
+use Rattle.std.specs.Prelude.{◌≡◌, ℕ, List, Option, None, slice_index}
+use Rattle.acpi_base.specs.Entries.{PlacedEntry, StandsWith, IsTypeOf}
+use Rattle.acpi_base.specs.Madt as madt
+use Rattle.acpi_base.specs.Pptt as pptt
+use Rattle.acpi_base.specs.Srat as srat
+
+-- there are no bytes after these entries, and none of them has another length than its type's
+abbrev pub IsWellFormed : {E : Type 0} → (E → Type 0) → List (PlacedEntry E) → Option ℕ → Type 0
+IsWellFormed HasOtherLength entries cut = (cut ≡ None) × ((o : ℕ) → ¬ StandsWith entries o HasOtherLength)
+
+-- the entry has a type that the stages read, and another length than its type's: code 34 (5.2.12)
+abbrev pub HasOtherMadtLength : madt.MadtEntry → Type 0
+HasOtherMadtLength (madt.Opaque e) = IsTypeOf madt.madt_kinds (slice_index e 0)
+HasOtherMadtLength _ = ⊥
+
+-- the MADT has no fault with the codes 33 and 34
+abbrev pub IsWellFormedMadt : madt.MadtContents → Type 0
+IsWellFormedMadt c = IsWellFormed HasOtherMadtLength c.entries c.cut
+
+-- the same of an SRAT: code 43 (5.2.16)
+abbrev pub HasOtherSratLength : srat.SratEntry → Type 0
+HasOtherSratLength (srat.Opaque e) = IsTypeOf srat.srat_kinds (slice_index e 0)
+HasOtherSratLength _ = ⊥
+
+-- the SRAT has no fault with the codes 42 and 43
+abbrev pub IsWellFormedSrat : srat.SratContents → Type 0
+IsWellFormedSrat c = IsWellFormed HasOtherSratLength c.entries c.cut
+
+-- the PPTT has no fault with the codes 50 and 51 (5.2.30)
+abbrev pub IsWellFormedPptt : pptt.PpttContents → Type 0
+IsWellFormedPptt c = IsWellFormed pptt.HasOtherPpttLength c.entries c.cut
