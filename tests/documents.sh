@@ -208,7 +208,7 @@ agree 'what a part of FAULTS.md has to say (<) and what it says (>)' "$asked" "$
 stages=$(sed -n 's/^stage_number stage\.[A-Za-z0-9]* = \([0-9]*\)$/\1/p' crates/acpi_base/specs/Codes.antt)
 listed=$(sed -n 's/^| \([0-9]*\) | .* | [0-9to, ]* |$/\1/p' docs/FAULTS.md)
 agree 'stages (<) and those that FAULTS.md lists (>)' "$stages" "$listed"
-rules=$(sed -n 's/^rule_row rule\.\([A-Za-z0-9]*\) = (\([0-9]*\), .*)$/\2 \1/p' crates/acpi_base/specs/Rules.antt)
+rules=$(sed -n 's/^rule_row rule\.\([A-Za-z0-9]*\) = (\([0-9]*\), .*)$/\2 \1/p' crates/acpi_lint/specs/Rules/Rows.antt)
 listed=$(sed -n '/^## Advice$/,/^## /s/^| \([0-9]* [A-Za-z0-9]*\) | .*/\1/p' docs/TABLES.md)
 agree 'rules of advice (<) and those that TABLES.md lists (>)' "$rules" "$listed"
 agree 'rules of advice (<) and their parts in FAULTS.md (>)' "$rules" "$advised"

@@ -230,14 +230,14 @@ enum acpiset_rule {
     ACPISET_BLOCK_DIFFERS = 107,        /* the two fields of a register block give different I/O ports */
     ACPISET_SCI_NOWHERE = 108,          /* no I/O APIC serves the interrupt number of SCI_INT */
     ACPISET_SAME_UID = 109,             /* two usable processors have the same UID */
-    ACPISET_SAME_APIC_ID = 110,         /* two usable processors have the same APIC ID or x2APIC ID */
+    ACPISET_SAME_APIC_ID = 110,         /* two usable processors have the same APIC ID, x2APIC ID or core ID */
     ACPISET_IO_APIC_AT_ZERO = 111,      /* an I/O APIC has the address 0 */
     ACPISET_SAME_IO_APIC_ID = 112,      /* two I/O APICs have the same ID */
     ACPISET_SAME_IO_APIC_ADDRESS = 113, /* two I/O APICs have the same address */
     ACPISET_NMI_NOWHERE = 114,          /* a Local APIC NMI names a UID that no processor has */
     ACPISET_SECOND_GICD = 115,          /* there is a second GIC Distributor */
     ACPISET_NO_PROCESSOR = 116,         /* no processor is usable */
-    ACPISET_TWO_UID_DOMAINS = 117,      /* two GICC Affinity Structures put one UID in two proximity domains */
+    ACPISET_TWO_UID_DOMAINS = 117,      /* two affinities put the processor of one UID in two proximity domains */
     ACPISET_AFFINITY_NOWHERE = 118,     /* the SRAT has a processor that the MADT does not have */
     ACPISET_NO_DOMAIN = 119,            /* a usable processor is not in the SRAT, and others are */
     ACPISET_DOMAIN_PAST_SLIT = 120,     /* a proximity domain of the SRAT is no locality of the SLIT */
@@ -245,10 +245,10 @@ enum acpiset_rule {
     ACPISET_SAME_LEAF = 122,            /* two leaves of the PPTT have the same ACPI Processor ID */
     ACPISET_CACHE_SHAPE = 123,          /* a cache has no sets, or a line size that is no power of two */
     ACPISET_SAME_CACHE_ID = 124,        /* two caches have the same Cache ID */
-    ACPISET_NO_LEAF = 125,              /* a usable processor has no leaf in the PPTT, and others have */
-    ACPISET_LEAF_NOWHERE = 126,         /* a leaf's ACPI Processor ID is no UID, and the MADT has GIC CPU interfaces */
-    ACPISET_MADT_UNREAD = 127,          /* a structure of the MADT of a type that is not checked */
-    ACPISET_SRAT_UNREAD = 128           /* a structure of the SRAT of a type that is not checked */
+    ACPISET_NO_LEAF = 125,              /* a usable processor has no leaf in the PPTT, which has nodes */
+    ACPISET_LEAF_NOWHERE = 126,         /* a leaf's ACPI Processor ID is no UID, and not all processors are of x86 */
+    ACPISET_MADT_UNREAD = 127,          /* a structure of the MADT of a type or length that is not read */
+    ACPISET_SRAT_UNREAD = 128           /* a structure of the SRAT of a type or length that is not read */
 };
 /* end: rules */
 

@@ -16,11 +16,11 @@ from pathlib import Path
 
 TOP = Path(__file__).resolve().parent.parent.parent
 HEADER = TOP / "bindings" / "c" / "acpiset.h"
-BASE = TOP / "crates" / "acpi_base" / "specs"
+CRATES = TOP / "crates"
 CRATE = TOP / "crates" / "acpi_c"
 
 # The source files whose comments say what each code, rule and stage is.
-SOURCES = {it: TOP / "crates" / "acpi_base" / "src" / f"{it}.rt" for it in ("code", "rule", "stage")}
+SOURCES = {it: CRATES / crate / "src" / f"{it}.rt" for it, crate in (("code", "acpi_base"), ("rule", "acpi_lint"), ("stage", "acpi_base"))}
 
 # Enumerators that are spelled otherwise than their variants.
 SPELLED = {"BadHotPlug": "BAD_HOTPLUG"}
@@ -83,7 +83,7 @@ def sentences(enum):
 
 
 def read_crates():
-    codes, rules = BASE / "Codes.antt", BASE / "Rules.antt"
+    codes, rules = CRATES / "acpi_base/specs/Codes.antt", CRATES / "acpi_lint/specs/Rules/Rows.antt"
     stage_numbers = numbers(codes, "stage_number")
     code_rows = rows(codes, "code_row", r'(\d+), stage\.(\w+), codes "(\w+)"')
     rule_rows = rows(rules, "rule_row", r'(\d+), codes "(\w+)"')

@@ -1,7 +1,7 @@
 #!/usr/bin/env python3
-"""Writes src/lists.rs, the stages, codes and rules of the Rust crate: numbers, names and stages from the definitions of acpi_base,
-and what they mean from docs/FAULTS.md. With --check it writes nothing, and compares that file with what it would write, the kinds of
-refusals with those of acpi_c, and src/sys.rs with ../c/acpiset.h.
+"""Writes src/lists.rs, the stages, codes and rules of the Rust crate: numbers, names and stages from the definitions of acpi_base
+and acpi_lint, and what they mean from docs/FAULTS.md. With --check it writes nothing, and compares that file with what it would
+write, the kinds of refusals with those of acpi_c, and src/sys.rs with ../c/acpiset.h.
 
 usage: bindings/rust/lists.py [--check]; --check prints what differs, and nothing if all agrees."""
 
@@ -13,7 +13,7 @@ from pathlib import Path
 HERE = Path(__file__).resolve().parent
 TOP = HERE.parent.parent
 CODES = TOP / "crates/acpi_base/specs/Codes.antt"
-RULES = TOP / "crates/acpi_base/specs/Rules.antt"
+RULES = TOP / "crates/acpi_lint/specs/Rules/Rows.antt"
 KINDS = TOP / "crates/acpi_c/specs/Kinds.antt"
 FAULTS = TOP / "docs/FAULTS.md"
 STAGES = TOP / "crates/acpi_base/src/stage.rt"

@@ -26,7 +26,6 @@ pub mod Pptt
 pub mod Root
 pub mod Rsdp
 pub mod RsdpSearch
-pub mod Rules
 pub mod Signature
 pub mod Slit
 pub mod Srat

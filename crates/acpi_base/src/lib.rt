@@ -8,7 +8,6 @@
 //! - `Frame`, `Question`: the checks of a structure whose header has its length.
 //! - `Code`, `Stage`, `Witness`, `Verdict`: what can be wrong, in which part of the check, where, and the
 //!   result of a check. `witness_text` and `verdict_text` write them.
-//! - `Rule`, `Advice`: what is probably wrong but is not a fault, and where. `advice_text` writes it.
 //! - `TableKind`: the five kinds of tables whose contents are read, with their signatures.
 //! - `Policy`: the settings of a check.
 //! - `Tally`: a reader or writer that counts its failures.
@@ -32,7 +31,6 @@ mod frame;
 mod image;
 pub mod laws;
 mod policy;
-mod rule;
 mod stage;
 mod table_kind;
 mod tally;
@@ -47,12 +45,11 @@ pub use frame::{Frame, Question};
 pub use image::draft::DraftImage;
 pub use image::{Image, ImageFault};
 pub use policy::{HotPlug, Policy, PolicyFault, Processors};
-pub use rule::{Advice, Rule};
 pub use stage::Stage;
 pub use table_kind::TableKind;
 pub use tally::{DeviceFailed, Tally};
 pub use text::fault_parsing::parse_witness;
-pub use text::fault_text::{advice_text, verdict_text, witness_text};
+pub use text::fault_text::{verdict_text, witness_text};
 pub use text::image_text::{ImageText, parse_image, read_image};
 pub use text::{TextFault, written_text};
 pub use verdict::Verdict;

@@ -3,12 +3,13 @@ use Rattle.std.proofs.Common.{◌<◌, ◌≤◌, ◌+◌, ◌-◌, ℕ, zero, s
 use Rattle.std.specs.List.{AllPairs, slice_index_or}
 use Rattle.acpi_base.specs.Codes.{all_codes, code_number}
 use Rattle.acpi_lint.specs.Rules.Findings.{AreFindings}
-use Rattle.acpi_base.specs.Rules.{all_rules, rule_number}
+use Rattle.acpi_lint.specs.Rules.Rows.{all_rules, rule_number}
 use Rattle.acpi_base.specs.Memory.{Memory}
 use Rattle.acpi_base.specs.Policy.{PolicyValue}
-use Rattle.acpi_base.specs.declared.rule.Advice.{Advice}
+use Rattle.acpi_lint.specs.declared.rule.Advice.{Advice}
 use Rattle.acpi_base.specs.declared.witness.Witness.{Witness}
-use Rattle.acpi_base.proofs.Faults.Numbers.{code_below, code_from, rule_below, rule_from}
+use Rattle.acpi_base.proofs.Faults.Numbers.{code_below, code_from}
+use Rattle.acpi_lint.proofs.RuleNumbers.{rule_below, rule_from}
 
 rises : {X : Type 0} (number : X → ℕ) (low : ℕ) (xs : List X) (d : X) → ((x : X) → low ≤ number x)
     → AllPairs (λ x y. number x < number y) xs → (i : ℕ) → i < length xs → low + i ≤ number (slice_index_or xs i d)

@@ -1,8 +1,8 @@
 -- The numbers that represent a result.
 use Rattle.std.specs.Prelude.{ℕ, ◌++◌, Bool, true, false, List, [], ◌∷◌, length, take, drop, map, Option, Some, None, Result, Ok, Err}
 use Rattle.acpi_base.specs.Codes.{code_number, stage_number, stage_of}
-use Rattle.acpi_base.specs.Rules.{rule_number}
-use Rattle.acpi_base.specs.declared.rule.Advice.{Advice}
+use Rattle.acpi_lint.specs.Rules.Rows.{rule_number}
+use Rattle.acpi_lint.specs.declared.rule.Advice.{Advice}
 use Rattle.acpi_base.specs.declared.verdict.Verdict.{Verdict}
 use Rattle.acpi_base.specs.declared.verdict.Verdict.TheVariants.{Yes, No}
 use Rattle.acpi_base.specs.declared.witness.Witness.{Witness}

@@ -1,7 +1,7 @@
 //! The call that returns all findings, for C.
 
 ghost use Rattle.std.specs.Prelude.{◌≡◌, ◌≤◌, ◌++◌, List, Result, Ok, IfOk, MatchResult, OnOk, length, map};
-ghost use Rattle.acpi_base.specs.declared.rule.Advice.{Advice};
+ghost use Rattle.acpi_lint.specs.declared.rule.Advice.{Advice};
 ghost use Rattle.acpi_base.specs.declared.witness.Witness.{Witness};
 ghost use Rattle.acpi_c.specs.Answers.{advice_finding, all_findings, fault_finding, lint_answer, written, written_over};
 ghost use Rattle.acpi_c.specs.Results.{Lints, Reports, IsRefusal};
@@ -14,8 +14,8 @@ use crate::kind::AnswerKind;
 use crate::pieces::{Piece, image_of_pieces};
 use crate::refusal::Refusal;
 use crate::settings::{Inputs, Settings, add_inputs, tested_policy};
-use acpi_base::{Advice, Code, Rule, Witness};
-use acpi_lint::{Findings, lint};
+use acpi_base::{Code, Witness};
+use acpi_lint::{Advice, Findings, Rule, lint};
 use std::alloc::{AllocError, Global};
 
 /// The most faults that `acpiset_lint` finds: one of each code.

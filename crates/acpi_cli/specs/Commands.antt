@@ -13,7 +13,7 @@ use Rattle.acpi_lint.specs.Rules.Findings.{AreFindings}
 use Rattle.acpi_base.specs.Statements.{CleanTo}
 use Rattle.acpi_base.specs.Text.WitnessText.{advice_line, hex_text, verdict_line}
 use Rattle.acpi_base.specs.Text.WrittenText.{IsWritten}
-use Rattle.acpi_base.specs.declared.rule.Advice.{Advice}
+use Rattle.acpi_lint.specs.declared.rule.Advice.{Advice}
 use Rattle.acpi_base.specs.declared.stage.Stage.{Stage}
 use Rattle.acpi_base.specs.declared.stage.Stage.TheVariants as stage
 use Rattle.acpi_base.specs.declared.text.TextFault.{TextFault}

@@ -7,8 +7,8 @@ ghost use Rattle.acpi_cli.specs.Commands.{device, no_line, Runs, ReportsLint, fa
 use crate::check::{no_rsdp, rsdp_address};
 use crate::devices::{Output, read_input, write_output};
 use crate::outcome::{Outcome, RunFault};
-use acpi_base::{Image, Policy, Tally, Verdict, Witness, advice_text, verdict_text};
-use acpi_lint::{Findings, lint};
+use acpi_base::{Image, Policy, Tally, Verdict, Witness, verdict_text};
+use acpi_lint::{Findings, advice_text, lint};
 use std::alloc::{AllocError, Global};
 use std::io::{Read, Write};
 

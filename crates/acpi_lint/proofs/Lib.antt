@@ -1,4 +1,4 @@
--- Proofs about the finders.
+-- Proofs about the finders, and the number of a rule, which other crates cite.
 mod CollectedNumbers
 mod EntryFaults
 mod FacsSets
@@ -18,6 +18,7 @@ mod PowersOfTwo
 mod Reported
 mod RisingLists
 mod RootPlaces
+pub mod RuleNumbers
 mod SameNumbers
 mod SciGsis
 mod SecondTables

@@ -1,6 +1,6 @@
 -- A rule has one first finding at most.
 use Rattle.std.proofs.Common.{◌≡◌, sym, arith}
-use Rattle.acpi_base.specs.declared.rule.Advice.{Advice}
+use Rattle.acpi_lint.specs.declared.rule.Advice.{Advice}
 use Rattle.acpi_lint.specs.Rules.Advice.{NotAfter, OneFirstAdvice}
 
 same_numbers : (a b : Advice) → NotAfter a b → NotAfter b a → (a.at ≡ b.at) × (a.other ≡ b.other) × (a.point ≡ b.point)

@@ -1,4 +1,5 @@
 -- The definitions that contracts of the linter cite.
+pub mod AdviceText
 pub mod CompleteTables
 pub mod EntryNumbers
 pub mod Leaves

@@ -7,6 +7,7 @@ pub mod MadtAdvice
 pub mod Numbered
 pub mod PpttAdvice
 pub mod Processors
+pub mod Rows
 pub mod SlitAdvice
 pub mod Slots
 pub mod SratAdvice

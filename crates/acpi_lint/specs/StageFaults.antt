@@ -5,8 +5,8 @@ use Rattle.acpi_base.specs.Policy.{PolicyValue}
 use Rattle.acpi_base.specs.Faults.{FaultCondition}
 use Rattle.acpi_lint.specs.Rules.Advice.{IsFirstAdvice}
 use Rattle.acpi_base.specs.FirstOfCode.{FindsFirstOfCode}
-use Rattle.acpi_base.specs.declared.rule.Advice.{Advice}
-use Rattle.acpi_base.specs.declared.rule.Rule.{Rule}
+use Rattle.acpi_lint.specs.declared.rule.Advice.{Advice}
+use Rattle.acpi_lint.specs.declared.rule.Rule.{Rule}
 use Rattle.acpi_base.specs.declared.code.Code.{Code}
 use Rattle.acpi_base.specs.declared.stage.Stage.{Stage}
 use Rattle.acpi_base.specs.declared.witness.Witness.{Witness}

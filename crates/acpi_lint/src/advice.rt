@@ -18,10 +18,11 @@ use crate::own::{
 };
 use crate::place::Place;
 use crate::repeated::{pptt_place, repeated, srat_place, unique_number_at};
+use crate::rule::{Advice, Rule};
 use crate::sci::fadt_madt_place;
 use crate::slit::{rows, slit_place};
 use crate::slot_advice::slot_place;
-use acpi_base::{Advice, Image, Policy, Rule, TableKind};
+use acpi_base::{Image, Policy, TableKind};
 use std::alloc::{AllocError, Global};
 
 // ---- rules by what they look at: those of a group share a finder

@@ -7,7 +7,7 @@ ghost use Rattle.acpi_lint.specs.Rules.Broken.{condition};
 ghost use Rattle.acpi_lint.specs.Places.{AreTwoFields, IsBlock, FindsLeast};
 
 use crate::place::Place;
-use acpi_base::Rule;
+use crate::rule::Rule;
 use acpi_base::field::{u8_at, u32_at, u64_at};
 use acpi_read::Fadt;
 

@@ -6,7 +6,8 @@ ghost use Rattle.acpi_lint.specs.Rules.Findings.{AreFindings};
 use crate::advice::first_advice;
 use crate::complete_tables::CompleteTables;
 use crate::faults::first_faults;
-use acpi_base::{Advice, Image, Policy, Witness};
+use crate::rule::Advice;
+use acpi_base::{Image, Policy, Witness};
 use std::alloc::{AllocError, Global};
 
 /// All that is wrong with an image: at most one fault of each code and one finding of each rule.

@@ -21,8 +21,8 @@ use crate::leaves::leaves_of;
 use crate::numbered::Numbered;
 use crate::passes::first_picked;
 use crate::processors::{
-    CORE_PIC, CORE_PIC_LEN, Processor, RINTC, RINTC_LEN, apic_id_of, placed_apic_id, placed_uid,
-    processor_domain, opaque_processor, uid_of, uid_on,
+    CORE_PIC, CORE_PIC_LEN, Processor, RINTC, RINTC_LEN, apic_id_of, opaque_processor,
+    placed_apic_id, placed_uid, processor_domain, uid_of, uid_on,
 };
 use crate::well_formed::is_madt_well_formed;
 use acpi_base::Policy;

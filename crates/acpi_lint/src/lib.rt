@@ -55,12 +55,16 @@ mod references;
 mod repeated;
 mod root;
 mod rsdp;
+mod rule;
 mod sci;
 mod slit;
 mod slot_advice;
 mod slots;
 mod table_at;
-mod well_formed;
+mod text;
 mod verdicts;
+mod well_formed;
 
 pub use findings::{Findings, lint};
+pub use rule::{Advice, Rule};
+pub use text::advice_text;

@@ -26,9 +26,12 @@ use crate::leaves::leaves_of;
 use crate::numbered::Numbered;
 use crate::passes::first_picked;
 use crate::place::Place;
-use crate::processors::{apic_id_on, uid_on_without_id, nmi_uid, placed_apic_id, placed_uid, uid_on};
+use crate::processors::{
+    apic_id_on, nmi_uid, placed_apic_id, placed_uid, uid_on, uid_on_without_id,
+};
+use crate::rule::Rule;
 use crate::well_formed::{is_pptt_well_formed, is_srat_well_formed};
-use acpi_base::{Policy, Rule};
+use acpi_base::Policy;
 use acpi_check::{binary_search, has};
 use acpi_read::{EntryAt, MadtEntry, SratEntry, Table};
 use std::alloc::{AllocError, Global};

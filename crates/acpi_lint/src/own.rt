@@ -27,7 +27,7 @@ use crate::processors::{
     ITS_AFFINITY_LEN, PORT_AFFINITY, RINTC, RINTC_AFFINITY, RINTC_AFFINITY_LEN, RINTC_LEN,
     any_domain, io_apic_address, is_set,
 };
-use acpi_base::Rule;
+use crate::rule::Rule;
 use acpi_read::{
     Cache24, EntryAt, GICC, GICC_AFFINITY, GICC_AFFINITY_LEN, GICC_LEN, MadtEntry, PpttEntry,
     SratEntry, TableEntry, TypedEntries,

@@ -24,7 +24,8 @@ use crate::processors::{
     apic_id_on, cache_id, gicd, io_apic_id, nonzero_io_apic_address, placed_uid, processor_domain,
     uid_on,
 };
-use acpi_base::{Policy, Rule};
+use crate::rule::Rule;
+use acpi_base::Policy;
 use acpi_check::collected;
 use acpi_read::{EntryAt, MadtEntry, PpttEntry, SratEntry, Table, TableEntry, TypedEntries};
 use std::alloc::{AllocError, Global};

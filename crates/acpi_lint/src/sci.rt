@@ -13,9 +13,10 @@ ghost use Rattle.acpi_lint.specs.Overrides.{IsOwnOverride, IsOverrideAt, ServesN
 
 use crate::passes::first_picked;
 use crate::place::Place;
+use crate::rule::Rule;
 use crate::well_formed::is_madt_well_formed;
+use acpi_base::Policy;
 use acpi_base::field::u16_at;
-use acpi_base::{Policy, Rule};
 use acpi_read::{EntryAt, Fadt, MadtEntry, Table};
 
 /// The place of an override of an ISA interrupt, and the interrupt number that it gives.

@@ -10,8 +10,9 @@ ghost use Rattle.acpi_lint.specs.RuleGroups.{in_sized_slit};
 ghost use Rattle.acpi_lint.specs.Rules.Broken.{condition};
 
 use crate::place::Place;
+use crate::rule::Rule;
+use acpi_base::Code;
 use acpi_base::field::u64_at;
-use acpi_base::{Code, Rule};
 use acpi_read::{Slit, Table};
 
 /// How many rows of as many cells a table has, if it has these after its first 44 bytes, and nothing else.

@@ -16,8 +16,8 @@ use crate::first_slots::FirstSlots;
 use crate::listed_slots::{Slot, first_slot};
 use crate::numbered::{Numbered, first_repeated};
 use crate::place::Place;
+use crate::rule::Rule;
 use crate::table_at::Sought;
-use acpi_base::Rule;
 use std::alloc::{AllocError, Global};
 
 /// The addresses that slots list, each at its slot's number.

@@ -1,7 +1,7 @@
 //! Tests of `acpi_lint`.
 
-use acpi_base::{Advice, Code, Image, Policy, Rule, Witness};
-use acpi_lint::lint;
+use acpi_base::{Code, Image, Policy, Witness};
+use acpi_lint::{Advice, Rule, advice_text, lint};
 use std::test::*;
 
 #[test]
@@ -52,5 +52,19 @@ fn example_finds_faults_of_three_stages(rt: HostRuntime) -> Result<(), Fail> {
     }];
     assert_eq!(rt; found.faults.as_slice(), faults.as_slice());
     assert_eq!(rt; found.advice.as_slice(), advice.as_slice());
+    Ok(())
+}
+
+#[test]
+fn a_line_of_advice(rt: HostRuntime) -> Result<(), Fail> {
+    let advice = Advice {
+        rule: Rule::SciNowhere,
+        at: 46,
+        other: 0,
+        point: u64::MAX,
+    };
+    let line = advice_text(rt.alloc(), &advice)?;
+    let wanted = b"advice SciNowhere 0x2e 0x0 0xffffffffffffffff\n";
+    assert!(rt; line.as_slice() == wanted.as_slice());
     Ok(())
 }

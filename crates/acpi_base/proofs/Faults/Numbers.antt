@@ -1,15 +1,12 @@
--- A code, a stage or a rule is the only one with its number.
+-- A code or a stage is the only one with its number.
 use Rattle.std.proofs.Common.{◌≡◌, ◌+◌, ◌-◌, ◌<◌, ◌≤◌, ℕ, List, [], ◌∷◌, length, Some, refl, sym, ap, ◌∙◌, inl, inr, arith}
 use Rattle.std.specs.Prelude.{◌⊎◌}
 use Rattle.std.specs.List.{slice_get}
 use Rattle.std.proofs.lemmas.Bool.{cases_eq}
 use Rattle.std.proofs.lemmas.Option.{same_Some}
 use Rattle.acpi_base.specs.Codes.{all_codes, code_number, stage_number}
-use Rattle.acpi_base.specs.Rules.{all_rules, rule_number}
 use Rattle.acpi_base.specs.declared.code.Code.{Code}
 use Rattle.acpi_base.specs.declared.code.Code.TheVariants as code
-use Rattle.acpi_base.specs.declared.rule.Rule.{Rule}
-use Rattle.acpi_base.specs.declared.rule.Rule.TheVariants as rule
 use Rattle.acpi_base.specs.declared.stage.Stage.{Stage}
 use Rattle.acpi_base.specs.declared.stage.Stage.TheVariants as stage
 use Rattle.acpi_base.proofs.Options.{cases_Option, none_and_some}
@@ -47,23 +44,6 @@ code_below _ = omega arith
 pub code_from : (c : Code) → 1 ≤ code_number c
 code_from code.RsdpOut = omega arith
 code_from _ = omega arith
-
-rule_at_number : (r : Rule) → slice_get all_rules (rule_number r - 101) ≡ Some r
-rule_at_number rule.ListedTwice = refl
-rule_at_number _ = refl
-
-pub rule_from : (r : Rule) → 101 ≤ rule_number r
-rule_from rule.ListedTwice = omega arith
-rule_from _ = omega arith
-
-pub rule_below : (r : Rule) → rule_number r < 101 + length all_rules
-rule_below rule.ListedTwice = omega arith
-rule_below _ = omega arith
-
-pub same_rule : (r s : Rule) → rule_number r ≡ rule_number s → r ≡ s
-same_rule r s same =
-    same_Some r s
-    (sym (rule_at_number r) ∙ ap (λ (n : ℕ). slice_get all_rules (n - 101)) same ∙ rule_at_number s)
 
 pub stage_from_1 : (s : Stage) → 0 < stage_number s
 stage_from_1 stage.Rsdp = omega arith

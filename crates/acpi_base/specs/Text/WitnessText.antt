@@ -1,11 +1,9 @@
--- A fault, a verdict and advice as text, in ASCII.
+-- A fault and a verdict as text, in ASCII.
 use Rattle.std.specs.Prelude.{◌≡◌, ℕ, Bool, not, ◌==◌, List, ◌∷◌, ◌++◌, codes, decimal, true, false}
 use Rattle.std.specs.List.{list_all}
 use Rattle.std.specs.Fmt.{digits}
 use Rattle.acpi_base.specs.Codes.{stage_number, code_name, stage_of}
-use Rattle.acpi_base.specs.Rules.{rule_name}
 use Rattle.acpi_base.specs.declared.code.Code.{Code}
-use Rattle.acpi_base.specs.declared.rule.Advice.{Advice}
 use Rattle.acpi_base.specs.declared.witness.Witness.{Witness}
 use Rattle.acpi_base.specs.declared.verdict.Verdict.{Verdict}
 use Rattle.acpi_base.specs.declared.verdict.Verdict.TheVariants.{Yes, No}
@@ -24,12 +22,6 @@ witness_line w =
 abbrev pub verdict_line : Verdict → List ℕ
 verdict_line Yes = codes "yes\n"
 verdict_line (No w) = codes "no " ++ witness_line w ++ codes "\n"
-
--- `advice`, the rule's name, and the three numbers, separated by single blanks, and the line's end
-unfoldable pub advice_line : Advice → List ℕ
-advice_line a =
-    codes "advice " ++ rule_name a.rule
-    ++ codes " " ++ hex_text a.at ++ codes " " ++ hex_text a.other ++ codes " " ++ hex_text a.point ++ codes "\n"
 
 -- ---- the parts of a fault's text
 

@@ -1,9 +1,8 @@
-//! Faults, verdicts and advice as text.
+//! Faults and verdicts as text.
 
 ghost use Rattle.std.specs.Prelude.{◌≡◌, ◌++◌, IfOk, OnOk, codes};
-ghost use Rattle.acpi_base.specs.Text.WitnessText.{advice_line, hex_text, witness_line, verdict_line};
+ghost use Rattle.acpi_base.specs.Text.WitnessText.{hex_text, witness_line, verdict_line};
 
-use crate::rule::Advice;
 use crate::verdict::Verdict;
 use crate::witness::Witness;
 use itoa::Buffer;
@@ -48,19 +47,4 @@ pub fn verdict_text(alloc: Global, verdict: &Verdict) -> Result<Vec<u8>, AllocEr
             Ok(line)
         }
     }
-}
-
-/// The line of advice: `advice`, the rule's name and its three numbers in lower case hex, separated by single blanks,
-/// and an LF, as in `advice SameUid 0x64 0x5c 0x6`.
-#[tactic(auto, unfolding(crate::specs::Text::WitnessText::advice_line))]
-pub fn advice_text(alloc: Global, advice: &Advice) -> Result<Vec<u8>, AllocError>
-    ensures { IfOk result (λ text. text.items ≡ advice_line advice.now) }
-{
-    let mut line = Vec::from_slice(alloc, b"advice ")?;
-    line.extend_from_slice(advice.rule.name().as_bytes())?;
-    add_number(&mut line, alloc, advice.at)?;
-    add_number(&mut line, alloc, advice.other)?;
-    add_number(&mut line, alloc, advice.point)?;
-    line.push(b'\n')?;
-    Ok(line)
 }

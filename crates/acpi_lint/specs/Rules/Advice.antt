@@ -4,7 +4,7 @@ use Rattle.acpi_base.specs.Memory.{Memory}
 use Rattle.acpi_base.specs.Order.{AreNotAfter}
 use Rattle.acpi_base.specs.Policy.{PolicyValue}
 use Rattle.acpi_lint.specs.Rules.Broken.{IsBroken}
-use Rattle.acpi_base.specs.declared.rule.Advice.{Advice}
+use Rattle.acpi_lint.specs.declared.rule.Advice.{Advice}
 
 -- the advice says that its rule is broken there
 abbrev pub IsAdvice : Memory → PolicyValue → Advice → Type 0

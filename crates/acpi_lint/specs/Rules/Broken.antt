@@ -16,8 +16,8 @@ use Rattle.acpi_lint.specs.Rules.MadtAdvice.{io_apic_id, nonzero_io_apic_address
 use Rattle.acpi_lint.specs.Rules.SratAdvice.{IsTwoUidDomains, IsAffinityNowhere, IsNoDomain, IsDomainPastSlit, IsSratUnread}
 use Rattle.acpi_lint.specs.Rules.SlitAdvice.{IsSlitDiffers}
 use Rattle.acpi_lint.specs.Rules.PpttAdvice.{IsSameLeaf, IsCacheShape, IsSameCacheId, IsNoLeaf, IsLeafNowhere}
-use Rattle.acpi_base.specs.declared.rule.Rule.{Rule}
-use Rattle.acpi_base.specs.declared.rule.Rule.TheVariants as rule
+use Rattle.acpi_lint.specs.declared.rule.Rule.{Rule}
+use Rattle.acpi_lint.specs.declared.rule.Rule.TheVariants as rule
 
 -- ---- the tables that advice is about: the first listed one of its kind, if it is complete, whatever its checksum, and long
 -- enough for its fields

@@ -2,9 +2,9 @@
 use Rattle.std.specs.Prelude.{◌<◌, ◌↔◌, List, AllPairs, Contains}
 use Rattle.acpi_base.specs.Memory.{Memory}
 use Rattle.acpi_base.specs.Policy.{PolicyValue}
-use Rattle.acpi_base.specs.Rules.{rule_number}
+use Rattle.acpi_lint.specs.Rules.Rows.{rule_number}
 use Rattle.acpi_base.specs.FirstOfCode.{AreFirstFaults}
-use Rattle.acpi_base.specs.declared.rule.Advice.{Advice}
+use Rattle.acpi_lint.specs.declared.rule.Advice.{Advice}
 use Rattle.acpi_base.specs.declared.witness.Witness.{Witness}
 use Rattle.acpi_lint.specs.Rules.Advice.{IsFirstAdvice}
 

@@ -1,5 +1,5 @@
 use Rattle.std.proofs.Common.{◌≡◌, ◌++◌, drop, flat_map}
-use Rattle.acpi_base.specs.Text.WitnessText.{advice_line}
+use Rattle.acpi_lint.specs.AdviceText.{advice_line}
 use Rattle.acpi_cli.proofs.lint.finding_text.Given as goal
 
 -- the lines so far, and those of the advice still to come

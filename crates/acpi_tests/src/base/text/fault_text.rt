@@ -1,6 +1,6 @@
-//! Tests of the texts of faults, verdicts and advice.
+//! Tests of the texts of faults and verdicts.
 
-use acpi_base::{Advice, Code, Rule, Verdict, Witness, advice_text, verdict_text, witness_text};
+use acpi_base::{Code, Verdict, Witness, verdict_text, witness_text};
 use std::alloc::AllocError;
 use std::process::Abort;
 
@@ -49,19 +49,5 @@ fn lines_of_verdicts(rt: HostRuntime) -> Result<(), AllocError> {
         let text = verdict_text(rt.alloc(), verdict)?;
         assert!(rt; text.as_slice() == wanted.as_bytes(), "{wanted}");
     }
-    Ok(())
-}
-
-#[test]
-fn a_line_of_advice(rt: HostRuntime) -> Result<(), AllocError> {
-    let advice = Advice {
-        rule: Rule::SciNowhere,
-        at: 46,
-        other: 0,
-        point: u64::MAX,
-    };
-    let line = advice_text(rt.alloc(), &advice)?;
-    let wanted = b"advice SciNowhere 0x2e 0x0 0xffffffffffffffff\n";
-    assert!(rt; line.as_slice() == wanted.as_slice());
     Ok(())
 }

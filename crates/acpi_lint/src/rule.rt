@@ -1,7 +1,7 @@
 //! Advice: what breaks none of the statements, but is probably wrong.
 
 ghost use Rattle.std.specs.Prelude.{◌≡◌, ◌+◌, ◌<◌, ◌≤◌, ◌↔◌, length, IsSome, IfSome};
-ghost use Rattle.acpi_base.specs.Rules.{all_rules, rule_name, rule_number};
+ghost use Rattle.acpi_lint.specs.Rules.Rows.{all_rules, rule_name, rule_number};
 
 /// A rule of advice. A set of tables may have a reason to break a rule, so none is a fault. A processor is usable if it
 /// is Enabled or Online Capable. Sections are those of ACPI 6.5.
@@ -25,7 +25,7 @@ pub enum Rule {
     SciNowhere,
     /// Two usable processors have the same UID (5.2.12).
     SameUid,
-    /// Two usable processors have the same APIC ID or x2APIC ID (5.2.12).
+    /// Two usable processors have the same APIC ID, x2APIC ID or core ID (5.2.12).
     SameApicId,
     /// An I/O APIC has the address 0 (5.2.12.3).
     IoApicAtZero,
@@ -39,7 +39,7 @@ pub enum Rule {
     SecondGicd,
     /// No processor is usable (5.2.12).
     NoProcessor,
-    /// Two GICC Affinity Structures put one UID in two proximity domains (5.2.16.4).
+    /// Two affinities put the processor of one UID in two proximity domains (5.2.16.4).
     TwoUidDomains,
     /// The SRAT has a processor that the MADT does not have (5.2.16).
     AffinityNowhere,
@@ -55,13 +55,13 @@ pub enum Rule {
     CacheShape,
     /// Two caches have the same Cache ID (5.2.30.2).
     SameCacheId,
-    /// A usable processor has no leaf in the PPTT, and others have (5.2.30.1).
+    /// A usable processor has no leaf in the PPTT, which has nodes (5.2.30.1).
     NoLeaf,
-    /// A leaf's ACPI Processor ID is no UID, and the MADT has GIC CPU interfaces (5.2.30.1).
+    /// A leaf's ACPI Processor ID is no UID, and not all processors are of x86 (5.2.30.1).
     LeafNowhere,
-    /// A structure of the MADT of a type that is not checked (5.2.12).
+    /// A structure of the MADT of a type or length that is not read (5.2.12).
     MadtUnread,
-    /// A structure of the SRAT of a type that is not checked (5.2.16).
+    /// A structure of the SRAT of a type or length that is not read (5.2.16).
     SratUnread,
 }
 

@@ -1,7 +1,7 @@
 -- The rules of advice: their numbers and names.
 use Rattle.std.specs.Prelude.{ℕ, List, [], ◌∷◌, codes}
-use Rattle.acpi_base.specs.declared.rule.Rule.{Rule}
-use Rattle.acpi_base.specs.declared.rule.Rule.TheVariants as rule
+use Rattle.acpi_lint.specs.declared.rule.Rule.{Rule}
+use Rattle.acpi_lint.specs.declared.rule.Rule.TheVariants as rule
 
 -- a rule's number, and its name as a line of advice has it
 abbrev pub rule_row : Rule → ℕ × List ℕ

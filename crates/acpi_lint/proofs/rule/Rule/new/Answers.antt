@@ -1,9 +1,9 @@
 use Rattle.std.proofs.Common.{ℕ, List, Bor, ◌<◌, length, ap, ◌∙◌, arith}
 use Rattle.std.proofs.lemmas.Bool.Decides.{nat_tests}
-use Rattle.acpi_base.specs.Rules.{rule_number}
-use Rattle.acpi_base.specs.declared.rule.Rule.{Rule}
+use Rattle.acpi_lint.specs.Rules.Rows.{rule_number}
+use Rattle.acpi_lint.specs.declared.rule.Rule.{Rule}
 use Rattle.acpi_base.proofs.Faults.Rows.{are_numbered, numbered_at}
-use Rattle.acpi_base.proofs.rule.Rule.new.Goals as goal
+use Rattle.acpi_lint.proofs.rule.Rule.new.Goals as goal
 
 -- a row's number
 abbrev number_in : Rule × Bor (List ℕ) → ℕ
