@@ -11,8 +11,9 @@ use Rattle.acpi_base.specs.RsdpSearch.{IsFound, IsNowhere}
 use Rattle.acpi_base.specs.Faults.{Fault, IsVerdict}
 use Rattle.acpi_lint.specs.Rules.Findings.{AreFindings}
 use Rattle.acpi_base.specs.Statements.{CleanTo}
-use Rattle.acpi_base.specs.Text.WitnessText.{advice_line, hex_text, verdict_line}
+use Rattle.acpi_base.specs.Text.WitnessText.{hex_text, verdict_line}
 use Rattle.acpi_base.specs.Text.WrittenText.{IsWritten}
+use Rattle.acpi_lint.specs.AdviceText.{advice_line}
 use Rattle.acpi_lint.specs.declared.rule.Advice.{Advice}
 use Rattle.acpi_base.specs.declared.stage.Stage.{Stage}
 use Rattle.acpi_base.specs.declared.stage.Stage.TheVariants as stage
