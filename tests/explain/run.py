@@ -148,6 +148,8 @@ def structures(tests):
     tests.says("advice AffinityNowhere 0x30 0x0 0x16", "the MADT's processors have the UIDs 21", sets.ARM, without=[MISMATCH])
     texts = ["  0x2c entry type 11 length 80: gicc uid 21 flags 0x1", "the SRAT's enabled affinities of types 3 and 7 have the UIDs 22"]
     tests.says("advice NoDomain 0x2c 0x0 0x15", texts, sets.ARM, without=[MISMATCH])
+    texts = ["  0x2c entry type 24 length 36: rintc uid 5 hart 0 flags 0x0", "  0x50 entry type 17 length 15: core-pic uid 6 id 3 flags 0x0"]
+    tests.says("advice NoProcessor 0x0 0x0 0x0", texts, sets.NONE_USABLE, without=[MISMATCH])
     served = "  0x3c serves 0 to 31 (0x0 to 0x1f), with 32 inputs"
     tests.says("no 7 GsiClash 0x3c 0x48 0x18", served, "example.img.txt", "--default-inputs", "32", without=[MISMATCH])
 

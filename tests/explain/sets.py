@@ -57,6 +57,7 @@ LEAF = image_of(madt(lapic(0, 0), lapic(1, 1), lapic(2, 2, flags=0), x2apic(300,
 GICC = bytes([11, 80]) + bytes(6) + number(21, 4) + number(1, 4) + bytes(64)
 AFFINITY = bytes([3, 18]) + number(6, 4) + number(22, 4) + number(1, 4) + bytes(4)
 ARM = image_of(madt(GICC), srat(AFFINITY))
+NONE_USABLE = image_of(madt(rintc(5, flags=0), core_pic(6, 3, flags=0)))
 # Structures at which the stages do not look: a GICC that is too short for advice too, and a wakeup structure.
 UNREAD = image_of(
     madt(bytes([11, 39]) + bytes(37), bytes([16, 16]) + bytes(14)),
