@@ -277,6 +277,202 @@ def wrong_dsdt(facts):
         yield 40, 0, at
 
 
+# ---- register blocks of hardware that is not reduced (5.2.9)
+
+
+@rule("NoPm1Block", is_full)
+def no_pm1_block(facts):
+    """Block A of the PM1 events or of the PM1 control, which full hardware has, is nowhere (5.2.9)."""
+    for block in facts.blocks:
+        if block.narrow in (56, 64) and block.address == 0:
+            yield (block.narrow,)
+
+
+@rule("BlockWidth", is_full)
+def block_widths(facts):
+    """A block's length byte and the width in its generic address structure, both given, are not the same count of bits (5.2.9)."""
+    fadt = facts.fadt
+    for _, narrow, length_at, wide in BLOCKS:
+        bits, width = 8 * fadt.field(length_at, 1), fadt.field(wide + 1, 1)
+        is_twice = fadt.field(narrow, 4) != 0 and fadt.field(wide + 4, 8) != 0
+        if is_twice and width and 0 < bits <= 255 and bits != width:
+            yield narrow, bits, width
+
+
+@rule("HalfBlock", is_full)
+def half_blocks(facts):
+    """Of a block that hardware may lack, from PM2 control to GPE1, the length or the place is given, and the other is not (5.2.9)."""
+    for block in facts.blocks[4:]:
+        if (block.address == 0) != (block.length == 0):
+            yield block.narrow, block.length, block.address
+
+
+@rule("PortsOverlap", is_full)
+def overlapping_ports(facts):
+    """Two blocks share a port (5.2.9)."""
+    yield from overlap((block.address, block.ports, block.narrow) for block in facts.blocks)
+
+
+@rule("PortPastEnd", has_fadt)
+def ports_past_end(facts):
+    """A block, SMI_CMD or the reset register is in the space of ports and goes past the last port (5.2.9)."""
+    fadt = facts.fadt
+    ports = []
+    if not fadt.reduced:
+        ports = [(block.narrow, block.ports, block.address) for block in facts.blocks] + [(48, 1, fadt.field(48, 4))]
+    if has_reset(fadt) and fadt.field(116, 1) == SYSTEM_IO:
+        ports.append((116, 1, fadt.field(120, 8)))
+    for at, count, address in ports:
+        if count and address + count - 1 > LAST_PORT:
+            yield at, count, address
+
+
+def has_reset(fadt):
+    """Whether the FADT says that it has a reset register, and has its fields."""
+    return fadt.flags >> 10 & 1 == 1 and len(fadt.bytes) >= 129
+
+
+@rule("GpeOverlap", is_full)
+def overlapping_events(facts):
+    """The events of GPE1 begin among those of GPE0, of which each byte of a half of the block has eight (5.2.9)."""
+    first, second = facts.blocks[6:]
+    base = facts.fadt.field(94, 1)
+    if first.address and second.address and first.length and second.length and base < 4 * first.length:
+        yield 94, 4 * first.length, base
+
+
+@rule("SmiHalf", is_full)
+def half_smi(facts):
+    """There is an SMI port, and one command turns ACPI on and off; or there is none, and there are commands for it (5.2.9)."""
+    fadt = facts.fadt
+    port = fadt.field(48, 4)
+    if port:
+        if fadt.field(52, 1) == fadt.field(53, 1):
+            yield 48, 52, port
+        return
+    for at in (52, 53, 54, 55, 95):
+        if fadt.field(at, 1):
+            yield 48, at
+
+
+@rule("SciZero", is_full)
+def zero_sci(facts):
+    """The interrupt of the SCI is 0, that of the timer (5.2.9)."""
+    if facts.fadt.field(46, 2) == 0:
+        yield (46,)
+
+
+# ---- the FADT as a whole (5.2.9)
+
+
+@rule("ResetNowhere", has_fadt)
+def nowhere_reset(facts):
+    """There is a reset register, by its flag, and its address is 0 (5.2.9)."""
+    if has_reset(facts.fadt) and facts.fadt.field(120, 8) == 0:
+        yield (116,)
+
+
+def version_of(fadt):
+    """The revision and the minor version, of which the high bits are for errata (5.2.9)."""
+    return fadt.bytes.number(8, 1), fadt.field(131, 1) & 0b1111
+
+
+@rule("FadtForArch", has_fadt)
+def fadt_for_arch(facts):
+    """Beside a GIC or a hart the hardware is not reduced, or beside a GIC the FADT is older than ACPI 5.1 (5.2.9)."""
+    if facts.madt_kinds & {GICC, RINTC} and not facts.fadt.reduced:
+        yield (112,)
+    if GICC in facts.madt_kinds and version_of(facts.fadt) < (5, 1):
+        yield 8, *version_of(facts.fadt)
+
+
+@rule("SleepRegister", lambda facts: has_fadt(facts) and facts.fadt.reduced)
+def sleep_registers(facts):
+    """A sleep register is not one byte, or one of the two is there without the other (5.2.9)."""
+    fadt = facts.fadt
+    addresses = {at: fadt.field(at + 4, 8) for at in (244, 256) if at + 12 <= len(fadt.bytes)}
+    for at, address in addresses.items():
+        width, offset = fadt.field(at + 1, 1), fadt.field(at + 2, 1)
+        if address and (width != 8 or offset != 0):
+            yield at, width, offset
+        if address == 0 and len(addresses) == 2 and any(addresses.values()):
+            yield (at,)
+
+
+FADT_LIMITS = [(44, 1, 1), (45, 1, 8), (111, 1, 0), (112, 4, 0xFFFFFF)]
+# The Version and the flags of a FACS, and its reserved bytes (5.2.10).
+FACS_LIMITS = [(20, 4, 0b11), (32, 1, 2), *zeros(33, 34, 35), (36, 4, 0b1), *zeros(*range(40, 64))]
+
+
+@rule("FadtReserved", has_fadt)
+def reserved_in_fadt(facts):
+    """A reserved byte, profile or flag of the FADT is used, or both flags of what caches keep when power fails (5.2.9)."""
+    for at, number in past_limits(facts.fadt.bytes, FADT_LIMITS):
+        yield at, 0, number
+    if facts.fadt.flags >> 22 & 0b11 == 0b11:
+        yield 112, 0, facts.fadt.flags
+
+
+@rule("FacsReserved", has_fadt)
+def reserved_in_facs(facts):
+    """A reserved byte, flag or Version of the FACS is used (5.2.10)."""
+    for at, number in past_limits(facts.facs, FACS_LIMITS) if facts.facs else ():
+        yield at, 0, number
+
+
+@rule("RsdpReserved")
+def reserved_in_rsdp(facts):
+    """The RSDP has a Revision that there is not, or in the extended form a longer Length or a reserved byte that is used (5.2.5.3)."""
+    image, at = facts.image, facts.tables.rsdp
+    head, long = image.present(at, 20), image.present(at, 36)
+    revision = head.number(15, 1) if head else 0
+    if revision not in (0, 2):
+        yield 15, 0, revision
+    if revision < 2 or not long:
+        return
+    length = long.number(20, 4)
+    if length > 36 and image.present(at, length):
+        yield 20, 0, length
+    for place, number in past_limits(long, zeros(33, 34, 35)):
+        yield place, 0, number
+
+
+# ---- headers (5.2.6)
+
+# Where a header has text: the signature, the OEM ID, the OEM Table ID and the Creator ID.
+TEXTS = ((0, 4), (10, 6), (16, 8), (28, 4))
+READ_ONCE_TOO = """
+    BERT BGRT CCEL CPEP DBG2 DMAR ECDT EINJ ERST FPDT GTDT HEST HMAT IORT IVRS MCFG MPST MSCT NFIT PCCT PDTT PHAT PMTT PRMT RASF RAS2
+    SBST SDEI SDEV SPCR SVKL TPM2 VIOT WAET WSMT
+""".encode().split()
+
+
+def is_text(data):
+    """Whether these bytes are printable, but for zeros at their end."""
+    return all(0x20 <= byte <= 0x7E for byte in data.rstrip(b"\0"))
+
+
+@rule("HeaderText")
+def header_texts(facts):
+    """A listed table's header has a signature or a name with a byte that is no text (5.2.6)."""
+    tables = facts.tables
+    for slot, header in tables.headers.items():
+        for at, size in TEXTS:
+            if not is_text(header.data[at : at + size]):
+                yield slot, at, tables.slots[slot]
+
+
+@rule("SecondOther")
+def second_tables(facts):
+    """A table of which a set has one is listed with another address than before (5.2.6)."""
+    tables = facts.tables
+    for slot, header in tables.headers.items():
+        signature, address = header.data[:4], tables.slots[slot]
+        first = tables.first_slots[signature]
+        if signature in READ_ONCE_TOO and address != tables.slots[first]:
+            yield slot, first, address
+
+
 # ---- the findings, and the lines of `lint`
 
 

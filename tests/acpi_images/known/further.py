@@ -124,3 +124,225 @@ kept("DsdtWrong", "35 bytes of an SSDT", of_dsdt(table(b"SSDT", bytes(4))[:35]))
 X_DSDT = {**OF_DSDT, "_140": number(0x6000, 8)}
 broken("DsdtWrong", "0x28 0x0 0x6000", "X_DSDT is used", image_of(fadt(length=148, **X_DSDT), others={0x5000: DSDT, 0x6000: facs()}))
 kept("DsdtWrong", "DSDT is not used", image_of(fadt(length=148, **X_DSDT), others={0x5000: facs(), 0x6000: DSDT}))
+
+
+# ---- register blocks of hardware that is not reduced
+def full(length=116, facs_at=FACS_AT, **fields):
+    """A FADT of full hardware, and a FACS."""
+    return image_of(full_fadt(facs_at, length, **fields), others={FACS_AT: facs()})
+
+
+EVENTS, CONTROL, TIMER = {"_56": number(0x600, 4)}, {"_64": number(0x604, 4)}, {"_76": number(0x608, 4)}
+X_EVENTS, X_CONTROL = {"_148": generic_address(0x600)}, {"_172": generic_address(0x604, width=16)}
+
+broken("NoPm1Block", "0x38", "neither block", full())
+broken("NoPm1Block", "0x38", "events b for events a", full(_60=number(0x600, 4), **CONTROL))
+broken("NoPm1Block", "0x40", "events alone", full(**EVENTS))
+kept("NoPm1Block", "both blocks", full(**EVENTS, **CONTROL))
+kept("NoPm1Block", "both structures", full(184, **X_EVENTS, **X_CONTROL))
+broken("NoPm1Block", "0x40", "a structure that goes past the end by a byte", full(183, **X_EVENTS, _172=X_CONTROL["_172"][:11]))
+broken("NoPm1Block", "0x40", "a structure without an address", full(184, **X_EVENTS, _172=generic_address(0)))
+kept("NoPm1Block", "reduced hardware", listed())
+
+broken("BlockWidth", "0x38 0x20 0x10", "events of 4 bytes and of 16 bits", full(160, **EVENTS, _148=generic_address(0x600, width=16)))
+broken("BlockWidth", "0x38 0x20 0x10", "the same in memory", full(160, **EVENTS, _148=generic_address(0x600, 0, 16)))
+broken("BlockWidth", "0x38 0xf8 0xf9", "events of 31 bytes and of 249 bits", full(160, **EVENTS, _88=b"\37", _148=generic_address(1, width=249)))
+broken("BlockWidth", "0x54 0x8 0x10", "events of GPE1", full(244, _84=b"\1", _93=b"\1", _232=generic_address(1, width=16)))
+kept("BlockWidth", "events of 4 bytes and of 32 bits", full(160, **EVENTS, **X_EVENTS))
+kept("BlockWidth", "events of 32 bytes and of 16 bits", full(160, **EVENTS, _88=b"\x20", _148=generic_address(0x600, width=16)))
+kept("BlockWidth", "events of 4 bytes and of no bits", full(160, **EVENTS, _148=generic_address(0x600, width=0)))
+kept("BlockWidth", "events of no bytes and of 16 bits", full(160, **EVENTS, _88=b"\0", _148=generic_address(0x600, width=16)))
+kept("BlockWidth", "a structure alone", full(160, _148=generic_address(0x600, width=16)))
+kept("BlockWidth", "a structure without an address", full(160, **EVENTS, _148=generic_address(0, width=16)))
+kept("BlockWidth", "a structure that goes past the end by a byte", full(159, **EVENTS, _148=generic_address(0x600, width=16)[:11]))
+kept("BlockWidth", "reduced hardware", image_of(fadt(length=160, **EVENTS, _88=b"\4", _148=generic_address(0x600, width=16))))
+
+broken("HalfBlock", "0x4c 0x4 0x0", "a timer of 4 bytes that is nowhere", full())
+broken("HalfBlock", "0x48 0x0 0x610", "a PM2 control of no bytes", full(**TIMER, _72=number(0x610, 4)))
+broken("HalfBlock", "0x50 0x4 0x0", "events of GPE0 that are nowhere", full(**TIMER, _92=b"\4"))
+broken("HalfBlock", "0x54 0x0 0x100000620", "events of GPE1 of no bytes", full(244, **TIMER, _232=generic_address(0x100000620, 0)))
+kept("HalfBlock", "a timer of 4 bytes", full(**TIMER))
+kept("HalfBlock", "neither a timer nor its length", full(_91=b"\0"))
+kept("HalfBlock", "PM1 events of no bytes", full(**TIMER, **EVENTS, _88=b"\0"))
+kept("HalfBlock", "reduced hardware", image_of(fadt(_91=b"\4")))
+
+broken("PortsOverlap", "0x38 0x40 0x603", "the last port of events", full(**EVENTS, _64=number(0x603, 4)))
+broken("PortsOverlap", "0x40 0x38 0x600", "the last port of the control", full(**EVENTS, _64=number(0x5FF, 4)))
+broken("PortsOverlap", "0x38 0x3c 0x600", "events a and b at one place", full(**EVENTS, _60=number(0x600, 4)))
+broken("PortsOverlap", "0x38 0x40 0x601", "a structure of 9 bits", full(160, _88=b"\0", _148=generic_address(0x600, width=9), _64=number(0x601, 4)))
+broken(
+    "PortsOverlap", "0x38 0x40 0x603", "a structure of 8 bits and a length of 4 bytes",
+    full(160, _148=generic_address(0x600, width=8), _64=number(0x603, 4)),
+)
+kept("PortsOverlap", "ports that touch", full(**EVENTS, **CONTROL, **TIMER))
+kept("PortsOverlap", "a structure of 8 bits", full(160, _88=b"\0", _148=generic_address(0x600, width=8), _64=number(0x601, 4)))
+kept("PortsOverlap", "a structure in memory", full(160, _148=generic_address(0x600, 0), _64=number(0x600, 4)))
+kept("PortsOverlap", "a block of no bytes", full(_88=b"\0", **EVENTS, _64=number(0x600, 4)))
+kept("PortsOverlap", "a field of 4 bytes that is not used", full(160, **EVENTS, _148=generic_address(0x700), _64=number(0x600, 4)))
+kept("PortsOverlap", "reduced hardware", image_of(fadt(**EVENTS, _60=number(0x600, 4), _88=b"\4")))
+
+RESETS = REDUCED | RESET_REG_SUP
+
+
+def reset(address, space=1, flags=RESETS, length=129):
+    """A FADT with a reset register, or as much of it as the Length holds."""
+    return image_of(fadt(flags, length, _116=generic_address(address, space, 8)[: length - 116]))
+
+
+broken("PortPastEnd", "0x38 0x4 0xfffd", "events that end past the last port", full(_56=number(0xFFFD, 4)))
+kept("PortPastEnd", "events that end at the last port", full(_56=number(0xFFFC, 4)))
+broken("PortPastEnd", "0x38 0x4 0x10000", "a structure past the last port", full(160, _148=generic_address(0x10000)))
+kept("PortPastEnd", "a structure in memory", full(160, _148=generic_address(0x10000, 0)))
+kept("PortPastEnd", "a block of no bytes", full(_88=b"\0", _56=number(0x10000, 4)))
+broken("PortPastEnd", "0x30 0x1 0x10000", "SMI_CMD past the last port", full(_48=number(0x10000, 4)))
+kept("PortPastEnd", "SMI_CMD at the last port", full(_48=number(0xFFFF, 4)))
+kept("PortPastEnd", "SMI_CMD of reduced hardware", image_of(fadt(_48=number(0x10000, 4))))
+broken("PortPastEnd", "0x74 0x1 0x10000", "a reset register past the last port", reset(0x10000))
+broken("PortPastEnd", "0x74 0x1 0x10000", "the same of full hardware", reset(0x10000, flags=RESET_REG_SUP))
+kept("PortPastEnd", "a reset register at the last port", reset(0xFFFF))
+kept("PortPastEnd", "a reset register in memory", reset(0x10000, 0))
+kept("PortPastEnd", "no reset register", reset(0x10000, flags=REDUCED))
+kept("PortPastEnd", "no value of the reset register", reset(0x10000, length=128))
+
+BOTH_GPES = {"_80": number(0x620, 4), "_84": number(0x630, 4), "_92": b"\4", "_93": b"\4"}
+broken("GpeOverlap", "0x5e 0x10 0xf", "events of GPE1 from 15 on", full(**BOTH_GPES, _94=b"\17"))
+kept("GpeOverlap", "events of GPE1 from 16 on", full(**BOTH_GPES, _94=b"\20"))
+kept("GpeOverlap", "no length of GPE1", full(**{**BOTH_GPES, "_93": b"\0"}))
+kept("GpeOverlap", "no length of GPE0", full(**{**BOTH_GPES, "_92": b"\0"}))
+kept("GpeOverlap", "no GPE1", full(**{**BOTH_GPES, "_84": bytes(4)}))
+kept("GpeOverlap", "no GPE0", full(**{**BOTH_GPES, "_80": bytes(4)}))
+kept("GpeOverlap", "reduced hardware", image_of(fadt(**BOTH_GPES)))
+
+SMI = {"_48": number(0xB2, 4)}
+broken("SmiHalf", "0x30 0x34 0xb2", "an SMI port and no commands", full(**SMI))
+broken("SmiHalf", "0x30 0x34 0xb2", "an SMI port and one command", full(**SMI, _52=b"\2\2"))
+kept("SmiHalf", "an SMI port and two commands", full(**SMI, _52=b"\2\3"))
+broken("SmiHalf", "0x30 0x35", "no SMI port, and commands", full(_53=b"\1\1\1"))
+broken("SmiHalf", "0x30 0x5f", "no SMI port, and a command for idle states", full(_95=b"\1"))
+kept("SmiHalf", "no SMI port", full())
+kept("SmiHalf", "reduced hardware", image_of(fadt(**SMI)))
+
+broken("SciZero", "0x2e", "an SCI of 0", full())
+kept("SciZero", "an SCI of 256", full(_46=number(256, 2)))
+kept("SciZero", "reduced hardware", listed())
+
+# ---- the FADT as a whole
+broken("ResetNowhere", "0x74", "a reset register at 0", reset(0))
+kept("ResetNowhere", "a reset register at 4 GiB", reset(2**32, 0))
+kept("ResetNowhere", "no reset register", reset(0, flags=REDUCED))
+kept("ResetNowhere", "no value of the reset register", reset(0, length=128))
+
+
+def arch(revision, minor, *entries, flags=REDUCED, length=132):
+    """A FADT of this version, where its Length has a minor one, and a MADT."""
+    return image_of(revised(fadt(flags, length, **({"_131": bytes([minor])} if length > 131 else {})), revision), madt(*entries))
+
+
+broken("FadtForArch", "0x8 0x5 0x0", "a FADT 5.0 and a GICC", arch(5, 0, gicc(0)))
+broken("FadtForArch", "0x8 0x5 0x0", "a FADT 5.0 with errata and a GICC", arch(5, 0x10, gicc(0)))
+broken("FadtForArch", "0x8 0x5 0x0", "a FADT 5 without a minor version and a GICC", arch(5, 0, gicc(0), length=131))
+broken("FadtForArch", "0x8 0x4 0x2", "a FADT 4.2 and a GICC of 2 bytes", arch(4, 2, other(11, 2)))
+broken("FadtForArch", "0x8 0x1 0x0", "a FADT 1 of full hardware and a GICC", arch(1, 0, gicc(0), flags=0))
+broken("FadtForArch", "0x70", "a FADT 5.1 of full hardware and a GICC", arch(5, 1, gicc(0), flags=0))
+broken("FadtForArch", "0x70", "a FADT 1 of full hardware and an RINTC of 2 bytes", arch(1, 0, other(24, 2), flags=0))
+kept("FadtForArch", "a FADT 5.1 and a GICC", arch(5, 1, gicc(0)))
+kept("FadtForArch", "a FADT 6 without a minor version and a GICC", arch(6, 0, gicc(0), length=116))
+kept("FadtForArch", "a FADT 1 and an RINTC", arch(1, 0, rintc(0)))
+kept("FadtForArch", "a FADT 1 of full hardware and a local APIC", arch(1, 0, lapic(0, 0), flags=0))
+
+BYTE = generic_address(1, width=8)
+
+
+def sleep(control, status, flags=REDUCED, length=268):
+    return image_of(fadt(flags, length, _244=control, _256=status[: length - 256]))
+
+
+kept("SleepRegister", "two registers of a byte", sleep(BYTE, BYTE))
+broken("SleepRegister", "0x100 0x10 0x0", "a status of 16 bits", sleep(BYTE, generic_address(1, width=16)))
+broken("SleepRegister", "0xf4 0x8 0x1", "a control from the second bit on", sleep(generic_address(1, width=8, offset=1), BYTE))
+broken("SleepRegister", "0x100", "a control without a status", sleep(BYTE, generic_address(0)))
+broken("SleepRegister", "0xf4", "a status without a control", sleep(generic_address(0), BYTE))
+broken("SleepRegister", "0xf4 0x0 0x0", "a control of no bits", sleep(generic_address(1, width=0), BYTE))
+kept("SleepRegister", "neither register", sleep(generic_address(0, width=16), generic_address(0, width=16, offset=1)))
+kept("SleepRegister", "a control, and a FADT that ends in the status", sleep(BYTE, bytes(12), length=267))
+kept("SleepRegister", "full hardware", sleep(BYTE, bytes(12), flags=0))
+
+broken("FadtReserved", "0x2c 0x0 0x2", "an interrupt model of 2", image_of(fadt(_44=b"\2")))
+broken("FadtReserved", "0x2d 0x0 0x9", "a profile of 9", image_of(fadt(_45=b"\11")))
+broken("FadtReserved", "0x6f 0x0 0x1", "the reserved byte before the flags", image_of(fadt(_111=b"\1")))
+broken("FadtReserved", "0x70 0x0 0x1100000", "flag bit 24", image_of(fadt(REDUCED | 1 << 24)))
+broken("FadtReserved", "0x70 0x0 0xd00000", "flag bits 22 and 23", image_of(fadt(REDUCED | 3 << 22)))
+broken("FadtReserved", "0x2d 0x0 0xff", "two bytes", image_of(fadt(_45=b"\xff", _111=b"\1")))
+kept("FadtReserved", "an interrupt model of 1, a profile of 8", image_of(fadt(_44=b"\1\10")))
+kept("FadtReserved", "flag bits up to 22", image_of(fadt((1 << 23) - 1)))
+kept("FadtReserved", "flag bit 23", image_of(fadt(REDUCED | 1 << 23)))
+
+
+def of_facs(changes, pointer=None):
+    """A FADT that names a FACS with some bytes changed."""
+    return image_of(pointer or full_fadt(), others={FACS_AT: changed(facs(), changes)})
+
+
+broken("FacsReserved", "0x20 0x0 0x3", "a FACS of Version 3", of_facs({32: 3}))
+broken("FacsReserved", "0x21 0x0 0x1", "a byte after the Version", of_facs({33: 1}))
+broken("FacsReserved", "0x23 0x0 0x1", "a byte before the OSPM Flags", of_facs({35: 1}))
+broken("FacsReserved", "0x28 0x0 0x7", "a byte after the OSPM Flags", of_facs({40: 7, 63: 1}))
+broken("FacsReserved", "0x3f 0x0 0x5", "the last byte", of_facs({63: 5}))
+broken("FacsReserved", "0x14 0x0 0x4", "flag bit 2", of_facs({20: 4, 32: 3}))
+broken("FacsReserved", "0x24 0x0 0x2", "OSPM flag bit 1", of_facs({36: 2}))
+broken("FacsReserved", "0x24 0x0 0x1000001", "OSPM flag bits 0 and 24", of_facs({36: 1, 39: 1}))
+broken("FacsReserved", "0x20 0x0 0x3", "reduced hardware with a FACS", of_facs({32: 3}, fadt(_36=number(FACS_AT, 4))))
+kept("FacsReserved", "all that is defined", of_facs({20: 3, 32: 2, 36: 1, **dict.fromkeys([*range(8, 20), *range(24, 32)], 0xFF)}))
+kept("FacsReserved", "a byte after the first 64", image_of(full_fadt(), others={FACS_AT: changed(facs() + b"\1", {4: 65})}))
+kept("FacsReserved", "a FACS of another signature", of_facs({0: ord("f"), 32: 3}))
+kept("FacsReserved", "a FACS of 63 bytes", of_facs({4: 63, 32: 3}))
+kept("FacsReserved", "a FACS at no multiple of 64", image_of(full_fadt(0x7020), others={0x7020: changed(facs(), {32: 3})}))
+kept("FacsReserved", "no FACS", listed())
+
+
+def pointed(pointer):
+    """A set with this RSDP."""
+    return {**BOTH_ROOTS, RSDP_AT: pointer}
+
+
+broken("RsdpReserved", "0xf 0x0 0x1", "Revision 1", pointed(changed(rsdp(), {15: 1}, (8, 20))))
+broken("RsdpReserved", "0xf 0x0 0x3", "Revision 3", pointed(changed(extended_rsdp(), {15: 3}, (8, 20))))
+broken("RsdpReserved", "0xf 0x0 0x3", "Revision 3, 20 bytes", {RSDP_AT: changed(rsdp(), {15: 3}, (8, 20))})
+broken("RsdpReserved", "0x14 0x0 0x28", "an RSDP of 40 bytes", pointed(extended_rsdp(length=40) + bytes(4)))
+kept("RsdpReserved", "an RSDP of 40 bytes, 39 of them present", pointed(extended_rsdp(length=40) + bytes(3)))
+kept("RsdpReserved", "an RSDP of 35 bytes", pointed(extended_rsdp(length=35)))
+broken("RsdpReserved", "0x21 0x0 0x9", "the first reserved byte", pointed(changed(extended_rsdp(), {33: 9, 35: 1})))
+broken("RsdpReserved", "0x23 0x0 0x1", "the last reserved byte", pointed(changed(extended_rsdp(), {35: 1})))
+kept("RsdpReserved", "an RSDP of 36 bytes", pointed(extended_rsdp()))
+kept("RsdpReserved", "Revision 0, and a byte after the RSDP", pointed(rsdp() + bytes(13) + b"\1\1\1"))
+
+# ---- headers
+
+
+def header(changes):
+    """An HPET of which bytes of the header are changed, in slot 1."""
+    return listed(changed(hpet(), changes, (9, 56)))
+
+
+broken("HeaderText", "0x1 0x0 0x3000", "a signature with a control byte", header({3: 0x1F}))
+broken("HeaderText", "0x1 0xa 0x3000", "an OEM ID with 7Fh", header({12: 0x7F}))
+broken("HeaderText", "0x1 0xa 0x3000", "an OEM ID with a zero before its end", header({10: 0}))
+broken("HeaderText", "0x1 0x10 0x3000", "an OEM Table ID with 80h", header({23: 0x80, 28: 1}))
+broken("HeaderText", "0x1 0x1c 0x3000", "a Creator ID with a zero before its end", header({30: 0}))
+kept("HeaderText", "names of zeros", header(dict.fromkeys([*range(10, 24), *range(28, 32)], 0)))
+kept("HeaderText", "zeros at the ends", header({3: 0, 14: 0, 15: 0, 23: 0, 31: 0}))
+kept("HeaderText", "the first and the last byte of text", header({0: 0x20, 1: 0x7E, 10: 0x20, 15: 0x7E}))
+kept("HeaderText", "other bytes of the header", header(dict.fromkeys([8, 24, 27, 32, 35], 0xFF)))
+kept("HeaderText", "35 bytes of a header", listed(changed(hpet(), {12: 0x7F})[:35]))
+
+ONCE = b"""
+    WSMT WAET VIOT TPM2 SVKL SPCR SDEV SDEI SBST RAS2 RASF PRMT PMTT PHAT PDTT PCCT NFIT MSCT MPST MCFG IVRS IORT HMAT HEST GTDT FPDT
+    ERST EINJ ECDT DMAR DBG2 CPEP CCEL BGRT BERT
+"""
+for signature in ONCE.split():
+    broken("SecondOther", "0x2 0x1 0x4000", f"two tables of {signature.decode()}", listed(*[table(signature, b"")] * 2))
+MCFG = table(b"MCFG", bytes(8))
+broken("SecondOther", "0x3 0x1 0x4000", "an MCFG twice, and another one", listed(MCFG, MCFG, slots=(0x2000, 0x3000, 0x3000, 0x4000)))
+kept("SecondOther", "an MCFG twice", listed(MCFG, slots=(0x2000, 0x3000, 0x3000)))
+kept("SecondOther", "two SSDTs", listed(*[table(b"SSDT", b"")] * 2))
+kept("SecondOther", "two MADTs", listed(madt(), madt()))
