@@ -62,7 +62,7 @@ class FurtherFacts(Facts):
         # of the distributor, which is the first one
         self.gic_version = self.gicds[0].number(20, 1) if self.gicds else None
 
-    def on(self, *kinds):
+    def on_of(self, *kinds):
         """The entries of processors of these types that are on."""
         return [entry for entry in self.entries_on if entry.kind in kinds]
 
@@ -471,6 +471,258 @@ def second_tables(facts):
         first = tables.first_slots[signature]
         if signature in READ_ONCE_TOO and address != tables.slots[first]:
             yield slot, first, address
+
+
+# ---- the MADT: local APICs and I/O APICs (5.2.12)
+
+# Of each type of processor the place of its flags, and the flags Enabled and Online Capable (5.2.12.2, 5.2.12.12, 5.2.12.14); the
+# harts of RISC-V came after ACPI 6.5.
+CAPABLE = {LAPIC: (4, 1 << 0, 1 << 1), X2APIC: (8, 1 << 0, 1 << 1), GICC: (12, 1 << 0, 1 << 3), RINTC: (4, 1 << 0, 1 << 1)}
+# Of some of these the version of the FADT since which there is the flag Online Capable.
+CAPABLE_SINCE = {LAPIC: (6, 3), X2APIC: (6, 3), GICC: (6, 5)}
+# Of each type of local APIC the place of its ID, and the ID to which all of them listen.
+APIC_ID = {LAPIC: (3, 1), X2APIC: (4, 4)}
+BROADCAST = {LAPIC: 0xFF, X2APIC: 0xFFFFFFFF}
+
+
+@rule("X2ApicBelow255", has_madt)
+def low_x2apics(facts):
+    """An x2APIC that is on has an ID that a local APIC can have, beside a local APIC that is on (5.2.12.12)."""
+    if all(entry.number(3, 1) == 0xFF for entry in facts.on_of(LAPIC)):
+        return
+    for entry in facts.on_of(X2APIC):
+        if entry.number(4, 4) < 0xFF:
+            yield entry.offset, 0, entry.number(4, 4)
+
+
+@rule("BroadcastId", has_madt)
+def broadcast_ids(facts):
+    """A local APIC or an x2APIC that is on has the ID that means all of them (5.2.12.2, 5.2.12.12)."""
+    for entry in facts.on_of(LAPIC, X2APIC):
+        apic_id = entry.number(*APIC_ID[entry.kind])
+        if apic_id == BROADCAST[entry.kind]:
+            yield entry.offset, 0, apic_id
+
+
+def capable(facts):
+    """The processors with these two flags: the entry, all its flags, whether it is enabled, and whether it is online capable."""
+    for entry in facts.madt.entries:
+        if entry.kind in CAPABLE and processor_of(entry):
+            at, enabled, online_capable = CAPABLE[entry.kind]
+            flags = entry.number(at, 4)
+            yield entry, flags, flags & enabled != 0, flags & online_capable != 0
+
+
+@rule("CapableTooEarly", lambda facts: has_madt(facts) and has_fadt(facts))
+def too_early_capable(facts):
+    """A processor is not enabled and is Online Capable, by a FADT older than that flag (5.2.12.2, 5.2.12.12, 5.2.12.14)."""
+    version = version_of(facts.fadt)
+    for entry, _, is_on, is_capable in capable(facts):
+        if is_capable and not is_on and version < CAPABLE_SINCE.get(entry.kind, version):
+            yield entry.offset, *version
+
+
+@rule("EnabledAndCapable", has_madt)
+def enabled_and_capable(facts):
+    """A processor is Enabled and Online Capable, of which at most one may be said (5.2.12.2, 5.2.12.12, 5.2.12.14)."""
+    for entry, flags, is_on, is_capable in capable(facts):
+        if is_on and is_capable:
+            yield entry.offset, 0, flags
+
+
+@rule("OverridePastIsa", lambda facts: has_madt(facts) and has_fadt(facts))
+def overrides_past_isa(facts):
+    """An override of an interrupt that the ISA bus does not have, and that is not the SCI's (5.2.12.5)."""
+    for entry in facts.madt.typed(OVERRIDE):
+        source = entry.number(3, 1)
+        if source > 15 and source != facts.fadt.field(46, 2):
+            yield entry.offset, source, entry.number(4, 4)
+
+
+@rule("TimerLevel", has_madt)
+def level_timers(facts):
+    """An override makes the timer's interrupt, 0, level-triggered (5.2.12.5)."""
+    for entry in facts.madt.typed(OVERRIDE):
+        flags = entry.number(8, 2)
+        if entry.number(3, 1) == 0 and flags >> 2 & 0b11 == 0b11:
+            yield entry.offset, 0, flags
+
+
+@rule("TwoSourcesOneGsi", has_madt)
+def sources_of_one_gsi(facts):
+    """An override gives a number that an earlier one gives to another interrupt of the ISA bus (5.2.12.5)."""
+    earlier = defaultdict(dict)
+    for entry in facts.madt.typed(OVERRIDE):
+        source, gsi = entry.number(3, 1), entry.number(4, 4)
+        others = [offset for its_source, offset in earlier[gsi].items() if its_source != source]
+        if others:
+            yield entry.offset, min(others), gsi
+        earlier[gsi].setdefault(source, entry.offset)
+
+
+@rule("LintNotOne", has_madt)
+def other_lints(facts):
+    """An NMI comes by another pin of the local APICs than LINT1 (5.2.12.7, 5.2.12.13)."""
+    for entry in facts.madt.typed(*LOCAL_NMIS):
+        lint = entry.number(5 if entry.kind == 4 else 8, 1)
+        if lint != 1:
+            yield entry.offset, 0, lint
+
+
+@rule("NoIoApic", has_complete_madt)
+def no_io_apic(facts):
+    """There are local APICs that are on, and overrides or NMI sources, and no I/O APIC or I/O SAPIC (5.2.12.3)."""
+    is_told_of = facts.madt_kinds & {OVERRIDE, NMI_SOURCE} and not facts.madt_kinds & {IO_APIC, IO_SAPIC}
+    if is_told_of and facts.on_of(LAPIC, X2APIC):
+        yield ()
+
+
+# ---- the MADT: a GIC (5.2.12.14 to 5.2.12.18)
+
+
+@rule("NoDistributor", has_complete_madt)
+def no_distributor(facts):
+    """There is a GIC CPU interface, and no distributor (5.2.12.15)."""
+    if GICC in facts.madt_kinds and GICD not in facts.madt_kinds:
+        yield ()
+
+
+def own_redistributors(facts):
+    """The GICCs that are on and name a redistributor of their own, with its address (5.2.12.14)."""
+    return [(entry, field(entry, 60, 8)) for entry in facts.on_of(GICC) if field(entry, 60, 8)]
+
+
+@rule("NoRedistributor", has_complete_madt)
+def no_redistributor(facts):
+    """The GIC has redistributors by its version, and neither a structure of them nor a GICC that is on names one (5.2.12.17)."""
+    if facts.gic_version in WITH_REDISTRIBUTORS and GICR not in facts.madt_kinds and not own_redistributors(facts):
+        yield facts.gicds[0].offset, facts.gic_version
+
+
+@rule("GicrTooSmall", has_complete_madt)
+def small_redistributors(facts):
+    """The ranges of redistributors have less of them than there are processors that are on (5.2.12.17)."""
+    if facts.gic_version not in WITH_REDISTRIBUTORS or not facts.gicrs or is_of_another_length(facts.madt, GICR, 16):
+        return
+    count, due = sum(entry.number(12, 4) // REDISTRIBUTOR_SIZE for entry in facts.gicrs), len(facts.on_of(GICC))
+    if count < due:
+        yield facts.gicrs[0].offset, count, due
+
+
+@rule("GiccBaseDiffers", has_madt)
+def differing_bases(facts):
+    """In a GIC without redistributors a CPU interface has another address than the first one (5.2.12.14)."""
+    if facts.gic_version not in WITHOUT_REDISTRIBUTORS:
+        return
+    for entry in facts.giccs:
+        if entry.number(32, 8) != facts.giccs[0].number(32, 8):
+            yield entry.offset, facts.giccs[0].offset, entry.number(32, 8)
+
+
+def with_mpidr(facts):
+    """The GICCs that are on and have an MPIDR."""
+    return [entry for entry in facts.on_of(GICC) if field(entry, 68, 8) is not None]
+
+
+@rule("SameMpidr", has_madt)
+def same_mpidrs(facts):
+    """Two GICCs that are on have one MPIDR (5.2.12.14)."""
+    yield from same_field(with_mpidr(facts), 68, 8)
+
+
+@rule("MpidrReserved", has_madt)
+def reserved_in_mpidr(facts):
+    """The MPIDR of a GICC that is on has a bit that is none of an affinity (5.2.12.14)."""
+    for entry in with_mpidr(facts):
+        if entry.number(68, 8) & ~AFFINITY_BITS:
+            yield entry.offset, 0, entry.number(68, 8)
+
+
+@rule("GicrEmpty", has_madt)
+def empty_redistributors(facts):
+    """A range of redistributors has no bytes (5.2.12.17)."""
+    for entry in facts.gicrs:
+        if entry.number(12, 4) == 0:
+            yield entry.offset, 0, entry.number(4, 8)
+
+
+@rule("SameIts", has_madt)
+def same_its(facts):
+    """Two ITS have one ID (5.2.12.18)."""
+    yield from same_field(facts.its, 4, 4)
+
+
+@rule("SameMsiFrame", has_madt)
+def same_frames(facts):
+    """Two MSI frames have one ID (5.2.12.16)."""
+    yield from same_field(facts.frames, 4, 4)
+
+
+def gic_ranges(facts):
+    """The (start, size, offset) of the registers of redistributors, ITS, MSI frames and distributors."""
+    for entry in facts.gicrs:
+        yield entry.number(4, 8), entry.number(12, 4), entry.offset
+    for entry in facts.its:
+        yield entry.number(8, 8), ITS_SIZE, entry.offset
+    for entry in facts.frames:
+        yield entry.number(8, 8), FRAME_SIZE, entry.offset
+    for entry in facts.gicds:
+        size = WIDE_GICD_SIZE if entry.number(20, 1) in WITH_REDISTRIBUTORS else GICD_SIZE
+        yield entry.number(8, 8), size, entry.offset
+
+
+@rule("GicOverlap", has_madt)
+def overlapping_gic(facts):
+    """The registers of two parts of the GIC share an address (5.2.12.15)."""
+    yield from overlap(gic_ranges(facts))
+
+
+@rule("RedistributorTwice", has_madt)
+def redistributors_twice(facts):
+    """There are ranges of redistributors, and a GICC that is on names one of its own too (5.2.12.17)."""
+    for entry, base in own_redistributors(facts) if facts.gicrs else ():
+        yield entry.offset, facts.gicrs[0].offset, base
+
+
+@rule("NoBootMethod", lambda facts: has_fadt(facts) and has_complete_madt(facts))
+def no_boot_method(facts):
+    """Of several GICCs that are on none has a parking protocol, and the FADT says that there is no PSCI (5.2.12.14)."""
+    others = facts.on_of(GICC)
+    has_field = len(facts.fadt.bytes) >= 131
+    if len(others) < 2 or not has_field or any(entry.number(16, 4) for entry in others):
+        return
+    flags = facts.fadt.field(129, 2)
+    if flags & 1 == 0:
+        yield 129, 0, flags
+
+
+@rule("SameHart", has_madt)
+def same_harts(facts):
+    """Two harts that are on have one hart ID (after ACPI 6.5)."""
+    yield from same_field(facts.on_of(RINTC), 8, 8)
+
+
+# Of each type of entry of the MADT what it may have: flags, reserved bytes, and the version of a distributor (5.2.12).
+MADT_LIMITS = {
+    LAPIC: [(4, 4, 0b11)],
+    IO_APIC: zeros(3),
+    OVERRIDE: [(8, 2, 0b1111)],
+    NMI_SOURCE: [(2, 2, 0b1111)],
+    4: [(3, 2, 0b1111)],
+    5: zeros(2, 3),
+    X2APIC: [*zeros(2, 3), (8, 4, 0b11)],
+    10: [(2, 2, 0b1111), *zeros(9, 10, 11)],
+    GICD: [*zeros(16, 17, 18, 19), (20, 1, 4)],
+}
+
+
+@rule("MadtReserved", has_madt)
+def reserved_in_madt(facts):
+    """A reserved byte, flag or version of the MADT or of one of its entries is used (5.2.12)."""
+    flags = facts.tables.table(b"APIC").number(40, 4)
+    if flags > 0b1:
+        yield 40, 0, flags
+    yield from wrong_entries([*facts.madt.typed(*MADT_LIMITS), *facts.gicds], MADT_LIMITS)
 
 
 # ---- the findings, and the lines of `lint`

@@ -346,3 +346,257 @@ broken("SecondOther", "0x3 0x1 0x4000", "an MCFG twice, and another one", listed
 kept("SecondOther", "an MCFG twice", listed(MCFG, slots=(0x2000, 0x3000, 0x3000)))
 kept("SecondOther", "two SSDTs", listed(*[table(b"SSDT", b"")] * 2))
 kept("SecondOther", "two MADTs", listed(madt(), madt()))
+
+
+# ---- the MADT: local APICs and I/O APICs
+def entries_broken(rule, numbers, name, *entries):
+    """A MADT of these entries, from 0x2C on, that breaks a rule."""
+    broken(rule, numbers, name, listed(madt(*entries)))
+
+
+def entries_kept(rule, name, *entries):
+    kept(rule, name, listed(madt(*entries)))
+
+
+LOW = "X2ApicBelow255"
+entries_broken(LOW, "0x34 0x0 0xfe", "an x2APIC of 254 after a local APIC", lapic(0, 0), x2apic(1, 254))
+entries_broken(LOW, "0x2c 0x0 0x5", "an x2APIC of 5 before a local APIC", x2apic(1, 5), lapic(0, 0))
+entries_broken(LOW, "0x3c 0x0 0x5", "local APICs of 255 and of 0", lapic(0, 255), lapic(1, 0), x2apic(2, 5))
+entries_broken(LOW, "0x34 0x0 0x5", "both online capable", lapic(0, 0, 2), x2apic(1, 5, 2))
+entries_kept(LOW, "an x2APIC of 255", lapic(0, 0), x2apic(1, 255))
+entries_kept(LOW, "a local APIC of 255", lapic(0, 255), x2apic(1, 5))
+entries_kept(LOW, "a local APIC that is off", lapic(0, 0, 0), x2apic(1, 5))
+entries_kept(LOW, "an x2APIC that is off", lapic(0, 0), x2apic(1, 5, 0))
+entries_kept(LOW, "no local APIC", x2apic(1, 5))
+
+entries_broken("BroadcastId", "0x2c 0x0 0xff", "a local APIC of 255", lapic(0, 255))
+entries_broken("BroadcastId", "0x34 0x0 0xffffffff", "an x2APIC of all ones", lapic(0, 254), x2apic(0, 2**32 - 1, 2))
+entries_kept("BroadcastId", "a local APIC of 254", lapic(0, 254))
+entries_kept("BroadcastId", "a local APIC of 255 that is off", lapic(0, 255, 0))
+entries_kept("BroadcastId", "x2APICs of 255 and of all ones but one", x2apic(0, 255), x2apic(0, 2**32 - 2))
+entries_kept("BroadcastId", "an x2APIC of all ones that is off", x2apic(0, 2**32 - 1, 0))
+
+EARLY = "CapableTooEarly"
+broken(EARLY, "0x2c 0x6 0x2", "an online capable local APIC by 6.2", arch(6, 2, lapic(0, 0, 2)))
+broken(EARLY, "0x2c 0x6 0x2", "the same with errata", arch(6, 0xF2, lapic(0, 0, 2)))
+broken(EARLY, "0x34 0x5 0x9", "an online capable x2APIC by 5.9", arch(5, 9, lapic(0, 0), x2apic(0, 0, 2)))
+broken(EARLY, "0x2c 0x6 0x0", "an online capable local APIC by 6", arch(6, 0, lapic(0, 0, 2), length=131))
+broken(EARLY, "0x2c 0x6 0x4", "an online capable GICC by 6.4", arch(6, 4, gicc(0, 8)))
+kept(EARLY, "an online capable local APIC and x2APIC by 6.3", arch(6, 3, lapic(0, 0, 2), x2apic(1, 1, 2)))
+kept(EARLY, "an online capable GICC by 6.5", arch(6, 5, gicc(0, 8)))
+kept(EARLY, "an online capable GICC by 7.0", arch(7, 0, gicc(0, 8)))
+kept(EARLY, "both flags by 6.2", arch(6, 2, lapic(0, 0, 3), gicc(1, 9)))
+kept(EARLY, "neither flag by 6.2", arch(6, 2, lapic(0, 0, 4), gicc(1, 6)))
+kept(EARLY, "an online capable RINTC by 6.2", arch(6, 2, rintc(0, 2)))
+kept(EARLY, "no FADT", image_of(madt(lapic(0, 0, 2))))
+
+entries_broken("EnabledAndCapable", "0x2c 0x0 0x3", "a local APIC", lapic(0, 0, 3))
+entries_broken("EnabledAndCapable", "0x34 0x0 0x7", "an x2APIC", lapic(0, 0), x2apic(0, 0, 7))
+entries_broken("EnabledAndCapable", "0x2c 0x0 0x9", "a GICC", gicc(0, 9))
+entries_broken("EnabledAndCapable", "0x2c 0x0 0x3", "an RINTC", rintc(0, 3))
+entries_kept("EnabledAndCapable", "one flag of each", lapic(0, 0, 1), x2apic(1, 1, 2), gicc(2, 8), gicc(3, 7), rintc(4, 2), core_pic(5, 5, 3))
+entries_kept("EnabledAndCapable", "lengths that are no processor's", gicc(0, 9, 39), rintc(0, 3, 19))
+
+entries_broken("OverridePastIsa", "0x2c 0x10 0x14", "an override of 16", override(16, 20))
+broken("OverridePastIsa", "0x2c 0x10 0x14", "an SCI of 272", image_of(fadt(_46=number(272, 2)), madt(override(16, 20))))
+entries_kept("OverridePastIsa", "an override of 15", override(15, 20))
+kept("OverridePastIsa", "an override of the SCI", image_of(fadt(_46=number(16, 2)), madt(override(16, 20))))
+kept("OverridePastIsa", "no FADT", image_of(madt(override(16, 20))))
+
+entries_broken("TimerLevel", "0x2c 0x0 0xc", "a timer by level", override(0, 2, 0b1100))
+entries_broken("TimerLevel", "0x36 0x0 0xf", "a timer by level, active low", override(0, 2, 0b0100), override(0, 2, 0b1111))
+entries_kept("TimerLevel", "a timer by edge, and one of a reserved mode", override(0, 2, 0b0100), override(0, 2, 0b1000))
+entries_kept("TimerLevel", "another source by level", override(1, 2, 0b1100))
+
+entries_broken("TwoSourcesOneGsi", "0x36 0x2c 0x2", "sources 0 and 2", override(0, 2), override(2, 2))
+entries_broken("TwoSourcesOneGsi", "0x40 0x2c 0x2", "sources 0, 0 and 2", override(0, 2), override(0, 2), override(2, 2))
+entries_broken("TwoSourcesOneGsi", "0x4a 0x36 0x9", "after overrides of other numbers", override(0, 2), override(1, 9), override(2, 3), override(5, 9))
+entries_kept("TwoSourcesOneGsi", "one source, twice to one number and to another", override(9, 9), override(9, 9), override(9, 20))
+
+entries_broken("LintNotOne", "0x2c 0x0 0x0", "a local APIC NMI by LINT0", lapic_nmi(255, 0))
+entries_broken("LintNotOne", "0x32 0x0 0x2", "an x2APIC NMI by LINT2", lapic_nmi(255, 1), x2apic_nmi(0, 2))
+entries_kept("LintNotOne", "both by LINT1", *local_nmis(0, 1))
+
+entries_broken("NoIoApic", "0x0", "a local APIC and an override", lapic(0, 0), override(0, 2))
+entries_broken("NoIoApic", "0x0", "an x2APIC and an NMI source", x2apic(0, 0), nmi_source(3))
+entries_kept("NoIoApic", "an I/O APIC", lapic(0, 0), override(0, 2), io_apic(0xFEC00000, 0))
+entries_kept("NoIoApic", "an I/O SAPIC", lapic(0, 0), override(0, 2), other(6, 2))
+entries_kept("NoIoApic", "a local APIC alone", lapic(0, 0))
+entries_kept("NoIoApic", "a local APIC that is off", lapic(0, 0, 0), override(0, 2))
+entries_kept("NoIoApic", "a GICC", gicc(0), override(0, 2))
+entries_kept("NoIoApic", "a MADT that is cut", lapic(0, 0), override(0, 2), b"\7")
+entries_kept("NoIoApic", "an NMI of 5 bytes", lapic(0, 0), override(0, 2), other(4, 5))
+
+
+# ---- the MADT: a GIC
+def placed(data, **fields):
+    """An entry with these bytes at these offsets, as far as it goes."""
+    for name, value in fields.items():
+        at = int(name[1:])
+        data = (data[:at] + value + data[at + len(value) :])[: len(data)] if at < len(data) else data
+    return data
+
+
+def distributor(version, base=0):
+    return placed(gicd(), _8=number(base, 8), _20=bytes([version]))
+
+
+def redistributor(base, size, length=16):
+    return placed(other(14, length), _4=number(base, 8), _12=number(size, 4))
+
+
+def its(its_id, base=0, length=20):
+    return placed(other(15, length), _4=number(its_id, 4), _8=number(base, 8))
+
+
+def frame(frame_id, base=0, length=24):
+    return placed(other(13, length), _4=number(frame_id, 4), _8=number(base, 8))
+
+
+def cpu(base=0, gicr=0, mpidr=0, parking=0, flags=1, length=80):
+    """A GICC with these fields, as far as it goes."""
+    fields = {"_16": number(parking, 4), "_32": number(base, 8), "_60": number(gicr, 8), "_68": number(mpidr, 8)}
+    return placed(gicc(0, flags, length), **fields)
+
+
+entries_broken("NoDistributor", "0x0", "a GICC", gicc(0))
+entries_broken("NoDistributor", "0x0", "a GICC of 2 bytes", other(11, 2))
+entries_kept("NoDistributor", "a GICC and a distributor", gicc(0), gicd())
+entries_kept("NoDistributor", "both of 2 bytes", other(11, 2), other(12, 2))
+entries_kept("NoDistributor", "no GICC", lapic(0, 0))
+entries_kept("NoDistributor", "a MADT that is cut", gicc(0), b"\0")
+entries_kept("NoDistributor", "a local APIC of 7 bytes", gicc(0), other(0, 7))
+
+WANTED = "NoRedistributor"
+entries_broken(WANTED, "0x2c 0x3", "version 3", distributor(3), cpu())
+entries_broken(WANTED, "0x2c 0x4", "version 4, and no GICC", distributor(4))
+entries_broken(WANTED, "0x43 0x3", "after a distributor of 23 bytes", gicd(23), distributor(3), cpu())
+entries_broken(WANTED, "0x2c 0x3", "a GICC that is off has one", distributor(3), cpu(gicr=0x1000, flags=0))
+entries_broken(WANTED, "0x2c 0x3", "a GICC that ends in it", distributor(3), cpu(gicr=2**24 - 1, length=67))
+entries_kept(WANTED, "a GICC has one", distributor(3), cpu(gicr=0x1000, flags=8, length=68))
+entries_kept(WANTED, "an empty range of them", distributor(3), redistributor(0, 0), cpu())
+entries_kept(WANTED, "a structure of 2 bytes", distributor(3), other(14, 2), cpu())
+for version in (0, 2, 5):
+    entries_kept(WANTED, f"version {version}", distributor(version), distributor(3), cpu())
+entries_kept(WANTED, "a MADT that is cut", distributor(3), cpu(), b"\0")
+
+SMALL = "GicrTooSmall"
+entries_broken(SMALL, "0x44 0x1 0x2", "one for two GICCs", distributor(3), redistributor(0, 0x20000), cpu(), cpu())
+entries_broken(SMALL, "0x44 0x1 0x2", "two but for a byte", distributor(4), redistributor(0, 0x3FFFF), cpu(), cpu(flags=8))
+entries_broken(SMALL, "0x44 0x0 0x1", "none for a GICC", distributor(3), redistributor(0, 0x1FFFF), redistributor(0x20000, 0x1FFFF), cpu())
+entries_kept(SMALL, "two for two GICCs", distributor(3), redistributor(0, 0x20000), cpu(), redistributor(0x20000, 0x20000), cpu())
+entries_kept(SMALL, "one for a GICC that is on", distributor(3), redistributor(0, 0x20000), cpu(), cpu(flags=0))
+entries_kept(SMALL, "a structure of 17 bytes", distributor(3), redistributor(0, 0), redistributor(0, 0, 17), cpu())
+entries_kept(SMALL, "version 2", distributor(2), redistributor(0, 0), cpu())
+entries_kept(SMALL, "no structure", distributor(3), cpu())
+entries_kept(SMALL, "a MADT that is cut", distributor(3), redistributor(0, 0), cpu(), b"\0")
+
+OTHER_BASE = "GiccBaseDiffers"
+entries_broken(OTHER_BASE, "0x94 0x44 0x2000", "two bases, version 2", distributor(2), cpu(0x1000), cpu(0x2000))
+entries_broken(OTHER_BASE, "0x94 0x44 0x0", "a base and none, version 1, the first one off", distributor(1), cpu(0x1000, flags=0), cpu(0, flags=0))
+entries_kept(OTHER_BASE, "one base", distributor(2), cpu(0x1000), cpu(0x1000))
+entries_kept(OTHER_BASE, "two bases, one of them in 39 bytes", distributor(2), cpu(0x2000, length=39), cpu(0x1000))
+for version in (0, 3):
+    entries_kept(OTHER_BASE, f"two bases, version {version}", distributor(version), distributor(2), cpu(0x1000), cpu(0x2000))
+entries_kept(OTHER_BASE, "no distributor", cpu(0x1000), cpu(0x2000))
+
+entries_broken("SameMpidr", "0x7c 0x2c 0x5", "one MPIDR twice", cpu(mpidr=5), cpu(mpidr=5))
+entries_broken("SameMpidr", "0x78 0x2c 0x5", "one MPIDR twice, in 76 bytes", cpu(mpidr=5, length=76), cpu(mpidr=5, length=76, flags=8))
+entries_kept("SameMpidr", "one MPIDR twice, once in 75 bytes", cpu(mpidr=5, length=75), cpu(mpidr=5))
+entries_kept("SameMpidr", "one MPIDR twice, once off", cpu(mpidr=5, flags=0), cpu(mpidr=5))
+entries_kept("SameMpidr", "two MPIDRs", cpu(mpidr=5), cpu(mpidr=2**32 + 5))
+
+for bit in (24, 31, 40, 63):
+    entries_broken("MpidrReserved", f"0x2c 0x0 {1 << bit:#x}", f"bit {bit}", cpu(mpidr=1 << bit))
+entries_kept("MpidrReserved", "all bits of affinities", cpu(mpidr=0xFF00FFFFFF))
+entries_kept("MpidrReserved", "bit 31 of one that is off", cpu(mpidr=1 << 31, flags=0))
+entries_kept("MpidrReserved", "bit 31 in 75 bytes", cpu(mpidr=1 << 31, length=75))
+
+entries_broken("GicrEmpty", "0x3c 0x0 0x1000", "an empty range", redistributor(0, 1), redistributor(0x1000, 0))
+entries_kept("GicrEmpty", "a range of a byte, and one in 17 bytes", redistributor(0, 1), redistributor(0, 0, 17))
+
+entries_broken("SameIts", "0x40 0x2c 0x1", "one ID twice", its(1), its(1, 0x20000))
+entries_kept("SameIts", "two IDs, and one in 21 bytes", its(1), its(2), its(1, 0, 21))
+entries_broken("SameMsiFrame", "0x44 0x2c 0x1", "one ID twice", frame(1), frame(1, 0x1000))
+entries_kept("SameMsiFrame", "two IDs, and one in 23 bytes", frame(1), frame(2), frame(1, 0, 23))
+
+GIC = "GicOverlap"
+entries_broken(GIC, "0x2c 0x40 0x3ffff", "the last byte of an ITS", its(0, 0x20000), frame(0, 0x3FFFF))
+entries_broken(GIC, "0x44 0x2c 0xfff", "the last byte of a frame", frame(1, 0xFFF), frame(0, 0))
+entries_broken(GIC, "0x2c 0x44 0xfff", "the last byte of a distributor of version 2", distributor(2), frame(0, 0xFFF))
+entries_broken(GIC, "0x2c 0x44 0xffff", "the last byte of a distributor of version 3", distributor(3), frame(0, 0xFFFF))
+entries_broken(GIC, "0x2c 0x3c 0x1fff", "the last byte of redistributors", redistributor(0x1000, 0x1000), frame(0, 0x1FFF))
+entries_broken(GIC, "0x2c 0x44 0x8000", "two distributors", distributor(4), distributor(2, 0x8000))
+entries_broken(GIC, "0x2c 0x44 0x1000", "two frames at one place", frame(0, 0x1000), frame(1, 0x1000))
+entries_broken(GIC, "0x40 0x2c 0x100", "an ITS around a frame, and two frames later", its(0, 0x100), its(1), frame(0, 0x40000), frame(1, 0x40000))
+entries_kept(
+    GIC, "ranges that touch", distributor(3, 0x10000), distributor(2, 0x20000), redistributor(0x21000, 0x1000), its(0, 0x22000),
+    frame(0, 0x42000), frame(1, 0x43000), distributor(5, 0x44000), frame(2, 0x45000),
+)
+entries_kept(GIC, "an empty range", redistributor(0x1000, 0), redistributor(0x1000, 0x1000))
+entries_kept(GIC, "a range that goes past the last address", its(0, 2**64 - 1), frame(0, 0))
+entries_kept(GIC, "a frame of 25 bytes", its(0), frame(0, 0, 25))
+
+TWICE_TOLD = "RedistributorTwice"
+entries_broken(TWICE_TOLD, "0x3c 0x2c 0x5000", "a range and one of a GICC", redistributor(0x1000, 0x1000), cpu(gicr=0x5000))
+entries_broken(TWICE_TOLD, "0x2c 0x7c 0x5000", "a GICC before an empty range", cpu(gicr=0x5000), redistributor(0, 0))
+entries_kept(TWICE_TOLD, "a range alone", redistributor(0x1000, 0x1000), cpu())
+entries_kept(TWICE_TOLD, "a range, and one of a GICC that is off", redistributor(0x1000, 0x1000), cpu(gicr=0x5000, flags=0))
+entries_kept(TWICE_TOLD, "a range, and one in 67 bytes", redistributor(0x1000, 0x1000), cpu(gicr=0x5000, length=67))
+entries_kept(TWICE_TOLD, "one of a GICC, and a range in 17 bytes", redistributor(0x1000, 0x1000, 17), cpu(gicr=0x5000))
+
+
+def booted(flags, *entries, length=131):
+    """A FADT with this ARM_BOOT_ARCH, as far as its Length goes, and a MADT."""
+    return image_of(fadt(length=length, _129=number(flags, 2)[: length - 129]), madt(*entries))
+
+
+broken("NoBootMethod", "0x81", "two GICCs, no PSCI", booted(0, cpu(), cpu()))
+broken("NoBootMethod", "0x81 0x0 0x2", "two GICCs, a call of PSCI alone", booted(2, cpu(), cpu(flags=8)))
+broken("NoBootMethod", "0x81", "a GICC that is off has a parking protocol", booted(0, cpu(), cpu(), cpu(parking=1, flags=0)))
+kept("NoBootMethod", "PSCI", booted(1, cpu(), cpu()))
+kept("NoBootMethod", "a parking protocol", booted(0, cpu(), cpu(parking=1)))
+kept("NoBootMethod", "one GICC that is on", booted(0, cpu(), cpu(flags=0)))
+kept("NoBootMethod", "a FADT that ends in ARM_BOOT_ARCH", booted(0, cpu(), cpu(), length=130))
+kept("NoBootMethod", "a MADT that is cut", booted(0, cpu(), cpu(), b"\0"))
+
+
+def hart(hart_id, flags=1, length=36):
+    return placed(rintc(0, flags, length), _8=number(hart_id, 8))
+
+
+entries_broken("SameHart", "0x50 0x2c 0x5", "one hart twice", hart(5), hart(5, 2))
+entries_broken("SameHart", "0x40 0x2c 0x5", "one hart twice, in 20 bytes", hart(5, length=20), hart(5, length=20))
+entries_kept("SameHart", "two harts", hart(5), hart(2**32 + 5))
+entries_kept("SameHart", "one hart twice, once off, once in 19 bytes", hart(5), hart(5, 0), hart(5, 1, 19))
+
+# ---- what is reserved in the MADT
+USED = "MadtReserved"
+broken(USED, "0x28 0x0 0x2", "flag bit 1 of the MADT", listed(table(b"APIC", bytes(4) + number(2, 4) + io_apic(0, 0, 0, 1))))
+for name, entry, at in (
+    ("an I/O APIC's reserved byte", io_apic(0, 0, 0, 1), "0x3"),
+    ("a local APIC's flag bit 2", lapic(0, 0, 4), "0x4"),
+    ("a local APIC's flag bit 31", lapic(0, 0, 1 << 31), "0x4"),
+    ("an override's flag bit 4", override(0, 0, 0x10), "0x8"),
+    ("an NMI source's flag bit 15", nmi_source(0, 0x8000), "0x2"),
+    ("a local APIC NMI's flag bit 4", lapic_nmi(0, 1, 0x10), "0x3"),
+    ("an address's reserved bytes", lapic_address(0, 1), "0x2"),
+    ("an address's second reserved byte", changed(lapic_address(0), {3: 1}), "0x3"),
+    ("an x2APIC's reserved bytes, and flag bit 2", x2apic(0, 0, 4, 1), "0x2"),
+    ("an x2APIC's flag bit 2", x2apic(0, 0, 4), "0x8"),
+    ("an x2APIC NMI's flag bit 4", x2apic_nmi(0, 1, 0x10, 1), "0x2"),
+    ("an x2APIC NMI's reserved bytes", x2apic_nmi(0, 1, 0, 1), "0x9"),
+    ("an x2APIC NMI's last byte", changed(x2apic_nmi(0, 1), {11: 1}), "0xb"),
+    ("a distributor's byte 16", placed(distributor(5), _16=b"\1\1\1\1"), "0x10"),
+    ("a distributor's byte 19", placed(gicd(), _19=b"\1"), "0x13"),
+    ("a distributor's version 5", distributor(5), "0x14"),
+):
+    entries_broken(USED, f"0x2c {at}", name, entry)
+entries_broken(USED, "0x34 0x3", "the first of three entries", lapic(0, 0), io_apic(0, 0, 0, 1), lapic(1, 1, 4), distributor(5))
+entries_broken(USED, "0x2c 0x14", "a distributor before a local APIC", distributor(5), lapic(0, 0, 4))
+entries_kept(
+    USED, "all that is defined", lapic(0, 0, 3), io_apic(0, 0, 255), override(255, 0, 0xF, 255), nmi_source(0, 0xF), lapic_nmi(255, 255, 0xF),
+    lapic_address(2**64 - 1), x2apic(2**32 - 1, 2**32 - 1, 3), x2apic_nmi(0, 255, 0xF), distributor(4, 2**64 - 1),
+)
+entries_kept(USED, "other bytes of a distributor", placed(gicd(), _2=b"\1" * 6, _21=b"\1" * 3))
+entries_kept(USED, "entries of other lengths and types", other(6, 2), b"\0\11" + b"\xff" * 7, b"\14\31" + b"\xff" * 23, b"\13\50" + b"\xff" * 38)
