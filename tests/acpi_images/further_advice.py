@@ -725,6 +725,165 @@ def reserved_in_madt(facts):
     yield from wrong_entries([*facts.madt.typed(*MADT_LIMITS), *facts.gicds], MADT_LIMITS)
 
 
+# ---- the SRAT (5.2.16)
+
+
+def enabled_memory(srat):
+    return [entry for entry in srat.typed(MEMORY) if is_enabled(entry.number(28, 4))]
+
+
+@rule("NoMemoryRange", lambda facts: has_srat(facts) and facts.srat.is_well_formed())
+def no_memory_range(facts):
+    """Processors are in domains, and no memory is (5.2.16.2)."""
+    if facts.affinities and not any(entry.number(16, 8) for entry in enabled_memory(facts.srat)):
+        yield ()
+
+
+@rule("EmptyRange", has_srat)
+def empty_ranges(facts):
+    """An enabled range of memory has no bytes (5.2.16.2)."""
+    for entry in enabled_memory(facts.srat):
+        if entry.number(16, 8) == 0:
+            yield entry.offset, 0, entry.number(8, 8)
+
+
+@rule("InitiatorOff", has_srat)
+def initiators_off(facts):
+    """A generic initiator is not enabled (5.2.16.6)."""
+    for entry in of_length(facts.srat, INITIATOR, 32):
+        if not is_enabled(entry.number(24, 4)):
+            yield entry.offset, 0, domain_of(entry)
+
+
+@rule("DomainPastRevision", has_srat)
+def domains_past_revision(facts):
+    """An enabled affinity has a domain of more than the one byte that an SRAT of Revision 1 gives it (5.2.16)."""
+    revision = facts.tables.table(b"SRAT").number(8, 1)
+    enabled = enabled_memory(facts.srat) + [entry for entry in facts.srat.typed(0) if is_enabled(entry.number(4, 4))]
+    for entry in enabled if revision < 2 else ():
+        if domain_of(entry) > 0xFF:
+            yield entry.offset, revision, domain_of(entry)
+
+
+@rule("ItsNowhere", lambda facts: has_srat(facts) and has_complete_madt(facts))
+def nowhere_its(facts):
+    """An affinity of an ITS that is none of the MADT (5.2.16.5)."""
+    if is_of_another_length(facts.madt, ITS, 20):
+        return
+    ids = {entry.number(4, 4) for entry in facts.its}
+    for entry in of_length(facts.srat, ITS_AFFINITY, 12):
+        if entry.number(8, 4) not in ids:
+            yield entry.offset, 0, entry.number(8, 4)
+
+
+# Of each type of entry of the SRAT what it may have.
+SRAT_LIMITS = {
+    0: [(4, 4, 0b1)],
+    MEMORY: [*zeros(6, 7, *range(24, 28), *range(32, 40)), (28, 4, 0b111)],
+    2: [*zeros(2, 3, *range(20, 24)), (12, 4, 0b1)],
+}
+
+
+@rule("SratReserved", has_srat)
+def reserved_in_srat(facts):
+    """The first reserved number of the SRAT is not 1, or a reserved byte or flag of one of its entries is used (5.2.16)."""
+    one = facts.tables.table(b"SRAT").number(36, 4)
+    if one != 1:
+        yield 36, 0, one
+    yield from wrong_entries(facts.srat.typed(*SRAT_LIMITS), SRAT_LIMITS)
+
+
+# ---- the SLIT (5.2.17)
+
+LOCAL = 10
+
+
+@rule("RemoteAsLocal")
+def remote_as_local(facts):
+    """The distance between two localities is that of a locality from itself (5.2.17)."""
+    table = facts.tables.table(b"SLIT")
+    count = slit_count(table) or 0
+    for place in range(count * count):
+        row, column = divmod(place, count)
+        if row != column and table.data[44 + place] == LOCAL:
+            yield 44 + place, row, column
+            return
+
+
+# ---- the PPTT (5.2.30)
+
+IS_PACKAGE, IS_ID_VALID, IS_LEAF = 1 << 0, 1 << 1, 1 << 3
+SIZE_VALID, SETS_VALID, WAYS_VALID, LINE_VALID = 1 << 0, 1 << 1, 1 << 2, 1 << 6
+ALL_VALID = SIZE_VALID | SETS_VALID | WAYS_VALID | LINE_VALID
+
+
+def first_children(nodes):
+    """Of each offset that nodes name as their Parent the first of them."""
+    first = {}
+    for node in nodes:
+        first.setdefault(node.number(8, 4), node.offset)
+    return first
+
+
+@rule("LeafUnflagged", lambda facts: has_leaf_flags(facts) and facts.pptt.is_well_formed())
+def unflagged_leaves(facts):
+    """A node with a processor's ID is no node's Parent, and has no flag that it is a leaf (5.2.30.1)."""
+    parents = first_children(facts.nodes)
+    for node in facts.nodes:
+        if node.number(4, 4) & (IS_ID_VALID | IS_LEAF) == IS_ID_VALID and node.offset not in parents:
+            yield node.offset, 0, node.number(12, 4)
+
+
+@rule("LeafAsParent", has_leaf_flags)
+def leaves_as_parents(facts):
+    """A node with the flag that it is a leaf is the Parent of a node (5.2.30.1)."""
+    parents = first_children(facts.nodes)
+    for node in facts.nodes:
+        if node.number(4, 4) & IS_LEAF and node.offset in parents:
+            yield node.offset, parents[node.offset]
+
+
+def nodes_outside_packages(nodes):
+    """The offsets of nodes whose chain of Parents ends at none, and that are no physical package, nor is one on the chain."""
+    children = defaultdict(list)
+    for node in nodes:
+        children[node.number(8, 4)].append(node)
+    outside = [0]
+    for parent in outside:
+        outside.extend(node.offset for node in children[parent] if not node.number(4, 4) & IS_PACKAGE)
+    return set(outside)
+
+
+@rule("NoPackage", has_pptt)
+def leaves_outside_packages(facts):
+    """A leaf whose chain of Parents ends is in no physical package (5.2.30.1)."""
+    outside = nodes_outside_packages(facts.nodes)
+    for node in facts.leaves:
+        if node.offset in outside:
+            yield node.offset, 0, node.number(12, 4)
+
+
+@rule("CacheNumbers", has_pptt)
+def cache_numbers(facts):
+    """A valid number of ways or size of a cache is 0, or its size is not that of its sets, ways and lines (5.2.30.2)."""
+    for cache in facts.pptt.typed(1):
+        flags, size, ways = cache.number(4, 4), cache.number(12, 4), cache.number(20, 1)
+        product = cache.number(16, 4) * ways * cache.number(22, 2)
+        is_zero = (flags & WAYS_VALID and ways == 0) or (flags & SIZE_VALID and size == 0)
+        if is_zero or (flags & ALL_VALID == ALL_VALID and size != product):
+            yield cache.offset, size, product
+
+
+# Of each type of entry of the PPTT what it may have: reserved bytes, flags, and attributes of a cache.
+PPTT_LIMITS = {0: [*zeros(2, 3), (4, 4, 0x1F)], 1: [*zeros(2, 3), (4, 4, 0xFF), (21, 1, 0x1F)]}
+
+
+@rule("PpttReserved", has_pptt)
+def reserved_in_pptt(facts):
+    """A reserved byte, flag or attribute of a node or a cache is used (5.2.30)."""
+    yield from wrong_entries(facts.pptt.typed(*PPTT_LIMITS), PPTT_LIMITS)
+
+
 # ---- the findings, and the lines of `lint`
 
 

@@ -600,3 +600,186 @@ entries_kept(
 )
 entries_kept(USED, "other bytes of a distributor", placed(gicd(), _2=b"\1" * 6, _21=b"\1" * 3))
 entries_kept(USED, "entries of other lengths and types", other(6, 2), b"\0\11" + b"\xff" * 7, b"\14\31" + b"\xff" * 23, b"\13\50" + b"\xff" * 38)
+
+
+# ---- the SRAT
+def affinities_broken(rule, numbers, name, *entries):
+    """An SRAT of these entries, from 0x30 on, that breaks a rule."""
+    broken(rule, numbers, name, listed(srat(*entries)))
+
+
+def affinities_kept(rule, name, *entries):
+    kept(rule, name, listed(srat(*entries)))
+
+
+HERE = apic_domain(0, 0)
+NO_RANGE = "NoMemoryRange"
+affinities_broken(NO_RANGE, "0x0", "a processor alone", HERE)
+affinities_broken(NO_RANGE, "0x0", "a processor of a GIC", uid_domain(0, 0))
+affinities_broken(NO_RANGE, "0x0", "a hart", hart_domain(0, 0))
+affinities_broken(NO_RANGE, "0x0", "an x2APIC, and ranges that are empty or not enabled", x2apic_domain(0, 0), memory(0, 0), memory(0, 1, 0), memory(0, 1, 2))
+affinities_kept(NO_RANGE, "a range of a byte", HERE, memory(0, 1))
+affinities_kept(NO_RANGE, "a processor that is not enabled, and an ITS", apic_domain(0, 0, 0), its_domain(0), device_domain(5, 0))
+affinities_kept(NO_RANGE, "an SRAT that is cut", HERE, b"\3")
+affinities_kept(NO_RANGE, "a range of 24 bytes", HERE, other(1, 24))
+
+affinities_broken("EmptyRange", "0x58 0x0 0x1000", "a range of a byte, and an empty one", memory(0, 1), memory(0x1000, 0))
+affinities_kept("EmptyRange", "a range of a byte, and an empty one that is not enabled", memory(0, 1), memory(0x1000, 0, 2))
+
+affinities_broken("InitiatorOff", "0x30 0x0 0x107", "an initiator that is not enabled", device_domain(5, 0x107, 2))
+affinities_kept("InitiatorOff", "an initiator", device_domain(5, 7))
+affinities_kept("InitiatorOff", "a port, and an initiator of 31 bytes", device_domain(6, 7, 0), device_domain(5, 7, 0, 31))
+
+PAST = "DomainPastRevision"
+affinities_broken(PAST, "0x30 0x1 0x100", "a processor in domain 256", apic_domain(0, 256))
+affinities_broken(PAST, "0x58 0x1 0x100", "memory in domain 256", memory(0, 1, 1, 255), memory(1, 1, 1, 256))
+affinities_broken(PAST, "0x30 0x1 0x1ff", "memory in domain 1FFh, and a processor later", memory(0, 1, 1, 0x1FF), apic_domain(0, 256))
+broken(PAST, "0x30 0x0 0x100", "an SRAT of Revision 0", listed(revised(srat(apic_domain(0, 256)), 0)))
+affinities_kept(PAST, "domain 255", apic_domain(0, 255), memory(0, 1, 1, 255))
+affinities_kept(PAST, "domain 256 of what is not enabled", apic_domain(0, 256, 0), memory(0, 1, 0, 256))
+affinities_kept(PAST, "domain 256 of other types", x2apic_domain(0, 256), uid_domain(0, 256))
+kept(PAST, "an SRAT of Revision 2", listed(revised(srat(apic_domain(0, 256)), 2)))
+
+
+def of_its(its_id, length=12):
+    return placed(its_domain(0, length), _8=number(its_id, 4))
+
+
+def its_and(affinity, *entries):
+    """A MADT of these entries, and an SRAT of one."""
+    return listed(madt(*entries), srat(affinity))
+
+
+broken("ItsNowhere", "0x30 0x0 0x6", "another ITS", its_and(of_its(6), its(5)))
+broken("ItsNowhere", "0x30 0x0 0x0", "no ITS", its_and(of_its(0)))
+broken("ItsNowhere", "0x3c 0x0 0x106", "the second affinity", listed(madt(its(6)), srat(of_its(6), of_its(0x106))))
+kept("ItsNowhere", "two ITS", its_and(of_its(6), its(5), its(6)))
+kept("ItsNowhere", "an affinity of 13 bytes", its_and(of_its(6, 13), its(5)))
+kept("ItsNowhere", "an ITS of 21 bytes", its_and(of_its(6), its(5), its(7, 0, 21)))
+kept("ItsNowhere", "a MADT that is cut", its_and(of_its(6), b"\0"))
+kept("ItsNowhere", "no MADT", listed(srat(of_its(6))))
+kept("ItsNowhere", "a MADT of 40 bytes", listed(table(b"APIC", bytes(4)), srat(of_its(6))))
+
+USED_HERE = "SratReserved"
+
+
+def begun(one, *entries):
+    """An SRAT with this first reserved number."""
+    return listed(table(b"SRAT", number(one, 4) + b"\1" * 8 + b"".join(entries)))
+
+
+broken(USED_HERE, "0x24 0x0 0x2", "a first number of 2", begun(2, memory(0, 1, 8)))
+broken(USED_HERE, "0x24", "a first number of 0", begun(0))
+kept(USED_HERE, "a first number of 1, and other reserved bytes", begun(1))
+RANGE = memory(0, 1)
+for name, entry, at in (
+    ("a processor's flag bit 1", apic_domain(0, 0, 2), "0x4"),
+    ("all reserved bytes of a range", memory(0, 1, reserved=1), "0x6"),
+    ("a range's byte 7", changed(RANGE, {7: 1}), "0x7"),
+    ("a range's byte 24", changed(RANGE, {24: 1, 28: 8}), "0x18"),
+    ("a range's byte 27", changed(RANGE, {27: 1}), "0x1b"),
+    ("a range's flag bit 3", changed(memory(0, 1, 8), {39: 1}), "0x1c"),
+    ("a range's flag bit 31", memory(0, 1, 1 << 31), "0x1c"),
+    ("a range's byte 32", changed(RANGE, {32: 1}), "0x20"),
+    ("a range's byte 39", changed(RANGE, {39: 1}), "0x27"),
+    ("all reserved bytes of an x2APIC", x2apic_domain(0, 0, 2, 1), "0x2"),
+    ("an x2APIC's byte 3", changed(x2apic_domain(0, 0), {3: 1}), "0x3"),
+    ("an x2APIC's flag bit 1", x2apic_domain(0, 0, 2), "0xc"),
+    ("an x2APIC's byte 20", changed(x2apic_domain(0, 0), {20: 1}), "0x14"),
+    ("an x2APIC's byte 23", changed(x2apic_domain(0, 0), {23: 1}), "0x17"),
+):
+    affinities_broken(USED_HERE, f"0x30 {at}", name, entry)
+affinities_broken(USED_HERE, "0x58 0x4", "the second entry", RANGE, apic_domain(0, 0, 2))
+ALL_ONES = b"\xff" * 8
+affinities_kept(
+    USED_HERE, "all that is defined", placed(apic_domain(255, 2**32 - 1), _8=b"\xff", _12=ALL_ONES[:4]),
+    memory(2**64 - 1, 2**64 - 1, 7, 2**32 - 1), placed(x2apic_domain(2**32 - 1, 2**32 - 1), _16=ALL_ONES[:4]),
+)
+affinities_kept(USED_HERE, "entries of other types and lengths", b"\3\22" + ALL_ONES * 2, b"\1\51" + b"\xff" * 39)
+
+# ---- the SLIT
+for count, cells, at, row, column in ((2, [10, 10, 20, 10], "0x2d", 0, 1), (2, [10, 20, 10, 10], "0x2e", 1, 0)):
+    broken("RemoteAsLocal", f"{at} {row:#x} {column:#x}", f"10 from {row} to {column}", listed(slit(count, cells)))
+broken("RemoteAsLocal", "0x31 0x1 0x2", "10 from 1 to 2, and later", listed(slit(3, [10, 20, 20, 20, 10, 10, 10, 10, 10])))
+kept("RemoteAsLocal", "distances of 9 and 11", listed(slit(2, [10, 9, 11, 10])))
+kept("RemoteAsLocal", "a SLIT of one locality", listed(slit(1, [10])))
+kept("RemoteAsLocal", "a SLIT of another size", listed(slit(2, [10, 10, 10])))
+
+# ---- the PPTT
+
+
+def nodes_broken(rule, numbers, name, *entries, revision=2):
+    """A PPTT of these entries, from 0x24 on, that breaks a rule."""
+    broken(rule, numbers, name, listed(pptt(*entries, revision=revision)))
+
+
+def nodes_kept(rule, name, *entries, revision=2):
+    kept(rule, name, listed(pptt(*entries, revision=revision)))
+
+
+PACKAGE = 1
+NAMED = node(0, IS_ID_VALID, 7)
+nodes_broken("LeafUnflagged", "0x24 0x0 0x7", "a node of a processor", NAMED)
+nodes_broken("LeafUnflagged", "0x38 0x0 0x8", "its child", NAMED, node(36, IS_ID_VALID, 8), revision=3)
+nodes_kept("LeafUnflagged", "a leaf, and a node of no processor", leaf(7), node(0, 0, 8))
+nodes_kept("LeafUnflagged", "a parent of a leaf", NAMED, leaf(8, 36))
+nodes_kept("LeafUnflagged", "a parent of itself", node(36, IS_ID_VALID, 7))
+nodes_kept("LeafUnflagged", "Revision 1", NAMED, revision=1)
+nodes_kept("LeafUnflagged", "a PPTT that is cut", NAMED, b"\0")
+nodes_kept("LeafUnflagged", "a child of another length", NAMED, node(36, count=1))
+nodes_kept("LeafUnflagged", "a cache of another length", NAMED, other(1, 20))
+
+nodes_broken("LeafAsParent", "0x24 0x38", "a leaf with two children", leaf(7), node(36), node(36))
+nodes_broken("LeafAsParent", "0x24 0x24", "a leaf that is its own child", leaf(7, 36), node(36))
+nodes_broken("LeafAsParent", "0x38 0x24", "a leaf of no processor, after its child", node(56), node(0, IS_LEAF))
+nodes_broken("LeafAsParent", "0x24 0x38", "a leaf in a PPTT that is cut", leaf(7), node(36), b"\0")
+nodes_kept("LeafAsParent", "a node with a child", NAMED, leaf(8, 36))
+nodes_kept("LeafAsParent", "a child of another length", leaf(7), node(36, count=1))
+nodes_kept("LeafAsParent", "Revision 1", leaf(7), node(36), revision=1)
+
+nodes_broken("NoPackage", "0x24 0x0 0x7", "a leaf alone", leaf(7))
+nodes_broken("NoPackage", "0x38 0x0 0x7", "a leaf with a parent", node(), leaf(7, 36))
+nodes_broken("NoPackage", "0x24 0x0 0x7", "a leaf before its parent, and a package beside it", leaf(7, 56), node(), node(0, PACKAGE))
+nodes_broken("NoPackage", "0x24 0x0 0x7", "Revision 1", NAMED, revision=1)
+nodes_broken("NoPackage", "0x24 0x0 0x7", "a leaf in a PPTT that is cut", leaf(7), b"\0")
+nodes_kept("NoPackage", "a package", leaf(7, 0, LEAF | PACKAGE))
+nodes_kept("NoPackage", "a leaf in a package", node(0, PACKAGE), node(36), leaf(7, 56))
+nodes_kept("NoPackage", "a leaf in a part of a package that is a package", node(0, PACKAGE), node(36, PACKAGE), leaf(7, 56))
+nodes_kept("NoPackage", "a leaf of a package in a node", node(), node(36, PACKAGE), leaf(7, 56))
+nodes_kept("NoPackage", "a Parent that is not there", leaf(7, 99))
+nodes_kept("NoPackage", "Parents in a cycle", node(56), node(36), leaf(7, 56))
+nodes_kept("NoPackage", "a node that is no leaf", NAMED)
+nodes_kept("NoPackage", "Revision 1, a PPTT that is cut", NAMED, b"\0", revision=1)
+
+NUMBERS = "CacheNumbers"
+SHAPE = {"sets": 64, "ways": 8, "line": 64}
+nodes_broken(NUMBERS, "0x24 0x5 0x0", "no ways", cache(flags=4, size=5, sets=6, line=7))
+nodes_broken(NUMBERS, "0x24 0x0 0x18", "no size", cache(flags=1, sets=2, ways=3, line=4))
+nodes_broken(NUMBERS, "0x24 0x8001 0x8000", "a byte more than its lines", cache(flags=0x47, size=0x8001, **SHAPE))
+nodes_broken(NUMBERS, "0x3c 0x7fff 0x8000", "a byte less than its lines", cache(flags=0x47, size=0x8000, **SHAPE), cache(0, 28, 0xFF, 0x7FFF, **SHAPE))
+nodes_broken(NUMBERS, "0x24 0x1 0xfeff00ff0100ff", "the most lines", cache(flags=0x47, size=1, sets=2**32 - 1, ways=255, line=2**16 - 1))
+nodes_kept(NUMBERS, "as many bytes as its lines have", cache(flags=0x47, size=0x8000, **SHAPE))
+for flags in (0x46, 0x45, 0x43, 0x07):
+    nodes_kept(NUMBERS, f"a byte more, flags {flags:x}", cache(flags=flags, size=0x8001, **SHAPE))
+nodes_kept(NUMBERS, "no size and no ways that are valid", cache(flags=0xFA))
+nodes_kept(NUMBERS, "a cache of 25 bytes", cache(0, 25, 5))
+
+USED_THERE = "PpttReserved"
+for name, entry, at in (
+    ("a node's reserved bytes", node(flags=0x20, reserved=1), "0x2"),
+    ("a node's byte 3", changed(node(), {3: 1}), "0x3"),
+    ("a node's flag bit 5", node(flags=0x20), "0x4"),
+    ("a node's flag bit 31", node(flags=1 << 31), "0x4"),
+    ("a cache's reserved bytes", cache(reserved=1), "0x2"),
+    ("a cache's byte 3", changed(cache(), {3: 1}), "0x3"),
+    ("a cache's flag bit 8, and an attribute", cache(flags=0x100, attributes=0x20), "0x4"),
+    ("a cache's attribute bit 5", cache(attributes=0x20), "0x15"),
+    ("a cache's attribute bit 7, in 28 bytes", cache(length=28, attributes=0x80), "0x15"),
+):
+    nodes_broken(USED_THERE, f"0x24 {at}", name, entry, revision=1)
+nodes_broken(USED_THERE, "0x38 0x15", "the second entry", node(), cache(attributes=0x20), node(flags=0x20))
+nodes_kept(
+    USED_THERE, "all that is defined", node(2**32 - 1, 0x1F, 2**32 - 1, [2**32 - 1]),
+    cache(2**32 - 1, 28, 0xFF, 2**32 - 1, 2**32 - 1, 255, 0x1F, 2**16 - 1, 2**32 - 1),
+)
+nodes_kept(USED_THERE, "entries of other lengths and types", node(count=1, reserved=1), cache(0, 25, reserved=1), b"\2\4\xff\xff")
