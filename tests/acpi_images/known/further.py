@@ -93,7 +93,10 @@ def before_facs(last, facs_at=0x7000):
 broken("TablesOverlap", "0x6fd0 0x7000 0x7000", "a table and the FACS", before_facs(b"F"))
 kept("TablesOverlap", "a table and a FACS of another signature", before_facs(b"f"))
 BEFORE_DSDT = {0x4FDC: table(b"HPET", b"D") + DSDT[1:]}
-broken("TablesOverlap", "0x4fdc 0x5000 0x5000", "a table and the DSDT", image_of(fadt(**OF_DSDT), slots=(0x2000, 0x4FDC), others=BEFORE_DSDT))
+broken(
+    "TablesOverlap", "0x4fdc 0x5000 0x5000", "a table and the DSDT",
+    image_of(fadt(**OF_DSDT), slots=(0x2000, 0x4FDC), others=BEFORE_DSDT),
+)
 kept("TablesOverlap", "a table and a DSDT that is not named", image_of(fadt(), slots=(0x2000, 0x4FDC), others=BEFORE_DSDT))
 kept("TablesOverlap", "a DSDT that is listed", image_of(fadt(**OF_DSDT), slots=(0x2000, 0x5000), others={0x5000: DSDT}))
 NESTED = fadt(length=256, _116=table(b"OUTR", table(b"INNR", bytes(20))))
@@ -146,7 +149,10 @@ kept("NoPm1Block", "reduced hardware", listed())
 
 broken("BlockWidth", "0x38 0x20 0x10", "events of 4 bytes and of 16 bits", full(160, **EVENTS, _148=generic_address(0x600, width=16)))
 broken("BlockWidth", "0x38 0x20 0x10", "the same in memory", full(160, **EVENTS, _148=generic_address(0x600, 0, 16)))
-broken("BlockWidth", "0x38 0xf8 0xf9", "events of 31 bytes and of 249 bits", full(160, **EVENTS, _88=b"\37", _148=generic_address(1, width=249)))
+broken(
+    "BlockWidth", "0x38 0xf8 0xf9", "events of 31 bytes and of 249 bits",
+    full(160, **EVENTS, _88=b"\37", _148=generic_address(1, width=249)),
+)
 broken("BlockWidth", "0x54 0x8 0x10", "events of GPE1", full(244, _84=b"\1", _93=b"\1", _232=generic_address(1, width=16)))
 kept("BlockWidth", "events of 4 bytes and of 32 bits", full(160, **EVENTS, **X_EVENTS))
 kept("BlockWidth", "events of 32 bytes and of 16 bits", full(160, **EVENTS, _88=b"\x20", _148=generic_address(0x600, width=16)))
@@ -169,7 +175,10 @@ kept("HalfBlock", "reduced hardware", image_of(fadt(_91=b"\4")))
 broken("PortsOverlap", "0x38 0x40 0x603", "the last port of events", full(**EVENTS, _64=number(0x603, 4)))
 broken("PortsOverlap", "0x40 0x38 0x600", "the last port of the control", full(**EVENTS, _64=number(0x5FF, 4)))
 broken("PortsOverlap", "0x38 0x3c 0x600", "events a and b at one place", full(**EVENTS, _60=number(0x600, 4)))
-broken("PortsOverlap", "0x38 0x40 0x601", "a structure of 9 bits", full(160, _88=b"\0", _148=generic_address(0x600, width=9), _64=number(0x601, 4)))
+broken(
+    "PortsOverlap", "0x38 0x40 0x601", "a structure of 9 bits",
+    full(160, _88=b"\0", _148=generic_address(0x600, width=9), _64=number(0x601, 4)),
+)
 broken(
     "PortsOverlap", "0x38 0x40 0x603", "a structure of 8 bits and a length of 4 bytes",
     full(160, _148=generic_address(0x600, width=8), _64=number(0x603, 4)),
@@ -394,7 +403,10 @@ entries_broken("EnabledAndCapable", "0x2c 0x0 0x3", "a local APIC", lapic(0, 0, 
 entries_broken("EnabledAndCapable", "0x34 0x0 0x7", "an x2APIC", lapic(0, 0), x2apic(0, 0, 7))
 entries_broken("EnabledAndCapable", "0x2c 0x0 0x9", "a GICC", gicc(0, 9))
 entries_broken("EnabledAndCapable", "0x2c 0x0 0x3", "an RINTC", rintc(0, 3))
-entries_kept("EnabledAndCapable", "one flag of each", lapic(0, 0, 1), x2apic(1, 1, 2), gicc(2, 8), gicc(3, 7), rintc(4, 2), core_pic(5, 5, 3))
+entries_kept(
+    "EnabledAndCapable", "one flag of each",
+    lapic(0, 0, 1), x2apic(1, 1, 2), gicc(2, 8), gicc(3, 7), rintc(4, 2), core_pic(5, 5, 3),
+)
 entries_kept("EnabledAndCapable", "lengths that are no processor's", gicc(0, 9, 39), rintc(0, 3, 19))
 
 entries_broken("OverridePastIsa", "0x2c 0x10 0x14", "an override of 16", override(16, 20))
@@ -410,7 +422,10 @@ entries_kept("TimerLevel", "another source by level", override(1, 2, 0b1100))
 
 entries_broken("TwoSourcesOneGsi", "0x36 0x2c 0x2", "sources 0 and 2", override(0, 2), override(2, 2))
 entries_broken("TwoSourcesOneGsi", "0x40 0x2c 0x2", "sources 0, 0 and 2", override(0, 2), override(0, 2), override(2, 2))
-entries_broken("TwoSourcesOneGsi", "0x4a 0x36 0x9", "after overrides of other numbers", override(0, 2), override(1, 9), override(2, 3), override(5, 9))
+entries_broken(
+    "TwoSourcesOneGsi", "0x4a 0x36 0x9", "after overrides of other numbers",
+    override(0, 2), override(1, 9), override(2, 3), override(5, 9),
+)
 entries_kept("TwoSourcesOneGsi", "one source, twice to one number and to another", override(9, 9), override(9, 9), override(9, 20))
 
 entries_broken("LintNotOne", "0x2c 0x0 0x0", "a local APIC NMI by LINT0", lapic_nmi(255, 0))
@@ -493,7 +508,10 @@ entries_kept(SMALL, "a MADT that is cut", distributor(3), redistributor(0, 0), c
 
 OTHER_BASE = "GiccBaseDiffers"
 entries_broken(OTHER_BASE, "0x94 0x44 0x2000", "two bases, version 2", distributor(2), cpu(0x1000), cpu(0x2000))
-entries_broken(OTHER_BASE, "0x94 0x44 0x0", "a base and none, version 1, the first one off", distributor(1), cpu(0x1000, flags=0), cpu(0, flags=0))
+entries_broken(
+    OTHER_BASE, "0x94 0x44 0x0", "a base and none, version 1, the first one off",
+    distributor(1), cpu(0x1000, flags=0), cpu(0, flags=0),
+)
 entries_kept(OTHER_BASE, "one base", distributor(2), cpu(0x1000), cpu(0x1000))
 entries_kept(OTHER_BASE, "two bases, one of them in 39 bytes", distributor(2), cpu(0x2000, length=39), cpu(0x1000))
 for version in (0, 3):
@@ -528,7 +546,10 @@ entries_broken(GIC, "0x2c 0x44 0xffff", "the last byte of a distributor of versi
 entries_broken(GIC, "0x2c 0x3c 0x1fff", "the last byte of redistributors", redistributor(0x1000, 0x1000), frame(0, 0x1FFF))
 entries_broken(GIC, "0x2c 0x44 0x8000", "two distributors", distributor(4), distributor(2, 0x8000))
 entries_broken(GIC, "0x2c 0x44 0x1000", "two frames at one place", frame(0, 0x1000), frame(1, 0x1000))
-entries_broken(GIC, "0x40 0x2c 0x100", "an ITS around a frame, and two frames later", its(0, 0x100), its(1), frame(0, 0x40000), frame(1, 0x40000))
+entries_broken(
+    GIC, "0x40 0x2c 0x100", "two ITS, and two frames later on",
+    its(0, 0x100), its(1), frame(0, 0x40000), frame(1, 0x40000),
+)
 entries_kept(
     GIC, "ranges that touch", distributor(3, 0x10000), distributor(2, 0x20000), redistributor(0x21000, 0x1000), its(0, 0x22000),
     frame(0, 0x42000), frame(1, 0x43000), distributor(5, 0x44000), frame(2, 0x45000),
@@ -595,11 +616,15 @@ for name, entry, at in (
 entries_broken(USED, "0x34 0x3", "the first of three entries", lapic(0, 0), io_apic(0, 0, 0, 1), lapic(1, 1, 4), distributor(5))
 entries_broken(USED, "0x2c 0x14", "a distributor before a local APIC", distributor(5), lapic(0, 0, 4))
 entries_kept(
-    USED, "all that is defined", lapic(0, 0, 3), io_apic(0, 0, 255), override(255, 0, 0xF, 255), nmi_source(0, 0xF), lapic_nmi(255, 255, 0xF),
+    USED, "all that is defined", lapic(0, 0, 3), io_apic(0, 0, 255), override(255, 0, 0xF, 255),
+    nmi_source(0, 0xF), lapic_nmi(255, 255, 0xF),
     lapic_address(2**64 - 1), x2apic(2**32 - 1, 2**32 - 1, 3), x2apic_nmi(0, 255, 0xF), distributor(4, 2**64 - 1),
 )
 entries_kept(USED, "other bytes of a distributor", placed(gicd(), _2=b"\1" * 6, _21=b"\1" * 3))
-entries_kept(USED, "entries of other lengths and types", other(6, 2), b"\0\11" + b"\xff" * 7, b"\14\31" + b"\xff" * 23, b"\13\50" + b"\xff" * 38)
+entries_kept(
+    USED, "entries of other lengths and types",
+    other(6, 2), b"\0\11" + b"\xff" * 7, b"\14\31" + b"\xff" * 23, b"\13\50" + b"\xff" * 38,
+)
 
 
 # ---- the SRAT
@@ -617,7 +642,10 @@ NO_RANGE = "NoMemoryRange"
 affinities_broken(NO_RANGE, "0x0", "a processor alone", HERE)
 affinities_broken(NO_RANGE, "0x0", "a processor of a GIC", uid_domain(0, 0))
 affinities_broken(NO_RANGE, "0x0", "a hart", hart_domain(0, 0))
-affinities_broken(NO_RANGE, "0x0", "an x2APIC, and ranges that are empty or not enabled", x2apic_domain(0, 0), memory(0, 0), memory(0, 1, 0), memory(0, 1, 2))
+affinities_broken(
+    NO_RANGE, "0x0", "an x2APIC, and ranges that are empty or not enabled",
+    x2apic_domain(0, 0), memory(0, 0), memory(0, 1, 0), memory(0, 1, 2),
+)
 affinities_kept(NO_RANGE, "a range of a byte", HERE, memory(0, 1))
 affinities_kept(NO_RANGE, "a processor that is not enabled, and an ITS", apic_domain(0, 0, 0), its_domain(0), device_domain(5, 0))
 affinities_kept(NO_RANGE, "an SRAT that is cut", HERE, b"\3")
@@ -756,7 +784,10 @@ SHAPE = {"sets": 64, "ways": 8, "line": 64}
 nodes_broken(NUMBERS, "0x24 0x5 0x0", "no ways", cache(flags=4, size=5, sets=6, line=7))
 nodes_broken(NUMBERS, "0x24 0x0 0x18", "no size", cache(flags=1, sets=2, ways=3, line=4))
 nodes_broken(NUMBERS, "0x24 0x8001 0x8000", "a byte more than its lines", cache(flags=0x47, size=0x8001, **SHAPE))
-nodes_broken(NUMBERS, "0x3c 0x7fff 0x8000", "a byte less than its lines", cache(flags=0x47, size=0x8000, **SHAPE), cache(0, 28, 0xFF, 0x7FFF, **SHAPE))
+nodes_broken(
+    NUMBERS, "0x3c 0x7fff 0x8000", "a byte less than its lines",
+    cache(flags=0x47, size=0x8000, **SHAPE), cache(0, 28, 0xFF, 0x7FFF, **SHAPE),
+)
 nodes_broken(NUMBERS, "0x24 0x1 0xfeff00ff0100ff", "the most lines", cache(flags=0x47, size=1, sets=2**32 - 1, ways=255, line=2**16 - 1))
 nodes_kept(NUMBERS, "as many bytes as its lines have", cache(flags=0x47, size=0x8000, **SHAPE))
 for flags in (0x46, 0x45, 0x43, 0x07):
