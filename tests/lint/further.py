@@ -14,7 +14,7 @@ from pathlib import Path
 sys.path.insert(0, str(Path(__file__).resolve().parents[1]))
 
 from acpi_images.further_advice import RULES, further_linted
-from acpi_images.known.further import FURTHER
+from acpi_images.known.further import FURTHER, WHOLE
 from acpi_images.known.judged import JUDGED
 from acpi_images.known.linted import EXPECTED
 from acpi_images.known.many import MANY
@@ -48,6 +48,9 @@ def by_hand(count):
         told = [line for line in lines if line.split()[1] == it.rule]
         expected = [it.line] if it.line else []
         count.case(f"{it.rule}, {it.name}", "" if told == expected else f"{told}, not {expected}")
+    for name, pieces, expected in WHOLE:
+        lines = further_linted(SEED.split(), read(text_of(pieces)))
+        count.case(name, "" if lines == expected else f"{lines}, not {expected}")
     told_of = {(it.rule, it.line is None) for it in FURTHER}
     for name in RULES:
         for is_kept in (False, True):

@@ -814,3 +814,37 @@ nodes_kept(
     cache(2**32 - 1, 28, 0xFF, 2**32 - 1, 2**32 - 1, 255, 0x1F, 2**16 - 1, 2**32 - 1),
 )
 nodes_kept(USED_THERE, "entries of other lengths and types", node(count=1, reserved=1), cache(0, 25, reserved=1), b"\2\4\xff\xff")
+
+# ---- all lines of these rules, in their order, of sets that break several
+WHOLE = []
+
+
+def whole(name, pieces, *lines):
+    """A set, and all lines that these rules have of it."""
+    WHOLE.append((name, pieces, [with_numbers(f"advice {line}") for line in lines]))
+
+
+whole("a FADT that has a DSDT", of_dsdt(DSDT))
+whole("reduced hardware", listed(), "NoDsdt 0x28")
+whole("full hardware", full(), "NoDsdt 0x28", "NoPm1Block 0x38", "HalfBlock 0x4c 0x4", "SciZero 0x2e")
+whole(
+    "local APICs", listed(madt(lapic(0, 255, 3), x2apic(1, 5, 2), override(0, 2, 12), override(16, 2), lapic_nmi(255, 0))),
+    "NoDsdt 0x28", "BroadcastId 0x2c 0x0 0xff", "CapableTooEarly 0x34 0x1", "EnabledAndCapable 0x2c 0x0 0x3",
+    "OverridePastIsa 0x4e 0x10 0x2", "TimerLevel 0x44 0x0 0xc", "TwoSourcesOneGsi 0x4e 0x44 0x2", "LintNotOne 0x58", "NoIoApic 0x0",
+)
+whole(
+    "two processors of a GIC", arch(5, 0, distributor(3), cpu(mpidr=1 << 24), cpu(mpidr=1 << 24), flags=0),
+    "NoDsdt 0x28", "NoPm1Block 0x38", "SciZero 0x2e", "FadtForArch 0x8 0x5", "NoRedistributor 0x2c 0x3",
+    "SameMpidr 0x94 0x44 0x1000000", "MpidrReserved 0x44 0x0 0x1000000", "NoBootMethod 0x81",
+)
+whole(
+    "domains, distances and a topology",
+    listed(
+        srat(apic_domain(0, 256), device_domain(5, 0, 0)), slit(2, [10] * 4),
+        pptt(node(0, IS_ID_VALID, 7, reserved=1), leaf(8), node(56), cache(flags=1)),
+    ),
+    "NoDsdt 0x28", "NoMemoryRange 0x0", "InitiatorOff 0x40", "DomainPastRevision 0x30 0x1 0x100", "RemoteAsLocal 0x2d 0x0 0x1",
+    "LeafUnflagged 0x24 0x0 0x7", "LeafAsParent 0x38 0x4c", "NoPackage 0x38 0x0 0x8", "CacheNumbers 0x60", "PpttReserved 0x24 0x2",
+)
+whole("an RSDP alone", {RSDP_AT: rsdp()})
+whole("no RSDP", {})
