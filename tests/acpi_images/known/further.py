@@ -815,6 +815,140 @@ nodes_kept(
 )
 nodes_kept(USED_THERE, "entries of other lengths and types", node(count=1, reserved=1), cache(0, 25, reserved=1), b"\2\4\xff\xff")
 
+# ---- numbers that are as wide as their fields, and bytes next to fields
+HIGH, HIGHER = 1 << 24, 1 << 56
+broken("NoDsdt", "0x28", "an RSDP that is found", listed(), words="")
+broken("NoDsdt", "0x28", "an interrupt model after the DSDT", image_of(fadt(_44=b"\1")))
+kept("NoDsdt", "a DSDT at 16 MiB", image_of(fadt(_40=number(HIGH, 4))))
+kept("DsdtWrong", "a DSDT of 16 MiB", of_dsdt(changed(DSDT, {7: 1})))
+kept("RsdtDiffers", "a slot of 0, and something at 0", roots((0x2000, 0x3000), (0x2000, 0x3000, 0), _0=b"ABCD"))
+FAR_RSDT = {**BOTH_ROOTS, RSDP_AT: extended_rsdp(rsdt=0x1001000), 0x1001000: rsdt(0x2000)}
+broken("RsdtDiffers", "0x10 0x0 0x54455048", "an RSDT past 16 MiB", FAR_RSDT)
+
+
+def before(pointer, at, following):
+    """An RSDP, which leads to an XSDT or an RSDT with a FADT and what is at this address, and bytes that follow it."""
+    return {RSDP_AT: pointer + following, XSDT_AT: xsdt(0x2000, at), 0x1001: rsdt(0x2000, at), 0x2000: fadt()}
+
+
+broken("TablesOverlap", "0xe0000 0xe0020 0xe0020", "a table at the end of an RSDP", before(extended_rsdp(), 0xE0020, hpet()[4:]))
+kept("TablesOverlap", "a table after 36 bytes of an RSDP", before(extended_rsdp(), 0xE0024, hpet()))
+kept("TablesOverlap", "a table after an RSDP of Revision 1", before(changed(rsdp(0x1001), {15: 1}, (8, 20)), 0xE0014, hpet()))
+kept("RsdpReserved", "an RSDT at an odd address", before(rsdp(0x1001), 0xE0014, hpet()))
+broken("RsdpReserved", "0x14 0x0 0x28", "an XSDT at an odd address", pointed(extended_rsdp(0x1101, length=40) + bytes(4)))
+broken("RsdpReserved", "0x14 0x0 0x25", "an RSDP of 37 bytes", pointed(extended_rsdp(length=37) + bytes(1)))
+kept("RsdpReserved", "an RSDP of 16 MiB", pointed(extended_rsdp(length=HIGH + 40) + bytes(4)))
+broken("RsdpReserved", "0x22 0x0 0x1", "the second reserved byte", pointed(changed(extended_rsdp(), {34: 1})))
+kept("FacsReserved", "a FACS of 16 MiB", of_facs({7: 1, 32: 3}))
+broken("FacsReserved", "0x22 0x0 0x1", "the second byte after the Version", of_facs({34: 1}))
+broken("FacsReserved", "0x14 0x0 0x1000000", "flag bit 24", of_facs({23: 1}))
+broken("FadtReserved", "0x70 0x0 0x1000000", "flag bit 24 alone", image_of(fadt(HIGH)))
+kept("FadtReserved", "an SCI of 9", image_of(fadt(_46=number(9, 2))))
+broken("HeaderText", "0x1 0xa 0x3000", "the last byte of the OEM ID", header({15: 0x7F}))
+broken("HeaderText", "0x1 0xa 0x3000", "a zero before the last byte of the OEM ID", header({14: 0, 15: 0x21}))
+
+broken("PortPastEnd", "0x38 0x4 0x1000000", "events at 1000000h", full(_56=number(HIGH, 4)))
+broken("PortPastEnd", "0x30 0x1 0x1000000", "SMI_CMD at 1000000h", full(_48=number(HIGH, 4)))
+broken("PortPastEnd", f"0x74 0x1 {HIGHER:#x}", "a reset register at 2^56", reset(HIGHER))
+kept("PortPastEnd", "a command after SMI_CMD", full(_52=b"\1"))
+kept("PortPastEnd", "a value of the reset register", image_of(fadt(RESETS, 129, _116=generic_address(1, width=8) + b"\1")))
+kept("PortsOverlap", "a block of 8 bits", full(160, _88=b"\0", _148=generic_address(0x600, width=8, offset=1), _64=number(0x601, 4)))
+broken("BlockWidth", "0x38 0x20 0x10", "events at 1000000h", full(160, _56=number(HIGH, 4), _148=generic_address(1, width=16)))
+kept("BlockWidth", "events b after no events a", full(160, _60=number(1, 4), _148=generic_address(1, width=16)))
+kept("BlockWidth", "a block of 32 bits, not from the first on", full(160, **EVENTS, _148=generic_address(0x600, offset=1)))
+broken("GpeOverlap", "0x5e 0x10 0xf", "a command after the base", full(**BOTH_GPES, _94=b"\17\1"))
+broken("SmiHalf", "0x30 0x34 0x1000000", "an SMI port at 1000000h", full(_48=number(HIGH, 4)))
+broken("SmiHalf", "0x30 0x34 0xb2", "one command, and another after it", full(**SMI, _52=b"\2\2\1"))
+for at in (52, 54, 55):
+    broken("SmiHalf", f"0x30 {at:#x}", f"no SMI port, and the command at {at}", full(**{f"_{at}": b"\1"}))
+kept("SmiHalf", "no SMI port, and a block", full(_56=b"\1"))
+broken("SciZero", "0x2e", "an SCI of 0 before an SMI port", full(**SMI))
+kept("SciZero", "an SCI of 1", full(_46=number(1, 2)))
+broken("ResetNowhere", "0x74", "an access size and a value, at 0", image_of(fadt(RESETS, 129, _116=generic_address(0, 1, 8, 0, 1) + b"\1")))
+kept("ResetNowhere", "a reset register at 1", reset(1))
+kept("ResetNowhere", "a reset register at 2^56", reset(HIGHER, 0))
+kept("SleepRegister", "an access size, and a status at 2^56", sleep(generic_address(1, width=8, access=1), generic_address(HIGHER, width=8)))
+kept("SleepRegister", "an access size without an address", sleep(generic_address(0, width=16, access=1), bytes(12)))
+
+entries_kept(LOW, "an x2APIC of 1000005h", lapic(0, 0), x2apic(1, HIGH + 5))
+broken(EARLY, "0x2c 0x6 0x2", "an online capable x2APIC by 6.2", arch(6, 2, x2apic(0, 0, 2)))
+broken(EARLY, "0x2c 0x6 0x4", "an online capable GICC by 6.4, with flag bit 1", arch(6, 4, gicc(0, 10)))
+entries_broken("EnabledAndCapable", "0x2c 0x0 0x1000003", "flag bit 24", lapic(0, 0, HIGH + 3))
+entries_kept("EnabledAndCapable", "the other flag of each", lapic(0, 0, 2), x2apic(1, 1, 1), gicc(2, 10), rintc(3, 1))
+kept("OverridePastIsa", "an SCI before an SMI port", image_of(fadt(_46=number(16, 2), _48=b"\1"), madt(override(16, 20))))
+entries_broken("OverridePastIsa", "0x2c 0x10 0x1000000", "a number of 1000000h, and flags", override(16, HIGH, 1))
+entries_broken("TimerLevel", "0x2c 0x0 0x10c", "flag bit 8", override(0, 2, 0x10C))
+entries_kept("TwoSourcesOneGsi", "numbers of one low byte", override(0, 2), override(2, HIGH + 2))
+
+entries_broken(WANTED, "0x2c 0x3", "a byte after the version", placed(distributor(3), _21=b"\1"), cpu())
+entries_kept(SMALL, "128 for a GICC", distributor(3), redistributor(0, HIGH), cpu())
+entries_broken(OTHER_BASE, "0x94 0x44 0x1000", "a first base past 2^56", distributor(2), cpu(HIGHER + 0x1000), cpu(0x1000))
+entries_broken(OTHER_BASE, "0x94 0x44 0x100000000001000", "a second base past 2^56", distributor(2), cpu(0x1000), cpu(HIGHER + 0x1000))
+for entries in ([placed(cpu(5), _40=b"\1"), cpu(5)], [cpu(5), placed(cpu(5), _40=b"\1")]):
+    entries_kept(OTHER_BASE, "a byte after a base", distributor(2), *entries)
+entries_broken(OTHER_BASE, "0x94 0x44 0x6", "a byte after another base", distributor(2), cpu(5), placed(cpu(6), _40=b"\1"))
+entries_kept("SameMpidr", "MPIDRs of one low half", cpu(mpidr=5), cpu(mpidr=HIGHER + 5))
+entries_broken("MpidrReserved", "0x2c 0x0 0x80000000", "bit 31, and a byte after the MPIDR", placed(cpu(mpidr=1 << 31), _76=b"\1"))
+entries_kept("GicrEmpty", "a range of 1000000h bytes", redistributor(0x1000, HIGH))
+entries_broken("GicrEmpty", "0x2c 0x0 0x100000000000000", "an empty range at 2^56", redistributor(HIGHER, 0))
+entries_kept("SameIts", "IDs of one low byte", its(1), its(HIGH + 1))
+entries_broken("SameIts", "0x40 0x2c 0x1", "odd addresses", its(1, 1), its(1, 2))
+entries_kept("SameMsiFrame", "IDs of one low byte", frame(1), frame(HIGH + 1))
+entries_broken("SameMsiFrame", "0x44 0x2c 0x1", "odd addresses", frame(1, 1), frame(1, 2))
+entries_broken(GIC, "0x2c 0x3c 0xffffff", "redistributors of 1000000h bytes", redistributor(0, HIGH), frame(0, 0xFFFFFF))
+entries_broken(GIC, "0x2c 0x3c 0x1000", "redistributors of an odd number of bytes", redistributor(0, 0x1001), frame(0, 0x1000))
+entries_broken(GIC, "0x2c 0x44 0xffff", "a byte after the version", placed(distributor(3), _21=b"\1"), frame(0, 0xFFFF))
+for entry, following in ((its(0), 0x40), (frame(0), 0x44), (distributor(2), 0x44)):
+    entries_broken(GIC, f"0x2c {following:#x} 0x0", "a byte after an address", placed(entry, _16=b"\1"), frame(1))
+HIGHEST = [redistributor(HIGHER, 0x1000), its(1, 2 * HIGHER), frame(2, 3 * HIGHER), distributor(2, 4 * HIGHER)]
+entries_kept(GIC, "addresses from 2^56 on", frame(0), *HIGHEST)
+entries_broken(TWICE_TOLD, "0x3c 0x2c 0x100000000000000", "one at 2^56", redistributor(0, 1), cpu(gicr=HIGHER))
+entries_kept(TWICE_TOLD, "an MPIDR", redistributor(0, 1), cpu(mpidr=1))
+kept("NoBootMethod", "a parking protocol of 1000000h", booted(0, cpu(), cpu(parking=HIGH)))
+broken("NoBootMethod", "0x81", "flag bit 24, and a byte after the version", booted(0, cpu(flags=HIGH + 1), placed(cpu(), _20=b"\1")))
+broken("NoBootMethod", "0x81 0x0 0x100", "bit 8 of ARM_BOOT_ARCH", booted(0x100, cpu(), cpu()))
+entries_kept("SameHart", "harts of one low half", hart(5), hart(HIGHER + 5))
+entries_broken("SameHart", "0x50 0x2c 0x5", "one hart of two UIDs", placed(hart(5), _16=b"\1"), hart(5))
+broken(USED, "0x28 0x0 0x1000000", "flag bit 24 of the MADT", listed(table(b"APIC", bytes(4) + number(HIGH, 4))))
+for name, entry, at in (
+    ("an override's flag bit 8", override(0, 0, 0x100), "0x8"),
+    ("an NMI source's flag bit 4", nmi_source(0, 0x10), "0x2"),
+    ("a local APIC NMI's flag bit 8", lapic_nmi(0, 1, 0x100), "0x3"),
+    ("an x2APIC's byte 3", changed(x2apic(0, 0), {3: 1}), "0x3"),
+    ("an x2APIC's byte 2", changed(x2apic(0, 0), {2: 1}), "0x2"),
+    ("an x2APIC's flag bit 24", x2apic(0, 0, HIGH), "0x8"),
+    ("an x2APIC NMI's flag bit 8", x2apic_nmi(0, 1, 0x100), "0x2"),
+    ("an x2APIC NMI's byte 9", changed(x2apic_nmi(0, 1), {9: 1}), "0x9"),
+    ("an x2APIC NMI's byte 10", changed(x2apic_nmi(0, 1), {10: 1}), "0xa"),
+    ("a distributor's byte 17", placed(gicd(), _17=b"\1"), "0x11"),
+    ("a distributor's byte 18", placed(gicd(), _18=b"\1"), "0x12"),
+):
+    entries_broken(USED, f"0x2c {at}", name, entry)
+entries_kept(USED, "numbers after flags", nmi_source(9, 0xF), x2apic_nmi(9, 1, 0xF))
+
+affinities_kept(NO_RANGE, "a range of 2^56 bytes", HERE, memory(0, HIGHER))
+affinities_broken(NO_RANGE, "0x0", "an empty range at 2^56, and a byte after its length", HERE, changed(memory(HIGHER, 0), {24: 1}))
+affinities_kept("EmptyRange", "a range of 2^56 bytes", memory(0, HIGHER))
+affinities_broken("EmptyRange", f"0x30 0x0 {HIGHER:#x}", "an empty range at 2^56", changed(memory(HIGHER, 0), {24: 1}))
+broken("ItsNowhere", "0x30 0x0 0x6", "an ITS of 1000006h", its_and(of_its(6), its(HIGH + 6)))
+broken("ItsNowhere", "0x30 0x0 0x1000006", "an affinity of 1000006h", its_and(of_its(HIGH + 6), its(6)))
+kept("ItsNowhere", "an ITS at an odd address", its_and(of_its(6), its(6, 1)))
+affinities_broken(USED_HERE, "0x30 0x4", "a processor's flag bit 24", apic_domain(0, 0, HIGH))
+affinities_broken(USED_HERE, "0x30 0xc", "an x2APIC's flag bit 24", x2apic_domain(0, 0, HIGH))
+broken(USED_HERE, "0x24 0x0 0x1000001", "a first number of 1000001h", begun(HIGH + 1))
+
+nodes_broken("LeafUnflagged", "0x24 0x0 0x7", "a Parent past 16 MiB", NAMED, node(HIGH + 36))
+nodes_broken("LeafUnflagged", "0x24 0x0 0x1000007", "an ID of 1000007h", node(0, IS_ID_VALID, HIGH + 7))
+nodes_broken("LeafUnflagged", "0x24 0x0 0x7", "a node with a cache", node(0, IS_ID_VALID, 7, [60]), cache())
+nodes_kept("LeafAsParent", "a Parent past 16 MiB", leaf(7), node(HIGH + 36))
+nodes_broken("NoPackage", "0x24 0x0 0x1000007", "an ID of 1000007h", leaf(HIGH + 7))
+nodes_broken("NoPackage", "0x24 0x0 0x7", "a leaf with a cache", node(0, LEAF, 7, [60]), cache())
+nodes_kept("NoPackage", "a Parent at 16 MiB", leaf(7, HIGH))
+nodes_kept(NUMBERS, "a size of 16 MiB", cache(flags=1, size=HIGH))
+nodes_kept(NUMBERS, "as many bytes as its lines have, and an attribute", cache(flags=0x47, size=0x8000, attributes=1, **SHAPE))
+nodes_broken(USED_THERE, "0x24 0x4", "a node's flag bit 24", node(flags=HIGH))
+nodes_broken(USED_THERE, "0x24 0x4", "a cache's flag bit 24", cache(flags=HIGH))
+
 # ---- all lines of these rules, in their order, of sets that break several
 WHOLE = []
 
