@@ -867,7 +867,7 @@ kept("SciZero", "an SCI of 1", full(_46=number(1, 2)))
 broken("ResetNowhere", "0x74", "an access size and a value, at 0", image_of(fadt(RESETS, 129, _116=generic_address(0, 1, 8, 0, 1) + b"\1")))
 kept("ResetNowhere", "a reset register at 1", reset(1))
 kept("ResetNowhere", "a reset register at 2^56", reset(HIGHER, 0))
-kept("SleepRegister", "an access size, and a status at 2^56", sleep(generic_address(1, width=8, access=1), generic_address(HIGHER, width=8)))
+kept("SleepRegister", "an access size, a status at 2^56", sleep(generic_address(1, width=8, access=1), generic_address(HIGHER, width=8)))
 kept("SleepRegister", "an access size without an address", sleep(generic_address(0, width=16, access=1), bytes(12)))
 
 entries_kept(LOW, "an x2APIC of 1000005h", lapic(0, 0), x2apic(1, HIGH + 5))
@@ -884,8 +884,8 @@ entries_broken(WANTED, "0x2c 0x3", "a byte after the version", placed(distributo
 entries_kept(SMALL, "128 for a GICC", distributor(3), redistributor(0, HIGH), cpu())
 entries_broken(OTHER_BASE, "0x94 0x44 0x1000", "a first base past 2^56", distributor(2), cpu(HIGHER + 0x1000), cpu(0x1000))
 entries_broken(OTHER_BASE, "0x94 0x44 0x100000000001000", "a second base past 2^56", distributor(2), cpu(0x1000), cpu(HIGHER + 0x1000))
-for entries in ([placed(cpu(5), _40=b"\1"), cpu(5)], [cpu(5), placed(cpu(5), _40=b"\1")]):
-    entries_kept(OTHER_BASE, "a byte after a base", distributor(2), *entries)
+entries_kept(OTHER_BASE, "a byte after the first base", distributor(2), placed(cpu(5), _40=b"\1"), cpu(5))
+entries_kept(OTHER_BASE, "a byte after the second base", distributor(2), cpu(5), placed(cpu(5), _40=b"\1"))
 entries_broken(OTHER_BASE, "0x94 0x44 0x6", "a byte after another base", distributor(2), cpu(5), placed(cpu(6), _40=b"\1"))
 entries_kept("SameMpidr", "MPIDRs of one low half", cpu(mpidr=5), cpu(mpidr=HIGHER + 5))
 entries_broken("MpidrReserved", "0x2c 0x0 0x80000000", "bit 31, and a byte after the MPIDR", placed(cpu(mpidr=1 << 31), _76=b"\1"))
@@ -899,7 +899,7 @@ entries_broken(GIC, "0x2c 0x3c 0xffffff", "redistributors of 1000000h bytes", re
 entries_broken(GIC, "0x2c 0x3c 0x1000", "redistributors of an odd number of bytes", redistributor(0, 0x1001), frame(0, 0x1000))
 entries_broken(GIC, "0x2c 0x44 0xffff", "a byte after the version", placed(distributor(3), _21=b"\1"), frame(0, 0xFFFF))
 for entry, following in ((its(0), 0x40), (frame(0), 0x44), (distributor(2), 0x44)):
-    entries_broken(GIC, f"0x2c {following:#x} 0x0", "a byte after an address", placed(entry, _16=b"\1"), frame(1))
+    entries_broken(GIC, f"0x2c {following:#x} 0x0", f"a byte after the address of type {entry[0]}", placed(entry, _16=b"\1"), frame(1))
 HIGHEST = [redistributor(HIGHER, 0x1000), its(1, 2 * HIGHER), frame(2, 3 * HIGHER), distributor(2, 4 * HIGHER)]
 entries_kept(GIC, "addresses from 2^56 on", frame(0), *HIGHEST)
 entries_broken(TWICE_TOLD, "0x3c 0x2c 0x100000000000000", "one at 2^56", redistributor(0, 1), cpu(gicr=HIGHER))
