@@ -832,6 +832,7 @@ def before(pointer, at, following):
 
 
 broken("TablesOverlap", "0xe0000 0xe0020 0xe0020", "a table at the end of an RSDP", before(extended_rsdp(), 0xE0020, hpet()[4:]))
+broken("TablesOverlap", "0xe0000 0xe0023 0xe0023", "a table at the last byte of an RSDP", before(extended_rsdp(), 0xE0023, hpet()[1:]))
 kept("TablesOverlap", "a table after 36 bytes of an RSDP", before(extended_rsdp(), 0xE0024, hpet()))
 kept("TablesOverlap", "a table after an RSDP of Revision 1", before(changed(rsdp(0x1001), {15: 1}, (8, 20)), 0xE0014, hpet()))
 kept("RsdpReserved", "an RSDT at an odd address", before(rsdp(0x1001), 0xE0014, hpet()))
@@ -903,6 +904,7 @@ for entry, following in ((its(0), 0x40), (frame(0), 0x44), (distributor(2), 0x44
 HIGHEST = [redistributor(HIGHER, 0x1000), its(1, 2 * HIGHER), frame(2, 3 * HIGHER), distributor(2, 4 * HIGHER)]
 entries_kept(GIC, "addresses from 2^56 on", frame(0), *HIGHEST)
 entries_broken(TWICE_TOLD, "0x3c 0x2c 0x100000000000000", "one at 2^56", redistributor(0, 1), cpu(gicr=HIGHER))
+entries_broken(TWICE_TOLD, "0x3c 0x2c 0x5000", "one of a GICC with an MPIDR", redistributor(0, 1), cpu(gicr=0x5000, mpidr=1))
 entries_kept(TWICE_TOLD, "an MPIDR", redistributor(0, 1), cpu(mpidr=1))
 kept("NoBootMethod", "a parking protocol of 1000000h", booted(0, cpu(), cpu(parking=HIGH)))
 broken("NoBootMethod", "0x81", "flag bit 24, and a byte after the version", booted(0, cpu(flags=HIGH + 1), placed(cpu(), _20=b"\1")))
