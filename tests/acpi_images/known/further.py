@@ -1,0 +1,986 @@
+"""Sets of tables, each with one of the further rules and the line that `lint` has to write of it, or None where the set just keeps
+the rule. Each line is worked out by hand from the rules in docs/TABLES.md, and none is taken from a program. Numbers of 0 at the end
+of a line are left out, and lines of other rules are not asked for."""
+
+from __future__ import annotations
+
+from dataclasses import dataclass
+
+from ..tables import *
+from .rows import with_numbers
+
+
+@dataclass
+class Further:
+    """A set, and the line of one rule, or None if it is kept, with these words after `lint`."""
+
+    name: str
+    pieces: dict | bytes
+    rule: str
+    line: str | None
+    words: str
+
+
+FURTHER = []
+
+
+def broken(rule, numbers, name, pieces, words="--rsdp e0000"):
+    """A set that breaks a rule, of which these are the numbers of the first finding."""
+    FURTHER.append(Further(name, pieces, rule, with_numbers(f"advice {rule} {numbers}".strip()), words))
+
+
+def kept(rule, name, pieces, words="--rsdp e0000"):
+    """A set that keeps a rule."""
+    FURTHER.append(Further(name, pieces, rule, None, words))
+
+
+# ---- the RSDP, the roots, and tables at one place
+broken("NullSlot", "0x1", "a slot of 0 between two tables", listed(hpet(), slots=(0x2000, 0, 0x3000)))
+broken("NullSlot", "0x0", "two slots of 0", listed(slots=(0, 0x2000, 0)))
+kept("NullSlot", "no slot of 0", listed(hpet()))
+kept("NullSlot", "three bytes of a slot of 0", {RSDP_AT: rsdp(), RSDT_AT: table(b"RSDT", number(0x2000, 4) + bytes(3)), 0x2000: fadt()})
+kept("NullSlot", "a slot whose low half is 0", {RSDP_AT: extended_rsdp(), XSDT_AT: xsdt(0x2000, 2**32), 0x2000: fadt()})
+kept("NullSlot", "no root", {RSDP_AT: rsdp()})
+
+BOTH_ROOTS = {RSDP_AT: extended_rsdp(), XSDT_AT: xsdt(0x2000, 0x3000), RSDT_AT: rsdt(0x2000, 0x3000), 0x2000: fadt(), 0x3000: hpet()}
+
+
+def roots(wide, narrow, **more):
+    """A FADT and an HPET listed by an XSDT and an RSDT of these addresses."""
+    others = {int(address[1:], 16): data for address, data in more.items()}
+    return {**BOTH_ROOTS, XSDT_AT: xsdt(*wide), RSDT_AT: rsdt(*narrow), **others}
+
+
+kept("RsdtDiffers", "two roots that list the same", BOTH_ROOTS)
+kept("RsdtDiffers", "two roots in another order", roots((0x2000, 0x3000), (0x3000, 0, 0x2000)))
+kept("RsdtDiffers", "two roots that list tables of one signature", roots((0x2000, 0x3000), (0x2000, 0x4000), _4000=hpet()))
+broken("RsdtDiffers", "0x10 0x0 0x54455048", "an RSDT without the HPET", roots((0x2000, 0x3000), (0x2000,)))
+broken("RsdtDiffers", "0x10 0x0 0x54455048", "an RSDT with the HPET twice", roots((0x2000, 0x3000), (0x3000, 0x2000, 0x3000)))
+broken("RsdtDiffers", "0x10 0x0 0x50434146", "an RSDT with the HPET for the FADT", roots((0x2000, 0x3000), (0x3000, 0x3000)))
+kept("RsdtDiffers", "an RSDT with an address where nothing is", roots((0x2000, 0x3000), (0x2000, 0x3000, 0x4000)))
+kept("RsdtDiffers", "an RSDT with an address of three bytes", roots((0x2000, 0x3000), (0x2000, 0x3000, 0x4000), _4000=b"ABC"))
+broken("RsdtDiffers", "0x10 0x0 0x44434241", "an RSDT with an address of four bytes", roots((0x2000,), (0x2000, 0x4000), _4000=b"ABCD"))
+kept("RsdtDiffers", "an XSDT with a table at 4 GiB", roots((0x2000, 0x3000, 2**32), (0x2000, 0x3000), _100000000=hpet()))
+broken(
+    "RsdtDiffers", "0x10 0x0 0x44434241", "an XSDT with a signature below 4 GiB",
+    roots((0x2000, 0x3000, 2**32 - 4), (0x2000, 0x3000), _fffffffc=b"ABCD"),
+)
+kept("RsdtDiffers", "no RSDT", {**BOTH_ROOTS, RSDP_AT: extended_rsdp(rsdt=0), RSDT_AT: rsdt()})
+kept("RsdtDiffers", "an RSDT of which the last byte is not present", {**BOTH_ROOTS, RSDT_AT: rsdt()[:-1]})
+kept("RsdtDiffers", "an RSDT of another signature", {**BOTH_ROOTS, RSDT_AT: changed(rsdt(), {0: ord("X")})})
+kept("RsdtDiffers", "an RSDT of 35 bytes", {**BOTH_ROOTS, RSDT_AT: changed(rsdt(), {4: 35})})
+kept("RsdtDiffers", "the RSDT is the root", {**BOTH_ROOTS, RSDP_AT: rsdp(), RSDT_AT: rsdt(0x2000)})
+
+DSDT = table(b"DSDT", bytes(4))
+OF_DSDT = {"_40": number(0x5000, 4)}
+kept("TablesOverlap", "tables that touch", image_of(fadt() + hpet(), slots=(0x2000, 0x2074)))
+broken("TablesOverlap", "0x2000 0x2074 0x2074", "a table in a FADT", image_of(fadt(length=172, _116=hpet()), slots=(0x2000, 0x2074)))
+ONE_BYTE = fadt(length=117, _116=b"H") + hpet()[1:]
+broken("TablesOverlap", "0x2000 0x2074 0x2074", "tables that share a byte", image_of(ONE_BYTE, slots=(0x2074, 0x2000)))
+kept("TablesOverlap", "a table listed twice, and the root in a slot", listed(slots=(0x2000, 0x2000, 0x1000)))
+BEFORE_RSDP = {0xDFFDC: table(b"HPET", b"R") + rsdp()[1:]}
+BEFORE_IT = {**image_of(fadt(), slots=(0x2000, 0xDFFDC)), **BEFORE_RSDP}
+del BEFORE_IT[RSDP_AT]
+broken("TablesOverlap", "0xdffdc 0xe0000 0xe0000", "a table and the RSDP", BEFORE_IT)
+kept("TablesOverlap", "a table after 20 bytes of an RSDP", {**image_of(fadt(), slots=(0x2000, 0xE0014)), RSDP_AT: rsdp() + hpet()})
+
+
+def before_facs(last, facs_at=0x7000):
+    """A FADT that names a FACS, and a table of which the last byte, this one, is the FACS's first."""
+    return image_of(full_fadt(facs_at), slots=(0x2000, 0x6FD0), others={0x6FD0: table(b"HPET", bytes(12) + last) + facs()[1:]})
+
+
+broken("TablesOverlap", "0x6fd0 0x7000 0x7000", "a table and the FACS", before_facs(b"F"))
+kept("TablesOverlap", "a table and a FACS of another signature", before_facs(b"f"))
+BEFORE_DSDT = {0x4FDC: table(b"HPET", b"D") + DSDT[1:]}
+broken(
+    "TablesOverlap", "0x4fdc 0x5000 0x5000", "a table and the DSDT",
+    image_of(fadt(**OF_DSDT), slots=(0x2000, 0x4FDC), others=BEFORE_DSDT),
+)
+kept("TablesOverlap", "a table and a DSDT that is not named", image_of(fadt(), slots=(0x2000, 0x4FDC), others=BEFORE_DSDT))
+kept("TablesOverlap", "a DSDT that is listed", image_of(fadt(**OF_DSDT), slots=(0x2000, 0x5000), others={0x5000: DSDT}))
+NESTED = fadt(length=256, _116=table(b"OUTR", table(b"INNR", bytes(20))))
+broken("TablesOverlap", "0x2000 0x2074 0x2074", "a table in a table in a FADT", image_of(NESTED, slots=(0x2098, 0x2074, 0x2000)))
+
+# ---- the DSDT
+broken("NoDsdt", "0x28", "a FADT of 116 bytes without a DSDT", listed())
+broken("NoDsdt", "0x28", "a FADT of 148 bytes without a DSDT", image_of(fadt(length=148)))
+broken("NoDsdt", "0x28", "seven bytes of X_DSDT", image_of(fadt(length=147, _140=b"\1" * 7)))
+kept("NoDsdt", "a DSDT", image_of(fadt(**OF_DSDT)))
+kept("NoDsdt", "an X_DSDT at 4 GiB", image_of(fadt(length=148, _140=number(2**32, 8))))
+kept("NoDsdt", "a FADT of 115 bytes", image_of(table(b"FACP", bytes(79))))
+kept("NoDsdt", "no FADT", image_of(hpet()))
+
+
+def of_dsdt(dsdt):
+    """A FADT that names what is at 0x5000."""
+    return image_of(fadt(**OF_DSDT), others={0x5000: dsdt})
+
+
+kept("DsdtWrong", "a DSDT that is right", of_dsdt(DSDT))
+broken("DsdtWrong", "0x28 0x0 0x5000", "a DSDT that does not sum to 0", of_dsdt(changed(DSDT, {39: 1})))
+broken("DsdtWrong", "0x28 0x0 0x5000", "an SSDT", of_dsdt(table(b"SSDT", bytes(4))))
+broken("DsdtWrong", "0x28 0x0 0x5000", "a DSDT of 35 bytes", of_dsdt(changed(DSDT, {4: 35}, (9, 35))))
+kept("DsdtWrong", "a DSDT of 36 bytes", of_dsdt(table(b"DSDT", b"")))
+kept("DsdtWrong", "a DSDT of which the last byte is not present", of_dsdt(changed(DSDT, {9: 0})[:-1]))
+kept("DsdtWrong", "35 bytes of an SSDT", of_dsdt(table(b"SSDT", bytes(4))[:35]))
+X_DSDT = {**OF_DSDT, "_140": number(0x6000, 8)}
+broken("DsdtWrong", "0x28 0x0 0x6000", "X_DSDT is used", image_of(fadt(length=148, **X_DSDT), others={0x5000: DSDT, 0x6000: facs()}))
+kept("DsdtWrong", "DSDT is not used", image_of(fadt(length=148, **X_DSDT), others={0x5000: facs(), 0x6000: DSDT}))
+
+
+# ---- register blocks of hardware that is not reduced
+def full(length=116, facs_at=FACS_AT, **fields):
+    """A FADT of full hardware, and a FACS."""
+    return image_of(full_fadt(facs_at, length, **fields), others={FACS_AT: facs()})
+
+
+EVENTS, CONTROL, TIMER = {"_56": number(0x600, 4)}, {"_64": number(0x604, 4)}, {"_76": number(0x608, 4)}
+X_EVENTS, X_CONTROL = {"_148": generic_address(0x600)}, {"_172": generic_address(0x604, width=16)}
+
+broken("NoPm1Block", "0x38", "neither block", full())
+broken("NoPm1Block", "0x38", "events b for events a", full(_60=number(0x600, 4), **CONTROL))
+broken("NoPm1Block", "0x40", "events alone", full(**EVENTS))
+kept("NoPm1Block", "both blocks", full(**EVENTS, **CONTROL))
+kept("NoPm1Block", "both structures", full(184, **X_EVENTS, **X_CONTROL))
+broken("NoPm1Block", "0x40", "a structure that goes past the end by a byte", full(183, **X_EVENTS, _172=X_CONTROL["_172"][:11]))
+broken("NoPm1Block", "0x40", "a structure without an address", full(184, **X_EVENTS, _172=generic_address(0)))
+kept("NoPm1Block", "reduced hardware", listed())
+
+broken("BlockWidth", "0x38 0x20 0x10", "events of 4 bytes and of 16 bits", full(160, **EVENTS, _148=generic_address(0x600, width=16)))
+broken("BlockWidth", "0x38 0x20 0x10", "the same in memory", full(160, **EVENTS, _148=generic_address(0x600, 0, 16)))
+broken(
+    "BlockWidth", "0x38 0xf8 0xf9", "events of 31 bytes and of 249 bits",
+    full(160, **EVENTS, _88=b"\37", _148=generic_address(1, width=249)),
+)
+broken("BlockWidth", "0x54 0x8 0x10", "events of GPE1", full(244, _84=b"\1", _93=b"\1", _232=generic_address(1, width=16)))
+kept("BlockWidth", "events of 4 bytes and of 32 bits", full(160, **EVENTS, **X_EVENTS))
+kept("BlockWidth", "events of 32 bytes and of 16 bits", full(160, **EVENTS, _88=b"\x20", _148=generic_address(0x600, width=16)))
+kept("BlockWidth", "events of 4 bytes and of no bits", full(160, **EVENTS, _148=generic_address(0x600, width=0)))
+kept("BlockWidth", "events of no bytes and of 16 bits", full(160, **EVENTS, _88=b"\0", _148=generic_address(0x600, width=16)))
+kept("BlockWidth", "a structure alone", full(160, _148=generic_address(0x600, width=16)))
+kept("BlockWidth", "a structure without an address", full(160, **EVENTS, _148=generic_address(0, width=16)))
+kept("BlockWidth", "a structure that goes past the end by a byte", full(159, **EVENTS, _148=generic_address(0x600, width=16)[:11]))
+kept("BlockWidth", "reduced hardware", image_of(fadt(length=160, **EVENTS, _88=b"\4", _148=generic_address(0x600, width=16))))
+
+broken("HalfBlock", "0x4c 0x4 0x0", "a timer of 4 bytes that is nowhere", full())
+broken("HalfBlock", "0x48 0x0 0x610", "a PM2 control of no bytes", full(**TIMER, _72=number(0x610, 4)))
+broken("HalfBlock", "0x50 0x4 0x0", "events of GPE0 that are nowhere", full(**TIMER, _92=b"\4"))
+broken("HalfBlock", "0x54 0x0 0x100000620", "events of GPE1 of no bytes", full(244, **TIMER, _232=generic_address(0x100000620, 0)))
+kept("HalfBlock", "a timer of 4 bytes", full(**TIMER))
+kept("HalfBlock", "neither a timer nor its length", full(_91=b"\0"))
+kept("HalfBlock", "PM1 events of no bytes", full(**TIMER, **EVENTS, _88=b"\0"))
+kept("HalfBlock", "reduced hardware", image_of(fadt(_91=b"\4")))
+
+broken("PortsOverlap", "0x38 0x40 0x603", "the last port of events", full(**EVENTS, _64=number(0x603, 4)))
+broken("PortsOverlap", "0x40 0x38 0x600", "the last port of the control", full(**EVENTS, _64=number(0x5FF, 4)))
+broken("PortsOverlap", "0x38 0x3c 0x600", "events a and b at one place", full(**EVENTS, _60=number(0x600, 4)))
+broken(
+    "PortsOverlap", "0x38 0x40 0x601", "a structure of 9 bits",
+    full(160, _88=b"\0", _148=generic_address(0x600, width=9), _64=number(0x601, 4)),
+)
+broken(
+    "PortsOverlap", "0x38 0x40 0x603", "a structure of 8 bits and a length of 4 bytes",
+    full(160, _148=generic_address(0x600, width=8), _64=number(0x603, 4)),
+)
+kept("PortsOverlap", "ports that touch", full(**EVENTS, **CONTROL, **TIMER))
+kept("PortsOverlap", "a structure of 8 bits", full(160, _88=b"\0", _148=generic_address(0x600, width=8), _64=number(0x601, 4)))
+kept("PortsOverlap", "a structure in memory", full(160, _148=generic_address(0x600, 0), _64=number(0x600, 4)))
+kept("PortsOverlap", "a block of no bytes", full(_88=b"\0", **EVENTS, _64=number(0x600, 4)))
+kept("PortsOverlap", "a field of 4 bytes that is not used", full(160, **EVENTS, _148=generic_address(0x700), _64=number(0x600, 4)))
+kept("PortsOverlap", "reduced hardware", image_of(fadt(**EVENTS, _60=number(0x600, 4), _88=b"\4")))
+
+RESETS = REDUCED | RESET_REG_SUP
+
+
+def reset(address, space=1, flags=RESETS, length=129):
+    """A FADT with a reset register, or as much of it as the Length holds."""
+    return image_of(fadt(flags, length, _116=generic_address(address, space, 8)[: length - 116]))
+
+
+broken("PortPastEnd", "0x38 0x4 0xfffd", "events that end past the last port", full(_56=number(0xFFFD, 4)))
+kept("PortPastEnd", "events that end at the last port", full(_56=number(0xFFFC, 4)))
+broken("PortPastEnd", "0x38 0x4 0x10000", "a structure past the last port", full(160, _148=generic_address(0x10000)))
+kept("PortPastEnd", "a structure in memory", full(160, _148=generic_address(0x10000, 0)))
+kept("PortPastEnd", "a block of no bytes", full(_88=b"\0", _56=number(0x10000, 4)))
+broken("PortPastEnd", "0x30 0x1 0x10000", "SMI_CMD past the last port", full(_48=number(0x10000, 4)))
+kept("PortPastEnd", "SMI_CMD at the last port", full(_48=number(0xFFFF, 4)))
+kept("PortPastEnd", "SMI_CMD of reduced hardware", image_of(fadt(_48=number(0x10000, 4))))
+broken("PortPastEnd", "0x74 0x1 0x10000", "a reset register past the last port", reset(0x10000))
+broken("PortPastEnd", "0x74 0x1 0x10000", "the same of full hardware", reset(0x10000, flags=RESET_REG_SUP))
+kept("PortPastEnd", "a reset register at the last port", reset(0xFFFF))
+kept("PortPastEnd", "a reset register in memory", reset(0x10000, 0))
+kept("PortPastEnd", "no reset register", reset(0x10000, flags=REDUCED))
+kept("PortPastEnd", "no value of the reset register", reset(0x10000, length=128))
+
+BOTH_GPES = {"_80": number(0x620, 4), "_84": number(0x630, 4), "_92": b"\4", "_93": b"\4"}
+broken("GpeOverlap", "0x5e 0x10 0xf", "events of GPE1 from 15 on", full(**BOTH_GPES, _94=b"\17"))
+kept("GpeOverlap", "events of GPE1 from 16 on", full(**BOTH_GPES, _94=b"\20"))
+kept("GpeOverlap", "no length of GPE1", full(**{**BOTH_GPES, "_93": b"\0"}))
+kept("GpeOverlap", "no length of GPE0", full(**{**BOTH_GPES, "_92": b"\0"}))
+kept("GpeOverlap", "no GPE1", full(**{**BOTH_GPES, "_84": bytes(4)}))
+kept("GpeOverlap", "no GPE0", full(**{**BOTH_GPES, "_80": bytes(4)}))
+kept("GpeOverlap", "reduced hardware", image_of(fadt(**BOTH_GPES)))
+
+SMI = {"_48": number(0xB2, 4)}
+broken("SmiHalf", "0x30 0x34 0xb2", "an SMI port and no commands", full(**SMI))
+broken("SmiHalf", "0x30 0x34 0xb2", "an SMI port and one command", full(**SMI, _52=b"\2\2"))
+kept("SmiHalf", "an SMI port and two commands", full(**SMI, _52=b"\2\3"))
+broken("SmiHalf", "0x30 0x35", "no SMI port, and commands", full(_53=b"\1\1\1"))
+broken("SmiHalf", "0x30 0x5f", "no SMI port, and a command for idle states", full(_95=b"\1"))
+kept("SmiHalf", "no SMI port", full())
+kept("SmiHalf", "reduced hardware", image_of(fadt(**SMI)))
+
+broken("SciZero", "0x2e", "an SCI of 0", full())
+kept("SciZero", "an SCI of 256", full(_46=number(256, 2)))
+kept("SciZero", "reduced hardware", listed())
+
+# ---- the FADT as a whole
+broken("ResetNowhere", "0x74", "a reset register at 0", reset(0))
+kept("ResetNowhere", "a reset register at 4 GiB", reset(2**32, 0))
+kept("ResetNowhere", "no reset register", reset(0, flags=REDUCED))
+kept("ResetNowhere", "no value of the reset register", reset(0, length=128))
+
+
+def arch(revision, minor, *entries, flags=REDUCED, length=132):
+    """A FADT of this version, where its Length has a minor one, and a MADT."""
+    return image_of(revised(fadt(flags, length, **({"_131": bytes([minor])} if length > 131 else {})), revision), madt(*entries))
+
+
+broken("FadtForArch", "0x8 0x5 0x0", "a FADT 5.0 and a GICC", arch(5, 0, gicc(0)))
+broken("FadtForArch", "0x8 0x5 0x0", "a FADT 5.0 with errata and a GICC", arch(5, 0x10, gicc(0)))
+broken("FadtForArch", "0x8 0x5 0x0", "a FADT 5 without a minor version and a GICC", arch(5, 0, gicc(0), length=131))
+broken("FadtForArch", "0x8 0x4 0x2", "a FADT 4.2 and a GICC of 2 bytes", arch(4, 2, other(11, 2)))
+broken("FadtForArch", "0x8 0x1 0x0", "a FADT 1 of full hardware and a GICC", arch(1, 0, gicc(0), flags=0))
+broken("FadtForArch", "0x70", "a FADT 5.1 of full hardware and a GICC", arch(5, 1, gicc(0), flags=0))
+broken("FadtForArch", "0x70", "a FADT 1 of full hardware and an RINTC of 2 bytes", arch(1, 0, other(24, 2), flags=0))
+kept("FadtForArch", "a FADT 5.1 and a GICC", arch(5, 1, gicc(0)))
+kept("FadtForArch", "a FADT 6 without a minor version and a GICC", arch(6, 0, gicc(0), length=116))
+kept("FadtForArch", "a FADT 1 and an RINTC", arch(1, 0, rintc(0)))
+kept("FadtForArch", "a FADT 1 of full hardware and a local APIC", arch(1, 0, lapic(0, 0), flags=0))
+
+BYTE = generic_address(1, width=8)
+
+
+def sleep(control, status, flags=REDUCED, length=268):
+    return image_of(fadt(flags, length, _244=control, _256=status[: length - 256]))
+
+
+kept("SleepRegister", "two registers of a byte", sleep(BYTE, BYTE))
+broken("SleepRegister", "0x100 0x10 0x0", "a status of 16 bits", sleep(BYTE, generic_address(1, width=16)))
+broken("SleepRegister", "0xf4 0x8 0x1", "a control from the second bit on", sleep(generic_address(1, width=8, offset=1), BYTE))
+broken("SleepRegister", "0x100", "a control without a status", sleep(BYTE, generic_address(0)))
+broken("SleepRegister", "0xf4", "a status without a control", sleep(generic_address(0), BYTE))
+broken("SleepRegister", "0xf4 0x0 0x0", "a control of no bits", sleep(generic_address(1, width=0), BYTE))
+kept("SleepRegister", "neither register", sleep(generic_address(0, width=16), generic_address(0, width=16, offset=1)))
+kept("SleepRegister", "a control, and a FADT that ends in the status", sleep(BYTE, bytes(12), length=267))
+kept("SleepRegister", "full hardware", sleep(BYTE, bytes(12), flags=0))
+
+broken("FadtReserved", "0x2c 0x0 0x2", "an interrupt model of 2", image_of(fadt(_44=b"\2")))
+broken("FadtReserved", "0x2d 0x0 0x9", "a profile of 9", image_of(fadt(_45=b"\11")))
+broken("FadtReserved", "0x6f 0x0 0x1", "the reserved byte before the flags", image_of(fadt(_111=b"\1")))
+broken("FadtReserved", "0x70 0x0 0x1100000", "flag bit 24", image_of(fadt(REDUCED | 1 << 24)))
+broken("FadtReserved", "0x70 0x0 0xd00000", "flag bits 22 and 23", image_of(fadt(REDUCED | 3 << 22)))
+broken("FadtReserved", "0x2d 0x0 0xff", "two bytes", image_of(fadt(_45=b"\xff", _111=b"\1")))
+kept("FadtReserved", "an interrupt model of 1, a profile of 8", image_of(fadt(_44=b"\1\10")))
+kept("FadtReserved", "flag bits up to 22", image_of(fadt((1 << 23) - 1)))
+kept("FadtReserved", "flag bit 23", image_of(fadt(REDUCED | 1 << 23)))
+
+
+def of_facs(changes, pointer=None):
+    """A FADT that names a FACS with some bytes changed."""
+    return image_of(pointer or full_fadt(), others={FACS_AT: changed(facs(), changes)})
+
+
+broken("FacsReserved", "0x20 0x0 0x3", "a FACS of Version 3", of_facs({32: 3}))
+broken("FacsReserved", "0x21 0x0 0x1", "a byte after the Version", of_facs({33: 1}))
+broken("FacsReserved", "0x23 0x0 0x1", "a byte before the OSPM Flags", of_facs({35: 1}))
+broken("FacsReserved", "0x28 0x0 0x7", "a byte after the OSPM Flags", of_facs({40: 7, 63: 1}))
+broken("FacsReserved", "0x3f 0x0 0x5", "the last byte", of_facs({63: 5}))
+broken("FacsReserved", "0x14 0x0 0x4", "flag bit 2", of_facs({20: 4, 32: 3}))
+broken("FacsReserved", "0x24 0x0 0x2", "OSPM flag bit 1", of_facs({36: 2}))
+broken("FacsReserved", "0x24 0x0 0x1000001", "OSPM flag bits 0 and 24", of_facs({36: 1, 39: 1}))
+broken("FacsReserved", "0x20 0x0 0x3", "reduced hardware with a FACS", of_facs({32: 3}, fadt(_36=number(FACS_AT, 4))))
+kept("FacsReserved", "all that is defined", of_facs({20: 3, 32: 2, 36: 1, **dict.fromkeys([*range(8, 20), *range(24, 32)], 0xFF)}))
+kept("FacsReserved", "a byte after the first 64", image_of(full_fadt(), others={FACS_AT: changed(facs() + b"\1", {4: 65})}))
+kept("FacsReserved", "a FACS of another signature", of_facs({0: ord("f"), 32: 3}))
+kept("FacsReserved", "a FACS of 63 bytes", of_facs({4: 63, 32: 3}))
+kept("FacsReserved", "a FACS at no multiple of 64", image_of(full_fadt(0x7020), others={0x7020: changed(facs(), {32: 3})}))
+kept("FacsReserved", "no FACS", listed())
+
+
+def pointed(pointer):
+    """A set with this RSDP."""
+    return {**BOTH_ROOTS, RSDP_AT: pointer}
+
+
+broken("RsdpReserved", "0xf 0x0 0x1", "Revision 1", pointed(changed(rsdp(), {15: 1}, (8, 20))))
+broken("RsdpReserved", "0xf 0x0 0x3", "Revision 3", pointed(changed(extended_rsdp(), {15: 3}, (8, 20))))
+broken("RsdpReserved", "0xf 0x0 0x3", "Revision 3, 20 bytes", {RSDP_AT: changed(rsdp(), {15: 3}, (8, 20))})
+broken("RsdpReserved", "0x14 0x0 0x28", "an RSDP of 40 bytes", pointed(extended_rsdp(length=40) + bytes(4)))
+kept("RsdpReserved", "an RSDP of 40 bytes, 39 of them present", pointed(extended_rsdp(length=40) + bytes(3)))
+kept("RsdpReserved", "an RSDP of 35 bytes", pointed(extended_rsdp(length=35)))
+broken("RsdpReserved", "0x21 0x0 0x9", "the first reserved byte", pointed(changed(extended_rsdp(), {33: 9, 35: 1})))
+broken("RsdpReserved", "0x23 0x0 0x1", "the last reserved byte", pointed(changed(extended_rsdp(), {35: 1})))
+kept("RsdpReserved", "an RSDP of 36 bytes", pointed(extended_rsdp()))
+kept("RsdpReserved", "Revision 0, and a byte after the RSDP", pointed(rsdp() + bytes(13) + b"\1\1\1"))
+
+# ---- headers
+
+
+def header(changes):
+    """An HPET of which bytes of the header are changed, in slot 1."""
+    return listed(changed(hpet(), changes, (9, 56)))
+
+
+broken("HeaderText", "0x1 0x0 0x3000", "a signature with a control byte", header({3: 0x1F}))
+broken("HeaderText", "0x1 0xa 0x3000", "an OEM ID with 7Fh", header({12: 0x7F}))
+broken("HeaderText", "0x1 0xa 0x3000", "an OEM ID with a zero before its end", header({10: 0}))
+broken("HeaderText", "0x1 0x10 0x3000", "an OEM Table ID with 80h", header({23: 0x80, 28: 1}))
+broken("HeaderText", "0x1 0x1c 0x3000", "a Creator ID with a zero before its end", header({30: 0}))
+kept("HeaderText", "names of zeros", header(dict.fromkeys([*range(10, 24), *range(28, 32)], 0)))
+kept("HeaderText", "zeros at the ends", header({3: 0, 14: 0, 15: 0, 23: 0, 31: 0}))
+kept("HeaderText", "the first and the last byte of text", header({0: 0x20, 1: 0x7E, 10: 0x20, 15: 0x7E}))
+kept("HeaderText", "other bytes of the header", header(dict.fromkeys([8, 24, 27, 32, 35], 0xFF)))
+kept("HeaderText", "35 bytes of a header", listed(changed(hpet(), {12: 0x7F})[:35]))
+
+ONCE = b"""
+    WSMT WAET VIOT TPM2 SVKL SPCR SDEV SDEI SBST RAS2 RASF PRMT PMTT PHAT PDTT PCCT NFIT MSCT MPST MCFG IVRS IORT HMAT HEST GTDT FPDT
+    ERST EINJ ECDT DMAR DBG2 CPEP CCEL BGRT BERT
+"""
+for signature in ONCE.split():
+    broken("SecondOther", "0x2 0x1 0x4000", f"two tables of {signature.decode()}", listed(*[table(signature, b"")] * 2))
+MCFG = table(b"MCFG", bytes(8))
+broken("SecondOther", "0x3 0x1 0x4000", "an MCFG twice, and another one", listed(MCFG, MCFG, slots=(0x2000, 0x3000, 0x3000, 0x4000)))
+kept("SecondOther", "an MCFG twice", listed(MCFG, slots=(0x2000, 0x3000, 0x3000)))
+kept("SecondOther", "two SSDTs", listed(*[table(b"SSDT", b"")] * 2))
+kept("SecondOther", "two MADTs", listed(madt(), madt()))
+
+
+# ---- the MADT: local APICs and I/O APICs
+def entries_broken(rule, numbers, name, *entries):
+    """A MADT of these entries, from 0x2C on, that breaks a rule."""
+    broken(rule, numbers, name, listed(madt(*entries)))
+
+
+def entries_kept(rule, name, *entries):
+    kept(rule, name, listed(madt(*entries)))
+
+
+LOW = "X2ApicBelow255"
+entries_broken(LOW, "0x34 0x0 0xfe", "an x2APIC of 254 after a local APIC", lapic(0, 0), x2apic(1, 254))
+entries_broken(LOW, "0x2c 0x0 0x5", "an x2APIC of 5 before a local APIC", x2apic(1, 5), lapic(0, 0))
+entries_broken(LOW, "0x3c 0x0 0x5", "local APICs of 255 and of 0", lapic(0, 255), lapic(1, 0), x2apic(2, 5))
+entries_broken(LOW, "0x34 0x0 0x5", "both online capable", lapic(0, 0, 2), x2apic(1, 5, 2))
+entries_kept(LOW, "an x2APIC of 255", lapic(0, 0), x2apic(1, 255))
+entries_kept(LOW, "a local APIC of 255", lapic(0, 255), x2apic(1, 5))
+entries_kept(LOW, "a local APIC that is off", lapic(0, 0, 0), x2apic(1, 5))
+entries_kept(LOW, "an x2APIC that is off", lapic(0, 0), x2apic(1, 5, 0))
+entries_kept(LOW, "no local APIC", x2apic(1, 5))
+
+entries_broken("BroadcastId", "0x2c 0x0 0xff", "a local APIC of 255", lapic(0, 255))
+entries_broken("BroadcastId", "0x34 0x0 0xffffffff", "an x2APIC of all ones", lapic(0, 254), x2apic(0, 2**32 - 1, 2))
+entries_kept("BroadcastId", "a local APIC of 254", lapic(0, 254))
+entries_kept("BroadcastId", "a local APIC of 255 that is off", lapic(0, 255, 0))
+entries_kept("BroadcastId", "x2APICs of 255 and of all ones but one", x2apic(0, 255), x2apic(0, 2**32 - 2))
+entries_kept("BroadcastId", "an x2APIC of all ones that is off", x2apic(0, 2**32 - 1, 0))
+
+EARLY = "CapableTooEarly"
+broken(EARLY, "0x2c 0x6 0x2", "an online capable local APIC by 6.2", arch(6, 2, lapic(0, 0, 2)))
+broken(EARLY, "0x2c 0x6 0x2", "the same with errata", arch(6, 0xF2, lapic(0, 0, 2)))
+broken(EARLY, "0x34 0x5 0x9", "an online capable x2APIC by 5.9", arch(5, 9, lapic(0, 0), x2apic(0, 0, 2)))
+broken(EARLY, "0x2c 0x6 0x0", "an online capable local APIC by 6", arch(6, 0, lapic(0, 0, 2), length=131))
+broken(EARLY, "0x2c 0x6 0x4", "an online capable GICC by 6.4", arch(6, 4, gicc(0, 8)))
+kept(EARLY, "an online capable local APIC and x2APIC by 6.3", arch(6, 3, lapic(0, 0, 2), x2apic(1, 1, 2)))
+kept(EARLY, "an online capable GICC by 6.5", arch(6, 5, gicc(0, 8)))
+kept(EARLY, "an online capable GICC by 7.0", arch(7, 0, gicc(0, 8)))
+kept(EARLY, "both flags by 6.2", arch(6, 2, lapic(0, 0, 3), gicc(1, 9)))
+kept(EARLY, "neither flag by 6.2", arch(6, 2, lapic(0, 0, 4), gicc(1, 6)))
+kept(EARLY, "an online capable RINTC by 6.2", arch(6, 2, rintc(0, 2)))
+kept(EARLY, "no FADT", image_of(madt(lapic(0, 0, 2))))
+
+entries_broken("EnabledAndCapable", "0x2c 0x0 0x3", "a local APIC", lapic(0, 0, 3))
+entries_broken("EnabledAndCapable", "0x34 0x0 0x7", "an x2APIC", lapic(0, 0), x2apic(0, 0, 7))
+entries_broken("EnabledAndCapable", "0x2c 0x0 0x9", "a GICC", gicc(0, 9))
+entries_broken("EnabledAndCapable", "0x2c 0x0 0x3", "an RINTC", rintc(0, 3))
+entries_kept(
+    "EnabledAndCapable", "one flag of each",
+    lapic(0, 0, 1), x2apic(1, 1, 2), gicc(2, 8), gicc(3, 7), rintc(4, 2), core_pic(5, 5, 3),
+)
+entries_kept("EnabledAndCapable", "lengths that are no processor's", gicc(0, 9, 39), rintc(0, 3, 19))
+
+entries_broken("OverridePastIsa", "0x2c 0x10 0x14", "an override of 16", override(16, 20))
+broken("OverridePastIsa", "0x2c 0x10 0x14", "an SCI of 272", image_of(fadt(_46=number(272, 2)), madt(override(16, 20))))
+entries_kept("OverridePastIsa", "an override of 15", override(15, 20))
+kept("OverridePastIsa", "an override of the SCI", image_of(fadt(_46=number(16, 2)), madt(override(16, 20))))
+kept("OverridePastIsa", "no FADT", image_of(madt(override(16, 20))))
+
+entries_broken("TimerLevel", "0x2c 0x0 0xc", "a timer by level", override(0, 2, 0b1100))
+entries_broken("TimerLevel", "0x36 0x0 0xf", "a timer by level, active low", override(0, 2, 0b0100), override(0, 2, 0b1111))
+entries_kept("TimerLevel", "a timer by edge, and one of a reserved mode", override(0, 2, 0b0100), override(0, 2, 0b1000))
+entries_kept("TimerLevel", "another source by level", override(1, 2, 0b1100))
+
+entries_broken("TwoSourcesOneGsi", "0x36 0x2c 0x2", "sources 0 and 2", override(0, 2), override(2, 2))
+entries_broken("TwoSourcesOneGsi", "0x40 0x2c 0x2", "sources 0, 0 and 2", override(0, 2), override(0, 2), override(2, 2))
+entries_broken(
+    "TwoSourcesOneGsi", "0x4a 0x36 0x9", "after overrides of other numbers",
+    override(0, 2), override(1, 9), override(2, 3), override(5, 9),
+)
+entries_kept("TwoSourcesOneGsi", "one source, twice to one number and to another", override(9, 9), override(9, 9), override(9, 20))
+
+entries_broken("LintNotOne", "0x2c 0x0 0x0", "a local APIC NMI by LINT0", lapic_nmi(255, 0))
+entries_broken("LintNotOne", "0x32 0x0 0x2", "an x2APIC NMI by LINT2", lapic_nmi(255, 1), x2apic_nmi(0, 2))
+entries_kept("LintNotOne", "both by LINT1", *local_nmis(0, 1))
+
+entries_broken("NoIoApic", "0x0", "a local APIC and an override", lapic(0, 0), override(0, 2))
+entries_broken("NoIoApic", "0x0", "an x2APIC and an NMI source", x2apic(0, 0), nmi_source(3))
+entries_kept("NoIoApic", "an I/O APIC", lapic(0, 0), override(0, 2), io_apic(0xFEC00000, 0))
+entries_kept("NoIoApic", "an I/O SAPIC", lapic(0, 0), override(0, 2), other(6, 2))
+entries_kept("NoIoApic", "a local APIC alone", lapic(0, 0))
+entries_kept("NoIoApic", "a local APIC that is off", lapic(0, 0, 0), override(0, 2))
+entries_kept("NoIoApic", "a GICC", gicc(0), override(0, 2))
+entries_kept("NoIoApic", "a MADT that is cut", lapic(0, 0), override(0, 2), b"\7")
+entries_kept("NoIoApic", "an NMI of 5 bytes", lapic(0, 0), override(0, 2), other(4, 5))
+
+
+# ---- the MADT: a GIC
+def placed(data, **fields):
+    """An entry with these bytes at these offsets, as far as it goes."""
+    for name, value in fields.items():
+        at = int(name[1:])
+        data = (data[:at] + value + data[at + len(value) :])[: len(data)] if at < len(data) else data
+    return data
+
+
+def distributor(version, base=0):
+    return placed(gicd(), _8=number(base, 8), _20=bytes([version]))
+
+
+def redistributor(base, size, length=16):
+    return placed(other(14, length), _4=number(base, 8), _12=number(size, 4))
+
+
+def its(its_id, base=0, length=20):
+    return placed(other(15, length), _4=number(its_id, 4), _8=number(base, 8))
+
+
+def frame(frame_id, base=0, length=24):
+    return placed(other(13, length), _4=number(frame_id, 4), _8=number(base, 8))
+
+
+def cpu(base=0, gicr=0, mpidr=0, parking=0, flags=1, length=80):
+    """A GICC with these fields, as far as it goes."""
+    fields = {"_16": number(parking, 4), "_32": number(base, 8), "_60": number(gicr, 8), "_68": number(mpidr, 8)}
+    return placed(gicc(0, flags, length), **fields)
+
+
+entries_broken("NoDistributor", "0x0", "a GICC", gicc(0))
+entries_broken("NoDistributor", "0x0", "a GICC of 2 bytes", other(11, 2))
+entries_kept("NoDistributor", "a GICC and a distributor", gicc(0), gicd())
+entries_kept("NoDistributor", "both of 2 bytes", other(11, 2), other(12, 2))
+entries_kept("NoDistributor", "no GICC", lapic(0, 0))
+entries_kept("NoDistributor", "a MADT that is cut", gicc(0), b"\0")
+entries_kept("NoDistributor", "a local APIC of 7 bytes", gicc(0), other(0, 7))
+
+WANTED = "NoRedistributor"
+entries_broken(WANTED, "0x2c 0x3", "version 3", distributor(3), cpu())
+entries_broken(WANTED, "0x2c 0x4", "version 4, and no GICC", distributor(4))
+entries_broken(WANTED, "0x43 0x3", "after a distributor of 23 bytes", gicd(23), distributor(3), cpu())
+entries_broken(WANTED, "0x2c 0x3", "a GICC that is off has one", distributor(3), cpu(gicr=0x1000, flags=0))
+entries_broken(WANTED, "0x2c 0x3", "a GICC that ends in it", distributor(3), cpu(gicr=2**24 - 1, length=67))
+entries_kept(WANTED, "a GICC has one", distributor(3), cpu(gicr=0x1000, flags=8, length=68))
+entries_kept(WANTED, "an empty range of them", distributor(3), redistributor(0, 0), cpu())
+entries_kept(WANTED, "a structure of 2 bytes", distributor(3), other(14, 2), cpu())
+for version in (0, 2, 5):
+    entries_kept(WANTED, f"version {version}", distributor(version), distributor(3), cpu())
+entries_kept(WANTED, "a MADT that is cut", distributor(3), cpu(), b"\0")
+
+SMALL = "GicrTooSmall"
+entries_broken(SMALL, "0x44 0x1 0x2", "one for two GICCs", distributor(3), redistributor(0, 0x20000), cpu(), cpu())
+entries_broken(SMALL, "0x44 0x1 0x2", "two but for a byte", distributor(4), redistributor(0, 0x3FFFF), cpu(), cpu(flags=8))
+entries_broken(SMALL, "0x44 0x0 0x1", "none for a GICC", distributor(3), redistributor(0, 0x1FFFF), redistributor(0x20000, 0x1FFFF), cpu())
+entries_kept(SMALL, "two for two GICCs", distributor(3), redistributor(0, 0x20000), cpu(), redistributor(0x20000, 0x20000), cpu())
+entries_kept(SMALL, "one for a GICC that is on", distributor(3), redistributor(0, 0x20000), cpu(), cpu(flags=0))
+entries_kept(SMALL, "a structure of 17 bytes", distributor(3), redistributor(0, 0), redistributor(0, 0, 17), cpu())
+entries_kept(SMALL, "version 2", distributor(2), redistributor(0, 0), cpu())
+entries_kept(SMALL, "no structure", distributor(3), cpu())
+entries_kept(SMALL, "a MADT that is cut", distributor(3), redistributor(0, 0), cpu(), b"\0")
+
+OTHER_BASE = "GiccBaseDiffers"
+entries_broken(OTHER_BASE, "0x94 0x44 0x2000", "two bases, version 2", distributor(2), cpu(0x1000), cpu(0x2000))
+entries_broken(
+    OTHER_BASE, "0x94 0x44 0x0", "a base and none, version 1, the first one off",
+    distributor(1), cpu(0x1000, flags=0), cpu(0, flags=0),
+)
+entries_kept(OTHER_BASE, "one base", distributor(2), cpu(0x1000), cpu(0x1000))
+entries_kept(OTHER_BASE, "two bases, one of them in 39 bytes", distributor(2), cpu(0x2000, length=39), cpu(0x1000))
+for version in (0, 3):
+    entries_kept(OTHER_BASE, f"two bases, version {version}", distributor(version), distributor(2), cpu(0x1000), cpu(0x2000))
+entries_kept(OTHER_BASE, "no distributor", cpu(0x1000), cpu(0x2000))
+
+entries_broken("SameMpidr", "0x7c 0x2c 0x5", "one MPIDR twice", cpu(mpidr=5), cpu(mpidr=5))
+entries_broken("SameMpidr", "0x78 0x2c 0x5", "one MPIDR twice, in 76 bytes", cpu(mpidr=5, length=76), cpu(mpidr=5, length=76, flags=8))
+entries_kept("SameMpidr", "one MPIDR twice, once in 75 bytes", cpu(mpidr=5, length=75), cpu(mpidr=5))
+entries_kept("SameMpidr", "one MPIDR twice, once off", cpu(mpidr=5, flags=0), cpu(mpidr=5))
+entries_kept("SameMpidr", "two MPIDRs", cpu(mpidr=5), cpu(mpidr=2**32 + 5))
+
+for bit in (24, 31, 40, 63):
+    entries_broken("MpidrReserved", f"0x2c 0x0 {1 << bit:#x}", f"bit {bit}", cpu(mpidr=1 << bit))
+entries_kept("MpidrReserved", "all bits of affinities", cpu(mpidr=0xFF00FFFFFF))
+entries_kept("MpidrReserved", "bit 31 of one that is off", cpu(mpidr=1 << 31, flags=0))
+entries_kept("MpidrReserved", "bit 31 in 75 bytes", cpu(mpidr=1 << 31, length=75))
+
+entries_broken("GicrEmpty", "0x3c 0x0 0x1000", "an empty range", redistributor(0, 1), redistributor(0x1000, 0))
+entries_kept("GicrEmpty", "a range of a byte, and one in 17 bytes", redistributor(0, 1), redistributor(0, 0, 17))
+
+entries_broken("SameIts", "0x40 0x2c 0x1", "one ID twice", its(1), its(1, 0x20000))
+entries_kept("SameIts", "two IDs, and one in 21 bytes", its(1), its(2), its(1, 0, 21))
+entries_broken("SameMsiFrame", "0x44 0x2c 0x1", "one ID twice", frame(1), frame(1, 0x1000))
+entries_kept("SameMsiFrame", "two IDs, and one in 23 bytes", frame(1), frame(2), frame(1, 0, 23))
+
+GIC = "GicOverlap"
+entries_broken(GIC, "0x2c 0x40 0x3ffff", "the last byte of an ITS", its(0, 0x20000), frame(0, 0x3FFFF))
+entries_broken(GIC, "0x44 0x2c 0xfff", "the last byte of a frame", frame(1, 0xFFF), frame(0, 0))
+entries_broken(GIC, "0x2c 0x44 0xfff", "the last byte of a distributor of version 2", distributor(2), frame(0, 0xFFF))
+entries_broken(GIC, "0x2c 0x44 0xffff", "the last byte of a distributor of version 3", distributor(3), frame(0, 0xFFFF))
+entries_broken(GIC, "0x2c 0x3c 0x1fff", "the last byte of redistributors", redistributor(0x1000, 0x1000), frame(0, 0x1FFF))
+entries_broken(GIC, "0x2c 0x44 0x8000", "two distributors", distributor(4), distributor(2, 0x8000))
+entries_broken(GIC, "0x2c 0x44 0x1000", "two frames at one place", frame(0, 0x1000), frame(1, 0x1000))
+entries_broken(
+    GIC, "0x40 0x2c 0x100", "two ITS, and two frames later on",
+    its(0, 0x100), its(1), frame(0, 0x40000), frame(1, 0x40000),
+)
+entries_kept(
+    GIC, "ranges that touch", distributor(3, 0x10000), distributor(2, 0x20000), redistributor(0x21000, 0x1000), its(0, 0x22000),
+    frame(0, 0x42000), frame(1, 0x43000), distributor(5, 0x44000), frame(2, 0x45000),
+)
+entries_kept(GIC, "an empty range", redistributor(0x1000, 0), redistributor(0x1000, 0x1000))
+entries_kept(GIC, "a range that goes past the last address", its(0, 2**64 - 1), frame(0, 0))
+entries_kept(GIC, "a frame of 25 bytes", its(0), frame(0, 0, 25))
+
+TWICE_TOLD = "RedistributorTwice"
+entries_broken(TWICE_TOLD, "0x3c 0x2c 0x5000", "a range and one of a GICC", redistributor(0x1000, 0x1000), cpu(gicr=0x5000))
+entries_broken(TWICE_TOLD, "0x2c 0x7c 0x5000", "a GICC before an empty range", cpu(gicr=0x5000), redistributor(0, 0))
+entries_kept(TWICE_TOLD, "a range alone", redistributor(0x1000, 0x1000), cpu())
+entries_kept(TWICE_TOLD, "a range, and one of a GICC that is off", redistributor(0x1000, 0x1000), cpu(gicr=0x5000, flags=0))
+entries_kept(TWICE_TOLD, "a range, and one in 67 bytes", redistributor(0x1000, 0x1000), cpu(gicr=0x5000, length=67))
+entries_kept(TWICE_TOLD, "one of a GICC, and a range in 17 bytes", redistributor(0x1000, 0x1000, 17), cpu(gicr=0x5000))
+
+
+def booted(flags, *entries, length=131):
+    """A FADT with this ARM_BOOT_ARCH, as far as its Length goes, and a MADT."""
+    return image_of(fadt(length=length, _129=number(flags, 2)[: length - 129]), madt(*entries))
+
+
+broken("NoBootMethod", "0x81", "two GICCs, no PSCI", booted(0, cpu(), cpu()))
+broken("NoBootMethod", "0x81 0x0 0x2", "two GICCs, a call of PSCI alone", booted(2, cpu(), cpu(flags=8)))
+broken("NoBootMethod", "0x81", "a GICC that is off has a parking protocol", booted(0, cpu(), cpu(), cpu(parking=1, flags=0)))
+kept("NoBootMethod", "PSCI", booted(1, cpu(), cpu()))
+kept("NoBootMethod", "a parking protocol", booted(0, cpu(), cpu(parking=1)))
+kept("NoBootMethod", "one GICC that is on", booted(0, cpu(), cpu(flags=0)))
+kept("NoBootMethod", "a FADT that ends in ARM_BOOT_ARCH", booted(0, cpu(), cpu(), length=130))
+kept("NoBootMethod", "a MADT that is cut", booted(0, cpu(), cpu(), b"\0"))
+
+
+def hart(hart_id, flags=1, length=36):
+    return placed(rintc(0, flags, length), _8=number(hart_id, 8))
+
+
+entries_broken("SameHart", "0x50 0x2c 0x5", "one hart twice", hart(5), hart(5, 2))
+entries_broken("SameHart", "0x40 0x2c 0x5", "one hart twice, in 20 bytes", hart(5, length=20), hart(5, length=20))
+entries_kept("SameHart", "two harts", hart(5), hart(2**32 + 5))
+entries_kept("SameHart", "one hart twice, once off, once in 19 bytes", hart(5), hart(5, 0), hart(5, 1, 19))
+
+# ---- what is reserved in the MADT
+USED = "MadtReserved"
+broken(USED, "0x28 0x0 0x2", "flag bit 1 of the MADT", listed(table(b"APIC", bytes(4) + number(2, 4) + io_apic(0, 0, 0, 1))))
+for name, entry, at in (
+    ("an I/O APIC's reserved byte", io_apic(0, 0, 0, 1), "0x3"),
+    ("a local APIC's flag bit 2", lapic(0, 0, 4), "0x4"),
+    ("a local APIC's flag bit 31", lapic(0, 0, 1 << 31), "0x4"),
+    ("an override's flag bit 4", override(0, 0, 0x10), "0x8"),
+    ("an NMI source's flag bit 15", nmi_source(0, 0x8000), "0x2"),
+    ("a local APIC NMI's flag bit 4", lapic_nmi(0, 1, 0x10), "0x3"),
+    ("an address's reserved bytes", lapic_address(0, 1), "0x2"),
+    ("an address's second reserved byte", changed(lapic_address(0), {3: 1}), "0x3"),
+    ("an x2APIC's reserved bytes, and flag bit 2", x2apic(0, 0, 4, 1), "0x2"),
+    ("an x2APIC's flag bit 2", x2apic(0, 0, 4), "0x8"),
+    ("an x2APIC NMI's flag bit 4", x2apic_nmi(0, 1, 0x10, 1), "0x2"),
+    ("an x2APIC NMI's reserved bytes", x2apic_nmi(0, 1, 0, 1), "0x9"),
+    ("an x2APIC NMI's last byte", changed(x2apic_nmi(0, 1), {11: 1}), "0xb"),
+    ("a distributor's byte 16", placed(distributor(5), _16=b"\1\1\1\1"), "0x10"),
+    ("a distributor's byte 19", placed(gicd(), _19=b"\1"), "0x13"),
+    ("a distributor's version 5", distributor(5), "0x14"),
+):
+    entries_broken(USED, f"0x2c {at}", name, entry)
+entries_broken(USED, "0x34 0x3", "the first of three entries", lapic(0, 0), io_apic(0, 0, 0, 1), lapic(1, 1, 4), distributor(5))
+entries_broken(USED, "0x2c 0x14", "a distributor before a local APIC", distributor(5), lapic(0, 0, 4))
+entries_kept(
+    USED, "all that is defined", lapic(0, 0, 3), io_apic(0, 0, 255), override(255, 0, 0xF, 255),
+    nmi_source(0, 0xF), lapic_nmi(255, 255, 0xF),
+    lapic_address(2**64 - 1), x2apic(2**32 - 1, 2**32 - 1, 3), x2apic_nmi(0, 255, 0xF), distributor(4, 2**64 - 1),
+)
+entries_kept(USED, "other bytes of a distributor", placed(gicd(), _2=b"\1" * 6, _21=b"\1" * 3))
+entries_kept(
+    USED, "entries of other lengths and types",
+    other(6, 2), b"\0\11" + b"\xff" * 7, b"\14\31" + b"\xff" * 23, b"\13\50" + b"\xff" * 38,
+)
+
+
+# ---- the SRAT
+def affinities_broken(rule, numbers, name, *entries):
+    """An SRAT of these entries, from 0x30 on, that breaks a rule."""
+    broken(rule, numbers, name, listed(srat(*entries)))
+
+
+def affinities_kept(rule, name, *entries):
+    kept(rule, name, listed(srat(*entries)))
+
+
+HERE = apic_domain(0, 0)
+NO_RANGE = "NoMemoryRange"
+affinities_broken(NO_RANGE, "0x0", "a processor alone", HERE)
+affinities_broken(NO_RANGE, "0x0", "a processor of a GIC", uid_domain(0, 0))
+affinities_broken(NO_RANGE, "0x0", "a hart", hart_domain(0, 0))
+affinities_broken(
+    NO_RANGE, "0x0", "an x2APIC, and ranges that are empty or not enabled",
+    x2apic_domain(0, 0), memory(0, 0), memory(0, 1, 0), memory(0, 1, 2),
+)
+affinities_kept(NO_RANGE, "a range of a byte", HERE, memory(0, 1))
+affinities_kept(NO_RANGE, "a processor that is not enabled, and an ITS", apic_domain(0, 0, 0), its_domain(0), device_domain(5, 0))
+affinities_kept(NO_RANGE, "an SRAT that is cut", HERE, b"\3")
+affinities_kept(NO_RANGE, "a range of 24 bytes", HERE, other(1, 24))
+
+affinities_broken("EmptyRange", "0x58 0x0 0x1000", "a range of a byte, and an empty one", memory(0, 1), memory(0x1000, 0))
+affinities_kept("EmptyRange", "a range of a byte, and an empty one that is not enabled", memory(0, 1), memory(0x1000, 0, 2))
+
+affinities_broken("InitiatorOff", "0x30 0x0 0x107", "an initiator that is not enabled", device_domain(5, 0x107, 2))
+affinities_kept("InitiatorOff", "an initiator", device_domain(5, 7))
+affinities_kept("InitiatorOff", "a port, and an initiator of 31 bytes", device_domain(6, 7, 0), device_domain(5, 7, 0, 31))
+
+PAST = "DomainPastRevision"
+affinities_broken(PAST, "0x30 0x1 0x100", "a processor in domain 256", apic_domain(0, 256))
+affinities_broken(PAST, "0x58 0x1 0x100", "memory in domain 256", memory(0, 1, 1, 255), memory(1, 1, 1, 256))
+affinities_broken(PAST, "0x30 0x1 0x1ff", "memory in domain 1FFh, and a processor later", memory(0, 1, 1, 0x1FF), apic_domain(0, 256))
+broken(PAST, "0x30 0x0 0x100", "an SRAT of Revision 0", listed(revised(srat(apic_domain(0, 256)), 0)))
+affinities_kept(PAST, "domain 255", apic_domain(0, 255), memory(0, 1, 1, 255))
+affinities_kept(PAST, "domain 256 of what is not enabled", apic_domain(0, 256, 0), memory(0, 1, 0, 256))
+affinities_kept(PAST, "domain 256 of other types", x2apic_domain(0, 256), uid_domain(0, 256))
+kept(PAST, "an SRAT of Revision 2", listed(revised(srat(apic_domain(0, 256)), 2)))
+
+
+def of_its(its_id, length=12):
+    return placed(its_domain(0, length), _8=number(its_id, 4))
+
+
+def its_and(affinity, *entries):
+    """A MADT of these entries, and an SRAT of one."""
+    return listed(madt(*entries), srat(affinity))
+
+
+broken("ItsNowhere", "0x30 0x0 0x6", "another ITS", its_and(of_its(6), its(5)))
+broken("ItsNowhere", "0x30 0x0 0x0", "no ITS", its_and(of_its(0)))
+broken("ItsNowhere", "0x3c 0x0 0x106", "the second affinity", listed(madt(its(6)), srat(of_its(6), of_its(0x106))))
+kept("ItsNowhere", "two ITS", its_and(of_its(6), its(5), its(6)))
+kept("ItsNowhere", "an affinity of 13 bytes", its_and(of_its(6, 13), its(5)))
+kept("ItsNowhere", "an ITS of 21 bytes", its_and(of_its(6), its(5), its(7, 0, 21)))
+kept("ItsNowhere", "a MADT that is cut", its_and(of_its(6), b"\0"))
+kept("ItsNowhere", "no MADT", listed(srat(of_its(6))))
+kept("ItsNowhere", "a MADT of 40 bytes", listed(table(b"APIC", bytes(4)), srat(of_its(6))))
+
+USED_HERE = "SratReserved"
+
+
+def begun(one, *entries):
+    """An SRAT with this first reserved number."""
+    return listed(table(b"SRAT", number(one, 4) + b"\1" * 8 + b"".join(entries)))
+
+
+broken(USED_HERE, "0x24 0x0 0x2", "a first number of 2", begun(2, memory(0, 1, 8)))
+broken(USED_HERE, "0x24", "a first number of 0", begun(0))
+kept(USED_HERE, "a first number of 1, and other reserved bytes", begun(1))
+RANGE = memory(0, 1)
+for name, entry, at in (
+    ("a processor's flag bit 1", apic_domain(0, 0, 2), "0x4"),
+    ("all reserved bytes of a range", memory(0, 1, reserved=1), "0x6"),
+    ("a range's byte 7", changed(RANGE, {7: 1}), "0x7"),
+    ("a range's byte 24", changed(RANGE, {24: 1, 28: 8}), "0x18"),
+    ("a range's byte 27", changed(RANGE, {27: 1}), "0x1b"),
+    ("a range's flag bit 3", changed(memory(0, 1, 8), {39: 1}), "0x1c"),
+    ("a range's flag bit 31", memory(0, 1, 1 << 31), "0x1c"),
+    ("a range's byte 32", changed(RANGE, {32: 1}), "0x20"),
+    ("a range's byte 39", changed(RANGE, {39: 1}), "0x27"),
+    ("all reserved bytes of an x2APIC", x2apic_domain(0, 0, 2, 1), "0x2"),
+    ("an x2APIC's byte 3", changed(x2apic_domain(0, 0), {3: 1}), "0x3"),
+    ("an x2APIC's flag bit 1", x2apic_domain(0, 0, 2), "0xc"),
+    ("an x2APIC's byte 20", changed(x2apic_domain(0, 0), {20: 1}), "0x14"),
+    ("an x2APIC's byte 23", changed(x2apic_domain(0, 0), {23: 1}), "0x17"),
+):
+    affinities_broken(USED_HERE, f"0x30 {at}", name, entry)
+affinities_broken(USED_HERE, "0x58 0x4", "the second entry", RANGE, apic_domain(0, 0, 2))
+ALL_ONES = b"\xff" * 8
+affinities_kept(
+    USED_HERE, "all that is defined", placed(apic_domain(255, 2**32 - 1), _8=b"\xff", _12=ALL_ONES[:4]),
+    memory(2**64 - 1, 2**64 - 1, 7, 2**32 - 1), placed(x2apic_domain(2**32 - 1, 2**32 - 1), _16=ALL_ONES[:4]),
+)
+affinities_kept(USED_HERE, "entries of other types and lengths", b"\3\22" + ALL_ONES * 2, b"\1\51" + b"\xff" * 39)
+
+# ---- the SLIT
+for count, cells, at, row, column in ((2, [10, 10, 20, 10], "0x2d", 0, 1), (2, [10, 20, 10, 10], "0x2e", 1, 0)):
+    broken("RemoteAsLocal", f"{at} {row:#x} {column:#x}", f"10 from {row} to {column}", listed(slit(count, cells)))
+broken("RemoteAsLocal", "0x31 0x1 0x2", "10 from 1 to 2, and later", listed(slit(3, [10, 20, 20, 20, 10, 10, 10, 10, 10])))
+kept("RemoteAsLocal", "distances of 9 and 11", listed(slit(2, [10, 9, 11, 10])))
+kept("RemoteAsLocal", "a SLIT of one locality", listed(slit(1, [10])))
+kept("RemoteAsLocal", "a SLIT of another size", listed(slit(2, [10, 10, 10])))
+
+# ---- the PPTT
+
+
+def nodes_broken(rule, numbers, name, *entries, revision=2):
+    """A PPTT of these entries, from 0x24 on, that breaks a rule."""
+    broken(rule, numbers, name, listed(pptt(*entries, revision=revision)))
+
+
+def nodes_kept(rule, name, *entries, revision=2):
+    kept(rule, name, listed(pptt(*entries, revision=revision)))
+
+
+PACKAGE = 1
+NAMED = node(0, IS_ID_VALID, 7)
+nodes_broken("LeafUnflagged", "0x24 0x0 0x7", "a node of a processor", NAMED)
+nodes_broken("LeafUnflagged", "0x38 0x0 0x8", "its child", NAMED, node(36, IS_ID_VALID, 8), revision=3)
+nodes_kept("LeafUnflagged", "a leaf, and a node of no processor", leaf(7), node(0, 0, 8))
+nodes_kept("LeafUnflagged", "a parent of a leaf", NAMED, leaf(8, 36))
+nodes_kept("LeafUnflagged", "a parent of itself", node(36, IS_ID_VALID, 7))
+nodes_kept("LeafUnflagged", "Revision 1", NAMED, revision=1)
+nodes_kept("LeafUnflagged", "a PPTT that is cut", NAMED, b"\0")
+nodes_kept("LeafUnflagged", "a child of another length", NAMED, node(36, count=1))
+nodes_kept("LeafUnflagged", "a cache of another length", NAMED, other(1, 20))
+
+nodes_broken("LeafAsParent", "0x24 0x38", "a leaf with two children", leaf(7), node(36), node(36))
+nodes_broken("LeafAsParent", "0x24 0x24", "a leaf that is its own child", leaf(7, 36), node(36))
+nodes_broken("LeafAsParent", "0x38 0x24", "a leaf of no processor, after its child", node(56), node(0, IS_LEAF))
+nodes_broken("LeafAsParent", "0x24 0x38", "a leaf in a PPTT that is cut", leaf(7), node(36), b"\0")
+nodes_kept("LeafAsParent", "a node with a child", NAMED, leaf(8, 36))
+nodes_kept("LeafAsParent", "a child of another length", leaf(7), node(36, count=1))
+nodes_kept("LeafAsParent", "Revision 1", leaf(7), node(36), revision=1)
+
+nodes_broken("NoPackage", "0x24 0x0 0x7", "a leaf alone", leaf(7))
+nodes_broken("NoPackage", "0x38 0x0 0x7", "a leaf with a parent", node(), leaf(7, 36))
+nodes_broken("NoPackage", "0x24 0x0 0x7", "a leaf before its parent, and a package beside it", leaf(7, 56), node(), node(0, PACKAGE))
+nodes_broken("NoPackage", "0x24 0x0 0x7", "Revision 1", NAMED, revision=1)
+nodes_broken("NoPackage", "0x24 0x0 0x7", "a leaf in a PPTT that is cut", leaf(7), b"\0")
+nodes_kept("NoPackage", "a package", leaf(7, 0, LEAF | PACKAGE))
+nodes_kept("NoPackage", "a leaf in a package", node(0, PACKAGE), node(36), leaf(7, 56))
+nodes_kept("NoPackage", "a leaf in a part of a package that is a package", node(0, PACKAGE), node(36, PACKAGE), leaf(7, 56))
+nodes_kept("NoPackage", "a leaf of a package in a node", node(), node(36, PACKAGE), leaf(7, 56))
+nodes_kept("NoPackage", "a Parent that is not there", leaf(7, 99))
+nodes_kept("NoPackage", "Parents in a cycle", node(56), node(36), leaf(7, 56))
+nodes_kept("NoPackage", "a node that is no leaf", NAMED)
+nodes_kept("NoPackage", "Revision 1, a PPTT that is cut", NAMED, b"\0", revision=1)
+
+NUMBERS = "CacheNumbers"
+SHAPE = {"sets": 64, "ways": 8, "line": 64}
+nodes_broken(NUMBERS, "0x24 0x5 0x0", "no ways", cache(flags=4, size=5, sets=6, line=7))
+nodes_broken(NUMBERS, "0x24 0x0 0x18", "no size", cache(flags=1, sets=2, ways=3, line=4))
+nodes_broken(NUMBERS, "0x24 0x8001 0x8000", "a byte more than its lines", cache(flags=0x47, size=0x8001, **SHAPE))
+nodes_broken(
+    NUMBERS, "0x3c 0x7fff 0x8000", "a byte less than its lines",
+    cache(flags=0x47, size=0x8000, **SHAPE), cache(0, 28, 0xFF, 0x7FFF, **SHAPE),
+)
+nodes_broken(NUMBERS, "0x24 0x1 0xfeff00ff0100ff", "the most lines", cache(flags=0x47, size=1, sets=2**32 - 1, ways=255, line=2**16 - 1))
+nodes_kept(NUMBERS, "as many bytes as its lines have", cache(flags=0x47, size=0x8000, **SHAPE))
+for flags in (0x46, 0x45, 0x43, 0x07):
+    nodes_kept(NUMBERS, f"a byte more, flags {flags:x}", cache(flags=flags, size=0x8001, **SHAPE))
+nodes_kept(NUMBERS, "no size and no ways that are valid", cache(flags=0xFA))
+nodes_kept(NUMBERS, "a cache of 25 bytes", cache(0, 25, 5))
+
+USED_THERE = "PpttReserved"
+for name, entry, at in (
+    ("a node's reserved bytes", node(flags=0x20, reserved=1), "0x2"),
+    ("a node's byte 3", changed(node(), {3: 1}), "0x3"),
+    ("a node's flag bit 5", node(flags=0x20), "0x4"),
+    ("a node's flag bit 31", node(flags=1 << 31), "0x4"),
+    ("a cache's reserved bytes", cache(reserved=1), "0x2"),
+    ("a cache's byte 3", changed(cache(), {3: 1}), "0x3"),
+    ("a cache's flag bit 8, and an attribute", cache(flags=0x100, attributes=0x20), "0x4"),
+    ("a cache's attribute bit 5", cache(attributes=0x20), "0x15"),
+    ("a cache's attribute bit 7, in 28 bytes", cache(length=28, attributes=0x80), "0x15"),
+):
+    nodes_broken(USED_THERE, f"0x24 {at}", name, entry, revision=1)
+nodes_broken(USED_THERE, "0x38 0x15", "the second entry", node(), cache(attributes=0x20), node(flags=0x20))
+nodes_kept(
+    USED_THERE, "all that is defined", node(2**32 - 1, 0x1F, 2**32 - 1, [2**32 - 1]),
+    cache(2**32 - 1, 28, 0xFF, 2**32 - 1, 2**32 - 1, 255, 0x1F, 2**16 - 1, 2**32 - 1),
+)
+nodes_kept(USED_THERE, "entries of other lengths and types", node(count=1, reserved=1), cache(0, 25, reserved=1), b"\2\4\xff\xff")
+
+# ---- numbers that are as wide as their fields, and bytes next to fields
+HIGH, HIGHER = 1 << 24, 1 << 56
+broken("NoDsdt", "0x28", "an RSDP that is found", listed(), words="")
+broken("NoDsdt", "0x28", "an interrupt model after the DSDT", image_of(fadt(_44=b"\1")))
+kept("NoDsdt", "a DSDT at 16 MiB", image_of(fadt(_40=number(HIGH, 4))))
+kept("DsdtWrong", "a DSDT of 16 MiB", of_dsdt(changed(DSDT, {7: 1})))
+kept("RsdtDiffers", "a slot of 0, and something at 0", roots((0x2000, 0x3000), (0x2000, 0x3000, 0), _0=b"ABCD"))
+FAR_RSDT = {**BOTH_ROOTS, RSDP_AT: extended_rsdp(rsdt=0x1001000), 0x1001000: rsdt(0x2000)}
+broken("RsdtDiffers", "0x10 0x0 0x54455048", "an RSDT past 16 MiB", FAR_RSDT)
+
+
+def before(pointer, at, following):
+    """An RSDP, which leads to an XSDT or an RSDT with a FADT and what is at this address, and bytes that follow it."""
+    return {RSDP_AT: pointer + following, XSDT_AT: xsdt(0x2000, at), 0x1001: rsdt(0x2000, at), 0x2000: fadt()}
+
+
+broken("TablesOverlap", "0xe0000 0xe0020 0xe0020", "a table at the end of an RSDP", before(extended_rsdp(), 0xE0020, hpet()[4:]))
+broken("TablesOverlap", "0xe0000 0xe0023 0xe0023", "a table at the last byte of an RSDP", before(extended_rsdp(), 0xE0023, hpet()[1:]))
+kept("TablesOverlap", "a table after 36 bytes of an RSDP", before(extended_rsdp(), 0xE0024, hpet()))
+kept("TablesOverlap", "a table after an RSDP of Revision 1", before(changed(rsdp(0x1001), {15: 1}, (8, 20)), 0xE0014, hpet()))
+kept("RsdpReserved", "an RSDT at an odd address", before(rsdp(0x1001), 0xE0014, hpet()))
+broken("RsdpReserved", "0x14 0x0 0x28", "an XSDT at an odd address", pointed(extended_rsdp(0x1101, length=40) + bytes(4)))
+broken("RsdpReserved", "0x14 0x0 0x25", "an RSDP of 37 bytes", pointed(extended_rsdp(length=37) + bytes(1)))
+kept("RsdpReserved", "an RSDP of 16 MiB", pointed(extended_rsdp(length=HIGH + 40) + bytes(4)))
+broken("RsdpReserved", "0x22 0x0 0x1", "the second reserved byte", pointed(changed(extended_rsdp(), {34: 1})))
+kept("FacsReserved", "a FACS of 16 MiB", of_facs({7: 1, 32: 3}))
+broken("FacsReserved", "0x22 0x0 0x1", "the second byte after the Version", of_facs({34: 1}))
+broken("FacsReserved", "0x14 0x0 0x1000000", "flag bit 24", of_facs({23: 1}))
+broken("FadtReserved", "0x70 0x0 0x1000000", "flag bit 24 alone", image_of(fadt(HIGH)))
+kept("FadtReserved", "an SCI of 9", image_of(fadt(_46=number(9, 2))))
+broken("HeaderText", "0x1 0xa 0x3000", "the last byte of the OEM ID", header({15: 0x7F}))
+broken("HeaderText", "0x1 0xa 0x3000", "a zero before the last byte of the OEM ID", header({14: 0, 15: 0x21}))
+
+broken("PortPastEnd", "0x38 0x4 0x1000000", "events at 1000000h", full(_56=number(HIGH, 4)))
+broken("PortPastEnd", "0x30 0x1 0x1000000", "SMI_CMD at 1000000h", full(_48=number(HIGH, 4)))
+broken("PortPastEnd", f"0x74 0x1 {HIGHER:#x}", "a reset register at 2^56", reset(HIGHER))
+kept("PortPastEnd", "a command after SMI_CMD", full(_52=b"\1"))
+kept("PortPastEnd", "a value of the reset register", image_of(fadt(RESETS, 129, _116=generic_address(1, width=8) + b"\1")))
+kept("PortsOverlap", "a block of 8 bits", full(160, _88=b"\0", _148=generic_address(0x600, width=8, offset=1), _64=number(0x601, 4)))
+broken("BlockWidth", "0x38 0x20 0x10", "events at 1000000h", full(160, _56=number(HIGH, 4), _148=generic_address(1, width=16)))
+kept("BlockWidth", "events b after no events a", full(160, _60=number(1, 4), _148=generic_address(1, width=16)))
+kept("BlockWidth", "a block of 32 bits, not from the first on", full(160, **EVENTS, _148=generic_address(0x600, offset=1)))
+broken("GpeOverlap", "0x5e 0x10 0xf", "a command after the base", full(**BOTH_GPES, _94=b"\17\1"))
+broken("SmiHalf", "0x30 0x34 0x1000000", "an SMI port at 1000000h", full(_48=number(HIGH, 4)))
+broken("SmiHalf", "0x30 0x34 0xb2", "one command, and another after it", full(**SMI, _52=b"\2\2\1"))
+for at in (52, 54, 55):
+    broken("SmiHalf", f"0x30 {at:#x}", f"no SMI port, and the command at {at}", full(**{f"_{at}": b"\1"}))
+kept("SmiHalf", "no SMI port, and a block", full(_56=b"\1"))
+broken("SciZero", "0x2e", "an SCI of 0 before an SMI port", full(**SMI))
+kept("SciZero", "an SCI of 1", full(_46=number(1, 2)))
+broken("ResetNowhere", "0x74", "an access size and a value, at 0", image_of(fadt(RESETS, 129, _116=generic_address(0, 1, 8, 0, 1) + b"\1")))
+kept("ResetNowhere", "a reset register at 1", reset(1))
+kept("ResetNowhere", "a reset register at 2^56", reset(HIGHER, 0))
+kept("SleepRegister", "an access size, a status at 2^56", sleep(generic_address(1, width=8, access=1), generic_address(HIGHER, width=8)))
+kept("SleepRegister", "an access size without an address", sleep(generic_address(0, width=16, access=1), bytes(12)))
+
+entries_kept(LOW, "an x2APIC of 1000005h", lapic(0, 0), x2apic(1, HIGH + 5))
+broken(EARLY, "0x2c 0x6 0x2", "an online capable x2APIC by 6.2", arch(6, 2, x2apic(0, 0, 2)))
+broken(EARLY, "0x2c 0x6 0x4", "an online capable GICC by 6.4, with flag bit 1", arch(6, 4, gicc(0, 10)))
+entries_broken("EnabledAndCapable", "0x2c 0x0 0x1000003", "flag bit 24", lapic(0, 0, HIGH + 3))
+entries_kept("EnabledAndCapable", "the other flag of each", lapic(0, 0, 2), x2apic(1, 1, 1), gicc(2, 10), rintc(3, 1))
+kept("OverridePastIsa", "an SCI before an SMI port", image_of(fadt(_46=number(16, 2), _48=b"\1"), madt(override(16, 20))))
+entries_broken("OverridePastIsa", "0x2c 0x10 0x1000000", "a number of 1000000h, and flags", override(16, HIGH, 1))
+entries_broken("TimerLevel", "0x2c 0x0 0x10c", "flag bit 8", override(0, 2, 0x10C))
+entries_kept("TwoSourcesOneGsi", "numbers of one low byte", override(0, 2), override(2, HIGH + 2))
+
+entries_broken(WANTED, "0x2c 0x3", "a byte after the version", placed(distributor(3), _21=b"\1"), cpu())
+entries_kept(SMALL, "128 for a GICC", distributor(3), redistributor(0, HIGH), cpu())
+entries_broken(OTHER_BASE, "0x94 0x44 0x1000", "a first base past 2^56", distributor(2), cpu(HIGHER + 0x1000), cpu(0x1000))
+entries_broken(OTHER_BASE, "0x94 0x44 0x100000000001000", "a second base past 2^56", distributor(2), cpu(0x1000), cpu(HIGHER + 0x1000))
+entries_kept(OTHER_BASE, "a byte after the first base", distributor(2), placed(cpu(5), _40=b"\1"), cpu(5))
+entries_kept(OTHER_BASE, "a byte after the second base", distributor(2), cpu(5), placed(cpu(5), _40=b"\1"))
+entries_broken(OTHER_BASE, "0x94 0x44 0x6", "a byte after another base", distributor(2), cpu(5), placed(cpu(6), _40=b"\1"))
+entries_kept("SameMpidr", "MPIDRs of one low half", cpu(mpidr=5), cpu(mpidr=HIGHER + 5))
+entries_broken("MpidrReserved", "0x2c 0x0 0x80000000", "bit 31, and a byte after the MPIDR", placed(cpu(mpidr=1 << 31), _76=b"\1"))
+entries_kept("GicrEmpty", "a range of 1000000h bytes", redistributor(0x1000, HIGH))
+entries_broken("GicrEmpty", "0x2c 0x0 0x100000000000000", "an empty range at 2^56", redistributor(HIGHER, 0))
+entries_kept("SameIts", "IDs of one low byte", its(1), its(HIGH + 1))
+entries_broken("SameIts", "0x40 0x2c 0x1", "odd addresses", its(1, 1), its(1, 2))
+entries_kept("SameMsiFrame", "IDs of one low byte", frame(1), frame(HIGH + 1))
+entries_broken("SameMsiFrame", "0x44 0x2c 0x1", "odd addresses", frame(1, 1), frame(1, 2))
+entries_broken(GIC, "0x2c 0x3c 0xffffff", "redistributors of 1000000h bytes", redistributor(0, HIGH), frame(0, 0xFFFFFF))
+entries_broken(GIC, "0x2c 0x3c 0x1000", "redistributors of an odd number of bytes", redistributor(0, 0x1001), frame(0, 0x1000))
+entries_broken(GIC, "0x2c 0x44 0xffff", "a byte after the version", placed(distributor(3), _21=b"\1"), frame(0, 0xFFFF))
+for entry, following in ((its(0), 0x40), (frame(0), 0x44), (distributor(2), 0x44)):
+    entries_broken(GIC, f"0x2c {following:#x} 0x0", f"a byte after the address of type {entry[0]}", placed(entry, _16=b"\1"), frame(1))
+HIGHEST = [redistributor(HIGHER, 0x1000), its(1, 2 * HIGHER), frame(2, 3 * HIGHER), distributor(2, 4 * HIGHER)]
+entries_kept(GIC, "addresses from 2^56 on", frame(0), *HIGHEST)
+entries_broken(TWICE_TOLD, "0x3c 0x2c 0x100000000000000", "one at 2^56", redistributor(0, 1), cpu(gicr=HIGHER))
+entries_broken(TWICE_TOLD, "0x3c 0x2c 0x5000", "one of a GICC with an MPIDR", redistributor(0, 1), cpu(gicr=0x5000, mpidr=1))
+entries_kept(TWICE_TOLD, "an MPIDR", redistributor(0, 1), cpu(mpidr=1))
+kept("NoBootMethod", "a parking protocol of 1000000h", booted(0, cpu(), cpu(parking=HIGH)))
+broken("NoBootMethod", "0x81", "flag bit 24, and a byte after the version", booted(0, cpu(flags=HIGH + 1), placed(cpu(), _20=b"\1")))
+broken("NoBootMethod", "0x81 0x0 0x100", "bit 8 of ARM_BOOT_ARCH", booted(0x100, cpu(), cpu()))
+entries_kept("SameHart", "harts of one low half", hart(5), hart(HIGHER + 5))
+entries_broken("SameHart", "0x50 0x2c 0x5", "one hart of two UIDs", placed(hart(5), _16=b"\1"), hart(5))
+broken(USED, "0x28 0x0 0x1000000", "flag bit 24 of the MADT", listed(table(b"APIC", bytes(4) + number(HIGH, 4))))
+for name, entry, at in (
+    ("an override's flag bit 8", override(0, 0, 0x100), "0x8"),
+    ("an NMI source's flag bit 4", nmi_source(0, 0x10), "0x2"),
+    ("a local APIC NMI's flag bit 8", lapic_nmi(0, 1, 0x100), "0x3"),
+    ("an x2APIC's byte 3", changed(x2apic(0, 0), {3: 1}), "0x3"),
+    ("an x2APIC's byte 2", changed(x2apic(0, 0), {2: 1}), "0x2"),
+    ("an x2APIC's flag bit 24", x2apic(0, 0, HIGH), "0x8"),
+    ("an x2APIC NMI's flag bit 8", x2apic_nmi(0, 1, 0x100), "0x2"),
+    ("an x2APIC NMI's byte 9", changed(x2apic_nmi(0, 1), {9: 1}), "0x9"),
+    ("an x2APIC NMI's byte 10", changed(x2apic_nmi(0, 1), {10: 1}), "0xa"),
+    ("a distributor's byte 17", placed(gicd(), _17=b"\1"), "0x11"),
+    ("a distributor's byte 18", placed(gicd(), _18=b"\1"), "0x12"),
+):
+    entries_broken(USED, f"0x2c {at}", name, entry)
+entries_kept(USED, "numbers after flags", nmi_source(9, 0xF), x2apic_nmi(9, 1, 0xF))
+
+affinities_kept(NO_RANGE, "a range of 2^56 bytes", HERE, memory(0, HIGHER))
+affinities_broken(NO_RANGE, "0x0", "an empty range at 2^56, and a byte after its length", HERE, changed(memory(HIGHER, 0), {24: 1}))
+affinities_kept("EmptyRange", "a range of 2^56 bytes", memory(0, HIGHER))
+affinities_broken("EmptyRange", f"0x30 0x0 {HIGHER:#x}", "an empty range at 2^56", changed(memory(HIGHER, 0), {24: 1}))
+broken("ItsNowhere", "0x30 0x0 0x6", "an ITS of 1000006h", its_and(of_its(6), its(HIGH + 6)))
+broken("ItsNowhere", "0x30 0x0 0x1000006", "an affinity of 1000006h", its_and(of_its(HIGH + 6), its(6)))
+kept("ItsNowhere", "an ITS at an odd address", its_and(of_its(6), its(6, 1)))
+affinities_broken(USED_HERE, "0x30 0x4", "a processor's flag bit 24", apic_domain(0, 0, HIGH))
+affinities_broken(USED_HERE, "0x30 0xc", "an x2APIC's flag bit 24", x2apic_domain(0, 0, HIGH))
+broken(USED_HERE, "0x24 0x0 0x1000001", "a first number of 1000001h", begun(HIGH + 1))
+
+nodes_broken("LeafUnflagged", "0x24 0x0 0x7", "a Parent past 16 MiB", NAMED, node(HIGH + 36))
+nodes_broken("LeafUnflagged", "0x24 0x0 0x1000007", "an ID of 1000007h", node(0, IS_ID_VALID, HIGH + 7))
+nodes_broken("LeafUnflagged", "0x24 0x0 0x7", "a node with a cache", node(0, IS_ID_VALID, 7, [60]), cache())
+nodes_kept("LeafAsParent", "a Parent past 16 MiB", leaf(7), node(HIGH + 36))
+nodes_broken("NoPackage", "0x24 0x0 0x1000007", "an ID of 1000007h", leaf(HIGH + 7))
+nodes_broken("NoPackage", "0x24 0x0 0x7", "a leaf with a cache", node(0, LEAF, 7, [60]), cache())
+nodes_kept("NoPackage", "a Parent at 16 MiB", leaf(7, HIGH))
+nodes_kept(NUMBERS, "a size of 16 MiB", cache(flags=1, size=HIGH))
+nodes_kept(NUMBERS, "as many bytes as its lines have, and an attribute", cache(flags=0x47, size=0x8000, attributes=1, **SHAPE))
+nodes_broken(USED_THERE, "0x24 0x4", "a node's flag bit 24", node(flags=HIGH))
+nodes_broken(USED_THERE, "0x24 0x4", "a cache's flag bit 24", cache(flags=HIGH))
+
+# ---- all lines of these rules, in their order, of sets that break several
+WHOLE = []
+
+
+def whole(name, pieces, *lines):
+    """A set, and all lines that these rules have of it."""
+    WHOLE.append((name, pieces, [with_numbers(f"advice {line}") for line in lines]))
+
+
+whole("a FADT that has a DSDT", of_dsdt(DSDT))
+whole("reduced hardware", listed(), "NoDsdt 0x28")
+whole("full hardware", full(), "NoDsdt 0x28", "NoPm1Block 0x38", "HalfBlock 0x4c 0x4", "SciZero 0x2e")
+whole(
+    "local APICs", listed(madt(lapic(0, 255, 3), x2apic(1, 5, 2), override(0, 2, 12), override(16, 2), lapic_nmi(255, 0))),
+    "NoDsdt 0x28", "BroadcastId 0x2c 0x0 0xff", "CapableTooEarly 0x34 0x1", "EnabledAndCapable 0x2c 0x0 0x3",
+    "OverridePastIsa 0x4e 0x10 0x2", "TimerLevel 0x44 0x0 0xc", "TwoSourcesOneGsi 0x4e 0x44 0x2", "LintNotOne 0x58", "NoIoApic 0x0",
+)
+whole(
+    "two processors of a GIC", arch(5, 0, distributor(3), cpu(mpidr=1 << 24), cpu(mpidr=1 << 24), flags=0),
+    "NoDsdt 0x28", "NoPm1Block 0x38", "SciZero 0x2e", "FadtForArch 0x8 0x5", "NoRedistributor 0x2c 0x3",
+    "SameMpidr 0x94 0x44 0x1000000", "MpidrReserved 0x44 0x0 0x1000000", "NoBootMethod 0x81",
+)
+whole(
+    "domains, distances and a topology",
+    listed(
+        srat(apic_domain(0, 256), device_domain(5, 0, 0)), slit(2, [10] * 4),
+        pptt(node(0, IS_ID_VALID, 7, reserved=1), leaf(8), node(56), cache(flags=1)),
+    ),
+    "NoDsdt 0x28", "NoMemoryRange 0x0", "InitiatorOff 0x40", "DomainPastRevision 0x30 0x1 0x100", "RemoteAsLocal 0x2d 0x0 0x1",
+    "LeafUnflagged 0x24 0x0 0x7", "LeafAsParent 0x38 0x4c", "NoPackage 0x38 0x0 0x8", "CacheNumbers 0x60", "PpttReserved 0x24 0x2",
+)
+whole("an RSDP alone", {RSDP_AT: rsdp()})
+whole("no RSDP", {})
