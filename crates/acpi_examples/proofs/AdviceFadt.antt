@@ -184,8 +184,11 @@ scis_nowhere q = record {
   };
   first = λ inputs. record {
     not_reduced = refl;
-    well_formed = (refl, λ o. none_stands twice_overridden.entries o (λ o e. HasOtherMadtLength e)
-        (never, (never, (never, tt))));
+    well_formed = (
+      refl,
+      λ o. none_stands twice_overridden.entries o (λ o e. HasOtherMadtLength e)
+          (never, (never, (never, tt))),
+    );
     place = (refl, refl);
     number = inl (record {
       at = 56;

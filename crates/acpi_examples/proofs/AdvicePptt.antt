@@ -24,9 +24,16 @@ unparented o some (p, names) =
     ((λ is. some (sym (same_Some 0 o is))), ((λ is. some (sym (same_Some 0 o is))), tt)) names
 
 well_formed : (revision flags parent : ℕ) → IsWellFormedPptt (two_nodes revision flags parent)
-well_formed revision flags parent =
-    (refl, λ o. none_stands (two_nodes revision flags parent).entries o (λ o e. HasOtherPpttLength e) (never, (never,
-    tt)))
+well_formed revision flags parent = (
+  refl,
+  λ o. none_stands (two_nodes revision flags parent).entries o (λ o e. HasOtherPpttLength e) (
+    never,
+    (
+      never,
+      tt,
+    ),
+  ),
+)
 
 one_well_formed : (flags id : ℕ) → IsWellFormedPptt (one_node flags id)
 one_well_formed flags id =
@@ -69,14 +76,34 @@ same_leaves = record {
     here = (
       _,
       (1, omega arith, refl),
-      (_, refl, refl, refl, (λ new. absurd (omega arith)), (λ _. (well_formed 1 2 0, unparented 56 (λ same. omega
-      arith)))),
+      (
+        _,
+        refl,
+        refl,
+        refl,
+        (λ new. absurd (omega arith)),
+        (λ _. (
+          well_formed 1 2 0,
+          unparented 56 (λ same. omega
+              arith),
+        )),
+      ),
     );
     earlier = (
       _,
       (0, omega arith, refl),
-      (_, refl, refl, refl, (λ new. absurd (omega arith)), (λ _. (well_formed 1 2 0, unparented 36 (λ same. omega
-      arith)))),
+      (
+        _,
+        refl,
+        refl,
+        refl,
+        (λ new. absurd (omega arith)),
+        (λ _. (
+          well_formed 1 2 0,
+          unparented 36 (λ same. omega
+              arith),
+        )),
+      ),
     );
     before = omega arith;
     first = λ p leaf. each_entry (two_nodes 1 2 0).entries (λ o e. 36 ≤ o) (omega arith, (omega arith, tt)) p leaf.0
@@ -217,8 +244,10 @@ leaves_nowhere = record {
     refl,
   );
   no_gicc =
-      λ at other point it. none_stands (one_entry 8 (processor 1)).entries it.1.0 (λ o e. IsOpaqueProcessor e) (never,
-      tt)
+      λ at other point it. none_stands (one_entry 8 (processor 1)).entries it.1.0 (λ o e. IsOpaqueProcessor e) (
+        never,
+        tt,
+      )
       it.1.1;
   not_read = λ at other point it. it.0.0 84 (_, (1, omega arith, refl), inr (inl (refl, omega arith)));
   cut = λ at other point it. none-some 84 (sym it.0.1.0);
