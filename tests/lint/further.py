@@ -21,42 +21,28 @@ from acpi_images.known.many import MANY
 from acpi_images.known.mistakes import MISTAKES
 from acpi_images.known.rows import ROWS, words_of
 from acpi_images.known.shown import SHOWN
-from acpi_images.program import FIRMWARE, IMAGES
+from acpi_images.program import FIRMWARE, IMAGES, Cases
 from acpi_images.text import Refused, read, text_of
 
 SEED = "--rsdp e0000"
 
 
-class Count:
-    """Counts the cases, and tells what failed."""
-
-    def __init__(self):
-        self.passed = self.failed = 0
-
-    def case(self, name, wrong):
-        if wrong:
-            self.failed += 1
-            print(f"{name}: {wrong}", flush=True)
-        else:
-            self.passed += 1
-
-
-def by_hand(count):
+def by_hand(cases):
     """The sets with a line written by hand, and of each rule one that is broken and one that is kept."""
     for it in FURTHER:
         lines = further_linted(it.words.split(), read(text_of(it.pieces)))
         told = [line for line in lines if line.split()[1] == it.rule]
         expected = [it.line] if it.line else []
-        count.case(f"{it.rule}, {it.name}", "" if told == expected else f"{told}, not {expected}")
+        cases.same(f"{it.rule}, {it.name}", told, expected)
     for name, pieces, expected in WHOLE:
         lines = further_linted(SEED.split(), read(text_of(pieces)))
-        count.case(name, "" if lines == expected else f"{lines}, not {expected}")
+        cases.same(name, lines, expected)
     told_of = {(it.rule, it.line is None) for it in FURTHER}
     for name in RULES:
         for is_kept in (False, True):
-            count.case(name, "" if (name, is_kept) in told_of else f"no set where it is {'kept' if is_kept else 'broken'}")
+            cases.count(name, "" if (name, is_kept) in told_of else f"no set where it is {'kept' if is_kept else 'broken'}")
     for name in {it.rule for it in FURTHER} - set(RULES):
-        count.case(name, "no rule")
+        cases.count(name, "no rule")
 
 
 def other_sets():
@@ -81,7 +67,7 @@ def images_of(directory):
         yield path.name, text, ["--rsdp", IMAGES[name]] if name in IMAGES else []
 
 
-def all_run(count, sets):
+def all_run(cases, sets):
     """Nothing fails on these sets. Gives how many of them break each rule."""
     seen = Counter()
     for name, pieces, words in sets:
@@ -90,22 +76,22 @@ def all_run(count, sets):
         except Refused:
             continue
         except Exception as wrong:
-            count.case(name, f"{type(wrong).__name__}: {wrong}")
+            cases.count(name, f"{type(wrong).__name__}: {wrong}")
             continue
-        count.case(name, "")
+        cases.count(name, "")
         seen.update(line.split()[1] for line in lines)
     return seen
 
 
 def main(directories):
-    count = Count()
-    by_hand(count)
-    all_run(count, other_sets())
+    cases = Cases(program=None)
+    by_hand(cases)
+    all_run(cases, other_sets())
     for directory in (FIRMWARE, *directories):
-        seen = all_run(count, images_of(directory))
+        seen = all_run(cases, images_of(directory))
         print(f"{directory}:", ", ".join(f"{name} {seen[name]}" for name in RULES if seen[name]) or "none")
-    print(f"further: {count.passed} passed, {count.failed} failed")
-    return 1 if count.failed else 0
+    print(f"further: {cases.passed} passed, {cases.failed} failed")
+    return 1 if cases.failed else 0
 
 
 sys.exit(main(sys.argv[1:]))
