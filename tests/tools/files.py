@@ -10,6 +10,7 @@ FADT = full_fadt()
 MADT = madt(lapic(0, 0), io_apic(0xFEC00000, 0), override(0, 2), lapic_nmi(255, 1))
 HPET = hpet()
 DSDT = table(b"DSDT", b"\x5b\x80")
+EMPTY_DSDT = table(b"DSDT", b"", 2)
 ROOT_AT = 0x100000
 # The structures of a machine.
 TABLES = [(0x7FE2000, FADT), (0x7FE3001, MADT), (0x7FE4000, HPET)]
@@ -26,6 +27,12 @@ def image_of_files(*tables, facs_at=FACS_AT):
     places = [ROOT_AT + 0x1000 * (slot + 1) for slot in range(len(tables))]
     lock = {} if facs_at is None else {facs_at: facs()}
     return {RSDP_AT: extended_rsdp(ROOT_AT, 0), ROOT_AT: xsdt(*places), **dict(zip(places, tables)), **lock}
+
+
+def image_of_one(data):
+    """What tables2image makes of one table that is no FADT: it makes a FADT and an empty DSDT itself."""
+    dsdt_at = ROOT_AT + 0x3000
+    return {**image_of_files(data, fadt(_40=number(dsdt_at, 4)), facs_at=None), dsdt_at: EMPTY_DSDT}
 
 
 def dump_of(pieces, width=16, margin=4, padded=True):

@@ -155,7 +155,7 @@ def each_name(cases):
     """The line of each fault's and each rule's example: its code and its first sentence are those of the document."""
     with open(os.path.join(TOP, "docs", "FAULTS.md"), encoding="utf-8") as file:
         page = file.read()
-    parts = re.findall(r"^### ([0-9]+) ([A-Za-z]+)\n(.*?)(?=^##|\Z)", page, re.M | re.S)
+    parts = re.findall(r"^### ([0-9]+) ([A-Z][A-Za-z0-9]*)\n(.*?)(?=^##|\Z)", page, re.M | re.S)
     wrong = []
     for number, name, part in parts:
         line = EXAMPLE.search(part)[1]
@@ -170,7 +170,7 @@ def each_name(cases):
             words = " ".join(re.search(r"^- (?:Wrong|Found): (.*?)(?=^- )", part, re.M | re.S)[1].replace("`", "").split())
             if (finding["code"], finding["name"]) != (int(number), name) or words[1:].find(" ".join(finding["text"].split())[1:]) != 0:
                 wrong.append(f"{line}: {finding}")
-    cases.count("the examples of FAULTS.md", "\n".join(wrong), len(parts) < 87 and f"{len(parts)} parts")
+    cases.count("the examples of FAULTS.md", "\n".join(wrong), len(parts) < 143 and f"{len(parts)} parts")
 
 
 def no_verdicts(cases):
@@ -199,9 +199,9 @@ def refused(cases):
         cases.refuses(told, "report", "--format", "json", data=lines.encode() + b"\n", status=3)
     show = b"rsdp 0xf59e0 revision 0\nroot 0x1000 RSDT length 36 slots 0\n"
     for form in FORMATS[1:]:
-        cases.refuses("--format json alone takes them", "report", "--format", form, data=show, status=2)
-    for words in ([], ["--format"], ["--format", "xml"], ["--help"], ["--format", "tap", "x"], ["--format", "tap", "--image", ""]):
-        cases.refuses("usage: report --format json|tap|junit|sarif", "report", *words, data=b"yes\n", status=2)
+        cases.refuses("--format json and html alone take them", "report", "--format", form, data=show, status=2)
+    for words in ([], ["--format"], ["--format", "xml"], ["--help"], ["--format", "tap", "--rsdp", "0"], ["--format", "tap", "--image", ""]):
+        cases.refuses("usage: report --format json|tap|junit|sarif|html", "report", *words, data=b"yes\n", status=2)
     for word in ("256", "-1", "", "1e1", "0x1", "\x1b[2J"):
         cases.refuses("no status from 0 to 255", "report", "--format", "tap", "--status", word, data=b"yes\n", status=2)
     cases.refuses("more than 67108864 bytes of lines", "report", "--format", "tap", data=b"y" * (1 << 26 | 1), status=3)

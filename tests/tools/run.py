@@ -1,5 +1,5 @@
 #!/usr/bin/env python3
-"""Runs the tools that make image text and reports on small files, and the built program on what they make.
+"""Runs the tools that make image text, reports and pages on small files, and the built program on what they make.
 
 usage: run.py PROGRAM; the last line is 'tools: N passed, M failed'."""
 
@@ -13,6 +13,7 @@ sys.path.insert(0, str(Path(__file__).resolve().parents[1]))
 import dumped_texts
 import files
 import memory_dumps
+import pages
 import raw_tables
 import reports
 from acpi_images.program import finish
@@ -25,7 +26,7 @@ def main():
     with tempfile.TemporaryDirectory(prefix="acpiset tools ") as folder:
         cases = ToolCases(os.path.abspath(program), folder)
         files.write_into(folder)
-        for part in (raw_tables, dumped_texts, memory_dumps, reports):
+        for part in (raw_tables, dumped_texts, memory_dumps, reports, pages):
             part.all_cases(cases)
     finish("tools", cases)
 

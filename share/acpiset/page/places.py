@@ -1,0 +1,47 @@
+"""Which places in the pictures a finding is about."""
+
+from explain import entries
+from explain.about import OF_RULES, OF_STAGES
+
+# The places of faults that are about no entry, by stage, and of findings of advice, by number. `{at}` and `{other}` are their numbers,
+# which for slots are decimal.
+BY_STAGE = {1: ("rsdp",), 2: ("root",), 3: ("slot-{at}",), 4: ("fadt",), 5: ("facs", "fadt"), 11: ("slit-{at:#x}", "slit")}
+TWO_SLOTS = "slot-{at}", "slot-{other}"
+# The tables of entries, by what explains a finding on one.
+TABLES = {entries.madt: "madt", entries.srat: "srat", entries.pptt: "pptt"}
+BY_CODE = {
+    8: ("rsdp",),
+    19: ("root",),
+    26: ("fadt",),
+    **dict.fromkeys((32, 116, 158, 159), ("madt",)),
+    **dict.fromkeys((41, 173), ("srat",)),
+    **dict.fromkeys((46, 47), ("slit",)),
+    **dict.fromkeys((101, 102, 149), TWO_SLOTS),
+    **dict.fromkeys((103, 129, 148), ("slot-{at}",)),
+    **dict.fromkeys((*range(104, 108), 132, *range(134, 141), *range(142, 146), 170), ("fadt",)),
+    **dict.fromkeys((108, 141), ("sci", "fadt")),
+    121: ("slit-{at:#x}", "slit-{other:#x}", "slit"),
+    130: ("rsdp", "root"),
+    131: ("root",),
+    133: ("dsdt", "fadt"),
+    146: ("facs", "fadt"),
+    147: ("rsdp",),
+    179: ("slit-{at:#x}", "slit"),
+}
+# Stages whose one fault is about two entries, which is known without the documents.
+OF_PAIRS = (7, 8, 10, 16)
+
+
+def places_of(code, stage, at: int, other: int) -> tuple:
+    """The places of a finding, those at the front that a link leads to if they are drawn, and the table at the end. The code is None
+    where the documents are missing, and the stage of a finding of advice."""
+    places = BY_CODE.get(code) or BY_STAGE.get(stage)
+    if places:
+        return tuple(place.format(at=at, other=other) for place in places)
+    by, key = (OF_STAGES, stage) if stage else (OF_RULES, code)
+    for explain, numbers in by.items():
+        if key in numbers and explain in TABLES:
+            table = TABLES[explain]
+            pair = (f"{table}-{other:#x}",) if code in entries.PAIRS or stage in OF_PAIRS else ()
+            return f"{table}-{at:#x}", *pair, table
+    return ()

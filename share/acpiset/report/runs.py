@@ -1,0 +1,101 @@
+"""What acpiset says of an image, and what is in it."""
+
+import argparse
+import os
+import re
+from typing import NamedTuple, Optional
+
+from explain import image as image_text
+from explain.program import Program
+from explain.refusal import BAD_ARGUMENTS, Refusal, printable
+from explain.settings import COUNT, Settings, add_options, inputs_of
+from explain.tables import Tables
+
+from . import images
+
+LAST_STAGE = 18
+VERSION = re.compile(r"version ([0-9.]+)")
+NOT_FOUND = 127
+
+
+class Run(NamedTuple):
+    """The exit status of `check`, its line, the lines of `lint` through the last stage, and those of `show`, which are none if it does
+    not show the set. `told` is what acpiset wrote to standard error, and `how` says which acpiset was run with which options."""
+
+    status: int
+    told: str
+    checked: str = ""
+    verdict: tuple = ()
+    shown: tuple = ()
+    settings: Optional[Settings] = None
+    last_stage: int = LAST_STAGE
+    tables: Optional[Tables] = None
+    notes: tuple = ()
+    how: str = ""
+
+
+class Arguments(argparse.ArgumentParser):
+    def error(self, message):
+        raise Refusal(BAD_ARGUMENTS, printable(message))
+
+
+def stage_of(text):
+    if text not in map(str, range(1, LAST_STAGE + 1)):
+        raise argparse.ArgumentTypeError(f"expected a number from 1 to {LAST_STAGE}")
+    return int(text)
+
+
+def read_words(words):
+    """The options of `check`, and its counts, from words among which there are no files."""
+    parser = Arguments(add_help=False, allow_abbrev=False)
+    add_options(parser)
+    parser.add_argument("--through", type=stage_of, default=LAST_STAGE)
+    parser.add_argument("counts", nargs="*")
+    options = parser.parse_intermixed_args(words)
+    found = [COUNT.fullmatch(word) for word in options.counts]
+    try:
+        counts = [(one[1], inputs_of(one[2])) for one in found]
+    except argparse.ArgumentTypeError as error:
+        raise Refusal(BAD_ARGUMENTS, f"{error} in ADDRESS=COUNT") from None
+    return options, Settings(options.default_inputs, counts, options.hotplug, options.processors)
+
+
+def shown_by(program, at) -> tuple:
+    """The lines of `show`, or none if it writes a verdict in their place."""
+    answer = program.answer("show", *at)
+    return tuple(answer.lines) if answer.status == 0 else ()
+
+
+def version_of(program) -> str:
+    found = VERSION.search(program.answer("--version").told)
+    return found[1] if found else "of an unknown version"
+
+
+def through(lines, last_stage: int) -> tuple:
+    """The lines of `lint` without faults of later stages."""
+    kept = [line for line in lines if not line.startswith("no ") or line == "no rsdp" or int(line.split()[1]) <= last_stage]
+    has_fault = any(line.startswith("no ") for line in kept)
+    return tuple(kept if has_fault or "yes" in kept else ["yes", *kept])
+
+
+def of_files(paths, words, folder: str, is_installed: bool) -> Run:
+    """The run on the image that these files are, or are made into."""
+    options, settings = read_words(words)
+    text = images.of_files(paths, options.rsdp, folder)
+    rsdp = options.rsdp if options.rsdp is not None else text.rsdp
+    beside = os.path.join(folder, *([] if is_installed else [".."]), "acpiset")
+    program = Program([beside], text.data, settings)
+    if not program.path:
+        return Run(NOT_FOUND, "acpiset is neither beside this tool nor on PATH", notes=text.notes)
+    at = () if rsdp is None else ("--rsdp", f"{rsdp:#x}")
+    last = ("--through", str(options.through)) if options.through != LAST_STAGE else ()
+    checked = program.answer("check", *at, *last)
+    if not checked.is_given:
+        return Run(checked.status, checked.told.partition("\n")[0], notes=text.notes)
+    linted = program.answer("lint", *at)
+    tables = Tables(image_text.read(text.data), rsdp)
+    verdict = through(linted.lines, options.through) if linted.is_given else tuple(checked.lines)
+    given = " ".join([*at, *last, *settings.words()])
+    how = f"Checked by acpiset {version_of(program)}, {f'with {given}' if given else 'without options'}."
+    line = " ".join(checked.lines)
+    return Run(checked.status, "", line, verdict, shown_by(program, at), settings, options.through, tables, text.notes, how)
