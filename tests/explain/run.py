@@ -45,7 +45,10 @@ def lines_without_image(tests):
             tests.count(titles[-1], "" if found == 2 * [titles[-1]] else f"the parts {found}")
     tests.count("parts of faults and of rules", "" if len(titles) == len(parts.codes) > 0 else f"{len(titles)}")
     tests.says("\n".join(lines), lines + titles)
-    for word, title in (("43", "43 SratEntryLength"), ("Overlap", "45 Overlap"), ("128", "128 SratUnread"), ("NoLeaf", "125 NoLeaf")):
+    for word, title in (
+        ("43", "43 SratEntryLength"), ("Overlap", "45 Overlap"), ("128", "128 SratUnread"), ("NoLeaf", "125 NoLeaf"),
+        ("184", "184 PpttReserved"), ("NoDsdt", "132 NoDsdt"),
+    ):
         tests.says(b"", [title, "..- Example: "], None, word)
 
 
@@ -146,9 +149,9 @@ def structures(tests):
     tests.says("advice NoLeaf 0x2c 0x0 0x0", "the PPTT's leaves have the IDs none", sets.NO_REVISION)
     tests.says("no 18 LeafUnknown 0x24 0x0 0x7", "the MADT's processors have the UIDs 0 to 2, 300", sets.LEAF, without=[MISMATCH])
     tests.says("advice AffinityNowhere 0x30 0x0 0x16", "the MADT's processors have the UIDs 21", sets.ARM, without=[MISMATCH])
-    texts = ["  0x2c entry type 11 length 80: gicc uid 21 flags 0x1", "the SRAT's enabled affinities of types 3 and 7 have the UIDs 22"]
+    texts = ["  0x2c entry type 11 length 80: gicc uid 21 flags 0x1 parking 0 base 0x0 gicr 0x0 mpidr 0x0", "the SRAT's enabled affinities of types 3 and 7 have the UIDs 22"]
     tests.says("advice NoDomain 0x2c 0x0 0x15", texts, sets.ARM, without=[MISMATCH])
-    texts = ["  0x2c entry type 24 length 36: rintc uid 5 hart 0 flags 0x0", "  0x50 entry type 17 length 15: core-pic uid 6 id 3 flags 0x0"]
+    texts = ["  0x2c entry type 24 length 36: rintc uid 5 hart 6 flags 0x0", "  0x50 entry type 17 length 15: core-pic uid 6 id 3 flags 0x0"]
     tests.says("advice NoProcessor 0x0 0x0 0x0", texts, sets.NONE_USABLE, without=[MISMATCH])
     served = "  0x3c serves 0 to 31 (0x0 to 0x1f), with 32 inputs"
     tests.says("no 7 GsiClash 0x3c 0x48 0x18", served, "example.img.txt", "--default-inputs", "32", without=[MISMATCH])
@@ -208,17 +211,88 @@ def fields(tests):
     tests.says("advice ListedTwice 0x3 0x2 0x47fc198f", "..slot 3 does not list this address: is this the image", *caches)
 
 
+# Lines of advice, what is said of the fields that they are about, and the set.
+ADVISED = [
+    ("NullSlot 0x1 0x0 0x0", ["slot 1 at offset 0x2c (44) of the XSDT or RSDT, at 0x112c:", "  0x112c  00 00 00 00 00 00 00 00"], sets.ROOTS),
+    (
+        "RsdtDiffers 0x10 0x0 0x54455048",
+        ["the XSDT lists: FACP, empty, HPET", "the RSDT lists: FACP", "they list HPET a different number of times"], sets.ROOTS,
+    ),
+    (
+        "TablesOverlap 0xffc9 0x10000 0x10000",
+        ["the HPET at 0xffc9, 56 bytes, up to 0x10000:", "the FACP at 0x10000, 116 bytes, up to 0x10073:", "both hold the byte at 0x10000"],
+        sets.ROOTS,
+    ),
+    ("NoDsdt 0x28 0x0 0x0", "DSDT is 0x0, and X_DSDT is 0x0", "example.img.txt"),
+    ("NoPm1Block 0x38 0x0 0x0", "PM1a_EVT_BLK is 0x0, and its length byte, at 88, is 4", "example.img.txt"),
+    (
+        "HalfBlock 0x4c 0x4 0x0",
+        [
+            "PM_TMR_BLK is 0x0, and its length byte, at 91, is 4",
+            "X_PM_TMR_BLK has the address space 0, the bit width 0, the bit offset 0, and the address 0x0",
+        ],
+        "example.img.txt",
+    ),
+    ("SciZero 0x2e 0x0 0x0", "SCI_INT is 0x0", "example.img.txt"),
+    (
+        "FadtForArch 0x8 0x1 0x0",
+        [
+            "Revision is 0x1", "the FADT is of version 1.0",
+            "  0xa0 entry type 11 length 76: gicc uid 2 flags 0x1 parking 0 base 0x0 gicr 0x0 mpidr 0x5",
+        ],
+        sets.PARTS_OF_A_GIC,
+    ),
+    ("HeaderText 0x4 0xa 0x14000", "OEMID is 80 41 41 41 41 41", sets.ODD),
+    ("CapableTooEarly 0x38 0x1 0x0", ["  0x38 lapic uid 1 id 1 flags 0x2", "the FADT is of version 1.0"], sets.ODD),
+    (
+        "GicrTooSmall 0x44 0x1 0x2",
+        [
+            "  0x44 entry type 14 length 16: gicr base 0x80a0000 length 0x20000",
+            "  0x54 entry type 11 length 76: gicc uid 1 flags 0x1 parking 0 base 0x0 gicr 0x0 mpidr 0x5",
+        ],
+        sets.PARTS_OF_A_GIC,
+    ),
+    ("SameMpidr 0xa0 0x54 0x5", ["the structure at offset 0xa0 (160), at 0x110a0:", "the other structure at offset 0x54 (84), at 0x11054:"], sets.PARTS_OF_A_GIC),
+    ("MadtReserved 0x2c 0x3 0x0", ["  0x2c ioapic id 0 address 0xfec00000 base 0", "byte 3 of it is 0x1"], sets.ODD),
+    ("InitiatorOff 0x30 0x0 0x1", "  0x30 entry type 5 length 32: initiator domain 1 flags 0x0", sets.PARTS_OF_A_GIC),
+    ("ItsNowhere 0x50 0x0 0x3", ["  0x50 entry type 4 length 12: its domain 0 id 3", "the MADT's ITSs have the IDs 4"], sets.PARTS_OF_A_GIC),
+    ("RemoteAsLocal 0x2d 0x0 0x1", "from locality 0 to locality 1 it is 10", sets.ODD),
+    ("NoPackage 0x38 0x0 0x0", ["  0x24 node flags 0x0 parent 0x0 id 0 resources", "none of them has the flag of a package, bit 0"], "example.img.txt"),
+    ("CacheNumbers 0x24 0x8000 0x4000", "64 sets * 4 ways * 64 bytes of a line are 16384, and Size is 32768", sets.ODD),
+]
+
+
+def advised(tests):
+    """The fields and the structures that a rule names; and what structures of a GIC say, for any line."""
+    for line, texts, image in ADVISED:
+        tests.says(f"advice {line}", texts, image, without=[MISMATCH])
+    for at, text in (
+        ("0x2c", "type 12 length 24: gicd base 0x8000000 version 3"), ("0xec", "type 15 length 20: its id 4 base 0x8080000"),
+        ("0x100", "type 13 length 24: msi-frame id 6 base 0x8020000"),
+    ):
+        tests.says(f"advice MadtReserved {at} 0x10 0x0", [f"  {at} entry {text}", "byte 16 of it is 0x0"], sets.PARTS_OF_A_GIC)
+    tests.says("advice RsdpReserved 0x14 0x0 0x25", "Length is 0x24", "example.img.txt")
+    tests.says("advice FacsReserved 0x20 0x0 0x3", ["the FACS at 0x7000:", "Version is 0x1"], "example.img.txt")
+    tests.says("advice PortsOverlap 0x30 0x50 0x0", "..at offset 0x30 (48) is no register block: is this the image", "example.img.txt")
+
+
 def unread(tests):
     arm, caches = "q10-efi-virt-smp4.img.txt", "q11-efi-virt-caches.img.txt"
-    tests.says("yes", "  type 13 (GIC MSI frame): 1 at offset 0x184 (388): not looked at", arm, "--rsdp", "4f0b0018")
-    tests.says("yes", "  type 11 (GICC): 4, the first at offset 0x44 (68): looked at by the advice of lint only", arm)
-    tests.says("yes", "  type 15 (GIC ITS): 1 at offset 0x2d4 (724): not looked at", caches, "--rsdp", "47fe0000")
+    by_advice = "looked at by the advice of lint only"
+    tests.says("yes", f"  type 13 (GIC MSI frame): 1 at offset 0x184 (388): {by_advice}", arm, "--rsdp", "4f0b0018")
+    tests.says("yes", f"  type 11 (GICC): 4, the first at offset 0x44 (68): {by_advice}", arm)
+    tests.says("yes", f"  type 15 (GIC ITS): 1 at offset 0x2d4 (724): {by_advice}", caches, "--rsdp", "47fe0000")
     tests.says("yes", "yes", "sb-q35-default.img.txt", without=["In the image:"])
     tests.says("yes", "no RSDP is found in it: give its address with --rsdp HEX", b"@2000\n41\n")
     texts = ["  type 3 (GICC affinity): 1 at offset 0x30 (48): not looked at", "  type 11 (GICC): 1 at offset 0x2c (44): not looked at"]
-    texts += ["  type 3 (GICC affinity): 2, the first at offset 0x3e (62): looked at by the advice of lint only"]
+    texts += [f"  type 3 (GICC affinity): 2, the first at offset 0x3e (62): {by_advice}"]
     texts += ["  type 16 (multiprocessor wakeup): 1 at offset 0x53 (83): not looked at"]
     tests.says("yes", texts, sets.UNREAD)
+    texts = [f"  type {kind} ({name}): 1 at offset {at}: {told}" for kind, name, at, told in (
+        (12, "GIC distributor", "0x2c (44)", "not looked at"), (13, "GIC MSI frame", "0x43 (67)", "not looked at"),
+        (14, "GIC redistributor", "0x5c (92)", by_advice), (15, "GIC ITS", "0x6c (108)", "not looked at"),
+    )]
+    tests.says("yes", texts, sets.GIC)
 
 
 def judged(tests):
@@ -363,7 +437,7 @@ def many(tests):
     tests.says("no 14 ParentCycle 0x24 0x0 0x186a0", chain, sets.image_of(sets.long_pptt(100_000)))
 
 
-PARTS = [lines_without_image, refused_lines, structures, chains, numbers, fields, unread, judged, other_programs]
+PARTS = [lines_without_image, refused_lines, structures, chains, numbers, fields, advised, unread, judged, other_programs]
 PARTS += [shown, image_texts, streams, places, many]
 
 

@@ -63,6 +63,8 @@ UNREAD = image_of(
     madt(bytes([11, 39]) + bytes(37), bytes([16, 16]) + bytes(14)),
     srat(bytes([3, 14]) + bytes(12), bytes([3, 18]) + bytes(16), bytes([3, 18]) + bytes(16)),
 )
+# Parts of a GIC, of which the advice looks at the third alone: the others have a byte less or more than their type has.
+GIC = image_of(madt(gicd(23), other(13, 25), other(14, 16), other(15, 21)))
 WINDOWS = image_of(srat(memory(0, 4 * GIB), memory(GIB, 4 * GIB)))
 
 # A signature with an escape character, which would clear a terminal.
@@ -78,3 +80,32 @@ for line, address, place in (
     wrong = changed(CLEAN[address], {place: 0x5A})
     SUMS[line] = text_of({**CLEAN, address: wrong}), f"now 0x5a, has to be {CLEAN[address][place]:#x}."
 CUT = text_of({**CLEAN, 0x2000: FADT[:68]})
+
+
+def cpu(uid):
+    """A GICC of 76 bytes with the MPIDR 5."""
+    return bytes([11, 76]) + bytes(6) + number(uid, 4) + number(1, 4) + bytes(52) + number(5, 8)
+
+
+# A GIC of version 3 with room for one redistributor, two processors with one MPIDR, an ITS and an MSI frame: at 0x2c, 0x44, 0x54, 0xa0,
+# 0xec and 0x100. The SRAT has a generic initiator that is off, at 0x30, and an ITS that the MADT does not have, at 0x50.
+PARTS_OF_A_GIC = image_of(
+    madt(
+        bytes([12, 24]) + bytes(6) + number(0x8000000, 8) + bytes(4) + bytes([3, 0, 0, 0]),
+        bytes([14, 16, 0, 0]) + number(0x80A0000, 8) + number(0x20000, 4), cpu(1), cpu(2),
+        bytes([15, 20, 0, 0]) + number(4, 4) + number(0x8080000, 8) + bytes(4),
+        bytes([13, 24, 0, 0]) + number(6, 4) + number(0x8020000, 8) + bytes(8),
+    ),
+    srat(device_domain(5, 1, flags=0), bytes([4, 12]) + number(0, 4) + bytes(2) + number(3, 4)),
+)
+# A reserved byte of an I/O APIC, and a processor that is Online Capable too early; a distance of 10 between two localities; a cache
+# of another size than that of its lines; a header with a byte that is no text.
+ODD = image_of(
+    madt(io_apic(0xFEC00000, 0, reserved=1), lapic(1, 1, flags=2)), slit(2, (10, 10, 20, 10)),
+    pptt(cache(flags=0x47, size=0x8000, sets=64, ways=4, line=64)), changed(hpet(), {10: 0x80}, (9, 56)),
+)
+# An RSDT without the HPET beside the XSDT, which has an empty slot; and the HPET's last byte, F, is the FADT's first.
+ROOTS = text_of({
+    RSDP_AT: extended_rsdp(), XSDT_AT: xsdt(0x10000, 0, 0xFFC9), RSDT_AT: rsdt(0x10000), FACS_AT: facs(), 0x10000: FADT,
+    0xFFC9: table(b"HPET", bytes(19) + b"F")[:-1],
+})

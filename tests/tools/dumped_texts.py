@@ -7,7 +7,7 @@ import subprocess
 
 from acpi_images.tables import *
 from acpi_images.text import text_of
-from files import COMPLETE, FADT, HPET, MADT, TABLES, dump_of, image_of_files
+from files import COMPLETE, EMPTY_DSDT, FADT, HPET, MADT, TABLES, dump_of, image_of_files
 from tool_cases import TOP, module_of
 
 COMPLETE_IMAGE = text_of(dict(COMPLETE))
@@ -45,7 +45,8 @@ def without_addresses(cases):
     image = text_of({0xE0000: extended_rsdp(0x100000, 0), 0x100000: xsdt(*places), **places, FACS_AT: facs()})
     cases.makes("the text has neither an RSDP nor a root: both are made", "yes", "acpidump2image", "rootless.txt", image=image)
     cases.write("log.txt", b"ACPI: HPET 0x0000000000005000 000038 (v01 AAAAAA AAAAAAAA 00000001 AAAA 00000001)\n")
-    image = text_of({0xE0000: extended_rsdp(0x100000, 0), 0x100000: xsdt(0x5000, 0x101000), 0x5000: HPET, 0x101000: fadt()})
+    made = {0x101000: fadt(_40=number(0x102000, 4)), 0x102000: EMPTY_DSDT}
+    image = text_of({0xE0000: extended_rsdp(0x100000, 0), 0x100000: xsdt(0x5000, 0x101000), 0x5000: HPET, **made})
     cases.makes(zeros, "yes", "acpidump2image", "--dmesg", "log.txt", data=dump_of([(0, HPET)]), image=image)
     # A log of another machine, with a text that has addresses, an RSDP and a root.
     cases.write("foreign.log", b"ACPI: FACP 0x00000000BFFE1234 0000F4 (v03 ..)\n")

@@ -4,7 +4,7 @@ import os
 
 from acpi_images.tables import *
 from acpi_images.text import text_of
-from files import DSDT, FADT, HPET, MADT, ROOT_AT, image_of_files, wide_fadt
+from files import DSDT, FADT, HPET, MADT, image_of_files, image_of_one, wide_fadt
 
 RESERVED_INTI = madt(lapic(0, 0), io_apic(0xFEC00000, 0), override(0, 2, flags=2))
 OVERLAPPING = srat(memory(0, 0x1000), memory(0x800, 0x1000))
@@ -20,6 +20,7 @@ VALID = {
 }
 OWN = "the RSDP and the root, an XSDT, are made by this tool: they are not the machine's own"
 MADE_FADT = "no file has a FADT: one of reduced hardware is made by this tool, and is not the machine's own"
+MADE_DSDT = "DSDT at 0x103000, where the FADT says, made by this tool: it is empty"
 USAGE = "usage: tables2image FILE.., as tables2image /sys/firmware/acpi/tables/*"
 
 
@@ -58,9 +59,10 @@ def of_one_table(cases):
     """One table alone: what is made beside it keeps every rule, and breaks no rule of advice."""
     for name, data in VALID.items():
         cases.write(f"{name}.one", data)
-        image = text_of(image_of_files(data, fadt(), facs_at=None))
-        cases.makes(MADE_FADT, "yes", "tables2image", f"{name}.one", image=image)
-    cases.makes(MADE_FADT, "yes", "tables2image", "HPET.one", command="lint")
+        cases.makes(MADE_FADT, "yes", "tables2image", f"{name}.one", image=text_of(image_of_one(data)))
+    cases.makes(MADE_DSDT, "yes", "tables2image", "HPET.one", command="lint")
+    for names in (["HPET.one"], ["SSDT.one", "HPET.one"], ["HPET.one", "facs.dat"]):
+        cases.makes("made by this tool: it is empty", "yes", "tables2image", *names, command="lint")
     cases.write("unsummed.one", changed(HPET, {9: 0x5A}))
     for name, data, verdict in (
         ("unsummed.one", changed(HPET, {9: 0x5A}), "no 3 TableSum 0x0 0x101000 0x0"),

@@ -1,12 +1,23 @@
 """What a line of acpiset is about in an image."""
 
-from . import entries, fixed
+from . import entries, fadt, fixed
 from .document import FIRST_RULE
 from .report import Report
 
 # What says more of a fault's structures, by its stage, and of those of a finding of advice, by its number.
 OF_STAGES = {entries.madt: (6, 7, 8, 17), entries.srat: (9, 10, 16), entries.pptt: (12, 13, 14, 15, 18)}
-OF_RULES = {entries.madt: (*range(109, 117), 119, 125, 127), entries.srat: (117, 118, 120, 128), entries.pptt: (122, 123, 124, 126)}
+OF_RULES = {
+    fixed.listed: (101, 102, 103, 148, 149),
+    fixed.root_advice: (129, 130, 131),
+    fadt.fadt_advice: (104, 105, 106, 107, *range(132, 143), 144, 145),
+    entries.fadt_madt: (108, 143, 170),
+    fadt.facs_advice: (146,),
+    fixed.rsdp_advice: (147,),
+    entries.madt: (*range(109, 117), 119, 125, 127, *range(150, 170), 171, 172),
+    entries.srat: (117, 118, 120, 128, *range(173, 179)),
+    fixed.slit_advice: (121, 179),
+    entries.pptt: (122, 123, 124, 126, *range(180, 185)),
+}
 
 
 def about(line, tables, settings):
@@ -18,7 +29,7 @@ def about(line, tables, settings):
     elif code < FIRST_RULE:
         of_fault(report, int(line.part.stage), code, *numbers)
     else:
-        of_advice(report, code, *numbers)
+        explained(report, OF_RULES, code, code, *numbers)
     return report.lines
 
 
@@ -40,29 +51,16 @@ def of_fault(report, stage, code, at, other, point):
     elif code == 19:
         fixed.signatures(report)
     elif stage == 4 or code == 26:
-        fixed.fadt(report, code, at)
+        fadt.fadt(report, code, at)
     elif stage == 5:
         fixed.facs(report, code, at)
     elif stage == 11:
         fixed.slit(report, code, at, other)
     else:
-        of_structures(report, OF_STAGES, stage, code, at, other, point)
+        explained(report, OF_STAGES, stage, code, at, other, point)
 
 
-def of_advice(report, rule, at, other, point):
-    if rule <= 103:
-        fixed.listed(report, rule, at, other, point)
-    elif rule <= 107:
-        fixed.fadt_advice(report, rule, at, point)
-    elif rule == 108:
-        entries.sci(report)
-    elif rule == 121:
-        fixed.slit(report, rule, at, other)
-    else:
-        of_structures(report, OF_RULES, rule, rule, at, other, point)
-
-
-def of_structures(report, by, number, code, at, other, point):
+def explained(report, by, number, code, at, other, point):
     for explain, numbers in by.items():
         if number in numbers:
             explain(report, code, at, other, point)

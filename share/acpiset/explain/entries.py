@@ -1,6 +1,6 @@
 """What lines on the structures of the MADT, the SRAT and the PPTT are about."""
 
-from .fixed import found_fadt
+from .fadt import field, found_fadt
 from .image import ADDRESSES
 from .program import MISMATCH
 from .report import both, known
@@ -9,15 +9,21 @@ from .tables import FIRST, LENGTHS, UNREAD, layout_of, little
 MOST_LISTED = 32
 MOST_OF_CHAIN = 1000
 # Codes whose second number is the offset of another structure.
-PAIRS = {37, 39, 40, 45, 57, 109, 110, 112, 113, 115, 117, 122, 124}
+PAIRS = {37, 39, 40, 45, 57, 109, 110, 112, 113, 115, 117, 122, 124, 156, 162, 163, 166, 167, 168, 169, 171, 181}
+# Rules whose second number is an offset in the structure, of a byte that is reserved.
+RESERVED = {172, 178, 184}
+# Rules that say of the MADT as a whole that something is not there.
+OF_WHOLE_MADT = {116, 158, 159}
+PROCESSORS = (0, 9, 11, 17, 24)
 
 # Where a rule looks for a number and does not find it: the table, what is there, of which types, and which field.
 LOOKED_IN = {
     59: ("APIC", "the MADT's processors have the UIDs", (0, 9), "uid"),
-    114: ("APIC", "the MADT's processors have the UIDs", (0, 9, 11, 17, 24), "uid"),
+    114: ("APIC", "the MADT's processors have the UIDs", PROCESSORS, "uid"),
     118: ("APIC", "the MADT's processors have the APIC IDs", (0, 9, 17), "id"),
     125: ("PPTT", "the PPTT's leaves have the IDs", (0,), "id"),
-    126: ("APIC", "the MADT's processors have the UIDs", (0, 9, 11, 17, 24), "uid"),
+    126: ("APIC", "the MADT's processors have the UIDs", PROCESSORS, "uid"),
+    177: ("APIC", "the MADT's ITSs have the IDs", (15,), "id"),
 }
 
 
@@ -111,9 +117,12 @@ def madt(report, code, at, other, point):
     table = whole_table(report, "APIC", code, at)
     if not table:
         return
-    if code == 116:
+    if code in OF_WHOLE_MADT:
         report.field(table, "its beginning", 0, 44)
-        listing(report, "the MADT's processors:", table.structures(0, 9, 11, 17, 24))
+        listing(report, "the MADT's processors:", table.structures(*PROCESSORS))
+        return
+    if code in RESERVED:
+        reserved(report, table, 40, at, other)
         return
     found = report.named(table, "the structure", at)
     second = report.named(table, "the other structure", other) if code in PAIRS else None
@@ -134,6 +143,36 @@ def madt(report, code, at, other, point):
         affinities(report, found)
     elif code in (114, 125):
         looked_for(report, code)
+    elif code in (152, 154):
+        of_fadt(report, code)
+    elif code in (160, 161):
+        listing(report, "the MADT's redistributors and GICCs:", table.structures(14, 11))
+
+
+def of_fadt(report, code):
+    """What the FADT says, where a rule on a structure of the MADT looks at it."""
+    table = report.tables.first("FACP")
+    if table and code == 152:
+        report.say(f"the FADT is of version {version(table)}")
+    elif table:
+        report.say(f"SCI_INT is {known(table.number(46, 2))}")
+
+
+def version(fadt):
+    """The Revision of a FADT and its minor version, whose high bits are something else."""
+    minor = (fadt.number(131, 1) or 0) & 0xF if fadt.length >= 132 else 0
+    return f"{known(fadt.number(8, 1))}.{minor}"
+
+
+def reserved(report, table, field_at, at, place):
+    """A reserved value: of the field of 4 bytes that the table has, or of a structure, with the byte at a place of it."""
+    if at == field_at:
+        report.field(table, "the field", at, 4)
+        report.say(f"it is {known(table.number(at, 4), '#x')}")
+        return
+    found = report.named(table, "the structure", at)
+    if found and place < found.size:
+        report.say(f"byte {place} of it is {found.number(place, 1):#x}")
 
 
 def is_one(structure, word):
@@ -143,6 +182,13 @@ def is_one(structure, word):
 def srat(report, code, at, other, point):
     table = whole_table(report, "SRAT", code, at)
     if not table:
+        return
+    if code == 173:
+        report.field(table, "its beginning", 0, 48)
+        listing(report, "the SRAT's memory ranges:", table.structures(1))
+        return
+    if code in RESERVED:
+        reserved(report, table, 36, at, other)
         return
     found = report.named(table, "the structure", at)
     second = report.named(table, "the other structure", other) if code in PAIRS else None
@@ -155,6 +201,10 @@ def srat(report, code, at, other, point):
         processors(report, point)
     elif code == 118:
         looked_for(report, 114 if is_one(found, "gicc") or is_one(found, "rintc") else 118)
+    elif code == 176:
+        report.say(f"the SRAT's Revision is {known(table.number(8, 1))}")
+    elif code == 177:
+        looked_for(report, code)
     elif code == 120 and (slit := report.table("SLIT")):
         report.field(slit, "the number of localities", 36, 8)
         report.say(f"the SLIT has {known(slit.number(36, 8))} localities, numbered from 0")
@@ -189,6 +239,9 @@ def pptt(report, code, at, other, point):
     if code in (55, 56):
         cycle(report, table, code, at, (other, point))
         return
+    if code in RESERVED:
+        reserved(report, table, None, at, other)
+        return
     found = report.named(table, "the structure", at)
     if code in PAIRS:
         report.named(table, "the other structure", other)
@@ -199,6 +252,11 @@ def pptt(report, code, at, other, point):
         reference(report, table, point, "of another type")
     elif code == 54:
         reference(report, table, other, "a cache, type 1")
+    elif code == 182:
+        parents(report, table, at)
+    elif code == 183 and is_one(found, "cache"):
+        ways, sets, line = (found.fields[name] for name in ("ways", "sets", "line"))
+        report.say(f"{sets} sets * {ways} ways * {line} bytes of a line are {sets * ways * line}, and Size is {found.fields['size']}")
     elif code in LOOKED_IN:
         looked_for(report, code)
 
@@ -231,6 +289,14 @@ def cycle(report, table, code, at, counts):
     report.say(f"it names the one at {named:#x} again: {around} of these {len(steps)} are the cycle")
     if counts != (lead, around):
         report.say(f"the line says {counts[0]} steps to it and {counts[1]} around it: {MISMATCH}")
+
+
+def parents(report, table, at):
+    """The nodes to which the Parents of one lead."""
+    steps, _ = chain(table, "node", at)
+    for offset in [*steps][1:MOST_OF_CHAIN]:
+        report.structure(table, f"parent {steps[offset]}", offset)
+    report.say("none of them has the flag of a package, bit 0")
 
 
 def chain(table, word, at):
@@ -282,11 +348,21 @@ def in_ranges(numbers):
     return (", ".join(shown) or "none") + more
 
 
-def sci(report):
-    """SCI_INT, its overrides, and the I/O APICs that would have to serve it."""
+def fadt_madt(report, code, at, other, point):
+    """What a rule on a field of the FADT and on the MADT is about."""
     table = found_fadt(report)
-    if not table:
-        return
+    if table and code == 108:
+        sci(report, table)
+    elif table:
+        field(report, table, at)
+        report.say(f"the FADT is of version {version(table)}")
+        apic = report.table("APIC")
+        if apic:
+            listing(report, "the MADT's GICCs and RINTCs:", apic.structures(11, 24))
+
+
+def sci(report, table):
+    """SCI_INT, its overrides, and the I/O APICs that would have to serve it."""
     report.field(table, "SCI_INT", 46, 2)
     source = table.number(46, 2)
     report.say(f"SCI_INT is {known(source)}")
@@ -303,7 +379,7 @@ def is_advised(signature, kind, size):
     """Whether rules of advice look at a type that no stage looks at."""
     if signature == "SRAT":
         return size == {3: 18, 4: 12, 5: 32, 6: 32, 7: 20}.get(kind)
-    return kind == 12 or kind == 11 and size >= 40 or kind == 17 and size == 15 or kind == 24 and size >= 20
+    return size >= {11: 40, 24: 20}.get(kind, 256) or size == {12: 24, 13: 24, 14: 16, 15: 20, 17: 15}.get(kind)
 
 
 def unread(report, signature):

@@ -1,18 +1,12 @@
-"""What lines on fixed fields are about: the RSDP, the XSDT or RSDT, headers, the FADT, the FACS, the SLIT."""
+"""What lines on fixed fields are about: the RSDP, the XSDT or RSDT, headers, the FACS, the SLIT."""
 
 from .program import MISMATCH
 from .refusal import signature_of
 from .report import known
 
 MOST_SLOTS = 32
-BLOCKS = "PM1a_EVT_BLK PM1b_EVT_BLK PM1a_CNT_BLK PM1b_CNT_BLK PM2_CNT_BLK PM_TMR_BLK GPE0_BLK GPE1_BLK".split()
-BLOCK_LENGTHS = {
-    88: "PM1_EVT_LEN is {}, and must be at least 4",
-    89: "PM1_CNT_LEN is {}, and must be at least 2",
-    91: "PM_TMR_LEN is {}, and must be 0 or 4",
-    92: "GPE0_BLK_LEN is {}, and must be even",
-    93: "GPE1_BLK_LEN is {}, and must be even",
-}
+# Where a header has text: the name and the size of each field.
+TEXTS = {0: ("Signature", 4), 10: ("OEMID", 6), 16: ("OEM Table ID", 8), 28: ("Creator ID", 4)}
 
 
 def rsdp(report, code, at):
@@ -76,57 +70,70 @@ def listed(report, code, slot, other, point):
     header(report, code, address, f"the table of slot {slot}")
     if code == 101:
         report.say(f"slot {other} lists it too")
-    if code == 102 and other < len(slots):
+    if code in (102, 149) and other < len(slots):
         header(report, code, slots[other], f"the table of slot {other}")
+    if code == 148:
+        name, size = TEXTS.get(other, (f"what is at {other}, where no text is,", 1))
+        report.say(f"{name} is {report.image.part(address + other, size).hex(' ')}")
     if slot >= len(slots) or slots[slot] != address:
         report.say(f"slot {slot} does not list this address: {MISMATCH}")
 
 
 def signatures(report):
     if report.has_root():
-        slots = report.tables.slots
-        names = [(report.tables.signature(slot) or "nothing in the image") if slot else "empty" for slot in slots[:MOST_SLOTS]]
-        more = f", and {len(slots) - MOST_SLOTS} more" * (len(slots) > MOST_SLOTS)
-        report.say(f"the slots list: {', '.join(names) or 'nothing'}{more}")
+        say_signatures(report, "the slots list", report.tables.slots)
 
 
-def found_fadt(report):
-    """The FADT that a line is about, or None; it is said as `show` writes it."""
-    table = report.table("FACP")
-    if table and table.length >= 116:
-        profile, sci, flags = (table.number(at, size) or 0 for at, size in ((45, 1), (46, 2), (112, 4)))
-        told = f"length {table.length} profile {profile} sci {sci} flags {flags:#x} reduced {'yes' if flags >> 20 & 1 else 'no'}"
-        report.say(f"  fadt {table.address:#x} {told}")
-    return table
+def say_signatures(report, what, slots):
+    names = [(report.tables.signature(slot) or "nothing in the image") if slot else "empty" for slot in slots[:MOST_SLOTS]]
+    more = f", and {len(slots) - MOST_SLOTS} more" * (len(slots) > MOST_SLOTS)
+    report.say(f"{what}: {', '.join(names) or 'nothing'}{more}")
 
 
-def fadt(report, code, at):
-    table = found_fadt(report)
-    if not table:
+def root_advice(report, code, at, other, point):
+    """What a rule on a slot, on both roots, or on tables at one place is about."""
+    if not report.has_root():
         return
-    number = table.number
-    if code == 20:
-        report.field(table, "its header", 0, 36)
-        report.say(f"Length is {table.length}, and must be at least 116")
-    elif code == 25:
-        report.field(table, "RESET_REG", 116, 12)
-        space, width, offset = (known(number(place, 1)) for place in (116, 117, 118))
-        report.say(f"its address space is {space}, its bit width {width}, its bit offset {offset}; they must be 0 to 2, 8, and 0")
-    elif code == 26:
-        addresses(report, table, "FIRMWARE_CTRL", 36, 132)
+    if code == 129:
+        place = 36 + report.tables.width * at
+        report.say(f"slot {at} at offset {place:#x} ({place}) of the XSDT or RSDT, at {report.tables.root + place:#x}:")
+        report.bytes(report.tables.root + place, report.tables.width)
+    elif code == 130:
+        both_roots(report, point)
     else:
-        report.field(table, "the field", at, 1)
-        report.say(BLOCK_LENGTHS.get(at, f"this field has no such rule: {MISMATCH}").format(known(number(at, 1))))
+        for address in (at, other):
+            piece(report, address)
+        report.say(f"both hold the byte at {point:#x}")
 
 
-def addresses(report, table, name, narrow, wide):
-    """Two fields with an address of the same thing."""
-    report.field(table, name, narrow, 4)
-    told = f"{name} is {known(table.number(narrow, 4), '#x')}"
-    if table.length >= wide + 8:
-        report.field(table, f"X_{name}", wide, 8)
-        told += f", and X_{name} is {known(table.number(wide, 8), '#x')}"
-    report.say(told)
+def both_roots(report, signature):
+    rsdp(report, 8, report.tables.rsdp)
+    address = report.image.number(report.tables.rsdp + 16, 4) or 0
+    length = report.image.number(address + 4, 4) or 0
+    data = report.image.part(address + 36, max(0, length - 36))
+    narrow = [int.from_bytes(data[at : at + 4], "little") for at in range(0, len(data) // 4 * 4, 4)]
+    say_signatures(report, "the XSDT lists", report.tables.slots)
+    say_signatures(report, "the RSDT lists", narrow)
+    report.say(f"they list {signature_of((signature % 2**32).to_bytes(4, 'little'))} a different number of times")
+
+
+def piece(report, address):
+    """A table, the RSDP or the FACS, by where it begins."""
+    head = report.image.part(address, 36)
+    is_rsdp = address == report.tables.rsdp
+    size = (36 if len(head) > 15 and head[15] >= 2 else 20) if is_rsdp else int.from_bytes(head[4:8], "little")
+    report.say(f"the {'RSDP' if is_rsdp else signature_of(head)} at {address:#x}, {size} bytes, up to {address + max(size, 1) - 1:#x}:")
+    report.bytes(address, 36)
+
+
+def rsdp_advice(report, code, at, other, point):
+    address = report.tables.rsdp
+    if address is None:
+        report.has_root()
+        return
+    rsdp(report, code, address)
+    name, size = {15: ("Revision", 1), 20: ("Length", 4)}.get(at, (f"byte {at}", 1))
+    report.say(f"{name} is {known(report.image.number(address + at, size), '#x')}")
 
 
 def facs(report, code, at):
@@ -163,6 +170,10 @@ def slit(report, code, at, other):
             distance(report, table, "the other distance", count, other)
 
 
+def slit_advice(report, code, at, other, point):
+    slit(report, code, at, other)
+
+
 def distance(report, table, what, count, at):
     report.field(table, what, at, 1)
     if count and 44 <= at < 44 + count * count:
@@ -170,23 +181,3 @@ def distance(report, table, what, count, at):
         report.say(f"from locality {row} to locality {column} it is {known(table.number(at, 1))}")
     else:
         report.say(f"of {known(count)} localities no distance is there: {MISMATCH}")
-
-
-def fadt_advice(report, code, at, point):
-    table = found_fadt(report)
-    if not table:
-        return
-    if code == 104:
-        report.field(table, "its header", 0, 36)
-        report.say(f"Length is {table.length}, and Revision {known(table.number(8, 1))} has fields up to {point}")
-    elif code == 105:
-        addresses(report, table, "FIRMWARE_CTRL", 36, 132)
-    elif code == 106:
-        addresses(report, table, "DSDT", 40, 140)
-    else:
-        wide, is_field = 148 + 3 * (at - 56), at in range(56, 88, 4)
-        name = BLOCKS[(at - 56) // 4] if is_field else f"no block: {MISMATCH}"
-        report.field(table, "the 4-byte address", at, 4)
-        report.field(table, "the X_ structure", max(wide, 0), 12)
-        narrow_address, wide_address = table.number(at, 4), table.number(max(wide, 0) + 4, 8)
-        report.say(f"of {name}: {known(narrow_address, '#x')}, and in the X_ structure {known(wide_address, '#x')}")

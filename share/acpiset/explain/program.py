@@ -3,6 +3,7 @@
 import os
 import shutil
 import subprocess
+from typing import NamedTuple
 
 from .document import FIRST_RULE
 from .refusal import printable
@@ -12,31 +13,56 @@ NOT_ASKED = "(acpiset is neither beside this tool nor on PATH, so it was not ask
 NO_VERDICT = "(acpiset has no verdict on this image, so it is not known whether it has this)"
 
 
+# These commands take neither counts nor settings.
+WITHOUT_SETTINGS = ("show", "find", "--version")
+
+
+class Answer(NamedTuple):
+    """What a run of the program wrote, and its exit status."""
+
+    status: int
+    lines: list
+    told: str
+
+    @property
+    def is_given(self):
+        return self.status in (0, 1)
+
+
+NOT_STARTED = Answer(127, [], "acpiset cannot be started")
+
+
 class Program:
     """acpiset, where it is at one of some paths or on PATH. It is asked with the counts and settings that check was given."""
 
-    def __init__(self, paths, image, settings):
+    def __init__(self, paths, text, settings):
         found = (path for path in paths if os.path.isfile(path) and os.access(path, os.X_OK))
         self.path = next(found, None) or shutil.which("acpiset")
-        self.image, self.settings = image, settings
+        self.text, self.settings = text, settings
         self.answers = {}
 
-    def asked(self, *words):
-        """What a command writes, or None if it gives no verdict. Each is run once."""
+    def answer(self, *words):
+        """The answer of a command. Each is run once."""
         if words not in self.answers:
-            self.answers[words] = self.ran([self.path, *words, *self.settings.words()])
+            settings = () if words[0] in WITHOUT_SETTINGS else self.settings.words()
+            self.answers[words] = self.ran([self.path, *words, *settings])
         return self.answers[words]
+
+    def asked(self, *words):
+        """What a command writes, or None if it gives no verdict."""
+        answer = self.answer(*words)
+        return answer.lines if answer.is_given else None
 
     def ran(self, words):
         # From a file the program reads the text faster than from a pipe.
         try:
             with open(os.memfd_create("image"), "w+b") as file:
-                file.write(self.image.text)
+                file.write(self.text)
                 file.seek(0)
-                run = subprocess.run(words, stdin=file, stdout=subprocess.PIPE, stderr=subprocess.DEVNULL, check=False)
+                run = subprocess.run(words, stdin=file, capture_output=True, check=False)
         except OSError:
-            return None
-        return run.stdout.decode("ascii", "replace").splitlines() if run.returncode in (0, 1) else None
+            return NOT_STARTED
+        return Answer(run.returncode, run.stdout.decode("ascii", "replace").splitlines(), run.stderr.decode("ascii", "replace"))
 
     def doubt(self, line, rsdp):
         """What to say where the image does not have what the line says, or where that is not known; else nothing."""

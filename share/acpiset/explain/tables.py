@@ -17,6 +17,10 @@ LAYOUTS = {
     ("APIC", 5, 12): "lapic-address :4/8x",
     ("APIC", 9, 16): "x2apic uid:12/4 id:4/4 flags:8/4x",
     ("APIC", 10, 12): "x2apic-nmi uid:4/4 flags:2/2x lint:8/1",
+    ("APIC", 12, 24): "-gicd base:8/8x version:20/1",
+    ("APIC", 13, 24): "-msi-frame id:4/4 base:8/8x",
+    ("APIC", 14, 16): "-gicr base:4/8x length:12/4x",
+    ("APIC", 15, 20): "-its id:4/4 base:8/8x",
     ("APIC", 17, 15): "-core-pic uid:3/4 id:7/4 flags:11/4x",
     ("SRAT", 0, 16): "cpu id:3/1 domain:2/1+9/3 flags:4/4x",
     ("SRAT", 1, 40): "memory domain:2/4 base:8/8x length:16/8x flags:28/4x",
@@ -30,10 +34,11 @@ LAYOUTS = {
     ("PPTT", 1, 28): CACHE + " id:24/4",
 }
 
-# The same for types of at least a length.
+# The same for types of at least a length, the greatest of which comes first.
+GICC = "-gicc uid:8/4 flags:12/4x parking:16/4 base:32/8x"
 LONGER = {
-    ("APIC", 11): (40, "-gicc uid:8/4 flags:12/4x"),
-    ("APIC", 24): (20, "-rintc uid:16/4 hart:8/8 flags:4/4x"),
+    ("APIC", 11): [(76, GICC + " gicr:60/8x mpidr:68/8x"), (68, GICC + " gicr:60/8x"), (40, GICC)],
+    ("APIC", 24): [(20, "-rintc uid:16/4 hart:8/8 flags:4/4x")],
 }
 
 # The length that a type has.
@@ -75,7 +80,7 @@ def parsed(layout):
 
 
 PARSED = {key: parsed(layout) for key, layout in LAYOUTS.items()}
-PARSED_LONGER = {key: (least, parsed(layout)) for key, (least, layout) in LONGER.items()}
+PARSED_LONGER = {key: [(least, parsed(layout)) for least, layout in layouts] for key, layouts in LONGER.items()}
 PARSED_NODE = parsed("node flags:4/4x parent:8/4x id:12/4")
 OPAQUE = ("", False, [])
 
@@ -83,9 +88,9 @@ OPAQUE = ("", False, [])
 def layout_of(signature, data, at):
     """The layout of the structure at an offset of a table."""
     kind, size = data[at], data[at + 1]
-    least, layout = PARSED_LONGER.get((signature, kind), (256, OPAQUE))
-    if size >= least:
-        return layout
+    for least, layout in PARSED_LONGER.get((signature, kind), ()):
+        if size >= least:
+            return layout
     if kind == 0 and size >= 20 and signature == "PPTT" and size == 20 + 4 * little(data, at + 16, 4):
         return PARSED_NODE
     return PARSED.get((signature, kind, size), OPAQUE)
