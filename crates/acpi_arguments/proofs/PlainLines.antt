@@ -1,7 +1,7 @@
 -- Command lines with valid arguments, and the jobs that they give.
 use Rattle.std.proofs.Common.{◌≡◌, ◌∙◌, ◌++◌, ℕ, Bool, List, [], ◌∷◌, Option, Some, None, true, false, true≢false, cond, codes, append_assoc, append-nil, refl, ap, sym, ◌==◌}
 use Rattle.std.specs.Prelude.{IfSome, find as find_first, fold, is_some, option_and_then, option_map}
-use Rattle.std.specs.List.{list_all}
+use Rattle.std.specs.List.{list_all, onto_first, slice_split}
 use Rattle.std.specs.Str.{bytes_eq}
 use Rattle.std.proofs.lemmas.Bool.{not-true}
 use Rattle.std.proofs.lemmas.Option.{option_and_then_some}
@@ -15,8 +15,10 @@ use Rattle.acpi_base.specs.Laws.{NumbersFit}
 use Rattle.acpi_base.specs.Policy.{PolicyValue}
 use Rattle.acpi_base.specs.Text.WitnessText.{witness_line}
 use Rattle.acpi_base.specs.declared.witness.Witness.{Witness}
-use Rattle.acpi_arguments.specs.CommandLine.{Asked, PolicyTexts, are_none, asked_job, base_word, check, asked_check, check_line, check_words, asked_command, command_line, command_of, confirm, asked_confirm, confirm_line, confirm_words, default_word, find, find_line, find_words, hotplug_word, inputs_policy, is_taken, judging_asked, last_word, lint, asked_lint, lint_line, lint_words, options_words, policy_options, policy_words, processors_word, rebuild, asked_rebuild, rebuild_line, rebuild_words, rsdp_word, show, asked_show, show_line, show_words, strict_word, values_of, witness_word, words_of}
-use Rattle.acpi_arguments.specs.Words.{all_inputs}
+use Rattle.acpi_lint.specs.Rules.Rows.{rule_named}
+use Rattle.acpi_lint.specs.declared.rule.Rule.{Rule as AdviceRule}
+use Rattle.acpi_arguments.specs.CommandLine.{Asked, PolicyTexts, allow_word, are_none, asked_job, base_word, check, asked_check, check_line, check_words, asked_command, command_line, command_of, confirm, asked_confirm, confirm_line, confirm_words, default_word, find, find_line, find_words, hotplug_word, inputs_policy, is_taken, judging_asked, last_word, lint, asked_lint, lint_line, lint_words, options_words, policy_options, policy_words, processors_word, rebuild, asked_rebuild, rebuild_line, rebuild_words, rsdp_word, show, asked_show, show_line, show_words, strict_word, values_of, witness_word, words_of}
+use Rattle.acpi_arguments.specs.Words.{all_inputs, all_read}
 use Rattle.acpi_arguments.proofs.FaultWords.{fault_is_plain, is_read}
 use Rattle.acpi_arguments.proofs.CheckRows.{are_distinct, flag_is_found, no_row_behind, option_is_found, options_rows, rows_behind, value_of, words_are_found}
 use Rattle.acpi_arguments.proofs.Hyphens.{ArePlain, IsPlain, all_are_plain, no_number, value_is_plain}
@@ -109,6 +111,21 @@ command_is_entered l program words rows has reads =
 rsdp_is_plain : (text : Option Text) (rsdp : Option ℕ) → rsdp_word text ≡ Some rsdp → IfSome text IsPlain
 rsdp_is_plain text rsdp e = value_is_plain rsdp_word text rsdp refl (λ rest. ap (option_map _) (no_number _ _ _)) e
 
+-- no name begins with a hyphen
+no_hyphen : (parts : List Text) → all_read rule_named (onto_first 45 parts) ≡ None
+unfolding rule_named
+no_hyphen [] = refl
+no_hyphen (part ∷ parts) = refl
+
+no_names : allow_word (Some []) ≡ None
+unfolding rule_named
+no_names = refl
+
+names_are_plain : (names : Option Text) (allowed : List AdviceRule) → allow_word names ≡ Some allowed
+    → IfSome names IsPlain
+names_are_plain names allowed e =
+    value_is_plain allow_word names allowed no_names (λ rest. no_hyphen (slice_split (λ byte. byte == 44) rest)) e
+
 policy_is_plain : (texts : PolicyTexts) (policy : PolicyValue) → policy_words texts ≡ Some policy
     → AllPlain (policy_options texts) × ArePlain texts.inputs
 policy_is_plain texts policy e =
@@ -163,7 +180,8 @@ option_of_line l words id distinct other another =
 -- a command gives the same job if its options have the same values
 asks_same : {T : Type 0} (make : Option ℕ → PolicyValue → T → Asked) (id : Text) (word : Option Text → Option T)
     (value given : Text → Option Text) (words inputs : List Text)
-    → ((id : Text) → bytes_eq (codes "inputs") id ≡ false → bytes_eq (codes "strict") id ≡ false → value id ≡ given id)
+    → ((id : Text) → bytes_eq (codes "inputs") id ≡ false → bytes_eq (codes "strict") id ≡ false → value id
+    ≡ given id)
     → word (value id) ≡ word (given id) → words ≡ inputs
     → judging_asked make id word value words ≡ judging_asked make id word given inputs
 asks_same make id word value given words inputs same own e =
@@ -220,17 +238,18 @@ check_words_asked program hex number texts rsdp policy last a b c =
     }) (λ rows. refl) refl refl
     ∙ rw (a, b, c) refl
 
-pub lint_words_asked : (program : Text) (hex : Option Text) (texts : PolicyTexts) (strict : Bool) (rsdp : Option ℕ)
-    (policy : PolicyValue) → rsdp_word hex ≡ Some rsdp → policy_words texts ≡ Some policy
-    → asked_job (lint_words program hex texts strict) ≡ Some (lint rsdp policy strict)
+pub lint_words_asked : (program : Text) (names hex : Option Text) (texts : PolicyTexts) (strict : Bool)
+    (allowed : List AdviceRule) (rsdp : Option ℕ) (policy : PolicyValue)
+    → allow_word names ≡ Some allowed → rsdp_word hex ≡ Some rsdp → policy_words texts ≡ Some policy
+    → asked_job (lint_words program names hex texts strict) ≡ Some (lint allowed rsdp policy strict)
 unfolding program_line command_line check_line lint_line confirm_line rebuild_line show_line find_line shape rules
     asked_lint
-lint_words_asked program hex texts strict rsdp policy a b =
+lint_words_asked program names hex texts strict allowed rsdp policy n a b =
     let plain = policy_is_plain texts policy b in
     let l : Line = record {
       name = codes "lint";
       options =
-          (codes "rsdp", hex) ∷ policy_options texts;
+          (codes "allow", names) ∷ (codes "rsdp", hex) ∷ policy_options texts;
       flag = Some strict;
       no_inputs = refl;
       no_strict = refl;
@@ -242,10 +261,13 @@ lint_words_asked program hex texts strict rsdp policy a b =
       own = refl;
       new = refl;
       distinct = refl;
-      values = (rsdp_is_plain hex rsdp a, plain.0);
+      values = (names_are_plain names allowed n, (rsdp_is_plain hex rsdp a, plain.0));
       inputs = plain.1;
     })
-    ∙ asks_same lint (codes "strict") strict_word (values_of rows)
+    ∙ ap (option_and_then (λ rules. judging_asked (lint rules) (codes "strict") strict_word (values_of rows)
+    (words_of rows)))
+    (ap allow_word (option_of_line l texts.inputs (codes "allow") refl refl refl) ∙ n)
+    ∙ asks_same (lint allowed) (codes "strict") strict_word (values_of rows)
     (λ id. cond (bytes_eq (codes "strict") id) (values_of rows id) (value_of id l.options))
     (words_of rows) texts.inputs
     (λ id other another. rw another (option_of_line l texts.inputs id refl other another))
@@ -309,7 +331,8 @@ rebuild_words_asked program base at hex texts rsdp policy a b c =
     ∙ rw (a, b, c) refl
 
 -- a line of `show`, if a value begins with no hyphen
-show_is_asked : (program : Text) (hex : Option Text) (rsdp : Option ℕ) → IfSome hex IsPlain → rsdp_word hex ≡ Some rsdp
+show_is_asked : (program : Text) (hex : Option Text) (rsdp : Option ℕ) → IfSome hex IsPlain → rsdp_word hex
+    ≡ Some rsdp
     → asked_job (show_words program hex) ≡ Some (show rsdp)
 unfolding is_taken command_of command_line check_line lint_line confirm_line rebuild_line show_line find_line
     asked_show

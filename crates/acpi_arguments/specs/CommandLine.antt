@@ -1,6 +1,7 @@
 -- The command line as it is declared to `clap`, and the job that its arguments give.
 use Rattle.std.specs.Prelude.{◌≡◌, ◌==◌, ℕ, ◌&&◌, Bool, true, false, List, [], ◌∷◌, ◌++◌, Option, Some, None}
 use Rattle.std.specs.Prelude.{if◌then◌else◌, codes, find as find_first, fold, nat_le, option_and_then, option_map, unwrap_or}
+use Rattle.std.specs.List.{slice_split}
 use Rattle.std.specs.Str.{bytes_eq}
 use Rattle.clap.specs.Words.{App, Kinds, Row, Rule, Text, all_of, fault_of, first_of, new_app, new_rule}
 use Rattle.clap.specs.Words.{subcommand_of, with_rule, with_subcommand}
@@ -12,7 +13,9 @@ use Rattle.acpi_base.specs.declared.policy.HotPlug.TheVariants.{Apart, Counted}
 use Rattle.acpi_base.specs.declared.policy.Processors.{Processors}
 use Rattle.acpi_base.specs.declared.policy.Processors.TheVariants.{Enabled, Usable}
 use Rattle.acpi_base.specs.declared.witness.Witness.{Witness}
-use Rattle.acpi_arguments.specs.Words.{all_inputs, count_word, decimal_word, written_fault, hex_word}
+use Rattle.acpi_lint.specs.Rules.Rows.{rule_named}
+use Rattle.acpi_lint.specs.declared.rule.Rule.{Rule as AdviceRule}
+use Rattle.acpi_arguments.specs.Words.{all_inputs, all_read, count_word, decimal_word, written_fault, hex_word}
 use Rattle.acpi_arguments.specs.declared.policy_words.Inputs.{Inputs}
 use Rattle.acpi_arguments.specs.declared.words.Job.{Job}
 use Rattle.acpi_arguments.specs.declared.words.Job.TheVariants.{Check, Confirm, Find, Lint, Rebuild, Show}
@@ -40,21 +43,25 @@ with_setting_options line =
     (option_rule (codes "hotplug")))
     (option_rule (codes "processors"))
 
--- a command with its own two options, and those of the policy
+-- a command with its own two options, and then these
+abbrev pub with_options : App → Rule → Rule → App
+with_options line first second = with_setting_options (with_rule (with_rule line first) second)
+
+-- the same, and `ADDRESS=COUNT`
 abbrev pub judging_line : App → Rule → Rule → App
-judging_line line first second = with_rule (with_setting_options (with_rule (with_rule line first) second)) inputs_rule
+judging_line line first second = with_rule (with_options line first second) inputs_rule
+
+-- the same, and `--strict`
+abbrev pub strict_line : App → Rule → Rule → App
+strict_line line first second = with_rule (with_rule (with_options line first second) (flag_rule (codes "strict"))) inputs_rule
 
 -- `check --rsdp HEX --through N --default-inputs N --hotplug SETTING --processors SETTING ADDRESS=COUNT..`
 unfoldable pub check_line : App
 check_line = judging_line (new_app (codes "check")) (option_rule (codes "rsdp")) (option_rule (codes "through"))
 
--- `lint --rsdp HEX --default-inputs N --hotplug SETTING --processors SETTING --strict ADDRESS=COUNT..`
+-- `lint --allow NAMES --rsdp HEX --default-inputs N --hotplug SETTING --processors SETTING --strict ADDRESS=COUNT..`
 unfoldable pub lint_line : App
-lint_line =
-    with_rule (with_rule
-    (with_setting_options (with_rule (new_app (codes "lint")) (option_rule (codes "rsdp"))))
-    (flag_rule (codes "strict")))
-    inputs_rule
+lint_line = strict_line (new_app (codes "lint")) (option_rule (codes "allow")) (option_rule (codes "rsdp"))
 
 -- `confirm --witness FAULT --rsdp HEX --default-inputs N --hotplug SETTING --processors SETTING ADDRESS=COUNT..`
 unfoldable pub confirm_line : App
@@ -101,8 +108,8 @@ command_of = subcommand_of command_line
 pub data Asked : Type 0 where
   -- the RSDP's address, if it is given, the policy, and the number of the last stage
   check : Option ℕ → PolicyValue → ℕ → Asked
-  -- the RSDP's address, if it is given, the policy, and whether advice is a bad outcome too
-  lint : Option ℕ → PolicyValue → Bool → Asked
+  -- the rules that are allowed, the RSDP's address, if it is given, the policy, and whether advice is a bad outcome too
+  lint : List AdviceRule → Option ℕ → PolicyValue → Bool → Asked
   -- the RSDP's address, if it is given, the policy, and the fault
   confirm : Option ℕ → PolicyValue → Witness → Asked
   -- the RSDP's address, if it is given, the policy, and the base address
@@ -133,6 +140,11 @@ is_set (Some text) = bytes_eq text (codes "true")
 -- `--strict`
 abbrev pub strict_word : Option Text → Option Bool
 strict_word value = Some (is_set value)
+
+-- `--allow NAME,NAME..`: the rules with these names
+abbrev pub allow_word : Option Text → Option (List AdviceRule)
+allow_word None = Some []
+allow_word (Some text) = all_read rule_named (slice_split (λ byte. byte == 44) text)
 
 -- `--witness FAULT`: there is no job without it
 abbrev pub witness_word : Option Text → Option Witness
@@ -237,7 +249,10 @@ asked_check options = judging_asked check (codes "through") last_word (values_of
 
 -- the options of `lint`
 unfoldable pub asked_lint : List Row → Option Asked
-asked_lint options = judging_asked lint (codes "strict") strict_word (values_of options) (words_of options)
+asked_lint options =
+    option_and_then
+    (λ allowed. judging_asked (lint allowed) (codes "strict") strict_word (values_of options) (words_of options))
+    (allow_word (first_of (codes "allow") options))
 
 -- the options of `confirm`
 unfoldable pub asked_confirm : List Row → Option Asked
@@ -306,10 +321,11 @@ strict_words false = []
 strict_words true = codes "--strict" ∷ []
 
 -- `PROGRAM lint`, the options that are given, `--strict` if it is given, and the arguments that set the policy
-abbrev pub lint_words : Text → Option Text → PolicyTexts → Bool → List Text
-lint_words program rsdp texts strict =
+abbrev pub lint_words : Text → Option Text → Option Text → PolicyTexts → Bool → List Text
+lint_words program allow rsdp texts strict =
     program ∷ codes "lint"
-    ∷ options_words ((codes "rsdp", rsdp) ∷ policy_options texts) (strict_words strict ++ texts.inputs)
+    ∷ options_words ((codes "allow", allow) ∷ (codes "rsdp", rsdp) ∷ policy_options texts)
+    (strict_words strict ++ texts.inputs)
 
 -- `PROGRAM confirm`, the fault's text, the options that are given, and the arguments that set the policy
 abbrev pub confirm_words : Text → Text → Option Text → PolicyTexts → List Text
@@ -332,8 +348,8 @@ show_words program rsdp = program ∷ codes "show" ∷ option_words (codes "rsdp
 abbrev pub Does : Asked → Job → Type 0
 Does (check rsdp policy last) (Check given carried stage) =
     (given ≡ rsdp) × (carried ≡ policy) × (stage_number stage ≡ last)
-Does (lint rsdp policy strict) (Lint given carried is_strict) =
-    (given ≡ rsdp) × (carried ≡ policy) × (is_strict ≡ strict)
+Does (lint rules rsdp policy strict) (Lint allowed given carried is_strict) =
+    (allowed.items ≡ rules) × (given ≡ rsdp) × (carried ≡ policy) × (is_strict ≡ strict)
 Does (confirm rsdp policy w) (Confirm given carried witness) =
     (given ≡ rsdp) × (carried ≡ policy) × (witness ≡ w)
 Does (rebuild rsdp policy base) (Rebuild given carried at) =

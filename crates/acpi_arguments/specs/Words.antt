@@ -52,11 +52,15 @@ inputs_word text =
     (λ address. option_map (λ count. record { address = address; count = count }) (count_word (after_first is_equals_sign text)))
     (hex_word 8 (before_first is_equals_sign text))
 
+-- what each of the texts says, if all of them say something
+abbrev pub all_read : {T : Type 0} → (List ℕ → Option T) → List (List ℕ) → Option (List T)
+all_read read [] = Some []
+all_read read (text ∷ texts) =
+    option_and_then (λ first. option_map (λ rest. first ∷ rest) (all_read read texts)) (read text)
+
 -- what each of the arguments says, if all of them are `ADDRESS=COUNT`
 abbrev pub all_inputs : List (List ℕ) → Option (List Inputs)
-all_inputs [] = Some []
-all_inputs (word ∷ words) =
-    option_and_then (λ first. option_map (λ rest. first ∷ rest) (all_inputs words)) (inputs_word word)
+all_inputs = all_read inputs_word
 
 -- ---- faults
 

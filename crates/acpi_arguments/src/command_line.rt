@@ -4,7 +4,7 @@ ghost use Rattle.std.specs.Prelude.{◌≡◌, ◌≢◌, [], IfErr, IfOk, false
 ghost use Rattle.std.specs.String.{string_bytes};
 ghost use Rattle.clap.specs.Words.{all_of, app_of, first_of, found_of, kind_of, rows_of, rule_of, subcommand_rows_of};
 ghost use Rattle.clap.specs.declared.builder.command.Command.TheViews.{out-Command};
-ghost use Rattle.acpi_arguments.specs.CommandLine.{check_line, command_line, confirm_line, command_of, flag_rule, inputs_rule, is_set, is_taken, judging_line, lint_line, option_rule, rebuild_line, show_line, with_setting_options};
+ghost use Rattle.acpi_arguments.specs.CommandLine.{check_line, command_line, confirm_line, command_of, flag_rule, inputs_rule, is_set, is_taken, judging_line, lint_line, option_rule, rebuild_line, show_line, strict_line, with_options, with_setting_options};
 
 use crate::words::WordFault;
 use clap::error::ErrorKind;
@@ -100,10 +100,10 @@ fn lint<'a>(alloc: Global) -> Result<Command<'a>, AllocError>
     ensures line { IfOk result (λ command. app_of command ≡ lint_line) }
     ensures own { IfOk result (λ command. (out-Command command).has_globals ≡ false) }
 {
-    let command = Command::new(alloc, "lint").arg(option(alloc, "rsdp", "HEX"))?;
-    with_settings(alloc, command)?
-        .arg(flag(alloc, "strict"))?
-        .arg(inputs(alloc))
+    let command = Command::new(alloc, "lint");
+    let allow = option(alloc, "allow", "NAMES");
+    let rsdp = option(alloc, "rsdp", "HEX");
+    strictly(alloc, command, allow, rsdp)
 }
 
 #[tactic(auto, unfolding(crate::specs::CommandLine::confirm_line))]
@@ -143,7 +143,45 @@ fn judging<'a>(
         (rule_of second.entry)) }
     ensures own { IfOk result (λ whole. (out-Command whole).has_globals ≡ false) }
 {
-    with_settings(alloc, command.arg(first)?.arg(second)?)?.arg(inputs(alloc))
+    with_options(alloc, command, first, second)?.arg(inputs(alloc))
+}
+
+/// The same with `--strict` too.
+fn strictly<'a>(
+    alloc: Global,
+    command: Command<'a>,
+    first: Arg<'a>,
+    second: Arg<'a>,
+) -> Result<Command<'a>, AllocError>
+    requires command { (out-Command command).has_globals ≡ false }
+    requires first { first.global ≡ false }
+    requires second { second.global ≡ false }
+    ensures line { IfOk result
+        (λ whole. app_of whole ≡ strict_line (app_of command.entry) (rule_of first.entry)
+        (rule_of second.entry)) }
+    ensures own { IfOk result (λ whole. (out-Command whole).has_globals ≡ false) }
+{
+    with_options(alloc, command, first, second)?
+        .arg(flag(alloc, "strict"))?
+        .arg(inputs(alloc))
+}
+
+/// The same without `--strict` and `ADDRESS=COUNT`.
+fn with_options<'a>(
+    alloc: Global,
+    command: Command<'a>,
+    first: Arg<'a>,
+    second: Arg<'a>,
+) -> Result<Command<'a>, AllocError>
+    requires command { (out-Command command).has_globals ≡ false }
+    requires first { first.global ≡ false }
+    requires second { second.global ≡ false }
+    ensures line { IfOk result
+        (λ whole. app_of whole ≡ with_options (app_of command.entry) (rule_of first.entry)
+        (rule_of second.entry)) }
+    ensures own { IfOk result (λ whole. (out-Command whole).has_globals ≡ false) }
+{
+    with_settings(alloc, command.arg(first)?.arg(second)?)
 }
 
 /// The command with the options that `read_policy` reads, except `ADDRESS=COUNT`.

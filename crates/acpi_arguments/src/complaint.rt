@@ -1,13 +1,15 @@
 //! What is wrong with arguments that give no job: a message, and a tip. Both are text for people, and decide nothing.
 
+use crate::allowed::names_in;
 use crate::command_line::{clap_text, parse, value, values};
 use crate::number_words::hex_number;
 use crate::policy_words::{default_count, hotplug_setting, inputs_of_word, processors_setting};
 use crate::printable::printable_arguments;
-use crate::tips::{clap_tip, decimal_tip, hex_tip, inputs_address_tip, word_tip};
+use crate::tips::{allow_tip, clap_tip, decimal_tip, hex_tip, inputs_address_tip, word_tip};
 use crate::witness_fault::WitnessFault;
 use crate::words::{given_witness, last_stage};
 use acpi_base::Stage;
+use acpi_lint::Rule;
 use clap::ArgMatches;
 use std::alloc::Global;
 
@@ -68,7 +70,9 @@ fn command_complaint(
         let message = format!(in alloc; "rebuild needs --base HEX: {ADDRESSES}").ok()?;
         return Some(Complaint { message, tip: None });
     }
-    value_complaint(alloc, options).or_else(|| inputs_complaint(alloc, words, options))
+    value_complaint(alloc, options)
+        .or_else(|| allow_complaint(alloc, options))
+        .or_else(|| inputs_complaint(alloc, words, options))
 }
 
 /// The first wrong value of an option.
@@ -143,6 +147,20 @@ fn refused_value(
     let message = format!(in alloc; "--{name} '{value}': expected {expected}").ok()?;
     let tip = owned(alloc, tip);
     Some(Complaint { message, tip })
+}
+
+/// The first name in the value of `--allow` that is no rule's.
+fn allow_complaint(alloc: Global, options: &ArgMatches) -> Option<Complaint> {
+    let names = names_in(alloc, value(options, "allow")?).ok()?;
+    let name = names.iter().find(|name| Rule::from_name(name).is_none())?;
+    let message = format!(in alloc;
+        "--allow '{name}': expected names of rules of advice, with a comma between any two"
+    );
+    let tip = owned(alloc, allow_tip(name));
+    Some(Complaint {
+        message: message.ok()?,
+        tip,
+    })
 }
 
 /// What is wrong with the first argument that should be `ADDRESS=COUNT`.

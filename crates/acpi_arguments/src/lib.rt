@@ -18,6 +18,7 @@
 //! ```
 #![tactic(auto)]
 
+mod allowed;
 mod command_line;
 mod complaint;
 mod number_words;

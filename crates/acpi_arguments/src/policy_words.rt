@@ -48,7 +48,6 @@ pub fn read_policy(alloc: Global, options: &ArgMatches) -> Result<Policy, WordFa
 
 /// The policy that `--default-inputs` and the arguments `ADDRESS=COUNT` give, with the other settings of a new one. If
 /// an address is repeated, the first count wins.
-#[tactic(auto, using(crate::proofs::InputsWords::one_more, crate::proofs::InputsWords::one_wrong))]
 fn read_inputs(
     alloc: Global,
     default_inputs: Option<&str>,

@@ -1,6 +1,8 @@
 //! Tips on arguments that are refused: the usual slips, and what to write instead.
 
 use crate::number_words::{decimal_number, hex_number};
+use acpi_base::Code;
+use acpi_lint::Rule;
 use std::alloc::Global;
 
 /// Where the image comes from.
@@ -11,9 +13,10 @@ const REPORT: &str =
     "acpiset has no JSON output: pipe it to acpiset-report --format json (in the sources tools/report)";
 
 /// The options of the commands.
-const OPTIONS: [&str; 8] = [
+const OPTIONS: [&str; 9] = [
     "--rsdp",
     "--through",
+    "--allow",
     "--strict",
     "--witness",
     "--base",
@@ -64,6 +67,7 @@ fn usual_tip(words: &[String], argument: &str) -> Option<&'static str> {
             "the output goes to standard output: acpiset check < IMAGE > FILE",
         ),
         "--through" => Some("only check has --through"),
+        "--allow" => Some("only lint has --allow"),
         "--strict" => Some("only lint has --strict"),
         "--witness" => Some("only confirm has --witness"),
         "--base" => Some("only rebuild has --base"),
@@ -96,6 +100,22 @@ fn path_tip(alloc: Global, words: &[String]) -> Option<String> {
 /// Whether an argument looks like a path. One that is printed without its end does not: a tip could not name it.
 fn is_path(word: &str) -> bool {
     !word.starts_with('-') && !word.ends_with("...") && (word.contains('/') || word.contains('.'))
+}
+
+/// A tip on a text that is no rule's name.
+pub fn allow_tip(name: &str) -> Option<&'static str> {
+    if name.is_empty() {
+        return Some("leave out the comma, or write a name: lint --allow SameUid,SameApicId");
+    }
+    for number in 1..u8::MAX {
+        if Code::new(number).is_some_and(|code| code.name() == name) {
+            return Some("a fault can't be allowed: only rules of advice can");
+        }
+        if Rule::new(number).is_some_and(|rule| rule.name().eq_ignore_ascii_case(name)) {
+            return Some("upper and lower case differ: write the name as lint prints it");
+        }
+    }
+    None
 }
 
 /// A tip on a text that is no hex number.

@@ -8,7 +8,7 @@ const COMMANDS: &str = "usage:
   acpiset check [--rsdp HEX] [--through N]
                 [--default-inputs N] [ADDRESS=COUNT]..
                 [--hotplug counted|apart] [--processors enabled|usable]
-  acpiset lint [--rsdp HEX] [--strict]
+  acpiset lint [--rsdp HEX] [--allow NAMES] [--strict]
                 [--default-inputs N] [ADDRESS=COUNT]..
                 [--hotplug counted|apart] [--processors enabled|usable]
   acpiset confirm --witness FAULT [--rsdp HEX]
@@ -49,6 +49,9 @@ address; TableTooLong, an XSDT of 4 GiB or more.
   --rsdp HEX   the address of the RSDP: 1 to 16 hex digits, with or without 0x
                before them. If absent, the address that find prints; if there
                is none, all commands but find print `no rsdp`
+  --allow NAMES
+               the names of rules of advice, with a comma between any two, of
+               which lint prints no line and takes no account
   --strict     lint ends with status 1 also if there is advice but no fault
 ";
 

@@ -8,14 +8,17 @@ ghost use Rattle.acpi_base.specs.Laws.{NumbersFit};
 ghost use Rattle.acpi_base.specs.Policy.{PolicyValue};
 ghost use Rattle.acpi_base.specs.Text.WitnessText.{witness_line};
 ghost use Rattle.acpi_base.specs.declared.witness.Witness.{Witness};
-ghost use Rattle.acpi_arguments.specs.CommandLine.{Asked, DoesAsked, PolicyTexts, asked_job, base_word, asked_check, check_words, asked_confirm, confirm_words, asked_lint};
+ghost use Rattle.acpi_lint.specs.declared.rule.Rule.{Rule};
+ghost use Rattle.acpi_arguments.specs.CommandLine.{Asked, DoesAsked, PolicyTexts, allow_word, asked_job, base_word, asked_check, check_words, asked_confirm, confirm_words, asked_lint};
 ghost use Rattle.acpi_arguments.specs.CommandLine.{find_words, last_word, lint_words, policy_words, asked_rebuild, rebuild_words, rsdp_word, asked_show, show_words, witness_word};
 ghost use Rattle.acpi_arguments.specs.Words.{written_fault};
 
+use crate::allowed::allowed_rules;
 use crate::command_line::{is_set, parse, value};
 use crate::number_words::{decimal_number, hex_number};
 use crate::policy_words::read_policy;
 use acpi_base::{Policy, Stage, Witness, parse_witness};
+use acpi_lint::Rule;
 use clap::ArgMatches;
 use std::alloc::Global;
 use thiserror::Error;
@@ -31,8 +34,10 @@ pub enum Job {
         last: Stage,
     },
     /// Report the first fault of each code and the first finding of each rule of advice, in the tables that are reached
-    /// from the RSDP (see `Check`). The policy's own RSDP address is 0. If `is_strict`, advice is a bad outcome too.
+    /// from the RSDP (see `Check`), but no advice of the rules `allowed`. The policy's own RSDP address is 0. If
+    /// `is_strict`, advice is a bad outcome too.
     Lint {
+        allowed: Vec<Rule>,
         rsdp: Option<u64>,
         policy: Policy,
         is_strict: bool,
@@ -74,8 +79,9 @@ pub enum WordFault {
 ///
 /// The commands are `find`, `show [--rsdp HEX]`, `check [--rsdp HEX] [--through N] [--default-inputs N] [--hotplug
 /// SETTING] [--processors SETTING] [ADDRESS=COUNT]..`, and `lint`, `confirm` and `rebuild` with the same options as
-/// `check`, except that instead of `--through N` `lint` has the flag `--strict`, `confirm` has `--witness FAULT` and
-/// `rebuild` has `--base HEX`; these two are required. FAULT is a fault as `check` writes it (`parse_witness`), in one
+/// `check`, except that instead of `--through N` `lint` has `--allow NAMES` and the flag `--strict`, `confirm` has
+/// `--witness FAULT` and `rebuild` has `--base HEX`; these two are required. NAMES are the names of rules of advice, with a
+/// comma between any two; upper and lower case differ. FAULT is a fault as `check` writes it (`parse_witness`), in one
 /// argument. HEX is an address of 1 to 16 hex digits, with or without `0x` before them. The N of `--through` is a stage
 /// from 1 to 18 in one or two decimal digits; if absent,
 /// 18. The setting of `--hotplug` is `counted` or `apart` (`HotPlug`); if absent, `counted`. That of `--processors` is
@@ -128,8 +134,10 @@ fn lint_job(alloc: Global, options: &ArgMatches) -> Result<Job, WordFault>
 {
     let rsdp = given_address(value(options, "rsdp")).ok_or(WordFault::Words)?;
     let is_strict = is_set(options, "strict");
+    let allowed = allowed_rules(alloc, value(options, "allow"))?;
     let policy = read_policy(alloc, options)?;
     Ok(Job::Lint {
+        allowed,
         rsdp,
         policy,
         is_strict,
@@ -241,10 +249,12 @@ pub fn plain_lines_are_read()
         (rsdp : Option ℕ) (policy : PolicyValue) (last : ℕ) → rsdp_word hex ≡ Some rsdp
         → policy_words texts ≡ Some policy → last_word number ≡ Some last
         → asked_job (check_words program hex number texts) ≡ Some (Asked.check rsdp policy last) }
-    ensures lint { (program : List ℕ) (hex : Option (List ℕ)) (texts : PolicyTexts) (strict : Bool)
-        (rsdp : Option ℕ) (policy : PolicyValue) → rsdp_word hex ≡ Some rsdp
+    ensures lint { (program : List ℕ) (names hex : Option (List ℕ)) (texts : PolicyTexts)
+        (strict : Bool) (allowed : List Rule) (rsdp : Option ℕ) (policy : PolicyValue)
+        → allow_word names ≡ Some allowed → rsdp_word hex ≡ Some rsdp
         → policy_words texts ≡ Some policy
-        → asked_job (lint_words program hex texts strict) ≡ Some (Asked.lint rsdp policy strict) }
+        → asked_job (lint_words program names hex texts strict)
+        ≡ Some (Asked.lint allowed rsdp policy strict) }
     ensures confirm { (program : List ℕ) (w : Witness) (hex : Option (List ℕ)) (texts : PolicyTexts)
         (rsdp : Option ℕ) (policy : PolicyValue) → NumbersFit w → rsdp_word hex ≡ Some rsdp
         → policy_words texts ≡ Some policy

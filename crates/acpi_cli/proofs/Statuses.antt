@@ -17,8 +17,8 @@ reports_asked : (what : Asked) (job : Job) → Does what job → (m : Memory) (b
     → ReportsJob job m bytes returned → ReportsAsked what m bytes returned
 reports_asked (check rsdp policy last) (Check given present stage) does m bytes returned reports =
     (stage, does.2, rw (sym does.0, sym does.1) reports)
-reports_asked (lint rsdp policy strict) (Lint given present is_strict) does m bytes returned reports =
-    rw (sym does.0, sym does.1, sym does.2) reports
+reports_asked (lint rules rsdp policy strict) (Lint allowed given present is_strict) does m bytes returned reports =
+    rw (sym does.0, sym does.1, sym does.2, sym does.3) reports
 reports_asked (confirm rsdp policy w) (Confirm given present witness) does m bytes returned reports =
     rw (sym does.0, sym does.1, sym does.2) reports
 reports_asked (rebuild rsdp policy base) (Rebuild given present at) does m bytes returned reports =

@@ -1,6 +1,6 @@
 -- What a command function reads, writes and returns.
-use Rattle.std.specs.Prelude.{◌≡◌, ◌≤◌, ◌⊎◌, ◌+◌, ◌++◌, ℕ, Bool, if◌then◌else◌, List, [], ◌∷◌, length, take, codes, Option, Some, None, Result, Ok, Err, true}
-use Rattle.std.specs.List.{flat_map}
+use Rattle.std.specs.Prelude.{◌≡◌, ◌≤◌, ◌⊎◌, ◌+◌, ◌++◌, ℕ, Bool, if◌then◌else◌, List, [], ◌∷◌, length, take, codes, filter, nat_eq, not, Option, Some, None, Result, Ok, Err, true}
+use Rattle.std.specs.List.{flat_map, list_any}
 use Rattle.std.specs.Io.KnownBytes.{Appends, Consumes, IsAtEnd, Keeps}
 use Rattle.acpi_base.specs.Memory.{Memory}
 use Rattle.acpi_base.specs.Policy.{PolicyValue, new_policy, with_rsdp}
@@ -14,7 +14,9 @@ use Rattle.acpi_base.specs.Statements.{CleanTo}
 use Rattle.acpi_base.specs.Text.WitnessText.{hex_text, verdict_line}
 use Rattle.acpi_base.specs.Text.WrittenText.{IsWritten}
 use Rattle.acpi_lint.specs.AdviceText.{advice_line}
+use Rattle.acpi_lint.specs.Rules.Rows.{rule_number}
 use Rattle.acpi_lint.specs.declared.rule.Advice.{Advice}
+use Rattle.acpi_lint.specs.declared.rule.Rule.{Rule}
 use Rattle.acpi_base.specs.declared.stage.Stage.{Stage}
 use Rattle.acpi_base.specs.declared.stage.Stage.TheVariants as stage
 use Rattle.acpi_base.specs.declared.text.TextFault.{TextFault}
@@ -182,19 +184,29 @@ outcome_of_findings strict [] [] = outcome.Yes
 outcome_of_findings strict [] (a ∷ advice) = if strict then outcome.No else outcome.Yes
 outcome_of_findings strict (w ∷ faults) advice = outcome.No
 
--- a search for everything that is wrong reports the first fault of each code, and the first finding of each rule of advice
-pub record ReportsFindings (given : Option ℕ) (q : PolicyValue) (strict : Bool) (m : Memory) (bytes : List ℕ) (returned : Outcome) : Type 0 where
+-- a rule is one of these
+abbrev pub is_allowed : List Rule → Rule → Bool
+is_allowed allowed rule = list_any (λ r. nat_eq (rule_number r) (rule_number rule)) allowed
+
+-- the advice of other rules than these
+abbrev pub other_advice : List Rule → List Advice → List Advice
+other_advice allowed advice = filter (λ a. not (is_allowed allowed a.rule)) advice
+
+-- a search for everything that is wrong reports the first fault of each code, and the first finding of each rule of advice that
+-- is not among these rules
+pub record ReportsFindings (allowed : List Rule) (given : Option ℕ) (q : PolicyValue) (strict : Bool) (m : Memory) (bytes : List ℕ) (returned : Outcome) : Type 0 where
   pub address : ℕ
   pub rsdp : IsRsdpAddress given m address
   pub faults : List Witness
   pub advice : List Advice
   pub found : AreFindings m (with_rsdp q address) faults advice
-  pub lines : bytes ≡ finding_lines faults advice
-  pub outcome : returned ≡ outcome_of_findings strict faults advice
+  pub lines : bytes ≡ finding_lines faults (other_advice allowed advice)
+  pub outcome : returned ≡ outcome_of_findings strict faults (other_advice allowed advice)
 
 -- what such a search reports on an image
-abbrev pub ReportsLint : Option ℕ → PolicyValue → Bool → Memory → List ℕ → Outcome → Type 0
-ReportsLint given q strict m bytes returned = ReportsFindings given q strict m bytes returned ⊎ ReportsNoRsdp given m bytes returned
+abbrev pub ReportsLint : List Rule → Option ℕ → PolicyValue → Bool → Memory → List ℕ → Outcome → Type 0
+ReportsLint allowed given q strict m bytes returned =
+    ReportsFindings allowed given q strict m bytes returned ⊎ ReportsNoRsdp given m bytes returned
 
 -- `true` is reported for a fault of the image, and `false` for everything else, with the outcome
 abbrev pub TellsFault : Memory → PolicyValue → Witness → List ℕ → Outcome → Type 0
@@ -258,7 +270,7 @@ ReportsFound m bytes returned =
 -- what a job reports on an image
 abbrev pub ReportsJob : Job → Memory → List ℕ → Outcome → Type 0
 ReportsJob (Check given policy last) = ReportsCheck given policy last
-ReportsJob (Lint given policy strict) = ReportsLint given policy strict
+ReportsJob (Lint allowed given policy strict) = ReportsLint allowed.items given policy strict
 ReportsJob (Confirm given policy w) = ReportsConfirm given policy w
 ReportsJob (Rebuild given policy base) = ReportsRebuild given policy base
 ReportsJob (Show given) = ReportsShow given

@@ -26,7 +26,7 @@ exit_status (Err run.Device) = 4
 abbrev pub ReportsAsked : Asked → Memory → List ℕ → Outcome → Type 0
 ReportsAsked (check given policy last) m bytes returned =
     (stage : Stage) × (stage_number stage ≡ last) × ReportsCheck given policy stage m bytes returned
-ReportsAsked (lint given policy strict) m bytes returned = ReportsLint given policy strict m bytes returned
+ReportsAsked (lint allowed given policy strict) m bytes returned = ReportsLint allowed given policy strict m bytes returned
 ReportsAsked (confirm given policy w) m bytes returned = ReportsConfirm given policy w m bytes returned
 ReportsAsked (rebuild given policy base) m bytes returned = ReportsRebuild given policy base m bytes returned
 ReportsAsked (show given) m bytes returned = ReportsShow given m bytes returned

@@ -2,13 +2,13 @@
 
 ghost use Rattle.std.specs.Prelude.{◌≡◌, IfOk};
 ghost use Rattle.std.specs.List.{flat_map};
-ghost use Rattle.acpi_cli.specs.Commands.{device, no_line, Runs, ReportsLint, fault_lines, finding_lines, outcome_of_findings};
+ghost use Rattle.acpi_cli.specs.Commands.{device, no_line, Runs, ReportsLint, fault_lines, finding_lines, is_allowed, other_advice, outcome_of_findings};
 
 use crate::check::{no_rsdp, rsdp_address};
 use crate::devices::{Output, read_input, write_output};
 use crate::outcome::{Outcome, RunFault};
 use acpi_base::{Image, Policy, Tally, Verdict, Witness, verdict_text};
-use acpi_lint::{Findings, advice_text, lint};
+use acpi_lint::{Advice, Rule, advice_text, lint};
 use std::alloc::{AllocError, Global};
 use std::io::{Read, Write};
 
@@ -36,23 +36,50 @@ fn fault_text(alloc: Global, faults: &[Witness]) -> Result<Vec<u8>, AllocError>
 }
 
 /// The lines of the faults, then those of the advice.
-fn finding_text(alloc: Global, findings: &Findings) -> Result<Vec<u8>, AllocError>
-    ensures { IfOk result (λ text.
-        text.items ≡ finding_lines findings.now.faults.items findings.now.advice.items) }
+fn finding_text(alloc: Global, faults: &[Witness], advice: &[Advice]) -> Result<Vec<u8>, AllocError>
+    ensures { IfOk result (λ text. text.items ≡ finding_lines faults.now advice.now) }
 {
-    let mut text = fault_text(alloc, &findings.faults)?;
-    for advice in &findings.advice {
-        text.extend_from_slice(&advice_text(alloc, advice)?)?;
+    let mut text = fault_text(alloc, faults)?;
+    for finding in advice {
+        text.extend_from_slice(&advice_text(alloc, finding)?)?;
     }
     Ok(text)
 }
 
-/// The outcome for these findings. If `is_strict`, advice alone makes it `No`.
-fn outcome_of(findings: &Findings, is_strict: bool) -> Outcome
-    ensures { result ≡ outcome_of_findings is_strict findings.now.faults.items
-        findings.now.advice.items }
+/// Whether a rule is one of these.
+fn is_allowed(allowed: &[Rule], rule: Rule) -> bool
+    ensures { result ≡ is_allowed allowed.now rule }
 {
-    let is_bad = !findings.faults.is_empty() || is_strict && !findings.advice.is_empty();
+    for other in allowed {
+        if other.number() == rule.number() {
+            return true;
+        }
+    }
+    false
+}
+
+/// The advice of other rules than these.
+fn other_advice(
+    alloc: Global,
+    allowed: &[Rule],
+    advice: &[Advice],
+) -> Result<Vec<Advice>, AllocError>
+    ensures { IfOk result (λ others. others.items ≡ other_advice allowed.now advice.now) }
+{
+    let mut others = Vec::new(alloc);
+    for finding in advice {
+        if !is_allowed(allowed, finding.rule) {
+            others.push(*finding)?;
+        }
+    }
+    Ok(others)
+}
+
+/// The outcome for these findings. If `is_strict`, advice alone makes it `No`.
+fn outcome_of(faults: &[Witness], advice: &[Advice], is_strict: bool) -> Outcome
+    ensures { result ≡ outcome_of_findings is_strict faults.now advice.now }
+{
+    let is_bad = !faults.is_empty() || is_strict && !advice.is_empty();
     if is_bad { Outcome::No } else { Outcome::Yes }
 }
 
@@ -60,11 +87,13 @@ fn outcome_of(findings: &Findings, is_strict: bool) -> Outcome
 fn lint_output(
     alloc: Global,
     image: &Image,
+    allowed: &[Rule],
     given: Option<u64>,
     mut policy: Policy,
     is_strict: bool,
 ) -> Result<Output, AllocError>
-    ensures { IfOk result (λ output. ReportsLint given policy is_strict image.now output.bytes.items
+    ensures { IfOk result (λ output. ReportsLint allowed.now given policy is_strict image.now
+        output.bytes.items
         output.outcome) }
 {
     let Some(address) = rsdp_address(image, given) else {
@@ -72,8 +101,9 @@ fn lint_output(
     };
     policy.set_rsdp(address);
     let findings = lint(alloc, image, &policy)?;
-    let bytes = finding_text(alloc, &findings)?;
-    let outcome = outcome_of(&findings, is_strict);
+    let advice = other_advice(alloc, allowed, &findings.advice)?;
+    let bytes = finding_text(alloc, &findings.faults, &advice)?;
+    let outcome = outcome_of(&findings.faults, &advice, is_strict);
     Ok(Output { bytes, outcome })
 }
 
@@ -81,7 +111,7 @@ fn lint_output(
 /// address `rsdp`, or if that is `None` from the one that is found. The policy's own address is ignored.
 ///
 /// Writes a line `no` with the first fault of each code that has one, or `yes` if none has, then a line `advice` with
-/// the first finding of each rule that is broken. Returns `No` if there is a fault, and if `is_strict` also if there is
+/// the first finding of each rule that is broken, but for the rules `allowed`, which do not count. Returns `No` if there is a fault, and if `is_strict` also if there is
 /// advice, otherwise `Yes`. If no address is given and none is found, it writes `no rsdp` and returns `No`. Nothing is
 /// written before the image is read and checked and all lines are made. Returns `Image` if the input is not image text,
 /// `Memory`, or `Device` if a read or a write failed; what was written then is a prefix of the lines.
@@ -89,16 +119,17 @@ pub fn run_lint<R: Read, W: Write>(
     alloc: Global,
     reader: &mut Tally<R>,
     writer: &mut Tally<W>,
+    allowed: &[Rule],
     rsdp: Option<u64>,
     policy: Policy,
     is_strict: bool,
 ) -> Result<Outcome, RunFault>
-    ensures { Runs (ReportsLint rsdp policy is_strict)
+    ensures { Runs (ReportsLint allowed.now rsdp policy is_strict)
         (device R.remaining reader.old reader.new)
         (device W.contents writer.old writer.new)
         result }
 {
     let image = read_input(alloc, reader)?;
-    let output = lint_output(alloc, &image, rsdp, policy, is_strict);
+    let output = lint_output(alloc, &image, allowed, rsdp, policy, is_strict);
     write_output(writer, output)
 }

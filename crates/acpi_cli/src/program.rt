@@ -67,10 +67,19 @@ pub fn do_job<R: Read, W: Write>(
     match job {
         Job::Check { rsdp, policy, last } => run_check(alloc, reader, writer, rsdp, policy, last),
         Job::Lint {
+            allowed,
             rsdp,
             policy,
             is_strict,
-        } => run_lint(alloc, reader, writer, rsdp, policy, is_strict),
+        } => run_lint(
+            alloc,
+            reader,
+            writer,
+            allowed.as_slice(),
+            rsdp,
+            policy,
+            is_strict,
+        ),
         Job::Confirm {
             rsdp,
             policy,

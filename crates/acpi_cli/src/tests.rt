@@ -4,6 +4,7 @@ use crate::outcome::{Outcome, RunFault};
 use crate::program::do_job;
 use acpi_arguments::Job;
 use acpi_base::{Code, Policy, PolicyFault, Stage, Tally, TextFault, Witness};
+use acpi_lint::Rule;
 use std::alloc::{AllocError, Global};
 use std::io;
 use std::io::{ErrorKind, Read};
@@ -155,24 +156,42 @@ const LISTS_TWICE: &[u8] = b"@e0000
 /// The fault of an empty image whose RSDP is expected at 0.
 const NOTHING: &[u8] = b"no 1 RsdpOut 0x0 0x0 0x0\n";
 
-/// What is found in the set that lists its FADT twice.
-const LISTED_TWICE: &[u8] = b"yes\nadvice ListedTwice 0x1 0x0 0x2000\n";
+/// What is found in the set that lists its FADT twice, and without the rule ListedTwice.
+const LISTED_TWICE: &[u8] = b"yes\nadvice ListedTwice 0x1 0x0 0x2000\nadvice NoDsdt 0x28 0x0 0x0\n";
 
-/// Texts, the address that is given, whether the search is strict, and the outcome and the lines.
-const LINTS: [(&[u8], Option<u64>, bool, Outcome, &[u8]); 5] = [
-    (CLEAN, None, true, Outcome::Yes, b"yes\n"),
-    (LISTS_TWICE, None, false, Outcome::Yes, LISTED_TWICE),
-    (LISTS_TWICE, None, true, Outcome::No, LISTED_TWICE),
-    (b"", Some(0), false, Outcome::No, NOTHING),
-    (b"", None, false, Outcome::No, b"no rsdp\n"),
+const NO_DSDT: &[u8] = b"yes\nadvice NoDsdt 0x28 0x0 0x0\n";
+
+/// A search: the text, the address that is given, the rules that are allowed, and whether it is strict.
+type Search = (&'static [u8], Option<u64>, &'static [Rule], bool);
+
+/// Searches, each with the outcome and the lines.
+const LINTS: [(Search, Outcome, &[u8]); 7] = [
+    ((CLEAN, None, &[Rule::NoDsdt], true), Outcome::Yes, b"yes\n"),
+    (
+        (CLEAN, None, &[Rule::ListedTwice], true),
+        Outcome::No,
+        NO_DSDT,
+    ),
+    ((LISTS_TWICE, None, &[], false), Outcome::Yes, LISTED_TWICE),
+    ((LISTS_TWICE, None, &[], true), Outcome::No, LISTED_TWICE),
+    (
+        (LISTS_TWICE, None, &[Rule::ListedTwice], false),
+        Outcome::Yes,
+        NO_DSDT,
+    ),
+    ((b"", Some(0), &[], false), Outcome::No, NOTHING),
+    ((b"", None, &[], false), Outcome::No, b"no rsdp\n"),
 ];
 
 #[test]
 fn all_that_is_wrong_is_written(rt: HostRuntime) -> Result<(), Fail> {
     let alloc = rt.alloc();
-    for (text, rsdp, is_strict, outcome, lines) in LINTS {
+    for ((text, rsdp, rules, is_strict), outcome, lines) in LINTS {
         let policy = Policy::new(alloc, 0, 24)?;
+        let mut allowed = Vec::new(alloc);
+        allowed.extend_from_slice(rules)?;
         let job = Job::Lint {
+            allowed,
             rsdp,
             policy,
             is_strict,
@@ -304,6 +323,7 @@ fn job(alloc: Global, command: Command) -> Result<Job, PolicyFault> {
             last: Stage::Tables,
         },
         Command::Lint => Job::Lint {
+            allowed: Vec::new(alloc),
             rsdp,
             policy,
             is_strict: false,

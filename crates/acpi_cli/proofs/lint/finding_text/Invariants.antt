@@ -3,7 +3,7 @@ use Rattle.acpi_lint.specs.AdviceText.{advice_line}
 use Rattle.acpi_cli.proofs.lint.finding_text.Given as goal
 
 -- the lines so far, and those of the advice still to come
-abbrev pub invariant-loop-advice : goal.invariant-loop-advice
-invariant-loop-advice l =
-    l.text.items ++ flat_map advice_line (drop l.advice-index l.advice-items) ≡ l.initial.text.items ++ flat_map
-    advice_line l.advice-items
+abbrev pub invariant-loop-finding : goal.invariant-loop-finding
+invariant-loop-finding l =
+    l.text.items ++ flat_map advice_line (drop l.finding-index l.advice) ≡ l.initial.text.items ++ flat_map
+    advice_line l.advice

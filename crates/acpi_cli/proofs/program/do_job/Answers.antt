@@ -4,7 +4,7 @@ pub returns-in-Check : goal.returns-in-Check
 returns-in-Check g c = rw (c.in-Check.is) (c.run_check.ensures)
 
 pub returns-in-Lint : goal.returns-in-Lint
-returns-in-Lint g c = rw (c.in-Lint.is) (c.run_lint.ensures)
+returns-in-Lint g c = rw (c.in-Lint.is) (rw c.as_slice.ensures.value at c.run_lint.ensures)
 
 pub returns-in-Confirm : goal.returns-in-Confirm
 returns-in-Confirm g c = rw (c.in-Confirm.is) (c.run_confirm.ensures)
