@@ -1,5 +1,5 @@
 -- The examples of advice on the MADT, by computing.
-use Rattle.std.proofs.Common.{◌≡◌, ℕ, ◌≤◌, [], ◌∷◌, refl, sym, subst, inl, inr, arith}
+use Rattle.std.proofs.Common.{◌≡◌, ℕ, ◌≤◌, [], refl, sym, subst, inl, inr, arith}
 use Rattle.std.specs.Prelude.{◌-◌, ◌^◌, List, length, slice_index, Some}
 use Rattle.std.proofs.lemmas.Option.{none-some, same_Some}
 use Rattle.acpi_base.specs.Number.{field, has_bit}
@@ -127,15 +127,19 @@ unread : AreMadtUnread
 unread = record {
   six = (_, (0, omega arith, refl), ((_, refl, (λ is. omega (arith, is)), refl), refl));
   short = (_, (0, omega arith, refl), ((_, refl, (λ is. omega (arith, is)), refl), refl));
+  short_distributor = (_, (0, omega arith, refl), ((_, refl, (λ is. omega (arith, is)), refl), refl));
+  long_frame = (_, (0, omega arith, refl), ((_, refl, (λ is. omega (arith, is)), refl), refl));
+  long_range = (_, (0, omega arith, refl), ((_, refl, (λ is. omega (arith, is)), refl), refl));
+  short_its = (_, (0, omega arith, refl), ((_, refl, (λ is. omega (arith, is)), refl), refl));
   small_core = (_, (0, omega arith, refl), ((_, refl, (λ is. omega (arith, is)), refl), refl));
   small_hart = (_, (0, omega arith, refl), ((_, refl, (λ is. omega (arith, is)), refl), refl));
   all_read =
       λ at other point it. none_stands read_entries.entries at (λ o e. IsMadtUnread e other point) (
         (λ h. of_processor h.0.0 h.0.1),
         (
-          read_bytes _ other point (inr (inr (inr (inr (inl (refl, omega arith)))))),
+          read_bytes _ other point (inr (inr (inr (inl (refl, omega arith))))),
           (
-            read_bytes _ other point (inr (inr (inr (inl refl)))),
+            read_bytes _ other point (inr (inr (inr (inr (inl (refl, refl)))))),
             (
               read_bytes _ other point (inl (omega arith)),
               (
@@ -143,10 +147,17 @@ unread = record {
                 (
                   read_bytes _ other point (inr (inr (inl refl))),
                   (
-                    read_bytes _ other point (inr (inr (inr (inl refl)))),
+                    read_bytes _ other point (inr (inr (inr (inr (inr (inr (inr (inr (inl (refl, refl)))))))))),
                     (
-                      read_bytes _ other point (inr (inr (inr (inr (inr (inl (refl, refl))))))),
-                      (read_bytes _ other point (inr (inr (inr (inr (inr (inr (refl, omega arith))))))), tt),
+                      read_bytes _ other point
+                          (inr (inr (inr (inr (inr (inr (inr (inr (inr (refl, omega arith)))))))))),
+                      (
+                        read_bytes _ other point (inr (inr (inr (inr (inr (inl (refl, refl))))))),
+                        (
+                          read_bytes _ other point (inr (inr (inr (inr (inr (inr (inl (refl, refl)))))))),
+                          (read_bytes _ other point (inr (inr (inr (inr (inr (inr (inr (inl (refl, refl))))))))), tt),
+                        ),
+                      ),
                     ),
                   ),
                 ),

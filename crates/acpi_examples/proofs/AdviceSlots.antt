@@ -32,14 +32,14 @@ twice_runs = run_at rsdp_at rsdp_bytes ∷ run_at 0x1000 twice_bytes ∷ []
 bytes_of_twice : (a n : ℕ) → bytes_at twice_set a n ≡ run_of (lookup twice_runs) a n
 bytes_of_twice a n = λ i. run_of (λ x. byte_of_memory_of twice_runs x i) a n
 
-twice_root : IsRoot twice_set rsdp_at 0x1000 4
+pub twice_root : IsRoot twice_set rsdp_at 0x1000 4
 unfolding run_of cons_both addresses_at chosen_root field
 twice_root = record { named = record { rsdt = 0x1000; xsdt = 0 }; read = rw present refl; chosen = refl }
   where
     present : bytes_at twice_set rsdp_at 20 ≡ Some rsdp_bytes
     present = bytes_of_twice rsdp_at 20
 
-twice_table : IsRootTable twice_set 0x1000 4 twice_bytes
+pub twice_table : IsRootTable twice_set 0x1000 4 twice_bytes
 unfolding run_of cons_both has_signature field
 twice_table = record {
   header = take 36 twice_bytes;

@@ -13,7 +13,7 @@ use Rattle.acpi_lint.specs.Rules.WellFormed.{HasOtherSratLength, IsWellFormedSra
 use Rattle.acpi_lint.specs.Rules.SratAdvice.{IsTwoUidDomains, IsAffinityNowhere, IsNoDomain, IsDomainPastSlit, IsReadForm, IsSratUnread}
 use Rattle.acpi_examples.specs.Slits.{low_diagonal}
 use Rattle.acpi_examples.specs.Advice.{IsKept, one_entry, processor, gicc, rintc, core_pic}
-use Rattle.acpi_examples.specs.AdviceSrat.{one_affinity, apic_affinity, x2apic_affinity, gicc_affinity, rintc_affinity, generic_affinity, empty_range, two_giccs, gicc_and_rintc, read_affinities, AreTwoUidDomains, AreAffinitiesNowhere, AreNoDomains, AreDomainsPastSlit, AreSratUnread, AreSlitsAdvised, IsSratAdvised}
+use Rattle.acpi_examples.specs.AdviceSrat.{one_affinity, apic_affinity, x2apic_affinity, gicc_affinity, generic_affinity, empty_range, two_giccs, gicc_and_rintc, read_affinities, AreTwoUidDomains, AreAffinitiesNowhere, AreNoDomains, AreDomainsPastSlit, AreSratUnread, AreSlitsAdvised, IsSratAdvised}
 use Rattle.acpi_examples.proofs.NamedEntries.{each_entry, none_stands, never}
 use Rattle.acpi_examples.proofs.Advice.{of_numbers, unnamed, other_number, all_read, all_known}
 

@@ -1,5 +1,5 @@
 -- Examples of advice on the MADT: each rule broken, and kept (ACPI 6.5, 5.2.12).
-use Rattle.std.specs.Prelude.{ℕ, ◌-◌, ◌^◌, [], ◌∷◌, replicate}
+use Rattle.std.specs.Prelude.{ℕ, ◌+◌, ◌-◌, ◌^◌, [], ◌∷◌, replicate}
 use Rattle.acpi_base.specs.Madt.{MadtEntry, IoApic, LocalNmi, X2apic, X2apicNmi, Opaque, MadtContents}
 use Rattle.acpi_lint.specs.Rules.MadtAdvice.{io_apic_id, nonzero_io_apic_address, gicd, IsIoApicAtZero, IsNmiNowhere, IsNoProcessor, IsMadtUnread}
 use Rattle.acpi_lint.specs.Rules.Numbered.{OnEntry, Repeats}
@@ -48,19 +48,25 @@ distributor = Opaque (12 ∷ 24 ∷ replicate 22 0)
 abbrev pub small_entry : ℕ → MadtEntry
 small_entry type = Opaque (type ∷ 4 ∷ 0 ∷ 0 ∷ [])
 
+-- an entry of this type, of two bytes more than these
+abbrev pub sized_entry : ℕ → ℕ → MadtEntry
+sized_entry type more = Opaque (type ∷ (more + 2) ∷ replicate more 0)
+
 -- entries that the rules read, and entries with another length than their type's, which is a fault
 abbrev pub read_entries : MadtContents
 read_entries =
-    said_madt 167
+    said_madt 223
     (placed_entry 44 (processor 1)
     ∷ placed_entry 52 (gicc 4 1)
     ∷ placed_entry 92 distributor
     ∷ placed_entry 116 (small_entry 5)
     ∷ placed_entry 120 (small_entry 9)
     ∷ placed_entry 124 (small_entry 10)
-    ∷ placed_entry 128 (small_entry 12)
-    ∷ placed_entry 132 (core_pic 5 6 1)
-    ∷ placed_entry 147 (rintc 6 1)
+    ∷ placed_entry 128 (core_pic 5 6 1)
+    ∷ placed_entry 143 (rintc 6 1)
+    ∷ placed_entry 163 (sized_entry 13 22)
+    ∷ placed_entry 187 (sized_entry 14 14)
+    ∷ placed_entry 203 (sized_entry 15 18)
     ∷ [])
 
 -- ---- what they state
@@ -117,11 +123,15 @@ pub record AreControllers : Type 0 where
   pub second : Repeats gicd (two_entries 24 distributor 24 distributor).entries 0x44 0x2c 0
   pub one : IsKept (Repeats gicd (one_entry 24 distributor).entries)
 
--- entries that are not read, of type 6, or of types 11, 17 and 24 with another length; not so a distributor, or an entry of a type
--- that the stages read, whatever their length
+-- entries that are not read, of type 6, or of types 11 to 15, 17 and 24 with another length; not so with theirs, or of a type that
+-- the stages read, whatever their length
 pub record AreMadtUnread : Type 0 where
   pub six : OnEntry IsMadtUnread (one_entry 4 (small_entry 6)).entries 0x2c 6 0
   pub short : OnEntry IsMadtUnread (one_entry 39 short_gicc).entries 0x2c 11 0
+  pub short_distributor : OnEntry IsMadtUnread (one_entry 23 (sized_entry 12 21)).entries 0x2c 12 0
+  pub long_frame : OnEntry IsMadtUnread (one_entry 25 (sized_entry 13 23)).entries 0x2c 13 0
+  pub long_range : OnEntry IsMadtUnread (one_entry 17 (sized_entry 14 15)).entries 0x2c 14 0
+  pub short_its : OnEntry IsMadtUnread (one_entry 19 (sized_entry 15 17)).entries 0x2c 15 0
   pub small_core : OnEntry IsMadtUnread (one_entry 4 (small_entry 17)).entries 0x2c 17 0
   pub small_hart : OnEntry IsMadtUnread (one_entry 4 (small_entry 24)).entries 0x2c 24 0
   pub all_read : IsKept (OnEntry IsMadtUnread read_entries.entries)

@@ -1,10 +1,10 @@
 -- Numbers that are collected and then sorted are those that are known.
-use Rattle.std.proofs.Common.{◌≡◌, ℕ, ◌<◌, List, [], ◌∷◌, Option, Some, Result, Ok, Err, Vec, Global, subst, inl, inr}
+use Rattle.std.proofs.Common.{◌≡◌, ℕ, ◌<◌, List, Option, Some, Result, Ok, Err, Vec, Global, subst}
 use Rattle.std.specs.Prelude.{◌↔◌, AllPairs, Contains, IfOk, map}
 use Rattle.std.specs.List.{filter_map}
 use Rattle.acpi_base.specs.Entries.{PlacedEntry}
 use Rattle.acpi_lint.specs.Rules.Numbered.{IsNamed}
-use Rattle.acpi_base.proofs.Elements.{first_element, later_element, first_or_later, no_element, element_of_map}
+use Rattle.acpi_base.proofs.Elements.{element_of_map}
 use Rattle.acpi_check.proofs.EntryPasses.Kept.{kept_has, kept_from, map_has}
 use Rattle.acpi_lint.specs.EntryNumbers.{AreKnown}
 use Rattle.acpi_lint.specs.Numbered.{at_place, AreNumbersAt}

@@ -116,7 +116,7 @@ after_two first p is unused least behind at other point (here, there, less, none
           )
     ]
 
-place_upto : {p : Place} {at other point : ℕ} → IsNotAfter p at other point → p.at ≤ at
+pub place_upto : {p : Place} {at other point : ℕ} → IsNotAfter p at other point → p.at ≤ at
 place_upto (inl before) = omega (arith, before)
 place_upto (inr (same, rest)) = omega (arith, same)
 

@@ -6,13 +6,12 @@ use denote.Ref.{Bor}
 use Rattle.acpi_base.specs.Contents.{HasPptt}
 use Rattle.acpi_base.specs.Entries.{PlacedEntry}
 use Rattle.acpi_lint.specs.Rules.Numbered.{OnEntry, Repeats}
-use Rattle.acpi_lint.specs.Rules.Broken.{OfFadt, OfMadt, OfSrat, OfSlit, Condition, HoldsAt, Slots, Fadt, FadtMadt, Madt, MadtEntries, MadtNumbers, MadtSrat, MadtPptt, Srat, SratEntries, SratSlit, Slit, Pptt, PpttEntries}
+use Rattle.acpi_lint.specs.Rules.Broken.{OfFadt, OfMadt, OfSrat, OfSlit, OfMadtBytes, OfSratBytes, Condition, HoldsAt, Slots, Set, Fadt, FadtMemory, FadtMadt, Madt, MadtEntries, MadtNumbers, MadtBytes, MadtSrat, MadtPptt, Srat, SratEntries, SratBytes, SratSlit, Slit, Pptt, PpttEntries, PpttBytes}
 use Rattle.acpi_base.specs.Listed.{fadt_signature, madt_signature, srat_signature, slit_signature, pptt_signature, HasListed, IsListedTable}
 use Rattle.acpi_base.specs.Madt.{MadtEntry, madt_contents}
 use Rattle.acpi_base.specs.Memory.{Memory}
 use Rattle.acpi_base.specs.Policy.{PolicyValue}
 use Rattle.acpi_base.specs.Pptt.{PpttEntry, pptt_contents}
-use Rattle.acpi_lint.specs.Rules.SratAdvice.{IsDomainPastSlit}
 use Rattle.acpi_base.specs.Slit.{SlitContents, slit_contents, HasSlitSize}
 use Rattle.acpi_base.specs.Srat.{SratEntry, srat_contents}
 use Rattle.acpi_base.proofs.Faults.ListedTables.{of_listed}
@@ -149,6 +148,24 @@ srat_lifts m q {tables = tables} view are long =
     read_lifts (λ P. HasListed m q.rsdp srat_signature (λ whole. (48 ≤ length whole) × P whole)) srat_contents view
     (long_lifts (HasListed m q.rsdp srat_signature) 48 tables.srat view
     (listed_lifts m q.rsdp srat_signature tables.srat (are.listed kind.Srat)) long)
+
+pub madt_bytes_lifts : (m : Memory) (q : PolicyValue) {tables : CompleteTables} (view : Option (List ℕ))
+    → AreCompleteTables m q.rsdp tables → IsLong 44 tables.madt view → Lifts (OfMadtBytes m q) (λ whole. whole) view
+madt_bytes_lifts m q {tables = tables} view are long =
+    long_lifts (HasListed m q.rsdp madt_signature) 44 tables.madt view
+    (listed_lifts m q.rsdp madt_signature tables.madt (are.listed kind.Madt)) long
+
+pub srat_bytes_lifts : (m : Memory) (q : PolicyValue) {tables : CompleteTables} (view : Option (List ℕ))
+    → AreCompleteTables m q.rsdp tables → IsLong 48 tables.srat view → Lifts (OfSratBytes m q) (λ whole. whole) view
+srat_bytes_lifts m q {tables = tables} view are long =
+    long_lifts (HasListed m q.rsdp srat_signature) 48 tables.srat view
+    (listed_lifts m q.rsdp srat_signature tables.srat (are.listed kind.Srat)) long
+
+pub pptt_bytes_lifts : (m : Memory) (q : PolicyValue) {tables : CompleteTables} (view : Option (List ℕ))
+    → AreCompleteTables m q.rsdp tables → view ≡ tables.pptt
+    → Lifts (HasListed m q.rsdp pptt_signature) (λ whole. whole) view
+pptt_bytes_lifts m q {tables = tables} view are is =
+    rw is (listed_lifts m q.rsdp pptt_signature tables.pptt (are.listed kind.Pptt))
 
 pub pptt_lifts : (m : Memory) (q : PolicyValue) {tables : CompleteTables} (view : Option (List ℕ))
     → AreCompleteTables m q.rsdp tables → view ≡ tables.pptt → Lifts (HasPptt m q) pptt_contents view
@@ -360,19 +377,24 @@ with_localities m q P slit n found rows lifts least =
 -- a condition is that of its group
 in_group : (c : Condition) → as_group (group_of c) c ≡ c
 in_group (Slots P) = refl
+in_group (Set P) = refl
 in_group (Fadt P) = refl
+in_group (FadtMemory P) = refl
 in_group (FadtMadt P) = refl
 in_group (Madt P) = refl
 in_group (MadtEntries P) = refl
 in_group (MadtNumbers read) = refl
+in_group (MadtBytes P) = refl
 in_group (MadtSrat P) = refl
 in_group (MadtPptt P) = refl
 in_group (Srat P) = refl
 in_group (SratEntries P) = refl
+in_group (SratBytes P) = refl
 in_group (SratSlit P) = refl
 in_group (Slit P) = refl
 in_group (Pptt P) = refl
 in_group (PpttEntries P) = refl
+in_group (PpttBytes P) = refl
 
 pub is_of_group : (c : Condition) {found g : RuleGroup} → found ≡ group_of c → found ≡ g → as_group g c ≡ c
 is_of_group c is same = subst (λ (h : RuleGroup). as_group h c ≡ c) (sym is ∙ same) (in_group c)
@@ -384,6 +406,14 @@ as_rule m q found is = subst (λ (d : Condition). FindsLeast (HoldsAt d m q) fou
 pub each_rule : (m : Memory) (q : PolicyValue) {k c : Condition} {X : Type 0} (result : Result (Option Place) X) → k ≡ c
     → IfOk result (FindsLeast (HoldsAt k m q)) → IfOk result (FindsLeast (HoldsAt c m q))
 each_rule m q result is = subst (λ (d : Condition). IfOk result (FindsLeast (HoldsAt d m q))) is
+
+-- what is found in the memory from the RSDP on
+pub each_memory : (m : Memory) (q : PolicyValue) (P : Memory → ℕ → ℕ → ℕ → ℕ → Type 0) {X : Type 0}
+    (result : Result (Option Place) X) → IfOk result (FindsLeast (P m q.rsdp))
+    → IfOk result (FindsLeast (HoldsAt (Set P) m q))
+each_memory m q P (Ok found) least =
+    least_as found (λ at other point holds. holds) (λ at other point holds. holds) least
+each_memory m q P (Err e) least = tt
 
 -- the same for what is found in the tables of a set
 pub each_set : (m : Memory) (q : PolicyValue) {k c : Condition} {X : Type 0} {tables : CompleteTables}

@@ -5,10 +5,9 @@ use Rattle.std.specs.Prelude.{◌↔◌, IsTrue, Bool}
 use Rattle.acpi_base.specs.Across.{IsServed}
 use Rattle.acpi_base.specs.Entries.{Stands, StandsWith}
 use Rattle.acpi_lint.specs.Rules.FadtAdvice.{IsOverrideOf, IsFirstOverride, IsGsiOf, IsSciNowhere}
-use Rattle.acpi_base.specs.Madt.{MadtEntry, IoApic, Override, OverrideValue, ServesFrom, MadtContents, madt_entry, madt_contents}
+use Rattle.acpi_base.specs.Madt.{MadtEntry, IoApic, Override, OverrideValue, ServesFrom, MadtContents, madt_contents}
 use Rattle.acpi_base.specs.Number.{field}
 use Rattle.acpi_base.specs.Policy.{PolicyValue}
-use Rattle.acpi_base.proofs.EntryOffsets.{AreOnes, one_said}
 use Rattle.acpi_base.proofs.Madt.Faults.{ones}
 use Rattle.acpi_lint.specs.Overrides.{IsOverrideAt, ServesNumber, IsNowhere}
 use Rattle.acpi_lint.specs.Places.{IsNotAfter, IsLeast, FindsLeast}

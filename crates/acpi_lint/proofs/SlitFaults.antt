@@ -7,7 +7,7 @@ use Rattle.acpi_base.specs.Number.{field}
 use Rattle.acpi_base.specs.Slit.{SlitContents, slit_contents, distance, HasSlitSize, IsCell, SlitFault}
 use Rattle.acpi_lint.specs.Rules.SlitAdvice.{IsSlitDiffers}
 use Rattle.acpi_base.specs.declared.code.Code.TheVariants as code
-use Rattle.acpi_base.proofs.Slit.{slit_size, slit_count, slit_distance}
+use Rattle.acpi_base.proofs.Slit.{slit_size, slit_count}
 use Rattle.acpi_read.specs.Slits.{HasRows}
 use Rattle.acpi_read.proofs.SlitCells.{cell_at, distance_at, right_size}
 use Rattle.acpi_lint.specs.Places.{IsLeast, FindsLeast, IsRowDiffers}
@@ -42,12 +42,12 @@ size_fault c long wrong =
 -- ---- cells
 
 -- a cell is one of the rows'
-record IsPlaced (n a b at : ℕ) : Type 0 where
-  row : a < n
-  column : b < n
-  place : at ≡ 44 + n * a + b
+pub record IsPlaced (n a b at : ℕ) : Type 0 where
+  pub row : a < n
+  pub column : b < n
+  pub place : at ≡ 44 + n * a + b
 
-placed : (whole : List ℕ) (n a b at : ℕ) → HasRows whole n → IsCell (slit_contents whole) a b at → IsPlaced n a b at
+pub placed : (whole : List ℕ) (n a b at : ℕ) → HasRows whole n → IsCell (slit_contents whole) a b at → IsPlaced n a b at
 placed whole n a b at rows cell =
     record {
       row = omega (arith, rows.count, cell.row);
@@ -55,7 +55,7 @@ placed whole n a b at rows cell =
       place = omega (arith, rw rows.count at cell.place);
     }
 
-row_before : (n i j a b : ℕ) → j < n → i < a → 44 + n * i + j < 44 + n * a + b
+pub row_before : (n i j a b : ℕ) → j < n → i < a → 44 + n * i + j < 44 + n * a + b
 row_before n i j a b column above = (let next : i + 1 ≤ a = omega arith in omega (arith, mul-le-mul_left n next))
 
 -- ---- the diagonal

@@ -9,8 +9,8 @@ use Rattle.acpi_base.specs.Entries.{Stands}
 use Rattle.acpi_lint.specs.Rules.Processors.{is_gicc_affinity, is_rintc_affinity, placed_uid, processor_domain}
 use Rattle.acpi_lint.specs.Rules.SratAdvice.{PlacesUid, IsTwoUidDomains}
 use Rattle.acpi_base.specs.Number.{field}
-use Rattle.acpi_base.specs.Srat.{SratEntry, ApicDomain, MemoryRange, X2apicDomain, Opaque, SratContents, srat_entry, srat_contents}
-use Rattle.acpi_base.proofs.EntryOffsets.{AreOnes, one_said}
+use Rattle.acpi_base.specs.Srat.{SratEntry, ApicDomain, MemoryRange, X2apicDomain, Opaque, SratContents}
+use Rattle.acpi_base.proofs.EntryOffsets.{AreOnes}
 use Rattle.acpi_base.proofs.Srat.Ranges.{ones}
 use Rattle.acpi_check.proofs.EntryPasses.Kept.{kept_has, kept_from}
 use Rattle.acpi_lint.specs.Numbered.{IsNoLater, IsUnlikeAt}

@@ -1,5 +1,5 @@
 -- A table of entries is well-formed exactly if it has no fault of the cut, and none of an entry's length.
-use Rattle.std.proofs.Common.{◌≡◌, ℕ, List, Option, Some, None, Bool, true, false, IsTrue, refl, sym, ◌∙◌, inl, inr}
+use Rattle.std.proofs.Common.{◌≡◌, ℕ, List, Option, Some, None, IsTrue, refl, sym, ◌∙◌, inl, inr}
 use Rattle.std.specs.Option.{is_none}
 use Rattle.std.specs.Prelude.{◌↔◌}
 use Rattle.std.proofs.lemmas.Option.{none-some}
@@ -10,7 +10,7 @@ use Rattle.acpi_base.specs.Policy.{PolicyValue}
 use Rattle.acpi_base.specs.Pptt as pptt
 use Rattle.acpi_base.specs.Srat as srat
 use Rattle.acpi_base.specs.declared.code.Code.TheVariants as code
-use Rattle.acpi_lint.specs.Places.{HasNone, IsLeast, FindsLeast}
+use Rattle.acpi_lint.specs.Places.{HasNone, FindsLeast}
 use Rattle.acpi_lint.specs.Rules.WellFormed.{IsWellFormed, IsWellFormedMadt, IsWellFormedSrat, IsWellFormedPptt, HasOtherMadtLength, HasOtherSratLength}
 use Rattle.acpi_lint.specs.declared.place.Place.{Place}
 

@@ -1,12 +1,21 @@
 -- The definitions that contracts of the linter cite.
 pub mod AdviceText
 pub mod CompleteTables
+pub mod Differences
+pub mod Domains
 pub mod EntryNumbers
+pub mod FadtPlaces
+pub mod Headers
+pub mod Hierarchy
 pub mod Leaves
+pub mod MadtNumbers
 pub mod Numbered
 pub mod Overrides
 pub mod Places
+pub mod Ranges
 pub mod References
+pub mod Reserved
+pub mod ReservedLayouts
 pub mod RuleGroups
 pub mod Rules
 pub mod Slots

@@ -8,7 +8,7 @@ use Rattle.acpi_base.specs.declared.code.Code.{Code}
 use Rattle.acpi_base.specs.Facs.{NamedFacsFault}
 use Rattle.acpi_base.specs.Memory.{Memory}
 use Rattle.acpi_base.specs.Slit.{SlitContents}
-use Rattle.acpi_lint.specs.Rules.SlitAdvice.{IsSlitDiffers}
+use Rattle.acpi_lint.specs.Rules.SlitAdvice.{IsSlitDiffers, IsRemoteAsLocal}
 use Rattle.acpi_read.specs.EntryTables.{EntryTable}
 use Rattle.acpi_lint.specs.declared.place.Place.{Place}
 use Rattle.acpi_lint.specs.declared.passes.SoughtEntry.{SoughtEntry}
@@ -90,3 +90,7 @@ IsFacsFaultOf m fadt fault at other point = (116 ≤ length fadt) × IsFacsFault
 -- a distance from this locality differs
 abbrev pub IsRowDiffers : SlitContents → ℕ → ℕ → ℕ → ℕ → Type 0
 IsRowDiffers c i at other point = (differs : IsSlitDiffers c at other point) × (differs.i ≡ i)
+
+-- a distance from this locality is that of a locality from itself
+abbrev pub IsRowLocal : SlitContents → ℕ → ℕ → ℕ → ℕ → Type 0
+IsRowLocal c i at other point = IsRemoteAsLocal c at other point × (other ≡ i)

@@ -8,7 +8,7 @@ use Rattle.acpi_base.specs.Slit.{SlitContents, HasSlitSize}
 use Rattle.acpi_base.specs.Srat.{SratEntry, SratContents}
 use Rattle.acpi_lint.specs.CompleteTables.{AreCompleteTables}
 use Rattle.acpi_lint.specs.Places.{FindsLeast}
-use Rattle.acpi_lint.specs.Rules.Broken.{Condition, HoldsAt, Slots, Fadt, FadtMadt, Madt, MadtEntries, MadtNumbers, MadtSrat, MadtPptt, Srat, SratEntries, SratSlit, Slit, Pptt, PpttEntries}
+use Rattle.acpi_lint.specs.Rules.Broken.{Condition, HoldsAt, Slots, Set, Fadt, FadtMemory, FadtMadt, Madt, MadtEntries, MadtNumbers, MadtBytes, MadtSrat, MadtPptt, Srat, SratEntries, SratBytes, SratSlit, Slit, Pptt, PpttEntries, PpttBytes}
 use Rattle.acpi_lint.specs.declared.complete_tables.CompleteTables.{CompleteTables}
 use Rattle.acpi_lint.specs.declared.place.Place.{Place}
 use Rattle.acpi_lint.specs.declared.advice.RuleGroup.{RuleGroup}
@@ -17,19 +17,24 @@ use Rattle.acpi_lint.specs.declared.advice.RuleGroup.TheVariants as group
 -- the group of the rules with a condition
 abbrev pub group_of : Condition → RuleGroup
 group_of (Slots P) = group.Slots
+group_of (Set P) = group.Set
 group_of (Fadt P) = group.Fadt
+group_of (FadtMemory P) = group.FadtMemory
 group_of (FadtMadt P) = group.FadtMadt
 group_of (Madt P) = group.Madt
 group_of (MadtEntries P) = group.MadtEntries
 group_of (MadtNumbers read) = group.MadtNumbers
+group_of (MadtBytes P) = group.MadtBytes
 group_of (MadtSrat P) = group.MadtSrat
 group_of (MadtPptt P) = group.MadtPptt
 group_of (Srat P) = group.Srat
 group_of (SratEntries P) = group.SratEntries
+group_of (SratBytes P) = group.SratBytes
 group_of (SratSlit P) = group.SratSlit
 group_of (Slit P) = group.Slit
 group_of (Pptt P) = group.Pptt
 group_of (PpttEntries P) = group.PpttEntries
+group_of (PpttBytes P) = group.PpttBytes
 
 -- ---- the relation of a condition if it is of the group, otherwise one that never holds
 
@@ -37,9 +42,17 @@ abbrev pub in_slots : Condition → Memory → ℕ → ℕ → ℕ → ℕ → T
 in_slots (Slots P) = P
 in_slots _ = λ m p at other point. ⊥
 
+abbrev pub in_set : Condition → Memory → ℕ → ℕ → ℕ → ℕ → Type 0
+in_set (Set P) = P
+in_set _ = λ m p at other point. ⊥
+
 abbrev pub in_fadt : Condition → List ℕ → ℕ → ℕ → ℕ → Type 0
 in_fadt (Fadt P) = P
 in_fadt _ = λ fadt at other point. ⊥
+
+abbrev pub in_fadt_memory : Condition → Memory → List ℕ → ℕ → ℕ → ℕ → Type 0
+in_fadt_memory (FadtMemory P) = P
+in_fadt_memory _ = λ m fadt at other point. ⊥
 
 abbrev pub in_fadt_madt : Condition → PolicyValue → List ℕ → MadtContents → ℕ → ℕ → ℕ → Type 0
 in_fadt_madt (FadtMadt P) = P
@@ -57,6 +70,10 @@ abbrev pub unique_number : Condition → MadtEntry → Option ℕ
 unique_number (MadtNumbers read) = read
 unique_number _ = λ e. None
 
+abbrev pub in_madt_bytes : Condition → List ℕ → ℕ → ℕ → ℕ → Type 0
+in_madt_bytes (MadtBytes P) = P
+in_madt_bytes _ = λ whole at other point. ⊥
+
 abbrev pub in_madt_srat : Condition → MadtContents → SratContents → ℕ → ℕ → ℕ → Type 0
 in_madt_srat (MadtSrat P) = P
 in_madt_srat _ = λ madt srat at other point. ⊥
@@ -72,6 +89,10 @@ in_srat _ = λ srat at other point. ⊥
 abbrev pub on_srat_entry : Condition → SratEntry → ℕ → ℕ → Type 0
 on_srat_entry (SratEntries P) = P
 on_srat_entry _ = λ e other point. ⊥
+
+abbrev pub in_srat_bytes : Condition → List ℕ → ℕ → ℕ → ℕ → Type 0
+in_srat_bytes (SratBytes P) = P
+in_srat_bytes _ = λ whole at other point. ⊥
 
 abbrev pub on_srat_slit_entry : Condition → ℕ → SratEntry → ℕ → ℕ → Type 0
 on_srat_slit_entry (SratSlit P) = P
@@ -93,22 +114,31 @@ abbrev pub on_pptt_entry : Condition → PpttEntry → ℕ → ℕ → Type 0
 on_pptt_entry (PpttEntries P) = P
 on_pptt_entry _ = λ e other point. ⊥
 
+abbrev pub in_pptt_bytes : Condition → List ℕ → ℕ → ℕ → ℕ → Type 0
+in_pptt_bytes (PpttBytes P) = P
+in_pptt_bytes _ = λ whole at other point. ⊥
+
 -- the condition with that relation, of a group
 abbrev pub as_group : RuleGroup → Condition → Condition
 as_group group.Slots c = Slots (in_slots c)
+as_group group.Set c = Set (in_set c)
 as_group group.Fadt c = Fadt (in_fadt c)
+as_group group.FadtMemory c = FadtMemory (in_fadt_memory c)
 as_group group.FadtMadt c = FadtMadt (in_fadt_madt c)
 as_group group.Madt c = Madt (in_madt c)
 as_group group.MadtEntries c = MadtEntries (on_madt_entry c)
 as_group group.MadtNumbers c = MadtNumbers (unique_number c)
+as_group group.MadtBytes c = MadtBytes (in_madt_bytes c)
 as_group group.MadtSrat c = MadtSrat (in_madt_srat c)
 as_group group.MadtPptt c = MadtPptt (in_madt_pptt c)
 as_group group.Srat c = Srat (in_srat c)
 as_group group.SratEntries c = SratEntries (on_srat_entry c)
+as_group group.SratBytes c = SratBytes (in_srat_bytes c)
 as_group group.SratSlit c = SratSlit (on_srat_slit_entry c)
 as_group group.Slit c = Slit (in_slit c)
 as_group group.Pptt c = Pptt (in_pptt c)
 as_group group.PpttEntries c = PpttEntries (on_pptt_entry c)
+as_group group.PpttBytes c = PpttBytes (in_pptt_bytes c)
 
 -- ---- what is found for a condition in the tables of a set
 
@@ -120,3 +150,7 @@ Finds c tables found =
 -- the same with the settings of a policy
 abbrev pub FindsBy : Condition → PolicyValue → CompleteTables → Option Place → Type 0
 FindsBy c q tables found = (m : Memory) → AreCompleteTables m q.rsdp tables → FindsLeast (HoldsAt c m q) found
+
+-- the same in a memory
+abbrev pub FindsIn : Condition → Memory → CompleteTables → Option Place → Type 0
+FindsIn c m tables found = (q : PolicyValue) → AreCompleteTables m q.rsdp tables → FindsLeast (HoldsAt c m q) found

@@ -4,7 +4,7 @@
 ghost use Rattle.std.specs.Prelude.{◌≡◌, IfOk};
 ghost use Rattle.acpi_lint.specs.CompleteTables.{AreCompleteTables};
 ghost use Rattle.acpi_lint.specs.Places.{FindsLeast};
-ghost use Rattle.acpi_lint.specs.RuleGroups.{in_fadt, in_fadt_madt, in_madt, on_madt_entry, unique_number, in_madt_srat, in_madt_pptt, in_srat, on_srat_entry, on_srat_slit_entry, in_slit, in_pptt, on_pptt_entry, group_of, Finds, FindsBy};
+ghost use Rattle.acpi_lint.specs.RuleGroups.{in_fadt, in_fadt_memory, in_fadt_madt, in_madt, on_madt_entry, unique_number, in_madt_bytes, in_madt_srat, in_madt_pptt, in_srat, on_srat_entry, in_srat_bytes, on_srat_slit_entry, in_slit, in_pptt, on_pptt_entry, in_pptt_bytes, group_of, Finds, FindsBy, FindsIn};
 ghost use Rattle.acpi_lint.specs.Rules.Broken as broken;
 ghost use Rattle.acpi_lint.specs.Rules.Broken.{condition, IsBroken};
 ghost use Rattle.acpi_lint.specs.Rules.Findings.{AreFirstAdvice};
@@ -12,14 +12,17 @@ ghost use Rattle.acpi_lint.specs.StageFaults.{FindsFirstAdvice};
 
 use crate::complete_tables::CompleteTables;
 use crate::fadt_advice::fadt_place;
+use crate::fadt_memory::fadt_memory_place;
 use crate::nowhere::{madt_place, madt_pptt_place, madt_srat_place};
 use crate::own::{
     first_own_place, madt_entry_place, pptt_entry_place, srat_entry_place, srat_slit_entry_place,
 };
 use crate::place::Place;
 use crate::repeated::{pptt_place, repeated, srat_place, unique_number_at};
+use crate::reserved::{madt_bytes_place, pptt_bytes_place, srat_bytes_place};
 use crate::rule::{Advice, Rule};
 use crate::sci::fadt_madt_place;
+use crate::set_advice::set_place;
 use crate::slit::{rows, slit_place};
 use crate::slot_advice::slot_place;
 use acpi_base::{Image, Policy, TableKind};
@@ -32,8 +35,12 @@ use std::alloc::{AllocError, Global};
 enum RuleGroup {
     /// The slots of the root table.
     Slots,
+    /// The memory of the set: the RSDP, the root table and what they lead to.
+    Set,
     /// Fields of the FADT.
     Fadt,
+    /// What the FADT names in memory.
+    FadtMemory,
     /// The FADT and the MADT.
     FadtMadt,
     /// The MADT.
@@ -42,6 +49,8 @@ enum RuleGroup {
     MadtEntries,
     /// A number that each entry of the MADT may have, and that should be unique.
     MadtNumbers,
+    /// The bytes of the MADT.
+    MadtBytes,
     /// The MADT and the SRAT.
     MadtSrat,
     /// The MADT and the PPTT.
@@ -50,6 +59,8 @@ enum RuleGroup {
     Srat,
     /// Each entry of the SRAT by itself.
     SratEntries,
+    /// The bytes of the SRAT.
+    SratBytes,
     /// Each entry of the SRAT, with the SLIT.
     SratSlit,
     /// The SLIT.
@@ -58,6 +69,8 @@ enum RuleGroup {
     Pptt,
     /// Each entry of the PPTT by itself.
     PpttEntries,
+    /// The bytes of the PPTT.
+    PpttBytes,
 }
 
 /// The group of a rule.
@@ -93,6 +106,62 @@ fn group(rule: Rule) -> RuleGroup
         Rule::LeafNowhere => RuleGroup::MadtPptt,
         Rule::MadtUnread => RuleGroup::MadtEntries,
         Rule::SratUnread => RuleGroup::SratEntries,
+        Rule::NullSlot => RuleGroup::Set,
+        Rule::RsdtDiffers => RuleGroup::Set,
+        Rule::TablesOverlap => RuleGroup::Set,
+        Rule::NoDsdt => RuleGroup::Fadt,
+        Rule::DsdtWrong => RuleGroup::FadtMemory,
+        Rule::NoPm1Block => RuleGroup::Fadt,
+        Rule::BlockWidth => RuleGroup::Fadt,
+        Rule::HalfBlock => RuleGroup::Fadt,
+        Rule::PortsOverlap => RuleGroup::Set,
+        Rule::PortPastEnd => RuleGroup::Fadt,
+        Rule::GpeOverlap => RuleGroup::Fadt,
+        Rule::SmiHalf => RuleGroup::Fadt,
+        Rule::SciZero => RuleGroup::Fadt,
+        Rule::ResetNowhere => RuleGroup::Fadt,
+        Rule::FadtForArch => RuleGroup::FadtMadt,
+        Rule::SleepRegister => RuleGroup::Fadt,
+        Rule::FadtReserved => RuleGroup::Fadt,
+        Rule::FacsReserved => RuleGroup::FadtMemory,
+        Rule::RsdpReserved => RuleGroup::Set,
+        Rule::HeaderText => RuleGroup::Set,
+        Rule::SecondOther => RuleGroup::Set,
+        Rule::X2ApicBelow255 => RuleGroup::Madt,
+        Rule::BroadcastId => RuleGroup::MadtEntries,
+        Rule::CapableTooEarly => RuleGroup::FadtMadt,
+        Rule::EnabledAndCapable => RuleGroup::MadtEntries,
+        Rule::OverridePastIsa => RuleGroup::FadtMadt,
+        Rule::TimerLevel => RuleGroup::MadtEntries,
+        Rule::TwoSourcesOneGsi => RuleGroup::Madt,
+        Rule::LintNotOne => RuleGroup::MadtEntries,
+        Rule::NoIoApic => RuleGroup::Madt,
+        Rule::NoDistributor => RuleGroup::Madt,
+        Rule::NoRedistributor => RuleGroup::Madt,
+        Rule::GicrTooSmall => RuleGroup::Madt,
+        Rule::GiccBaseDiffers => RuleGroup::Madt,
+        Rule::SameMpidr => RuleGroup::MadtNumbers,
+        Rule::MpidrReserved => RuleGroup::MadtEntries,
+        Rule::GicrEmpty => RuleGroup::MadtEntries,
+        Rule::SameIts => RuleGroup::MadtNumbers,
+        Rule::SameMsiFrame => RuleGroup::MadtNumbers,
+        Rule::GicOverlap => RuleGroup::Madt,
+        Rule::RedistributorTwice => RuleGroup::Madt,
+        Rule::NoBootMethod => RuleGroup::FadtMadt,
+        Rule::SameHart => RuleGroup::MadtNumbers,
+        Rule::MadtReserved => RuleGroup::MadtBytes,
+        Rule::NoMemoryRange => RuleGroup::Srat,
+        Rule::EmptyRange => RuleGroup::SratEntries,
+        Rule::InitiatorOff => RuleGroup::SratEntries,
+        Rule::DomainPastRevision => RuleGroup::SratBytes,
+        Rule::ItsNowhere => RuleGroup::MadtSrat,
+        Rule::SratReserved => RuleGroup::SratBytes,
+        Rule::RemoteAsLocal => RuleGroup::Slit,
+        Rule::LeafUnflagged => RuleGroup::Pptt,
+        Rule::LeafAsParent => RuleGroup::Pptt,
+        Rule::NoPackage => RuleGroup::Pptt,
+        Rule::CacheNumbers => RuleGroup::PpttEntries,
+        Rule::PpttReserved => RuleGroup::PpttBytes,
     }
 }
 
@@ -104,6 +173,15 @@ fn listed_fadt_place(tables: &CompleteTables<'_>, rule: Rule) -> Option<Place>
 {
     let fadt = tables.fadt()?;
     fadt_place(rule, &fadt)
+}
+
+/// The place of a rule on what the FADT names in memory.
+fn listed_fadt_memory_place(image: &Image, tables: &CompleteTables<'_>, rule: Rule) -> Option<Place>
+    ensures { FindsIn (broken.FadtMemory (in_fadt_memory (condition rule))) image.now tables.now
+        result }
+{
+    let fadt = tables.fadt()?;
+    fadt_memory_place(image, rule, &fadt)
 }
 
 /// The place of a rule on the FADT and the MADT.
@@ -170,6 +248,7 @@ fn listed_madt_pptt_place(
 /// The place of a rule on the SRAT.
 fn listed_srat_place(
     alloc: Global,
+    policy: &Policy,
     tables: &CompleteTables<'_>,
     rule: Rule,
 ) -> Result<Option<Place>, AllocError>
@@ -178,7 +257,7 @@ fn listed_srat_place(
     let Some(srat) = tables.srat() else {
         return Ok(None);
     };
-    srat_place(alloc, rule, &srat)
+    srat_place(alloc, policy, rule, &srat)
 }
 
 /// The place of a rule on each entry of the SRAT with the SLIT.
@@ -216,6 +295,30 @@ fn listed_pptt_place(
     pptt_place(alloc, policy, rule, &pptt)
 }
 
+/// The place of a rule on the bytes of the MADT.
+fn listed_madt_bytes_place(tables: &CompleteTables<'_>, rule: Rule) -> Option<Place>
+    ensures { Finds (broken.MadtBytes (in_madt_bytes (condition rule))) tables.now result }
+{
+    let madt = tables.madt()?;
+    madt_bytes_place(rule, &madt)
+}
+
+/// The place of a rule on the bytes of the SRAT.
+fn listed_srat_bytes_place(tables: &CompleteTables<'_>, rule: Rule) -> Option<Place>
+    ensures { Finds (broken.SratBytes (in_srat_bytes (condition rule))) tables.now result }
+{
+    let srat = tables.srat()?;
+    srat_bytes_place(rule, &srat)
+}
+
+/// The place of a rule on the bytes of the PPTT.
+fn listed_pptt_bytes_place(tables: &CompleteTables<'_>, rule: Rule) -> Option<Place>
+    ensures { Finds (broken.PpttBytes (in_pptt_bytes (condition rule))) tables.now result }
+{
+    let pptt = tables.pptt()?;
+    pptt_bytes_place(rule, &pptt)
+}
+
 // ---- all rules
 
 /// The place of the first finding of a rule.
@@ -231,7 +334,9 @@ fn first_place(
 {
     match group(rule) {
         RuleGroup::Slots => slot_place(alloc, tables, rule),
+        RuleGroup::Set => set_place(alloc, image, policy.rsdp(), tables, rule),
         RuleGroup::Fadt => Ok(listed_fadt_place(tables, rule)),
+        RuleGroup::FadtMemory => Ok(listed_fadt_memory_place(image, tables, rule)),
         RuleGroup::FadtMadt => Ok(listed_fadt_madt_place(policy, tables, rule)),
         RuleGroup::Madt => listed_madt_place(alloc, policy, tables, rule),
         RuleGroup::MadtEntries => Ok(first_own_place(
@@ -243,13 +348,15 @@ fn first_place(
             tables.madt_entries(),
             |at| unique_number_at(rule, at),
         ),
+        RuleGroup::MadtBytes => Ok(listed_madt_bytes_place(tables, rule)),
         RuleGroup::MadtSrat => listed_madt_srat_place(alloc, policy, tables, rule),
         RuleGroup::MadtPptt => listed_madt_pptt_place(alloc, policy, tables, rule),
-        RuleGroup::Srat => listed_srat_place(alloc, tables, rule),
+        RuleGroup::Srat => listed_srat_place(alloc, policy, tables, rule),
         RuleGroup::SratEntries => Ok(first_own_place(
             tables.srat_entries(),
             |at| srat_entry_place(rule, at),
         )),
+        RuleGroup::SratBytes => Ok(listed_srat_bytes_place(tables, rule)),
         RuleGroup::SratSlit => Ok(listed_srat_slit_place(tables, rule)),
         RuleGroup::Slit => Ok(listed_slit_place(tables, rule)),
         RuleGroup::Pptt => listed_pptt_place(alloc, policy, tables, rule),
@@ -257,6 +364,7 @@ fn first_place(
             tables.pptt_entries(),
             |at| pptt_entry_place(rule, at),
         )),
+        RuleGroup::PpttBytes => Ok(listed_pptt_bytes_place(tables, rule)),
     }
 }
 

@@ -6,6 +6,10 @@ ghost use Rattle.acpi_lint.specs.RuleGroups.{in_fadt};
 ghost use Rattle.acpi_lint.specs.Rules.Broken.{condition};
 ghost use Rattle.acpi_lint.specs.Places.{AreTwoFields, IsBlock, FindsLeast};
 
+use crate::fadt_blocks::{block_width, gpe_overlap, half_block, no_pm1_block, port_past_end};
+use crate::fadt_fields::{
+    fadt_reserved, no_dsdt, reset_nowhere, sci_zero, sleep_register, smi_half,
+};
 use crate::place::Place;
 use crate::rule::Rule;
 use acpi_base::field::{u8_at, u32_at, u64_at};
@@ -114,6 +118,17 @@ pub fn fadt_place(rule: Rule, fadt: &Fadt<'_>) -> Option<Place>
         Rule::FacsDiffers => facs_differs(fadt),
         Rule::DsdtDiffers => dsdt_differs(fadt),
         Rule::BlockDiffers => block_differs(fadt),
+        Rule::NoDsdt => no_dsdt(fadt),
+        Rule::NoPm1Block => no_pm1_block(fadt),
+        Rule::BlockWidth => block_width(fadt),
+        Rule::HalfBlock => half_block(fadt),
+        Rule::PortPastEnd => port_past_end(fadt),
+        Rule::GpeOverlap => gpe_overlap(fadt),
+        Rule::SmiHalf => smi_half(fadt),
+        Rule::SciZero => sci_zero(fadt),
+        Rule::ResetNowhere => reset_nowhere(fadt),
+        Rule::SleepRegister => sleep_register(fadt),
+        Rule::FadtReserved => fadt_reserved(fadt),
         _ => None,
     }
 }

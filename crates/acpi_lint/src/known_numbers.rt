@@ -35,7 +35,7 @@ use std::alloc::{AllocError, Global};
 // ---- numbers
 
 /// The numbers that `pick` returns for the entries of a table, in rising order. Allocates for each.
-fn known_numbers<'a, E: TableEntry<'a> + Copy, F: Fn(&EntryAt<E>) -> Option<u64>>(
+pub fn known_numbers<'a, E: TableEntry<'a> + Copy, F: Fn(&EntryAt<E>) -> Option<u64>>(
     alloc: Global,
     entries: TypedEntries<'a, E>,
     pick: F,

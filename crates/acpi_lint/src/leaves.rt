@@ -71,7 +71,7 @@ fn parent_of(at: &EntryAt<PpttEntry<'_>>) -> Option<u64>
 }
 
 /// The offsets of the nodes' Parents, in rising order.
-fn parents_of(alloc: Global, pptt: &Table<'_>) -> Result<Vec<u64>, AllocError>
+pub fn parents_of(alloc: Global, pptt: &Table<'_>) -> Result<Vec<u64>, AllocError>
     ensures rise { IfOk result (λ parents. AllPairs (λ o p. o < p) parents.items) }
     ensures all { IfOk result (λ parents. (o : ℕ) →
         Contains parents.items o ↔ IsParent (pptt_contents pptt.now) o) }
@@ -103,7 +103,7 @@ fn unnamed_leaves(alloc: Global, pptt: &Table<'_>) -> Result<Vec<Numbered>, Allo
 }
 
 /// The lowest Revision of the PPTT that has the flag of a leaf.
-const HAS_LEAVES: u8 = 2;
+pub const HAS_LEAVES: u8 = 2;
 
 /// The ACPI processor IDs of a PPTT's leaves, each with its leaf's offset; the offsets rise. Below Revision 2 a PPTT has
 /// leaves only if it is well-formed. Allocates for each leaf, and below Revision 2 also for each node.

@@ -18,11 +18,17 @@ ghost use Rattle.acpi_lint.specs.Rules.Broken.{condition};
 ghost use Rattle.acpi_lint.specs.Places.{FindsOwn, FindsLeast};
 ghost use Rattle.acpi_lint.specs.EntryNumbers.{IsUnknown, IsUnknownOf, IsUnknownAffinity, IsUnplaced, IsUnknownAt, IsWhere};
 
+use crate::gic_overlap::gic_overlap;
+use crate::its::its_nowhere;
 use crate::known_numbers::{
     are_processors_known, are_processors_read, has_node, has_opaque_processor, is_any_on,
     is_any_placed, leaf_ids, placed_apic_ids, placed_uids, processor_apic_ids, processor_uids,
 };
 use crate::leaves::leaves_of;
+use crate::madt_advice::{
+    gicc_base_differs, gicr_too_small, no_distributor, no_io_apic, no_redistributor,
+    redistributor_twice, two_sources_one_gsi, x2apic_below_255,
+};
 use crate::numbered::Numbered;
 use crate::passes::first_picked;
 use crate::place::Place;
@@ -37,7 +43,7 @@ use acpi_read::{EntryAt, MadtEntry, SratEntry, Table};
 use std::alloc::{AllocError, Global};
 
 /// The place of a number, if there is one, that is not among these, which rise.
-fn unknown_place(known: &[u64], at: u64, number: Option<u32>) -> Option<Place>
+pub fn unknown_place(known: &[u64], at: u64, number: Option<u32>) -> Option<Place>
     requires { AllPairs (λ i j. i < j) known.now }
     ensures { FindsOwn (IsUnknown known.now) (record { offset = at; entry = number }) result }
 {
@@ -103,7 +109,7 @@ fn nmi_nowhere(
     Ok(where_known(policy, madt, place))
 }
 
-/// The place where a rule on the processors of a MADT is broken. None for another rule.
+/// The place where a rule on a MADT is broken. None for another rule.
 pub fn madt_place(
     alloc: Global,
     policy: &Policy,
@@ -115,6 +121,15 @@ pub fn madt_place(
     match rule {
         Rule::NoProcessor => Ok(no_processor(policy, madt)),
         Rule::NmiNowhere => nmi_nowhere(alloc, policy, madt),
+        Rule::GicOverlap => gic_overlap(alloc, madt),
+        Rule::X2ApicBelow255 => Ok(x2apic_below_255(madt)),
+        Rule::TwoSourcesOneGsi => two_sources_one_gsi(alloc, madt),
+        Rule::NoIoApic => Ok(no_io_apic(policy, madt)),
+        Rule::NoDistributor => Ok(no_distributor(policy, madt)),
+        Rule::NoRedistributor => Ok(no_redistributor(policy, madt)),
+        Rule::GicrTooSmall => gicr_too_small(alloc, policy, madt),
+        Rule::GiccBaseDiffers => Ok(gicc_base_differs(madt)),
+        Rule::RedistributorTwice => Ok(redistributor_twice(madt)),
         _ => Ok(None),
     }
 }
@@ -210,6 +225,7 @@ pub fn madt_srat_place(
     match rule {
         Rule::AffinityNowhere => affinity_nowhere(alloc, policy, madt, srat),
         Rule::NoDomain => no_domain(alloc, policy, madt, srat),
+        Rule::ItsNowhere => its_nowhere(alloc, policy, madt, srat),
         _ => Ok(None),
     }
 }

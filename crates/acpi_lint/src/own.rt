@@ -6,6 +6,7 @@ ghost use Rattle.acpi_base.specs.Entries.{entries_read_by};
 ghost use Rattle.acpi_lint.specs.Rules.MadtAdvice as madt_advice;
 ghost use Rattle.acpi_lint.specs.Rules.MadtAdvice.{IsIoApicAtZero, IsMadtUnread};
 ghost use Rattle.acpi_lint.specs.Rules.PpttAdvice.{IsPowerOfTwo, HasOddShape, IsCacheShape};
+ghost use Rattle.acpi_lint.specs.Rules.Hierarchy.{size_by_lines, AreFlagsValid, HasZeroNumber, HasOddSize, HasOddNumbers, IsCacheNumbers};
 ghost use Rattle.acpi_lint.specs.Rules.SratAdvice as srat_advice;
 ghost use Rattle.acpi_lint.specs.Rules.SratAdvice.{IsDomainPastSlit, IsSratUnread};
 ghost use Rattle.acpi_base.specs.Pptt.{Cache, CacheValue};
@@ -20,6 +21,9 @@ ghost use Rattle.acpi_lint.specs.Places.{PicksFirst, FindsOwn};
 ghost use Rattle.acpi_lint.specs.RuleGroups.{on_madt_entry, on_srat_entry, on_srat_slit_entry, on_pptt_entry};
 ghost use Rattle.acpi_lint.specs.Rules.Broken.{condition};
 
+use crate::domains::{empty_range, initiator_off};
+use crate::gic::{GICD_LEN, GICR, GICR_LEN, ITS, ITS_LEN, MSI_FRAME, MSI_FRAME_LEN};
+use crate::madt_numbers::{MadtNumber, number_place};
 use crate::passes::first_picked;
 use crate::place::Place;
 use crate::processors::{
@@ -65,8 +69,12 @@ fn is_madt_read(bytes: &[u8]) -> bool
 {
     let size = bytes.len();
     match bytes[0] {
-        0..=5 | 9 | 10 | GICD => true,
+        0..=5 | 9 | 10 => true,
         GICC => size >= GICC_LEN,
+        GICD => size == GICD_LEN,
+        MSI_FRAME => size == MSI_FRAME_LEN,
+        GICR => size == GICR_LEN,
+        ITS => size == ITS_LEN,
         CORE_PIC => size == CORE_PIC_LEN,
         RINTC => size >= RINTC_LEN,
         _ => false,
@@ -97,6 +105,12 @@ pub fn madt_entry_place(rule: Rule, at: &EntryAt<MadtEntry<'_>>) -> Option<Place
     match rule {
         Rule::IoApicAtZero => io_apic_at_zero(at),
         Rule::MadtUnread => madt_unread(at),
+        Rule::BroadcastId => number_place(MadtNumber::BroadcastId, 0, at),
+        Rule::EnabledAndCapable => number_place(MadtNumber::BothFlags, 0, at),
+        Rule::TimerLevel => number_place(MadtNumber::LevelTimer, 0, at),
+        Rule::LintNotOne => number_place(MadtNumber::OtherLint, 0, at),
+        Rule::MpidrReserved => number_place(MadtNumber::ReservedMpidr, 0, at),
+        Rule::GicrEmpty => number_place(MadtNumber::EmptyGicr, 0, at),
         _ => None,
     }
 }
@@ -156,6 +170,8 @@ pub fn srat_entry_place(rule: Rule, at: &EntryAt<SratEntry<'_>>) -> Option<Place
 {
     match rule {
         Rule::SratUnread => srat_unread(at),
+        Rule::EmptyRange => empty_range(at),
+        Rule::InitiatorOff => initiator_off(at),
         _ => None,
     }
 }
@@ -212,6 +228,67 @@ fn cache_shape(at: &EntryAt<PpttEntry<'_>>) -> Option<Place>
     is_odd_cache(&at.entry).then_some(Place::at(at.offset))
 }
 
+/// The size that a cache has by its sets, its ways and the length of its lines.
+fn size_by_lines(cache: &Cache24) -> u64
+    ensures { (id : Option ℕ) → result ≡ size_by_lines (cache_value cache.now id) }
+{
+    u64::from(cache.sets) * u64::from(cache.associativity) * u64::from(cache.line_size)
+}
+
+/// Whether a valid Associativity or Size is 0.
+fn has_zero_number(cache: &Cache24) -> bool
+    ensures { (id : Option ℕ) → IsTrue result ↔ HasZeroNumber (cache_value cache.now id) }
+{
+    is_set(cache.flags, 2) && cache.associativity == 0 || is_set(cache.flags, 0) && cache.size == 0
+}
+
+/// Whether a cache's flags say that its Size, Number of Sets, Associativity and Line Size are valid.
+fn are_all_valid(flags: u32) -> bool
+    ensures { IsTrue result ↔ AreFlagsValid flags }
+{
+    is_set(flags, 0) && is_set(flags, 1) && is_set(flags, 2) && is_set(flags, 6)
+}
+
+/// Whether all numbers of a cache are valid, and its Size is another than by the others.
+fn has_odd_size(cache: &Cache24) -> bool
+    ensures { (id : Option ℕ) → IsTrue result ↔ HasOddSize (cache_value cache.now id) }
+{
+    if !are_all_valid(cache.flags) {
+        return false;
+    }
+    u64::from(cache.size) != size_by_lines(cache)
+}
+
+/// Whether a cache has such numbers.
+fn has_odd_numbers(cache: &Cache24) -> bool
+    ensures { (id : Option ℕ) → IsTrue result ↔ HasOddNumbers (cache_value cache.now id) }
+{
+    has_zero_number(cache) || has_odd_size(cache)
+}
+
+/// The place of a cache at an offset, if it has such numbers; `other` is its Size, `point` the size by the others.
+fn odd_numbers(offset: u64, cache: &Cache24) -> Option<Place>
+    ensures { (id : Option ℕ) → FindsOwn (λ at. IsCacheNumbers)
+        (record { offset = offset; entry = Cache (cache_value cache.now id) }) result }
+{
+    has_odd_numbers(cache).then_some(Place {
+        at: offset,
+        other: u64::from(cache.size),
+        point: size_by_lines(cache),
+    })
+}
+
+/// The place of a cache with such numbers.
+fn cache_numbers(at: &EntryAt<PpttEntry<'_>>) -> Option<Place>
+    ensures { FindsOwn (λ at. IsCacheNumbers) (entry_at_value pptt_value at.now) result }
+{
+    match &at.entry {
+        PpttEntry::Cache24(cache) => odd_numbers(at.offset, cache),
+        PpttEntry::Cache28(cache) => odd_numbers(at.offset, &cache.fields),
+        _ => None,
+    }
+}
+
 /// The place of an entry of a PPTT that breaks a rule by itself. None for another rule.
 pub fn pptt_entry_place(rule: Rule, at: &EntryAt<PpttEntry<'_>>) -> Option<Place>
     ensures { FindsOwn (λ at. on_pptt_entry (condition rule)) (entry_at_value pptt_value at.now)
@@ -219,6 +296,7 @@ pub fn pptt_entry_place(rule: Rule, at: &EntryAt<PpttEntry<'_>>) -> Option<Place
 {
     match rule {
         Rule::CacheShape => cache_shape(at),
+        Rule::CacheNumbers => cache_numbers(at),
         _ => None,
     }
 }

@@ -65,7 +65,7 @@ pub fn is_set(flags: u32, bit: u32) -> bool
 }
 
 /// Whether Enabled, bit 0, or Online Capable, the bit `capable`, is set in a processor's flags.
-fn is_on(flags: u32, capable: u32) -> bool
+pub fn is_on(flags: u32, capable: u32) -> bool
     requires { capable < 32 }
     ensures { result ≡ has_bit flags 0 || has_bit flags capable }
 {
@@ -83,7 +83,7 @@ pub fn is_gicc(bytes: &[u8]) -> bool
 }
 
 /// Whether they are a hart's interrupt controller of at least `RINTC_LEN` bytes.
-fn is_rintc(bytes: &[u8]) -> bool
+pub fn is_rintc(bytes: &[u8]) -> bool
     ensures value { result ≡ is_rintc bytes.now }
     ensures size { IsTrue result → 20 ≤ length bytes.now }
 {
@@ -257,7 +257,7 @@ fn is_rintc_affinity(bytes: &[u8]) -> bool
 }
 
 /// Whether the bytes are the affinity of an ITS.
-fn is_its_affinity(bytes: &[u8]) -> bool
+pub fn is_its_affinity(bytes: &[u8]) -> bool
     ensures value { result ≡ is_its_affinity bytes.now }
     ensures size { IsTrue result → length bytes.now ≡ 12 }
 {

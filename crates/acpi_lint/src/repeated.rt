@@ -17,8 +17,13 @@ ghost use Rattle.acpi_lint.specs.EntryNumbers.{domain_of_uid, FindsRepeated};
 ghost use Rattle.acpi_lint.specs.Numbered.{at_place};
 ghost use Rattle.acpi_lint.specs.Places.{FindsLeast};
 
+use crate::apic::hart_id_on;
+use crate::domains::no_memory_range;
+use crate::gic::{its_id, mpidr_on, msi_frame_id};
+use crate::hierarchy::{leaf_as_parent, leaf_unflagged};
 use crate::leaves::{leaves_of, revision};
 use crate::numbered::{Numbered, Order, at_place, first_repeated, first_unlike};
+use crate::packages::no_package;
 use crate::place::Place;
 use crate::processors::{
     apic_id_on, cache_id, gicd, io_apic_id, nonzero_io_apic_address, placed_uid, processor_domain,
@@ -52,15 +57,19 @@ pub fn repeated<'a, E: TableEntry<'a> + Copy, F: Fn(&EntryAt<E>) -> Option<Numbe
 // ---- the MADT
 
 /// The number of an entry of a MADT that a rule wants to be unique. None for another rule.
-fn unique_number(rule: Rule, entry: &MadtEntry<'_>) -> Option<u32>
+fn unique_number(rule: Rule, entry: &MadtEntry<'_>) -> Option<u64>
     ensures { result ≡ unique_number (condition rule) (madt_value entry.now) }
 {
     match rule {
-        Rule::SameUid => uid_on(entry),
-        Rule::SameApicId => apic_id_on(entry),
-        Rule::SameIoApicId => io_apic_id(entry),
-        Rule::SameIoApicAddress => nonzero_io_apic_address(entry),
-        Rule::SecondGicd => gicd(entry),
+        Rule::SameUid => uid_on(entry).map(u64::from),
+        Rule::SameApicId => apic_id_on(entry).map(u64::from),
+        Rule::SameIoApicId => io_apic_id(entry).map(u64::from),
+        Rule::SameIoApicAddress => nonzero_io_apic_address(entry).map(u64::from),
+        Rule::SecondGicd => gicd(entry).map(u64::from),
+        Rule::SameMpidr => mpidr_on(entry),
+        Rule::SameIts => its_id(entry),
+        Rule::SameMsiFrame => msi_frame_id(entry),
+        Rule::SameHart => hart_id_on(entry),
         _ => None,
     }
 }
@@ -70,7 +79,12 @@ pub fn unique_number_at(rule: Rule, at: &EntryAt<MadtEntry<'_>>) -> Option<Numbe
     ensures { result
         ≡ option_map (at_place at.now.offset) (unique_number (condition rule) (madt_value at.now.entry)) }
 {
-    at_place(at.offset, unique_number(rule, &at.entry))
+    let number = unique_number(rule, &at.entry)?;
+    Some(Numbered {
+        number,
+        at: at.offset,
+        value: at.offset,
+    })
 }
 
 // ---- the PPTT
@@ -117,6 +131,9 @@ pub fn pptt_place(
     match rule {
         Rule::SameLeaf => same_leaf(alloc, policy, pptt),
         Rule::SameCacheId => same_cache_id(alloc, pptt),
+        Rule::LeafUnflagged => leaf_unflagged(alloc, policy, pptt),
+        Rule::LeafAsParent => leaf_as_parent(alloc, pptt),
+        Rule::NoPackage => no_package(alloc, policy, pptt),
         _ => Ok(None),
     }
 }
@@ -146,11 +163,17 @@ fn two_uid_domains(alloc: Global, srat: &Table<'_>) -> Result<Option<Place>, All
 }
 
 /// The place where a rule on the numbers in an SRAT is broken. None for another rule.
-pub fn srat_place(alloc: Global, rule: Rule, srat: &Table<'_>) -> Result<Option<Place>, AllocError>
+pub fn srat_place(
+    alloc: Global,
+    policy: &Policy,
+    rule: Rule,
+    srat: &Table<'_>,
+) -> Result<Option<Place>, AllocError>
     ensures { IfOk result (FindsLeast (in_srat (condition rule) (srat_contents srat.now))) }
 {
     match rule {
         Rule::TwoUidDomains => two_uid_domains(alloc, srat),
+        Rule::NoMemoryRange => Ok(no_memory_range(policy, srat)),
         _ => Ok(None),
     }
 }

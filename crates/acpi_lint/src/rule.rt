@@ -1,7 +1,7 @@
 //! Advice: what breaks none of the statements, but is probably wrong.
 
 ghost use Rattle.std.specs.Prelude.{◌≡◌, ◌+◌, ◌<◌, ◌≤◌, ◌↔◌, length, IsSome, IfSome};
-ghost use Rattle.acpi_lint.specs.Rules.Rows.{all_rules, rule_name, rule_number};
+ghost use Rattle.acpi_lint.specs.Rules.Rows.{all_rules, rule_name, rule_named, rule_number};
 
 /// A rule of advice. A set of tables may have a reason to break a rule, so none is a fault. A processor is usable if it
 /// is Enabled or Online Capable. Sections are those of ACPI 6.5.
@@ -63,6 +63,118 @@ pub enum Rule {
     MadtUnread,
     /// A structure of the SRAT of a type or length that is not read (5.2.16).
     SratUnread,
+    /// A slot of the root table is 0 (5.2.7).
+    NullSlot,
+    /// The RSDT and the XSDT list different numbers of tables with a signature (5.2.7).
+    RsdtDiffers,
+    /// Two tables share bytes of memory (5.2).
+    TablesOverlap,
+    /// The FADT names no DSDT (5.2.9).
+    NoDsdt,
+    /// The DSDT has another signature, a wrong Length or a wrong checksum (5.2.11.1).
+    DsdtWrong,
+    /// PM1a_EVT_BLK or PM1a_CNT_BLK is missing (5.2.9).
+    NoPm1Block,
+    /// The length of a register block is not the width of its X_ structure (5.2.9).
+    BlockWidth,
+    /// A register block has an address and no length, or a length and no address (5.2.9).
+    HalfBlock,
+    /// Two register blocks share an I/O port (5.2.9).
+    PortsOverlap,
+    /// A register is at an I/O port above FFFFh (5.2.9).
+    PortPastEnd,
+    /// GPE1_BASE is an event number of the GPE0 block (5.2.9).
+    GpeOverlap,
+    /// SMI_CMD cannot switch between legacy mode and ACPI mode, or is 0 and its values are not (5.2.9).
+    SmiHalf,
+    /// SCI_INT is 0 (5.2.9).
+    SciZero,
+    /// The reset register is supported and has the address 0 (5.2.9).
+    ResetNowhere,
+    /// The MADT is of Arm or RISC-V, and the FADT is not of reduced hardware or is too old (5.2.9).
+    FadtForArch,
+    /// A sleep register has no address, or another width or offset than 8 bits at 0 (5.2.9).
+    SleepRegister,
+    /// A field of the FADT has a reserved value (5.2.9).
+    FadtReserved,
+    /// A field of the FACS has a reserved value (5.2.10).
+    FacsReserved,
+    /// A field of the RSDP has a reserved value (5.2.5.3).
+    RsdpReserved,
+    /// A text of a table's header has a byte that is not printable (5.2.6).
+    HeaderText,
+    /// A second table of a kind is listed that should be listed once (5.2.6).
+    SecondOther,
+    /// A usable local x2APIC has an ID below 255, beside usable local APICs (5.2.12.12).
+    X2ApicBelow255,
+    /// A usable processor has the ID of a broadcast (5.2.12.2).
+    BroadcastId,
+    /// A processor is Online Capable, which the FADT's version does not have (5.2.12.2, 5.2.12.12, 5.2.12.14).
+    CapableTooEarly,
+    /// A processor is both Enabled and Online Capable (5.2.12.2, 5.2.12.12, 5.2.12.14).
+    EnabledAndCapable,
+    /// An override is for an interrupt above 15 that is not SCI_INT (5.2.12.5).
+    OverridePastIsa,
+    /// The override of ISA interrupt 0, the timer, is level-triggered (5.2.12.5).
+    TimerLevel,
+    /// Two ISA interrupts are overridden with one interrupt number (5.2.12.5).
+    TwoSourcesOneGsi,
+    /// An NMI is connected to another input than LINT1 (5.2.12.7, 5.2.12.13).
+    LintNotOne,
+    /// Overrides or NMI sources are there, and no I/O APIC (5.2.12.3).
+    NoIoApic,
+    /// There are GIC CPU interfaces, and no GIC Distributor (5.2.12.15).
+    NoDistributor,
+    /// The GIC has version 3 or 4, and no redistributor (5.2.12.17).
+    NoRedistributor,
+    /// The ranges of redistributors are too small for the usable processors (5.2.12.17).
+    GicrTooSmall,
+    /// Two GIC CPU interfaces of a GIC of version 1 or 2 have different base addresses (5.2.12.14).
+    GiccBaseDiffers,
+    /// Two usable processors have the same MPIDR (5.2.12.14).
+    SameMpidr,
+    /// A usable processor's MPIDR has a reserved bit set (5.2.12.14).
+    MpidrReserved,
+    /// A range of redistributors has the length 0 (5.2.12.17).
+    GicrEmpty,
+    /// Two ITS have the same ID (5.2.12.18).
+    SameIts,
+    /// Two GIC MSI frames have the same ID (5.2.12.16).
+    SameMsiFrame,
+    /// Two structures of the GIC share an address (5.2.12.15).
+    GicOverlap,
+    /// A processor names a redistributor, and ranges of redistributors are there (5.2.12.17).
+    RedistributorTwice,
+    /// There are several processors and neither PSCI nor a parking protocol (5.2.12.14).
+    NoBootMethod,
+    /// Two usable harts have the same ID.
+    SameHart,
+    /// A field of the MADT has a reserved value (5.2.12).
+    MadtReserved,
+    /// The SRAT has affinities of processors and no memory (5.2.16.2).
+    NoMemoryRange,
+    /// A range of memory has the length 0 (5.2.16.2).
+    EmptyRange,
+    /// A Generic Initiator is not enabled (5.2.16.6).
+    InitiatorOff,
+    /// A domain above 255 is in an SRAT of Revision 1 (5.2.16).
+    DomainPastRevision,
+    /// The SRAT has an ITS that the MADT does not have (5.2.16.5).
+    ItsNowhere,
+    /// A field of the SRAT has a reserved value (5.2.16).
+    SratReserved,
+    /// The distance of a locality from another one is 10, that from itself (5.2.17).
+    RemoteAsLocal,
+    /// A processor that no node names as Parent is not flagged as a leaf (5.2.30.1).
+    LeafUnflagged,
+    /// A leaf is the Parent of a node (5.2.30.1).
+    LeafAsParent,
+    /// No node from a leaf to its root is a package (5.2.30.1).
+    NoPackage,
+    /// A cache's size is 0 or not the product of its sets, ways and line size (5.2.30.2).
+    CacheNumbers,
+    /// A field of the PPTT has a reserved value (5.2.30).
+    PpttReserved,
 }
 
 /// The number of the first rule.
@@ -98,11 +210,67 @@ const ROWS: [(Rule, &str); Rule::COUNT] = [
     (Rule::LeafNowhere, "LeafNowhere"),
     (Rule::MadtUnread, "MadtUnread"),
     (Rule::SratUnread, "SratUnread"),
+    (Rule::NullSlot, "NullSlot"),
+    (Rule::RsdtDiffers, "RsdtDiffers"),
+    (Rule::TablesOverlap, "TablesOverlap"),
+    (Rule::NoDsdt, "NoDsdt"),
+    (Rule::DsdtWrong, "DsdtWrong"),
+    (Rule::NoPm1Block, "NoPm1Block"),
+    (Rule::BlockWidth, "BlockWidth"),
+    (Rule::HalfBlock, "HalfBlock"),
+    (Rule::PortsOverlap, "PortsOverlap"),
+    (Rule::PortPastEnd, "PortPastEnd"),
+    (Rule::GpeOverlap, "GpeOverlap"),
+    (Rule::SmiHalf, "SmiHalf"),
+    (Rule::SciZero, "SciZero"),
+    (Rule::ResetNowhere, "ResetNowhere"),
+    (Rule::FadtForArch, "FadtForArch"),
+    (Rule::SleepRegister, "SleepRegister"),
+    (Rule::FadtReserved, "FadtReserved"),
+    (Rule::FacsReserved, "FacsReserved"),
+    (Rule::RsdpReserved, "RsdpReserved"),
+    (Rule::HeaderText, "HeaderText"),
+    (Rule::SecondOther, "SecondOther"),
+    (Rule::X2ApicBelow255, "X2ApicBelow255"),
+    (Rule::BroadcastId, "BroadcastId"),
+    (Rule::CapableTooEarly, "CapableTooEarly"),
+    (Rule::EnabledAndCapable, "EnabledAndCapable"),
+    (Rule::OverridePastIsa, "OverridePastIsa"),
+    (Rule::TimerLevel, "TimerLevel"),
+    (Rule::TwoSourcesOneGsi, "TwoSourcesOneGsi"),
+    (Rule::LintNotOne, "LintNotOne"),
+    (Rule::NoIoApic, "NoIoApic"),
+    (Rule::NoDistributor, "NoDistributor"),
+    (Rule::NoRedistributor, "NoRedistributor"),
+    (Rule::GicrTooSmall, "GicrTooSmall"),
+    (Rule::GiccBaseDiffers, "GiccBaseDiffers"),
+    (Rule::SameMpidr, "SameMpidr"),
+    (Rule::MpidrReserved, "MpidrReserved"),
+    (Rule::GicrEmpty, "GicrEmpty"),
+    (Rule::SameIts, "SameIts"),
+    (Rule::SameMsiFrame, "SameMsiFrame"),
+    (Rule::GicOverlap, "GicOverlap"),
+    (Rule::RedistributorTwice, "RedistributorTwice"),
+    (Rule::NoBootMethod, "NoBootMethod"),
+    (Rule::SameHart, "SameHart"),
+    (Rule::MadtReserved, "MadtReserved"),
+    (Rule::NoMemoryRange, "NoMemoryRange"),
+    (Rule::EmptyRange, "EmptyRange"),
+    (Rule::InitiatorOff, "InitiatorOff"),
+    (Rule::DomainPastRevision, "DomainPastRevision"),
+    (Rule::ItsNowhere, "ItsNowhere"),
+    (Rule::SratReserved, "SratReserved"),
+    (Rule::RemoteAsLocal, "RemoteAsLocal"),
+    (Rule::LeafUnflagged, "LeafUnflagged"),
+    (Rule::LeafAsParent, "LeafAsParent"),
+    (Rule::NoPackage, "NoPackage"),
+    (Rule::CacheNumbers, "CacheNumbers"),
+    (Rule::PpttReserved, "PpttReserved"),
 ];
 
 impl Rule {
     /// How many rules there are. Their numbers begin at 101.
-    pub const COUNT: usize = 28;
+    pub const COUNT: usize = 84;
 
     /// The rule with this number, from 101 on.
     pub fn new(number: u8) -> Option<Rule>
@@ -113,6 +281,20 @@ impl Rule {
         let rows = ROWS.as_slice();
         let (rule, _) = rows.get(usize::from(index))?;
         Some(*rule)
+    }
+
+    /// The rule with this name, as `name` returns it. Upper and lower case differ.
+    pub fn from_name(name: &str) -> Option<Rule>
+        ensures { result ≡ rule_named name.now }
+    {
+        let mut number = FIRST;
+        while let Some(rule) = Rule::new(number) {
+            if rule.name() == name {
+                return Some(rule);
+            }
+            number += 1;
+        }
+        None
     }
 
     /// The rule's number, from 101 on.
@@ -127,7 +309,7 @@ impl Rule {
         ensures { result.now ≡ rule_name self }
     {
         let rows = ROWS.as_slice();
-        rows[self as usize].1
+        rows[usize::from(self.number() - FIRST)].1
     }
 }
 

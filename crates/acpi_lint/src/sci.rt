@@ -11,6 +11,7 @@ ghost use Rattle.acpi_lint.specs.RuleGroups.{in_fadt_madt};
 ghost use Rattle.acpi_lint.specs.Rules.Broken.{condition};
 ghost use Rattle.acpi_lint.specs.Overrides.{IsOwnOverride, IsOverrideAt, ServesNumber, IsUnserved, IsNowhere};
 
+use crate::fadt_madt::{capable_too_early, fadt_for_arch, no_boot_method, override_past_isa};
 use crate::passes::first_picked;
 use crate::place::Place;
 use crate::rule::Rule;
@@ -133,6 +134,10 @@ pub fn fadt_madt_place(
 {
     match rule {
         Rule::SciNowhere => sci_nowhere(policy, fadt, madt),
+        Rule::FadtForArch => fadt_for_arch(fadt, madt),
+        Rule::CapableTooEarly => capable_too_early(fadt, madt),
+        Rule::OverridePastIsa => override_past_isa(fadt, madt),
+        Rule::NoBootMethod => no_boot_method(policy, fadt, madt),
         _ => None,
     }
 }

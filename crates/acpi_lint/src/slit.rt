@@ -2,10 +2,10 @@
 
 ghost use Rattle.std.specs.Prelude.{◌<◌, MatchOption};
 ghost use Rattle.acpi_base.specs.Slit.{slit_contents, HasSlitSize, SlitFault};
-ghost use Rattle.acpi_lint.specs.Rules.SlitAdvice.{IsSlitDiffers};
+ghost use Rattle.acpi_lint.specs.Rules.SlitAdvice.{IsSlitDiffers, IsRemoteAsLocal};
 ghost use Rattle.acpi_base.specs.declared.code.Code.{Code};
 ghost use Rattle.acpi_read.specs.Slits.{HasRows};
-ghost use Rattle.acpi_lint.specs.Places.{FindsLeast, IsRowDiffers};
+ghost use Rattle.acpi_lint.specs.Places.{FindsLeast, IsRowDiffers, IsRowLocal};
 ghost use Rattle.acpi_lint.specs.RuleGroups.{in_sized_slit};
 ghost use Rattle.acpi_lint.specs.Rules.Broken.{condition};
 
@@ -124,6 +124,41 @@ fn rows_differ(bytes: &[u8], count: usize) -> Option<Place>
     None
 }
 
+/// The distance of a locality from itself.
+const LOCAL: u8 = 10;
+
+/// The place of the first distance from locality i to another one, `point`, that is 10.
+fn row_local(bytes: &[u8], count: usize, i: usize) -> Option<Place>
+    requires rows { HasRows bytes.now count }
+    requires row { i < count }
+    ensures { FindsLeast (IsRowLocal (slit_contents bytes.now) i) result }
+{
+    for j in 0..count {
+        let there = Slit::CELLS + count * i + j;
+        if j != i && bytes[there] == LOCAL {
+            return Some(Place {
+                at: there as u64,
+                other: i as u64,
+                point: j as u64,
+            });
+        }
+    }
+    None
+}
+
+/// The place of the first such distance of all localities; `other` is the locality from which it is.
+fn rows_local(bytes: &[u8], count: usize) -> Option<Place>
+    requires { HasRows bytes.now count }
+    ensures { FindsLeast (IsRemoteAsLocal (slit_contents bytes.now)) result }
+{
+    for i in 0..count {
+        if let Some(place) = row_local(bytes, count, i) {
+            return Some(place);
+        }
+    }
+    None
+}
+
 /// The place where a rule on a SLIT is broken, whose cells are read only if it has the right size. None for another rule.
 pub fn slit_place(rule: Rule, slit: Table<'_>) -> Option<Place>
     ensures { FindsLeast (in_sized_slit (condition rule) (slit_contents slit.entry)) result }
@@ -131,6 +166,7 @@ pub fn slit_place(rule: Rule, slit: Table<'_>) -> Option<Place>
     let bytes = slit.bytes();
     match rule {
         Rule::SlitDiffers => rows_differ(bytes, rows(bytes)?),
+        Rule::RemoteAsLocal => rows_local(bytes, rows(bytes)?),
         _ => None,
     }
 }

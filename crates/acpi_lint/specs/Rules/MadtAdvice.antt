@@ -1,5 +1,5 @@
 -- Advice on the MADT (ACPI 6.5, 5.2.12). `at` is an entry's offset from the table's start.
-use Rattle.std.specs.Prelude.{◌≡◌, ◌≢◌, ℕ, ◌-◌, ◌^◌, ◌<◌, ◌≤◌, ◌⊎◌, List, length, slice_index, Option, Some, None, ◌==◌, if◌then◌else◌}
+use Rattle.std.specs.Prelude.{◌≡◌, ℕ, ◌-◌, ◌^◌, ◌≤◌, ◌⊎◌, List, length, slice_index, Option, Some, None, ◌==◌, if◌then◌else◌}
 use Rattle.std.specs.Option.{option_and_then}
 use Rattle.acpi_base.specs.Entries.{AreUnused}
 use Rattle.acpi_base.specs.Madt.{MadtEntry, IoApic, LocalNmi, X2apicNmi, Opaque, MadtContents}
@@ -50,12 +50,13 @@ gicd _ = None
 
 -- ---- entries that are not checked
 
--- entries with this type and length are read: by the stages types 0 to 5, 9 and 10, by these rules type 12, a GIC distributor, all
--- of any length, and GICC (11), CORE PIC (17) and RINTC (24)
+-- entries with this type and length are read: by the stages types 0 to 5, 9 and 10, of any length, by these rules GICC (11), GICD (12),
+-- MSI frame (13), GICR (14), ITS (15), CORE PIC (17) and RINTC (24)
 abbrev pub IsReadForm : ℕ → ℕ → Type 0
 IsReadForm type size =
-    (type ≤ 5) ⊎ (type ≡ 9) ⊎ (type ≡ 10) ⊎ (type ≡ 12) ⊎ ((type ≡ 11) × (40 ≤ size)) ⊎ ((type ≡ 17) × (size ≡ 15))
-    ⊎ ((type ≡ 24) × (20 ≤ size))
+    (type ≤ 5) ⊎ (type ≡ 9) ⊎ (type ≡ 10) ⊎ ((type ≡ 11) × (40 ≤ size)) ⊎ ((type ≡ 12) × (size ≡ 24))
+    ⊎ ((type ≡ 13) × (size ≡ 24)) ⊎ ((type ≡ 14) × (size ≡ 16)) ⊎ ((type ≡ 15) × (size ≡ 20))
+    ⊎ ((type ≡ 17) × (size ≡ 15)) ⊎ ((type ≡ 24) × (20 ≤ size))
 
 -- the entry is none of these; `other` is its type
 abbrev pub IsMadtUnread : MadtEntry → ℕ → ℕ → Type 0

@@ -1,6 +1,7 @@
 -- Rules on the entries of a table: on one by itself, and on numbers at places, which are the offsets of entries, or slots.
 -- A relation `HasAt at x` says that the number x is at the place `at`.
 use Rattle.std.specs.Prelude.{◌≡◌, ℕ, ◌<◌, ◌≤◌, List, Option, Some}
+use Rattle.std.specs.List.{filter_map}
 use Rattle.acpi_base.specs.Entries.{PlacedEntry, StandsWith}
 
 -- the entry at `at` breaks a rule by itself, with these two numbers
@@ -25,3 +26,15 @@ pub record IsLater (HasAt : ℕ → ℕ → Type 0) (at other x : ℕ) : Type 0 
 -- two entries have the number `point`, as `read` gives it; `other` is the first that has it
 abbrev pub Repeats : {E : Type 0} → (E → Option ℕ) → List (PlacedEntry E) → ℕ → ℕ → ℕ → Type 0
 Repeats read entries = IsLater (NamesAt read entries)
+
+-- the entry has the number `point`, as `read` gives it
+abbrev pub HasNumber : {E : Type 0} → (E → Option ℕ) → E → ℕ → ℕ → Type 0
+HasNumber read e other point = (read e ≡ Some point) × (other ≡ 0)
+
+-- n is the number that `read` gives of the entry at o, the first of which it gives one
+abbrev pub IsFirstNamed : {E : Type 0} → (E → Option ℕ) → List (PlacedEntry E) → ℕ → ℕ → Type 0
+IsFirstNamed read entries o n = NamesAt read entries o n × ((p m : ℕ) → NamesAt read entries p m → o ≤ p)
+
+-- the numbers that `read` gives of entries, in their order
+abbrev pub numbers_of : {E : Type 0} → (E → Option ℕ) → List (PlacedEntry E) → List ℕ
+numbers_of read entries = filter_map (λ s. read s.entry) entries

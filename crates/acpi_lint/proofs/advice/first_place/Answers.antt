@@ -2,9 +2,9 @@ use Rattle.acpi_read.specs.Madts.{madt_value}
 use Rattle.acpi_read.specs.Pptts.{pptt_value}
 use Rattle.acpi_read.specs.Srats.{srat_value}
 use Rattle.std.proofs.Common.{rules}
-use Rattle.acpi_lint.specs.RuleGroups.{on_madt_entry, unique_number, on_srat_entry, on_pptt_entry}
+use Rattle.acpi_lint.specs.RuleGroups.{in_set, on_madt_entry, unique_number, on_srat_entry, on_pptt_entry}
 use Rattle.acpi_lint.specs.Rules.Broken.{condition}
-use Rattle.acpi_lint.proofs.OfTables.{own_madt, own_srat, own_pptt, repeated_madt, is_of_group, as_rule, each_rule, each_set}
+use Rattle.acpi_lint.proofs.OfTables.{each_memory, own_madt, own_srat, own_pptt, repeated_madt, is_of_group, as_rule, each_rule, each_set}
 use Rattle.acpi_lint.proofs.advice.first_place.Goals as goal
 
 pub returns-in-Slots : goal.returns-in-Slots
@@ -101,3 +101,34 @@ returns-in-MadtNumbers c =
     c.repeated.result _
     c.madt_entries-in-MadtNumbers.result c.requires c.madt_entries-in-MadtNumbers.ensures c.repeated.ensures
     (λ at picked answers. search rules))
+
+pub returns-in-Set : goal.returns-in-Set
+returns-in-Set c =
+    each_rule c.args.image.now c.args.policy.now c.set_place.result
+    (is_of_group (condition c.args.rule) c.group.ensures c.in-Set.is)
+    (each_memory c.args.image.now c.args.policy.now (in_set (condition c.args.rule)) c.set_place.result
+    (rw c.rsdp.ensures.value at c.set_place.ensures))
+
+pub returns-in-FadtMemory : goal.returns-in-FadtMemory
+returns-in-FadtMemory c =
+    as_rule c.args.image.now c.args.policy.now c.listed_fadt_memory_place.result
+    (is_of_group (condition c.args.rule) c.group.ensures c.in-FadtMemory.is)
+    (c.listed_fadt_memory_place.ensures c.args.policy.now c.requires)
+
+pub returns-in-MadtBytes : goal.returns-in-MadtBytes
+returns-in-MadtBytes c =
+    as_rule c.args.image.now c.args.policy.now c.listed_madt_bytes_place.result
+    (is_of_group (condition c.args.rule) c.group.ensures c.in-MadtBytes.is)
+    (c.listed_madt_bytes_place.ensures c.args.image.now c.args.policy.now c.requires)
+
+pub returns-in-SratBytes : goal.returns-in-SratBytes
+returns-in-SratBytes c =
+    as_rule c.args.image.now c.args.policy.now c.listed_srat_bytes_place.result
+    (is_of_group (condition c.args.rule) c.group.ensures c.in-SratBytes.is)
+    (c.listed_srat_bytes_place.ensures c.args.image.now c.args.policy.now c.requires)
+
+pub returns-in-PpttBytes : goal.returns-in-PpttBytes
+returns-in-PpttBytes c =
+    as_rule c.args.image.now c.args.policy.now c.listed_pptt_bytes_place.result
+    (is_of_group (condition c.args.rule) c.group.ensures c.in-PpttBytes.is)
+    (c.listed_pptt_bytes_place.ensures c.args.image.now c.args.policy.now c.requires)

@@ -1,4 +1,4 @@
-use Rattle.std.proofs.Common.{◌≡◌, Option, None, rules}
+use Rattle.std.proofs.Common.{◌≡◌, None, rules}
 use Rattle.acpi_lint.specs.Rules.Broken.{OfFadt}
 use Rattle.acpi_lint.specs.RuleGroups.{in_fadt}
 use Rattle.acpi_lint.specs.Rules.Broken.{condition}

@@ -1,4 +1,4 @@
-use Rattle.std.proofs.Common.{◌≡◌, Option, None, rules}
+use Rattle.std.proofs.Common.{◌≡◌, None, rules}
 use Rattle.acpi_base.specs.Listed.{slit_signature, HasListed}
 use Rattle.acpi_base.specs.Slit.{slit_contents}
 use Rattle.acpi_lint.specs.RuleGroups.{in_sized_slit}

@@ -5,3 +5,6 @@ returns-in-AffinityNowhere c = rw c.in-AffinityNowhere.is c.affinity_nowhere.ens
 
 pub returns-in-NoDomain : goal.returns-in-NoDomain
 returns-in-NoDomain c = rw c.in-NoDomain.is c.no_domain.ensures
+
+pub returns-in-ItsNowhere : goal.returns-in-ItsNowhere
+returns-in-ItsNowhere c = rw c.in-ItsNowhere.is c.its_nowhere.ensures

@@ -1,4 +1,3 @@
-use Rattle.std.proofs.Common.{◌≡◌}
 use Rattle.acpi_base.specs.Pptt.{pptt_contents}
 use Rattle.acpi_lint.proofs.WellFormedTables.{pptt_well_formed}
 use Rattle.acpi_lint.proofs.well_formed.is_pptt_well_formed.Goals as goal

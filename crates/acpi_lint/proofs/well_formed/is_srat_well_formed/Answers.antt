@@ -1,4 +1,3 @@
-use Rattle.std.proofs.Common.{◌≡◌}
 use Rattle.acpi_base.specs.Srat.{srat_contents}
 use Rattle.acpi_lint.proofs.WellFormedTables.{srat_well_formed}
 use Rattle.acpi_lint.proofs.well_formed.is_srat_well_formed.Goals as goal

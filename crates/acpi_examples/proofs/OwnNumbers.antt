@@ -1,0 +1,39 @@
+-- Numbers that entries of the examples say by themselves.
+use Rattle.std.proofs.Common.{◌≡◌, ℕ, ◌≤◌, List, Option, Some, None, refl, sym, ◌∙◌, arith}
+use Rattle.std.specs.List.{AllByRecursion}
+use Rattle.std.proofs.lemmas.Option.{none-some}
+use Rattle.acpi_base.specs.Entries.{PlacedEntry}
+use Rattle.acpi_base.specs.Madt.{MadtEntry, MadtContents}
+use Rattle.acpi_lint.specs.Rules.EntryTypes.{type_of, HasType}
+use Rattle.acpi_lint.specs.Rules.Numbered.{OnEntry, HasNumber, NamesAt, IsFirstNamed}
+use Rattle.acpi_lint.specs.Rules.WellFormed.{HasOtherMadtLength, IsWellFormedMadt}
+use Rattle.acpi_examples.specs.Advice.{IsKept, one_entry}
+use Rattle.acpi_examples.proofs.NamedEntries.{each_entry, none_stands}
+
+pub says : (read : MadtEntry → Option ℕ) (size : ℕ) (e : MadtEntry) (n : ℕ) → read e ≡ Some n
+    → OnEntry (HasNumber read) (one_entry size e).entries 44 0 n
+says read size e n is = (e, (0, omega arith, refl), (is, refl))
+
+pub silent : (read : MadtEntry → Option ℕ) (size : ℕ) (e : MadtEntry) → read e ≡ None
+    → IsKept (OnEntry (HasNumber read) (one_entry size e).entries)
+silent read size e none at other point it =
+    none_stands (one_entry size e).entries at (λ o e. HasNumber read e other point)
+    ((λ is. none-some point (sym none ∙ is.0)), tt) it
+
+-- the number at o is the first one, if none is before
+pub is_first : (read : MadtEntry → Option ℕ) (entries : List (PlacedEntry MadtEntry)) (o n : ℕ)
+    → NamesAt read entries o n
+    → ((m : ℕ) → AllByRecursion (λ s. read s.entry ≡ Some m → o ≤ s.offset) entries)
+    → IsFirstNamed read entries o n
+is_first read entries o n here least = (
+  here,
+  λ p m named. each_entry entries (λ q e. read e ≡ Some m → o ≤ q) (least m) p named.0 named.1 named.2,
+)
+
+pub has_none : (c : MadtContents) (type : ℕ) → AllByRecursion (λ s. ¬ (type_of s.entry ≡ type)) c.entries
+    → ¬ HasType c type
+has_none c type none (o, has) = none_stands c.entries o (λ o e. type_of e ≡ type) none has
+
+pub is_well_formed : (c : MadtContents) → c.cut ≡ None → AllByRecursion (λ s. ¬ HasOtherMadtLength s.entry) c.entries
+    → IsWellFormedMadt c
+is_well_formed c filled lengths = (filled, λ o. none_stands c.entries o (λ o e. HasOtherMadtLength e) lengths)

@@ -1,0 +1,122 @@
+-- Examples of advice on what the RSDP, the root tables and the FADT name: each rule broken, and kept (ACPI 6.5, 5.2.5 to 5.2.11).
+use Rattle.std.specs.Prelude.{ℕ, List, [], ◌∷◌, ◌++◌, replicate, codes}
+use Rattle.acpi_base.specs.Image.Runs.{Run, run_at, memory_of}
+use Rattle.acpi_base.specs.Facs.{facs_signature}
+use Rattle.acpi_base.specs.Memory.{Memory}
+use Rattle.acpi_base.specs.Signature.{rsdp_signature, rsdt_signature, xsdt_signature}
+use Rattle.acpi_lint.specs.Rules.HeaderAdvice.{IsNoText, IsHeaderText, IsSecondOther}
+use Rattle.acpi_lint.specs.Rules.NamedAdvice.{IsDsdtWrong, IsOddFacs}
+use Rattle.acpi_lint.specs.Rules.RootAdvice.{IsNullSlot, IsRsdtDiffers}
+use Rattle.acpi_lint.specs.Rules.RsdpAdvice.{IsRsdpReserved}
+use Rattle.acpi_lint.specs.Rules.Slots.{dsdt_signature}
+use Rattle.acpi_examples.specs.Advice.{IsKept}
+use Rattle.acpi_examples.specs.AdviceFadt.{dsdt_fadt}
+use Rattle.acpi_examples.specs.AdviceSlots.{twice_set}
+use Rattle.acpi_examples.specs.Sets.{rsdp_at, set_of, leaf_set}
+use Rattle.acpi_examples.specs.Tables.{table}
+
+-- ---- the RSDP
+
+-- one of 20 bytes with this Revision
+abbrev pub short_rsdp : ℕ → List ℕ
+short_rsdp revision = rsdp_signature ++ 0 ∷ replicate 6 0x41 ++ revision ∷ 0 ∷ 0x10 ∷ 0 ∷ 0 ∷ []
+
+-- one of 36 bytes whose RSDT is at 0x2000 and whose XSDT is at 0x1000, with this last reserved byte
+abbrev pub long_rsdp : ℕ → List ℕ
+long_rsdp last =
+    rsdp_signature ++ 0 ∷ replicate 6 0x41 ++ 2 ∷ 0 ∷ 0x20 ∷ 0 ∷ 0
+    ∷ 36 ∷ 0 ∷ 0 ∷ 0 ∷ 0 ∷ 0x10 ∷ 0 ∷ 0 ∷ 0 ∷ 0 ∷ 0 ∷ 0 ∷ 0 ∷ 0 ∷ 0 ∷ last
+    ∷ []
+
+-- the image of one of these alone
+abbrev pub rsdp_runs : List ℕ → List Run
+rsdp_runs bytes = run_at rsdp_at bytes ∷ []
+
+-- ---- two root tables
+
+-- an XSDT that lists 0x3000
+abbrev pub one_xsdt : List ℕ
+one_xsdt = table xsdt_signature 44 1 0 (0 ∷ 0x30 ∷ 0 ∷ 0 ∷ 0 ∷ 0 ∷ 0 ∷ 0 ∷ [])
+
+-- an RSDT with these slots, up to two
+abbrev pub some_rsdt : ℕ → List ℕ → List ℕ
+some_rsdt size slots = table rsdt_signature size 1 0 slots
+
+-- the image of both, and of the signature of an SSDT at 0x3000
+abbrev pub both_runs : List ℕ → List Run
+both_runs rsdt =
+    run_at rsdp_at (long_rsdp 0) ∷ run_at 0x1000 one_xsdt ∷ run_at 0x3000 (codes "SSDT") ∷ run_at 0x2000 rsdt ∷ []
+
+-- an RSDT that lists nothing, and one whose second slot lists what the XSDT does
+abbrev pub no_rsdt_slot : List ℕ
+no_rsdt_slot = some_rsdt 36 []
+
+abbrev pub late_rsdt_slot : List ℕ
+late_rsdt_slot = some_rsdt 44 (0 ∷ 0 ∷ 0 ∷ 0 ∷ 0 ∷ 0x30 ∷ 0 ∷ 0 ∷ [])
+
+-- ---- headers
+
+-- a header with this signature and this OEM ID
+abbrev pub header_of_oem : List ℕ → List ℕ → List ℕ
+header_of_oem signature oem = signature ++ 36 ∷ 0 ∷ 0 ∷ 0 ∷ 2 ∷ 0 ∷ oem ++ replicate 8 0x41 ++ replicate 12 0
+
+-- two tables with one signature
+abbrev pub plain_header : List ℕ → List ℕ
+plain_header signature = header_of_oem signature (replicate 6 0x41)
+
+abbrev pub two_tables : List ℕ → Memory
+two_tables signature = set_of (plain_header signature) (plain_header signature)
+
+-- an image whose first table has a zero before a letter in its OEM ID
+abbrev pub odd_header : List ℕ
+odd_header = header_of_oem (codes "MCFG") (0x41 ∷ 0 ∷ 0x41 ∷ 0 ∷ 0 ∷ 0 ∷ [])
+
+abbrev pub odd_set : Memory
+odd_set = set_of odd_header odd_header
+
+-- ---- what the FADT names
+
+-- the image of a DSDT at 0x3000 with this checksum
+abbrev pub dsdt_runs : ℕ → List Run
+dsdt_runs checksum = run_at 0x3000 (table dsdt_signature 36 2 checksum []) ∷ []
+
+-- a FACS with these flags, a Version of 2, and OSPM Flags of 1
+abbrev pub flagged_facs : ℕ → List ℕ
+flagged_facs flags =
+    facs_signature ++ 64 ∷ replicate 15 0 ++ flags ∷ replicate 11 0 ++ 2 ∷ 0 ∷ 0 ∷ 0 ∷ 1 ∷ replicate 27 0
+
+-- ---- what they state
+
+-- a slot of 0; an RSDT that lists nothing, and one that lists the same
+pub record AreRootsAdvised : Type 0 where
+  pub null : IsNullSlot twice_set rsdp_at 0 0 0
+  pub no_null : IsKept (IsNullSlot leaf_set rsdp_at)
+  pub differs : IsRsdtDiffers (memory_of (both_runs no_rsdt_slot)) rsdp_at 16 0 0x54445353
+  pub same : IsKept (IsRsdtDiffers (memory_of (both_runs late_rsdt_slot)) rsdp_at)
+
+-- a Revision of 1; a reserved byte; a Revision of 2 with 36 bytes
+pub record AreRsdpsAdvised : Type 0 where
+  pub revision : IsRsdpReserved (memory_of (rsdp_runs (short_rsdp 1))) rsdp_at 15 0 1
+  pub reserved : IsRsdpReserved (memory_of (rsdp_runs (long_rsdp 7))) rsdp_at 35 0 7
+  pub none_reserved : IsKept (IsRsdpReserved (memory_of (rsdp_runs (long_rsdp 0))) rsdp_at)
+
+-- a zero before a letter of the OEM ID, and one behind the lowest and the highest printable byte; a second MCFG, and a second SSDT
+pub record AreHeadersAdvised : Type 0 where
+  pub odd : IsHeaderText odd_set rsdp_at 0 10 0x2000
+  pub text : ¬ IsNoText (0x20 ∷ 0x7e ∷ 0 ∷ [])
+  pub second : IsSecondOther (two_tables (codes "MCFG")) rsdp_at 1 0 0x3000
+  pub several : IsKept (IsSecondOther (two_tables (codes "SSDT")) rsdp_at)
+
+-- a DSDT with a wrong checksum, and with the right one; a FACS with a third flag, and with two
+pub record AreNamedAdvised : Type 0 where
+  pub sum : IsDsdtWrong (memory_of (dsdt_runs 0)) (dsdt_fadt 0 0x30) 40 0 0x3000
+  pub right : IsKept (IsDsdtWrong (memory_of (dsdt_runs 23)) (dsdt_fadt 0 0x30))
+  pub flags : IsOddFacs (flagged_facs 4) 20 0 4
+  pub two_flags : IsKept (IsOddFacs (flagged_facs 3))
+
+-- all of these
+pub record AreSetsAdvised : Type 0 where
+  pub roots : AreRootsAdvised
+  pub rsdps : AreRsdpsAdvised
+  pub headers : AreHeadersAdvised
+  pub named : AreNamedAdvised

@@ -1,0 +1,167 @@
+-- Slots that list tables of which a set has one: a slot is a later one if it gives another address to the number of its
+-- signature than the first slot with that number.
+use Rattle.std.proofs.Common.{◌≡◌, ◌≢◌, ℕ, ◌<◌, ◌≤◌, true, List, length, get_or, Some, None, refl, sym, ◌∙◌, ap, inl, inr, arith}
+use Rattle.std.specs.Prelude.{AllPairs, Contains}
+use Rattle.std.specs.List.{filter_map}
+use Rattle.std.proofs.Math.Nat.{eq-or-lt_of_le}
+use Rattle.std.proofs.lemmas.Option.{none-some, cond_some}
+use Rattle.acpi_base.specs.Memory.{Memory, bytes_at}
+use Rattle.acpi_base.specs.Root.{IsSlot}
+use Rattle.acpi_base.proofs.Options.{cases_Option}
+use Rattle.acpi_check.proofs.EntryPasses.Kept.{kept_has, kept_from}
+use Rattle.acpi_lint.specs.Headers.{once_numbered}
+use Rattle.acpi_lint.specs.Numbered.{IsNoLater, IsUnlikeAt}
+use Rattle.acpi_lint.specs.Places.{FindsLeast, IsLeast, IsNotAfter}
+use Rattle.acpi_lint.specs.Rules.HeaderAdvice.{is_once, signature_number, ListsNumber, IsSecondOther}
+use Rattle.acpi_lint.specs.Slots.{AreSlots}
+use Rattle.acpi_lint.specs.declared.listed_slots.Slot.{Slot}
+use Rattle.acpi_lint.specs.declared.numbered.Numbered.{Numbered}
+use Rattle.acpi_lint.specs.declared.numbered.Order.TheVariants.{Later}
+use Rattle.acpi_lint.specs.declared.place.Place.{Place}
+use Rattle.acpi_lint.proofs.FirstSlots.{one_listed}
+use Rattle.acpi_lint.proofs.ListedSlots.{no_slot}
+use Rattle.acpi_lint.proofs.RisingLists.{at_or_behind, none_such}
+
+-- ---- the slot with a number
+
+pub address_there : (slots : List Slot) (i number : ℕ) (s : Slot) → AllPairs (λ s t. s.number < t.number) slots
+    → i < length slots → (get_or slots i no_slot).number ≡ number
+    → ((j : ℕ) → j < i → (get_or slots j no_slot).number ≢ number) → Contains slots s → s.number ≡ number
+    → (get_or slots i no_slot).table.address ≡ s.table.address
+address_there slots i number s rise within here passed listed same =
+    elim (at_or_behind (λ (x : Slot). x.number) (λ (x : Slot). x.number ≡ number) slots i no_slot s rise within passed
+    listed same) [
+      | inl one ↦ ap (λ (x : Slot). x.table.address) (sym one)
+      | inr more ↦ absurd (omega (arith, here, same, more))
+    ]
+
+pub no_address : (slots : List Slot) (i number : ℕ) (s : Slot) → length slots ≤ i
+    → ((j : ℕ) → j < i → (get_or slots j no_slot).number ≢ number) → Contains slots s → s.number ≢ number
+no_address slots i number s end passed listed =
+    none_such (λ (x : Slot). x.number ≡ number) slots i no_slot s end passed listed
+
+-- ---- what is gathered
+
+-- slot k lists the address a of a table with the signature n, of which a set has one
+abbrev IsOnceAt : Memory → ℕ → ℕ → ℕ → ℕ → Type 0
+IsOnceAt m p n k a = ListsNumber m p n k a × (is_once n ≡ true)
+
+numbered : ℕ → ℕ → ℕ → Numbered
+numbered n k a = record { number = n; at = k; value = a }
+
+once_from : (m : Memory) (p : ℕ) (s : Slot) (g : Numbered) → IsSlot m p s.number s.table.address
+    → once_numbered m s ≡ Some g → IsOnceAt m p g.number g.at g.value × (g.at ≡ s.number) × (g.value ≡ s.table.address)
+once_from m p s g slot is =
+    elim (cases_Option (bytes_at m s.table.address 36)) [
+      | inr none ↦ absurd (none-some g (rw none at is))
+      | inl (header, present) ↦
+          let kept = cond_some (is_once (signature_number header))
+          (record { number = signature_number header; at = s.number; value = s.table.address }) g (rw present at is) in
+          rw (← kept.1) (((slot, (header, present, refl)), kept.0), refl, refl)
+    ]
+
+once_to : (m : Memory) (p n k a : ℕ) (s : Slot) → s.number ≡ k → s.table.address ≡ a → IsOnceAt m p n k a
+    → once_numbered m s ≡ Some (record { number = n; at = k; value = a })
+once_to m p n k a s number address ((slot, (header, present, is)), once) =
+    rw (address, present, is, once, number) refl
+
+pub given_from : {m : Memory} {p : ℕ} (slots : List Slot) (g : Numbered) → AreSlots m (IsSlot m p) slots
+    → Contains (filter_map (once_numbered m) slots) g
+    → IsOnceAt m p g.number g.at g.value
+    × ((s : Slot) × Contains slots s × (s.number ≡ g.at) × (s.table.address ≡ g.value))
+given_from {m} {p} slots g are listed =
+    let (s, here, is) = kept_from (once_numbered m) slots g listed in
+    let (once, at, value) = once_from m p s g (are.listed s here).0 is in
+    (once, (s, here, sym at, sym value))
+
+pub given_to : {m : Memory} {p : ℕ} (slots : List Slot) (n k a : ℕ) → AreSlots m (IsSlot m p) slots
+    → IsOnceAt m p n k a
+    → Contains (filter_map (once_numbered m) slots) (record { number = n; at = k; value = a })
+given_to {m} {p} slots n k a are once =
+    let (s, here, number, address) = are.all k a once.0.0 in
+    kept_has (once_numbered m) slots s (record { number = n; at = k; value = a }) here
+    (once_to m p n k a s number address once)
+
+-- ---- what is found among them
+
+second_from : {m : Memory} {p : ℕ} (slots : List Slot) (at other n : ℕ) → AreSlots m (IsSlot m p) slots
+    → IsUnlikeAt Later (filter_map (once_numbered m) slots) at other n
+    → (point : ℕ) × IsSecondOther m p at other point
+    × ((s : Slot) × Contains slots s × (s.number ≡ at) × (s.table.address ≡ point))
+second_from {m} {p} slots at other n are (g, f, unlike, is) =
+    let (here, place) = given_from slots g are unlike.listed in
+    let (there, _) = given_from slots f are unlike.first.listed in
+    rw (← ap (λ (x : Place). x.at) is, ← ap (λ (x : Place). x.other) is) (
+      g.value,
+      record {
+        signature = g.number;
+        once = here.1;
+        here = here.0;
+        a = f.value;
+        there = rw unlike.same there.0;
+        first = λ k b lists.
+            upto k b (unlike.first.least (record { number = g.number; at = k; value = b })
+            (given_to slots g.number k b are (lists, here.1)) unlike.same);
+        differs = λ same. unlike.differ (sym same);
+      },
+      place,
+    )
+  where
+    upto : (k b : ℕ) → IsNoLater f (record { number = g.number; at = k; value = b }) → f.at ≤ k
+    upto k b (inl less) = omega arith
+    upto k b (inr (same, rest)) = omega (arith, same)
+
+second_to : {m : Memory} {p at other point : ℕ} (slots : List Slot) → AreSlots m (IsSlot m p) slots
+    → (second : IsSecondOther m p at other point)
+    → IsUnlikeAt Later (filter_map (once_numbered m) slots) at other second.signature
+second_to {m} {p} {at} {other} {point} slots are second = (
+  record { number = second.signature; at = at; value = point },
+  record { number = second.signature; at = other; value = second.a },
+  record {
+    first =
+        record {
+          listed = given_to slots second.signature other second.a are (second.there, second.once);
+          least = λ g listed same.
+              let ((lists, once), _) = given_from slots g are listed in
+              let low = second.first g.at g.value (rw same at lists) in
+              elim (eq-or-lt_of_le {n = other} {m = g.at} low) [
+                | inl one ↦
+                    let value : g.value ≡ second.a = one_listed (rw (sym one) at lists.0) second.there.0 in
+                    inr (one, omega (arith, value))
+                | inr less ↦ inl less
+              ];
+        };
+    listed = given_to slots second.signature at point are (second.here, second.once);
+    same = refl;
+    differ = λ same. second.differs (sym same);
+  },
+  refl,
+)
+
+-- no such slot is found
+pub no_second : {m : Memory} {p : ℕ} (slots : List Slot) → AreSlots m (IsSlot m p) slots
+    → FindsLeast (IsUnlikeAt Later (filter_map (once_numbered m) slots)) None → FindsLeast (IsSecondOther m p) None
+no_second slots are none = λ at other point second. none at other second.signature (second_to slots are second)
+
+-- the first one is found, and this is the address that it lists
+pub first_second : {m : Memory} {p : ℕ} (slots : List Slot) (r : Place) (address : ℕ) → AreSlots m (IsSlot m p) slots
+    → IsLeast (IsUnlikeAt Later (filter_map (once_numbered m) slots)) r
+    → ((s : Slot) → Contains slots s → s.number ≡ r.at → address ≡ s.table.address)
+    → FindsLeast (IsSecondOther m p) (Some (record { at = r.at; other = r.other; point = address }))
+first_second {m} {p} slots r address are least tells =
+    let (point, second, (s, listed, number, there)) = second_from slots r.at r.other r.point are least.here in
+    let same : address ≡ point = tells s listed number ∙ there in
+    record {
+      here = rw same second;
+      least = λ at other others also.
+          after at other others same second also (least.least at other also.signature (second_to slots are also));
+    }
+  where
+    after : (at other others : ℕ) {point : ℕ} → address ≡ point → IsSecondOther m p r.at r.other point
+        → (also : IsSecondOther m p at other others) → IsNotAfter r at other also.signature
+        → IsNotAfter (record { at = r.at; other = r.other; point = address }) at other others
+    after at other others same second also (inl before) = inl before
+    after at other others same second also (inr (here, inl less)) = inr (here, inl less)
+    after at other others same second also (inr (here, inr (there, rest))) =
+        let one = one_listed (rw here at second.here.0) also.here.0 in
+        inr (here, inr (there, omega (arith, same, one)))

@@ -1,0 +1,102 @@
+-- The two root tables that an RSDP names, and the signatures that they list.
+use Rattle.std.proofs.Common.{◌≡◌, ◌≢◌, ℕ, ◌+◌, List, [], ◌∷◌, ◌++◌, map, Option, Some, None, true, refl, sym, ap, subst, ◌∙◌, inr, arith}
+use Rattle.std.specs.Prelude.{MatchOption}
+use Rattle.std.specs.List.{filter_map, range_with_len, cons_option}
+use Rattle.std.proofs.lemmas.List.{append-nil}
+use Rattle.std.proofs.lemmas.List.Elements.{filter_map-append}
+use Rattle.std.proofs.lemmas.List.FromFn.{map-range_with_len_more}
+use Rattle.acpi_base.specs.Memory.{Memory, bytes_at}
+use Rattle.acpi_base.specs.Number.{field}
+use Rattle.acpi_base.specs.Signature.{has_signature, rsdt_signature}
+use Rattle.acpi_base.specs.Root.{IsRootTable}
+use Rattle.acpi_base.specs.Tables.{IsTable}
+use Rattle.acpi_base.proofs.Frames.{one_frame}
+use Rattle.acpi_base.proofs.Options.{same_value}
+use Rattle.acpi_base.proofs.Root.Named.{one_root_table}
+use Rattle.acpi_lint.specs.Differences.{FindsDifference}
+use Rattle.acpi_lint.specs.Places.{FindsLeast}
+use Rattle.acpi_lint.specs.Rules.RootAdvice.{listed_signatures, IsXsdt, IsNamedRsdt, IsRsdtDiffers}
+use Rattle.acpi_lint.specs.Slots.{IsRootOf}
+
+-- ---- which tables they are
+
+pub no_xsdt : {m : Memory} {p : ℕ} → IsRootOf m p None → (bytes : List ℕ) → ¬ IsXsdt m p bytes
+no_xsdt none bytes is =
+    none (record { address = is.r; width = 8; bytes = bytes }) (record { named = is.root; table = is.table })
+
+one_xsdt : {m : Memory} {p : ℕ} (one other : List ℕ) → IsXsdt m p one → IsXsdt m p other → one ≡ other
+one_xsdt one other is also = one_root_table one other is.root also.root is.table also.table
+
+one_rsdt : {m : Memory} {p : ℕ} (one other : List ℕ) → IsNamedRsdt m p one → IsNamedRsdt m p other → one ≡ other
+one_rsdt {m} one other is also =
+    let same = same_value is.rsdp also.rsdp is.present also.present in
+    let moved : IsRootTable m (field also.rsdp 16 4) 4 one =
+    subst (λ (b : List ℕ). IsRootTable m (field b 16 4) 4 one) same is.table in
+    one_frame moved.table also.table.table
+
+pub rsdt_there : (m : Memory) (p : ℕ) (rsdp header : List ℕ) (a : ℕ) (found : Option (List ℕ))
+    → bytes_at m p 36 ≡ Some rsdp → a ≡ field rsdp 16 4 → a ≢ 0 → bytes_at m a 36 ≡ Some header
+    → has_signature header rsdt_signature ≡ true
+    → MatchOption found ((head bytes : List ℕ) → ¬ IsTable m a head bytes)
+    (λ bytes. (head : List ℕ) × IsTable m a head bytes)
+    → MatchOption found ((bytes : List ℕ) → ¬ IsNamedRsdt m p bytes) (IsNamedRsdt m p)
+rsdt_there m p rsdp header a None present is some there signed none = λ bytes named.
+    let same : field named.rsdp 16 4 ≡ a =
+    ap (λ (b : List ℕ). field b 16 4) (same_value named.rsdp rsdp named.present present) ∙ sym is in
+    none named.table.header bytes
+    (subst (λ (x : ℕ). IsTable m x named.table.header bytes) same named.table.table)
+rsdt_there m p rsdp header a (Some bytes) present is some there signed (head, table) =
+    record {
+      rsdp = rsdp;
+      present = present;
+      named = λ zero. some (is ∙ zero);
+      table =
+          subst (λ (x : ℕ). IsRootTable m x 4 bytes) is
+          (record {
+            header = head;
+            table = table;
+            signed = rw (same_value head header table.header_present there) signed;
+          });
+    }
+
+-- ---- the signatures of one slot more
+
+next : (h : ℕ → Option ℕ) (f : ℕ → ℕ) (n : ℕ)
+    → filter_map h (map f (range_with_len 0 (n + 1)))
+    ≡ filter_map h (map f (range_with_len 0 n)) ++ cons_option (h (f n)) []
+next h f n =
+    ap (filter_map h) (map-range_with_len_more f 0 n n (omega arith))
+    ∙ filter_map-append h (map f (range_with_len 0 n)) (f n ∷ [])
+
+pub one_more : (h : ℕ → Option ℕ) (f : ℕ → ℕ) (n v : ℕ) (found : List ℕ)
+    → found ≡ filter_map h (map f (range_with_len 0 n)) → h (f n) ≡ Some v
+    → found ++ v ∷ [] ≡ filter_map h (map f (range_with_len 0 (n + 1)))
+one_more h f n v found before is = rw (next h f n, is, before) refl
+
+pub no_more : (h : ℕ → Option ℕ) (f : ℕ → ℕ) (n : ℕ) (found : List ℕ)
+    → found ≡ filter_map h (map f (range_with_len 0 n)) → h (f n) ≡ None
+    → found ≡ filter_map h (map f (range_with_len 0 (n + 1)))
+no_more h f n found before is = rw (next h f n, is, before) (sym (append-nil _))
+
+-- ---- what differs
+
+pub no_difference : {m : Memory} {p : ℕ} (xsdt rsdt : List ℕ) → IsXsdt m p xsdt → IsNamedRsdt m p rsdt
+    → FindsDifference (listed_signatures m xsdt 8) (listed_signatures m rsdt 4) None
+    → FindsLeast (IsRsdtDiffers m p) None
+no_difference xsdt rsdt is named same = λ at other point (place, unused, (others, also, wide, narrow, differ)).
+    let one = one_xsdt others xsdt wide is in
+    let two = one_rsdt also rsdt narrow named in
+    (rw (one, two) at differ) (same point)
+
+pub first_differs : {m : Memory} {p : ℕ} (xsdt rsdt : List ℕ) (n : ℕ) → IsXsdt m p xsdt → IsNamedRsdt m p rsdt
+    → FindsDifference (listed_signatures m xsdt 8) (listed_signatures m rsdt 4) (Some n)
+    → FindsLeast (IsRsdtDiffers m p) (Some (record { at = 16; other = 0; point = n }))
+first_differs {m} {p} xsdt rsdt n is named (differ, least) =
+    record {
+      here = (refl, refl, (xsdt, rsdt, is, named, differ));
+      least = λ at other point (place, unused, (others, also, wide, narrow, differs)).
+          let one = one_xsdt others xsdt wide is in
+          let two = one_rsdt also rsdt narrow named in
+          let low = least point (rw (one, two) at differs) in
+          inr (sym place, inr (sym unused, low));
+    }

@@ -1,0 +1,89 @@
+-- The parts of a GIC, as entries of the MADT describe them: which bytes are one, and its fields (ACPI 6.5, 5.2.12.14 to 5.2.12.18).
+-- Offsets of fields are from the entry's start.
+use Rattle.std.specs.Prelude.{ℕ, Bool, List, length, slice_index, Option, Some, None, nat_le, not, ◌==◌, ◌&&◌, ◌||◌, if◌then◌else◌}
+use Rattle.acpi_base.specs.Number.{field, has_bit}
+use Rattle.acpi_base.specs.Madt.{MadtEntry, Opaque}
+use Rattle.acpi_lint.specs.Rules.Processors.{is_gicc}
+
+-- ---- the parts
+
+-- the bytes are a CPU interface, GICC, that is on: Enabled, bit 0 of its flags, or Online Capable, bit 3 (5.2.12.14)
+abbrev pub is_gicc_on : List ℕ → Bool
+is_gicc_on e = is_gicc e && (has_bit (field e 12 4) 0 || has_bit (field e 12 4) 3)
+
+-- one that is on, and is long enough for an MPIDR, which ACPI 5.1 added
+abbrev pub has_mpidr : List ℕ → Bool
+has_mpidr e = is_gicc_on e && nat_le 76 (length e)
+
+-- one that is on, and is long enough for the address of a redistributor of its own, and names one
+abbrev pub names_redistributor : List ℕ → Bool
+names_redistributor e = is_gicc_on e && nat_le 68 (length e) && not (field e 60 8 == 0)
+
+-- a distributor, GICD (5.2.12.15)
+abbrev pub is_gicd : List ℕ → Bool
+is_gicd e = (slice_index e 0 == 12) && (length e == 24)
+
+-- an MSI frame (5.2.12.16)
+abbrev pub is_msi_frame : List ℕ → Bool
+is_msi_frame e = (slice_index e 0 == 13) && (length e == 24)
+
+-- a range of redistributors, GICR (5.2.12.17)
+abbrev pub is_gicr : List ℕ → Bool
+is_gicr e = (slice_index e 0 == 14) && (length e == 16)
+
+-- an interrupt translation service, ITS (5.2.12.18)
+abbrev pub is_its : List ℕ → Bool
+is_its e = (slice_index e 0 == 15) && (length e == 20)
+
+-- ---- their fields
+
+-- the number in the `width` bytes at `at` of an entry with bytes for which this holds
+abbrev pub field_where : (List ℕ → Bool) → ℕ → ℕ → MadtEntry → Option ℕ
+field_where is at width (Opaque e) = if is e then Some (field e at width) else None
+field_where is at width _ = None
+
+-- the address of a CPU interface
+abbrev pub gicc_base : MadtEntry → Option ℕ
+gicc_base e = field_where is_gicc 32 8 e
+
+-- the UID, and the version of the parking protocol, of one that is on
+abbrev pub gicc_uid_on : MadtEntry → Option ℕ
+gicc_uid_on e = field_where is_gicc_on 8 4 e
+
+abbrev pub parking_version_on : MadtEntry → Option ℕ
+parking_version_on e = field_where is_gicc_on 16 4 e
+
+-- the MPIDR of one that is on, and the address of a redistributor of its own, if it names one
+abbrev pub mpidr_on : MadtEntry → Option ℕ
+mpidr_on e = field_where has_mpidr 68 8 e
+
+abbrev pub own_redistributor : MadtEntry → Option ℕ
+own_redistributor e = field_where names_redistributor 60 8 e
+
+-- the address and the version of a distributor
+abbrev pub gicd_base : MadtEntry → Option ℕ
+gicd_base e = field_where is_gicd 8 8 e
+
+abbrev pub gicd_version : MadtEntry → Option ℕ
+gicd_version e = field_where is_gicd 20 1 e
+
+-- the ID and the address of an MSI frame
+abbrev pub msi_frame_id : MadtEntry → Option ℕ
+msi_frame_id e = field_where is_msi_frame 4 4 e
+
+abbrev pub msi_frame_base : MadtEntry → Option ℕ
+msi_frame_base e = field_where is_msi_frame 8 8 e
+
+-- the address and the length of a range of redistributors
+abbrev pub gicr_base : MadtEntry → Option ℕ
+gicr_base e = field_where is_gicr 4 8 e
+
+abbrev pub gicr_length : MadtEntry → Option ℕ
+gicr_length e = field_where is_gicr 12 4 e
+
+-- the ID and the address of an interrupt translation service
+abbrev pub its_id : MadtEntry → Option ℕ
+its_id e = field_where is_its 4 4 e
+
+abbrev pub its_base : MadtEntry → Option ℕ
+its_base e = field_where is_its 8 8 e

@@ -1,0 +1,98 @@
+-- Further advice on the MADT: the parts of a GIC (ACPI 6.5, 5.2.12.14 to 5.2.12.18). `at` is an entry's offset from the table's start.
+use Rattle.std.specs.Prelude.{◌≡◌, ◌≢◌, ℕ, ◌/◌, ◌%◌, ◌^◌, ◌<◌, ◌⊎◌, Bool, length, slice_index, Option, Some, None, sum_by, not, ◌==◌, ◌&&◌, ◌||◌, if◌then◌else◌}
+use Rattle.std.specs.Option.{option_and_then}
+use Rattle.acpi_base.specs.Entries.{AreUnused}
+use Rattle.acpi_base.specs.Madt.{MadtEntry, Opaque, MadtContents}
+use Rattle.acpi_base.specs.Number.{field}
+use Rattle.acpi_lint.specs.Rules.EntryTypes.{HasType}
+use Rattle.acpi_lint.specs.Rules.Gic.{is_gicr, field_where, gicc_base, gicc_uid_on, mpidr_on, own_redistributor, gicd_version, gicr_base, gicr_length}
+use Rattle.acpi_lint.specs.Rules.Numbered.{NamesAt, IsNamed, IsFirstNamed, numbers_of}
+use Rattle.acpi_lint.specs.Rules.WellFormed.{IsWellFormedMadt}
+
+-- ---- single entries
+
+-- a bit is set that is none of an affinity: bits 23:0 and 39:32 are (5.2.12.14)
+abbrev pub is_reserved_mpidr : ℕ → Bool
+is_reserved_mpidr n = not (n / 2 ^ 24 % 2 ^ 8 == 0) || not (n / 2 ^ 40 == 0)
+
+-- the MPIDR of a CPU interface that is on, if such a bit is set
+abbrev pub reserved_mpidr : MadtEntry → Option ℕ
+reserved_mpidr e = option_and_then (λ n. if is_reserved_mpidr n then Some n else None) (mpidr_on e)
+
+-- the address of a range of redistributors of no bytes (5.2.12.17)
+abbrev pub empty_gicr : MadtEntry → Option ℕ
+empty_gicr e = field_where (λ bytes. is_gicr bytes && (field bytes 12 4 == 0)) 4 8 e
+
+-- ---- the GIC's version
+
+-- the GIC's version, which is that of the first distributor, is one of these two (5.2.12.15)
+abbrev pub HasVersion : MadtContents → ℕ → ℕ → Type 0
+HasVersion c low high = (o v : ℕ) × IsFirstNamed gicd_version c.entries o v × ((v ≡ low) ⊎ (v ≡ high))
+
+-- ---- what is not there, in a MADT that is well-formed
+
+-- there is an entry of a CPU interface (11), and none of a distributor (12)
+pub record LacksDistributor (c : MadtContents) : Type 0 where
+  pub has_interface : HasType c 11
+  pub none : ¬ HasType c 12
+  pub well_formed : IsWellFormedMadt c
+
+abbrev pub IsNoDistributor : MadtContents → ℕ → ℕ → ℕ → Type 0
+IsNoDistributor c at other point = LacksDistributor c × (at ≡ 0) × AreUnused other point
+
+-- a GIC of this version has redistributors (3 and 4 do), and there is no entry of a range of them (14), nor does a CPU interface that is on name
+-- its own
+pub record LacksRedistributor (c : MadtContents) (v : ℕ) : Type 0 where
+  pub versioned : (v ≡ 3) ⊎ (v ≡ 4)
+  pub no_range : ¬ HasType c 14
+  pub none_named : (a : ℕ) → ¬ IsNamed own_redistributor c.entries a
+  pub well_formed : IsWellFormedMadt c
+
+-- so of the GIC of the distributor at `at`, of the version `other`
+abbrev pub IsNoRedistributor : MadtContents → ℕ → ℕ → ℕ → Type 0
+IsNoRedistributor c at other point =
+    IsFirstNamed gicd_version c.entries at other × LacksRedistributor c other × (point ≡ 0)
+
+-- an entry of the type of a range of redistributors that has another length
+abbrev pub other_gicr : MadtEntry → Option ℕ
+other_gicr (Opaque e) = if (slice_index e 0 == 14) && not (length e == 16) then Some (length e) else None
+other_gicr _ = None
+
+-- the GIC has redistributors by its version, and all ranges of them are known
+pub record AreGicrsKnown (c : MadtContents) : Type 0 where
+  pub versioned : HasVersion c 3 4
+  pub read : (n : ℕ) → ¬ IsNamed other_gicr c.entries n
+  pub well_formed : IsWellFormedMadt c
+
+-- how many redistributors all ranges have: one takes 128 KiB (5.2.12.17)
+abbrev pub redistributor_count : MadtContents → ℕ
+redistributor_count c = sum_by (λ size. size / 0x20000) (numbers_of gicr_length c.entries)
+
+-- how many CPU interfaces are on
+abbrev pub interface_count : MadtContents → ℕ
+interface_count c = length (numbers_of gicc_uid_on c.entries)
+
+-- the ranges, of which the first is at `at`, have `other` redistributors, fewer than `point`, the CPU interfaces that are on
+pub record IsGicrTooSmall (c : MadtContents) (at other point : ℕ) : Type 0 where
+  pub known : AreGicrsKnown c
+  pub first : (size : ℕ) × IsFirstNamed gicr_length c.entries at size
+  pub count : other ≡ redistributor_count c
+  pub due : point ≡ interface_count c
+  pub fewer : other < point
+
+-- ---- CPU interfaces
+
+-- the GIC has no redistributors by its version (1 and 2 have none), and the address of the CPU interface at `at`, `point`, is not that of the first, at `other`
+-- (5.2.12.14)
+pub record IsGiccBaseDiffers (c : MadtContents) (at other point : ℕ) : Type 0 where
+  pub versioned : HasVersion c 1 2
+  pub here : NamesAt gicc_base c.entries at point
+  pub base : ℕ
+  pub first : IsFirstNamed gicc_base c.entries other base
+  pub differ : point ≢ base
+
+-- the CPU interface at `at` is on and names its own redistributor, at the address `point`, though there are ranges of them, of which
+-- the first is at `other` (5.2.12.17)
+abbrev pub IsRedistributorTwice : MadtContents → ℕ → ℕ → ℕ → Type 0
+IsRedistributorTwice c at other point =
+    NamesAt own_redistributor c.entries at point × ((base : ℕ) × IsFirstNamed gicr_base c.entries other base)

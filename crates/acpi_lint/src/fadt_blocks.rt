@@ -1,0 +1,282 @@
+//! Advice on the register blocks of a FADT, and on ports that it names (ACPI 6.5, 5.2.9).
+
+ghost use Rattle.std.specs.Prelude.{◌≡◌, ◌<◌, ◌+◌, ◌*◌, ◌↔◌, IsTrue};
+ghost use Rattle.acpi_lint.specs.FadtPlaces.{IsOfBlock};
+ghost use Rattle.acpi_lint.specs.Places.{FindsLeast};
+ghost use Rattle.acpi_lint.specs.Rules.FadtBlocks.{block_address, block_length, port_count, port_bytes, IsNoPm1Block, DoWidthsDiffer, IsBlockWidth, IsHalf, IsHalfBlock, IsPastEndAt, IsSmiPastEnd, IsBlockPastEnd, IsFixedPastEnd, IsResetPort, IsResetPastEnd, HasResetRegister, IsPortPastEnd, OnBlock, IsGiven, IsGpeOverlap};
+ghost use Rattle.acpi_read.specs.Fadts.{block_view_value};
+
+use crate::place::Place;
+use acpi_base::field::{u8_at, u32_at, u64_at};
+use acpi_read::{Block, Fadt, RESET_REG_SUP, has_flag};
+
+/// The offsets of the blocks' length bytes.
+const BLOCK_LENGTHS: [usize; 8] = [88, 88, 89, 89, 90, 91, 92, 93];
+
+/// System I/O, an address space.
+const SYSTEM_IO: u8 = 1;
+
+/// How many ports there are.
+const PORTS: u64 = 0x1_0000;
+
+// ---- what a block is
+
+/// The address of register block k; 0 for none.
+pub fn block_address(fadt: &Fadt<'_>, k: u8) -> u64
+    requires { k < 8 }
+    ensures { result ≡ block_address fadt.now k }
+{
+    match fadt.block(k) {
+        Block::None => 0,
+        Block::Gas(gas) => gas.address,
+        Block::Port { address, .. } => u64::from(address),
+    }
+}
+
+/// The length byte of register block k.
+fn block_length(fadt: &Fadt<'_>, k: u8) -> u8
+    requires { k < 8 }
+    ensures { result ≡ block_length fadt.now k }
+{
+    u8_at(fadt.bytes(), BLOCK_LENGTHS[k as usize])
+}
+
+/// How many bytes of system I/O a block with this length byte has.
+fn port_count(length: u8, block: Block) -> u8
+    ensures { result ≡ port_count length (block_view_value block) }
+{
+    match block {
+        Block::Gas(gas) if gas.space != SYSTEM_IO => 0,
+        Block::Gas(gas) if length == 0 => gas.bit_width.div_ceil(8),
+        Block::Gas(_) | Block::Port { .. } => length,
+        Block::None => 0,
+    }
+}
+
+/// How many bytes register block k has of system I/O, from its address on.
+pub fn port_bytes(fadt: &Fadt<'_>, k: u8) -> u8
+    requires { k < 8 }
+    ensures { result ≡ port_bytes fadt.now k }
+{
+    port_count(block_length(fadt, k), fadt.block(k))
+}
+
+/// The offset of the 4-byte field of register block k.
+fn block_offset(k: u8) -> u64
+    ensures { result ≡ 56 + 4 * k }
+{
+    56 + 4 * u64::from(k)
+}
+
+// ---- rules on one block
+
+/// The 4-byte field of PM1a_EVT, at 56, or else of PM1a_CNT, at 64, if the block is none, and the hardware is not
+/// reduced.
+pub fn no_pm1_block(fadt: &Fadt<'_>) -> Option<Place>
+    ensures { FindsLeast (IsNoPm1Block fadt.now) result }
+{
+    if fadt.reduced() {
+        return None;
+    }
+    if block_address(fadt, 0) == 0 {
+        return Some(Place::at(56));
+    }
+    if block_address(fadt, 2) == 0 {
+        return Some(Place::at(64));
+    }
+    None
+}
+
+/// The 4-byte field of register block k, if both its fields have an address, and its length byte in bits is not the
+/// width of its X_ structure, both of which are given.
+fn width_differs(fadt: &Fadt<'_>, k: u8) -> Option<Place>
+    requires { k < 8 }
+    ensures { FindsLeast (IsOfBlock (DoWidthsDiffer fadt.now) k) result }
+{
+    let bytes = fadt.bytes();
+    let structure = 148 + 12 * k as usize;
+    if structure + 12 > bytes.len()
+        || u32_at(bytes, 56 + 4 * k as usize) == 0
+        || u64_at(bytes, structure + 4) == 0
+    {
+        return None;
+    }
+    let other = 8 * u64::from(block_length(fadt, k));
+    let point = u64::from(u8_at(bytes, structure + 1));
+    if other == 0 || other > 255 || point == 0 || other == point {
+        return None;
+    }
+    Some(Place {
+        at: block_offset(k),
+        other,
+        point,
+    })
+}
+
+/// The first register block with two widths, if the hardware is not reduced.
+pub fn block_width(fadt: &Fadt<'_>) -> Option<Place>
+    ensures { FindsLeast (IsBlockWidth fadt.now) result }
+{
+    if fadt.reduced() {
+        return None;
+    }
+    for k in 0..8 {
+        if let Some(place) = width_differs(fadt, k) {
+            return Some(place);
+        }
+    }
+    None
+}
+
+/// The 4-byte field of register block k, if just one of its length byte and its address is 0.
+fn half_at(fadt: &Fadt<'_>, k: u8) -> Option<Place>
+    requires { k < 8 }
+    ensures { FindsLeast (IsOfBlock (IsHalf fadt.now) k) result }
+{
+    let other = u64::from(block_length(fadt, k));
+    let point = block_address(fadt, k);
+    if (other == 0) == (point == 0) {
+        return None;
+    }
+    Some(Place {
+        at: block_offset(k),
+        other,
+        point,
+    })
+}
+
+/// The first such block of those that hardware may lack, from PM2_CNT to GPE1, if the hardware is not reduced.
+pub fn half_block(fadt: &Fadt<'_>) -> Option<Place>
+    ensures { FindsLeast (IsHalfBlock fadt.now) result }
+{
+    if fadt.reduced() {
+        return None;
+    }
+    for k in 4..8 {
+        if let Some(place) = half_at(fadt, k) {
+            return Some(place);
+        }
+    }
+    None
+}
+
+// ---- ports past the last one
+
+/// The offset, if these bytes of system I/O end past the last port.
+fn past_end(offset: u64, first: u64, bytes: u8) -> Option<Place>
+    ensures { FindsLeast (IsPastEndAt offset first bytes) result }
+{
+    let bytes = u64::from(bytes);
+    if bytes == 0 || first <= PORTS - bytes {
+        return None;
+    }
+    Some(Place {
+        at: offset,
+        other: bytes,
+        point: first,
+    })
+}
+
+/// SMI_CMD, at 48, if it is past the last port.
+fn smi_past_end(fadt: &Fadt<'_>) -> Option<Place>
+    ensures { FindsLeast (IsSmiPastEnd fadt.now) result }
+{
+    past_end(48, u64::from(u32_at(fadt.bytes(), 48)), 1)
+}
+
+/// The 4-byte field of register block k, if the block ends past the last port.
+fn past_end_at(fadt: &Fadt<'_>, k: u8) -> Option<Place>
+    requires { k < 8 }
+    ensures { FindsLeast (IsOfBlock (IsBlockPastEnd fadt.now) k) result }
+{
+    past_end(block_offset(k), block_address(fadt, k), port_bytes(fadt, k))
+}
+
+/// The first register block that ends past the last port.
+fn block_past_end(fadt: &Fadt<'_>) -> Option<Place>
+    ensures { FindsLeast (OnBlock (IsBlockPastEnd fadt.now) 0) result }
+{
+    for k in 0..8 {
+        if let Some(place) = past_end_at(fadt, k) {
+            return Some(place);
+        }
+    }
+    None
+}
+
+/// Whether the table has a reset register, by its flag and its Length.
+pub fn has_reset_register(fadt: &Fadt<'_>) -> bool
+    ensures { IsTrue result ↔ HasResetRegister fadt.now }
+{
+    let bytes = fadt.bytes();
+    has_flag(bytes, RESET_REG_SUP) && bytes.len() >= 129
+}
+
+/// Whether the reset register is a port.
+fn is_reset_port(fadt: &Fadt<'_>) -> bool
+    ensures { IsTrue result ↔ IsResetPort fadt.now }
+{
+    has_reset_register(fadt) && u8_at(fadt.bytes(), 116) == SYSTEM_IO
+}
+
+/// RESET_REG, at 116, if it is past the last port.
+fn reset_past_end(fadt: &Fadt<'_>) -> Option<Place>
+    ensures { FindsLeast (IsResetPastEnd fadt.now) result }
+{
+    if !is_reset_port(fadt) {
+        return None;
+    }
+    let first = u64_at(fadt.bytes(), 120);
+    past_end(116, first, 1)
+}
+
+/// SMI_CMD or the first register block that ends past the last port, if the hardware is not reduced.
+fn fixed_past_end(fadt: &Fadt<'_>) -> Option<Place>
+    ensures { FindsLeast (IsFixedPastEnd fadt.now) result }
+{
+    if fadt.reduced() {
+        return None;
+    }
+    let smi = smi_past_end(fadt);
+    if smi.is_some() {
+        return smi;
+    }
+    block_past_end(fadt)
+}
+
+/// The first of these and of the reset register that ends past the last port.
+pub fn port_past_end(fadt: &Fadt<'_>) -> Option<Place>
+    ensures { FindsLeast (IsPortPastEnd fadt.now) result }
+{
+    let fixed = fixed_past_end(fadt);
+    if fixed.is_some() {
+        return fixed;
+    }
+    reset_past_end(fadt)
+}
+
+// ---- events
+
+/// Whether register block k has an address and a length.
+fn is_given(fadt: &Fadt<'_>, k: u8) -> bool
+    requires { k < 8 }
+    ensures { IsTrue result ↔ IsGiven fadt.now k }
+{
+    block_address(fadt, k) != 0 && block_length(fadt, k) != 0
+}
+
+/// GPE1_BASE, at 94, if it is among the events of GPE0, and the hardware is not reduced.
+pub fn gpe_overlap(fadt: &Fadt<'_>) -> Option<Place>
+    ensures { FindsLeast (IsGpeOverlap fadt.now) result }
+{
+    if fadt.reduced() || !is_given(fadt, 6) || !is_given(fadt, 7) {
+        return None;
+    }
+    let other = 4 * u64::from(block_length(fadt, 6));
+    let point = u64::from(u8_at(fadt.bytes(), 94));
+    (point < other).then_some(Place {
+        at: 94,
+        other,
+        point,
+    })
+}

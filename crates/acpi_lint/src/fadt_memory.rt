@@ -1,0 +1,64 @@
+//! Advice on what a FADT names in memory: the DSDT and the FACS (ACPI 6.5, 5.2.10, 5.2.11).
+
+ghost use Rattle.std.specs.Prelude.{◌≤◌, ◌↔◌, IsTrue, length};
+ghost use Rattle.acpi_lint.specs.Places.{FindsLeast};
+ghost use Rattle.acpi_lint.specs.RuleGroups.{in_fadt_memory};
+ghost use Rattle.acpi_lint.specs.Rules.Broken.{condition};
+ghost use Rattle.acpi_lint.specs.Rules.NamedAdvice.{IsBrokenDsdt, IsDsdtWrong, IsOddFacs, IsFacsReserved};
+
+use crate::limits::{above, used};
+use crate::place::Place;
+use crate::rule::Rule;
+use acpi_base::{Frame, Image, Question};
+use acpi_read::{Facs, Fadt, fails};
+
+/// Whether the header at an address is not that of a DSDT, or says a Length that no table has, or the table there has a
+/// wrong checksum.
+fn is_no_dsdt(image: &Image, address: u64) -> bool
+    ensures { IsTrue result ↔ IsBrokenDsdt image.now address }
+{
+    fails(image, address, Frame::TABLE, Question::Signature(*b"DSDT"))
+        || fails(image, address, Frame::TABLE, Question::Length)
+        || fails(image, address, Frame::TABLE, Question::Sum)
+}
+
+/// DSDT, at 40, if what a FADT names as the DSDT is none, or has a wrong checksum.
+fn dsdt_wrong(image: &Image, fadt: &Fadt<'_>) -> Option<Place>
+    ensures { FindsLeast (IsDsdtWrong image.now fadt.now) result }
+{
+    let address = fadt.dsdt_address();
+    (address != 0 && is_no_dsdt(image, address)).then_some(Place {
+        at: 40,
+        other: 0,
+        point: address,
+    })
+}
+
+/// The first field or reserved byte of a FACS that has no meaning.
+fn odd_facs(bytes: &[u8]) -> Option<Place>
+    requires { 64 ≤ length bytes.now }
+    ensures { FindsLeast (IsOddFacs bytes.now) result }
+{
+    let ospm = above(bytes, 36, 4, 1).or(used(bytes, 40, 64));
+    let version = above(bytes, 32, 1, 2).or(used(bytes, 33, 36).or(ospm));
+    above(bytes, 20, 4, 3).or(version)
+}
+
+/// The same of the FACS that a FADT names, if it is valid.
+fn facs_reserved(image: &Image, fadt: &Fadt<'_>) -> Option<Place>
+    ensures { FindsLeast (IsFacsReserved image.now fadt.now) result }
+{
+    let facs = Facs::read(image, fadt).ok()??;
+    odd_facs(facs.bytes())
+}
+
+/// The place where a rule on what a FADT names is broken. None for another rule.
+pub fn fadt_memory_place(image: &Image, rule: Rule, fadt: &Fadt<'_>) -> Option<Place>
+    ensures { FindsLeast (in_fadt_memory (condition rule) image.now fadt.now) result }
+{
+    match rule {
+        Rule::DsdtWrong => dsdt_wrong(image, fadt),
+        Rule::FacsReserved => facs_reserved(image, fadt),
+        _ => None,
+    }
+}

@@ -1,0 +1,268 @@
+//! The parts of a GIC, as entries of a MADT describe them, and their fields (ACPI 6.5, 5.2.12.14 to 5.2.12.18).
+
+ghost use Rattle.std.specs.Prelude.{◌≡◌, ◌≤◌, length, IsTrue};
+ghost use Rattle.acpi_lint.specs.Rules.Gic.{is_gicc_on, has_mpidr, names_redistributor, is_gicd, is_msi_frame, is_gicr, is_its, gicc_base, gicc_uid_on, parking_version_on, mpidr_on, own_redistributor, gicd_base, gicd_version, msi_frame_id, msi_frame_base, gicr_base, gicr_length, its_id, its_base};
+ghost use Rattle.acpi_lint.specs.Rules.GicAdvice.{is_reserved_mpidr, reserved_mpidr, empty_gicr, other_gicr};
+ghost use Rattle.acpi_lint.specs.MadtNumbers.{other_gicc_base};
+ghost use Rattle.acpi_read.specs.Madts.{madt_value};
+
+use crate::processors::{GICD, is_gicc, is_on};
+use acpi_base::field::{u8_at, u32_at, u64_at};
+use acpi_read::MadtEntry;
+
+/// The length of a GIC distributor (ACPI 6.5, 5.2.12.15).
+pub const GICD_LEN: usize = 24;
+
+/// The type of an MSI frame, and its length (5.2.12.16).
+pub const MSI_FRAME: u8 = 13;
+
+pub const MSI_FRAME_LEN: usize = 24;
+
+/// The type of a range of redistributors, and its length (5.2.12.17).
+pub const GICR: u8 = 14;
+
+pub const GICR_LEN: usize = 16;
+
+/// The type of an interrupt translation service, and its length (5.2.12.18).
+pub const ITS: u8 = 15;
+
+pub const ITS_LEN: usize = 20;
+
+// ---- the parts
+
+/// Whether the bytes are a GIC CPU interface that is on: Enabled or Online Capable.
+pub fn is_gicc_on(bytes: &[u8]) -> bool
+    ensures value { result ≡ is_gicc_on bytes.now }
+    ensures size { IsTrue result → 40 ≤ length bytes.now }
+{
+    is_gicc(bytes) && is_on(u32_at(bytes, 12), 3)
+}
+
+/// Whether they are one that is on and has an MPIDR.
+fn has_mpidr(bytes: &[u8]) -> bool
+    ensures value { result ≡ has_mpidr bytes.now }
+    ensures size { IsTrue result → 76 ≤ length bytes.now }
+{
+    is_gicc_on(bytes) && bytes.len() >= 76
+}
+
+/// Whether they are one that is on and names a redistributor of its own.
+fn names_redistributor(bytes: &[u8]) -> bool
+    ensures value { result ≡ names_redistributor bytes.now }
+    ensures size { IsTrue result → 68 ≤ length bytes.now }
+{
+    is_gicc_on(bytes) && bytes.len() >= 68 && u64_at(bytes, 60) != 0
+}
+
+/// Whether they are a distributor.
+pub fn is_gicd(bytes: &[u8]) -> bool
+    ensures value { result ≡ is_gicd bytes.now }
+    ensures size { IsTrue result → length bytes.now ≡ 24 }
+{
+    bytes.len() == GICD_LEN && bytes[0] == GICD
+}
+
+/// Whether they are an MSI frame.
+fn is_msi_frame(bytes: &[u8]) -> bool
+    ensures value { result ≡ is_msi_frame bytes.now }
+    ensures size { IsTrue result → length bytes.now ≡ 24 }
+{
+    bytes.len() == MSI_FRAME_LEN && bytes[0] == MSI_FRAME
+}
+
+/// Whether they are a range of redistributors.
+fn is_gicr(bytes: &[u8]) -> bool
+    ensures value { result ≡ is_gicr bytes.now }
+    ensures size { IsTrue result → length bytes.now ≡ 16 }
+{
+    bytes.len() == GICR_LEN && bytes[0] == GICR
+}
+
+/// Whether they are an interrupt translation service.
+fn is_its(bytes: &[u8]) -> bool
+    ensures value { result ≡ is_its bytes.now }
+    ensures size { IsTrue result → length bytes.now ≡ 20 }
+{
+    bytes.len() == ITS_LEN && bytes[0] == ITS
+}
+
+// ---- their fields
+
+/// The address of a CPU interface.
+pub fn gicc_base(entry: &MadtEntry<'_>) -> Option<u64>
+    ensures { result ≡ gicc_base (madt_value entry.now) }
+{
+    match entry {
+        MadtEntry::Opaque(bytes) if is_gicc(bytes) => Some(u64_at(bytes, 32)),
+        _ => None,
+    }
+}
+
+/// The UID of a CPU interface that is on.
+pub fn gicc_uid_on(entry: &MadtEntry<'_>) -> Option<u64>
+    ensures { result ≡ gicc_uid_on (madt_value entry.now) }
+{
+    match entry {
+        MadtEntry::Opaque(bytes) if is_gicc_on(bytes) => Some(u64::from(u32_at(bytes, 8))),
+        _ => None,
+    }
+}
+
+/// The version of the parking protocol of a CPU interface that is on.
+pub fn parking_version_on(entry: &MadtEntry<'_>) -> Option<u64>
+    ensures { result ≡ parking_version_on (madt_value entry.now) }
+{
+    match entry {
+        MadtEntry::Opaque(bytes) if is_gicc_on(bytes) => Some(u64::from(u32_at(bytes, 16))),
+        _ => None,
+    }
+}
+
+/// The MPIDR of a CPU interface that is on.
+pub fn mpidr_on(entry: &MadtEntry<'_>) -> Option<u64>
+    ensures { result ≡ mpidr_on (madt_value entry.now) }
+{
+    match entry {
+        MadtEntry::Opaque(bytes) if has_mpidr(bytes) => Some(u64_at(bytes, 68)),
+        _ => None,
+    }
+}
+
+/// The address of the redistributor that a CPU interface that is on names as its own.
+pub fn own_redistributor(entry: &MadtEntry<'_>) -> Option<u64>
+    ensures { result ≡ own_redistributor (madt_value entry.now) }
+{
+    match entry {
+        MadtEntry::Opaque(bytes) if names_redistributor(bytes) => Some(u64_at(bytes, 60)),
+        _ => None,
+    }
+}
+
+/// The address of a distributor.
+pub fn gicd_base(entry: &MadtEntry<'_>) -> Option<u64>
+    ensures { result ≡ gicd_base (madt_value entry.now) }
+{
+    match entry {
+        MadtEntry::Opaque(bytes) if is_gicd(bytes) => Some(u64_at(bytes, 8)),
+        _ => None,
+    }
+}
+
+/// The version of a distributor.
+pub fn gicd_version(entry: &MadtEntry<'_>) -> Option<u64>
+    ensures { result ≡ gicd_version (madt_value entry.now) }
+{
+    match entry {
+        MadtEntry::Opaque(bytes) if is_gicd(bytes) => Some(u64::from(u8_at(bytes, 20))),
+        _ => None,
+    }
+}
+
+/// The ID of an MSI frame.
+pub fn msi_frame_id(entry: &MadtEntry<'_>) -> Option<u64>
+    ensures { result ≡ msi_frame_id (madt_value entry.now) }
+{
+    match entry {
+        MadtEntry::Opaque(bytes) if is_msi_frame(bytes) => Some(u64::from(u32_at(bytes, 4))),
+        _ => None,
+    }
+}
+
+/// The address of an MSI frame.
+pub fn msi_frame_base(entry: &MadtEntry<'_>) -> Option<u64>
+    ensures { result ≡ msi_frame_base (madt_value entry.now) }
+{
+    match entry {
+        MadtEntry::Opaque(bytes) if is_msi_frame(bytes) => Some(u64_at(bytes, 8)),
+        _ => None,
+    }
+}
+
+/// The address of a range of redistributors.
+pub fn gicr_base(entry: &MadtEntry<'_>) -> Option<u64>
+    ensures { result ≡ gicr_base (madt_value entry.now) }
+{
+    match entry {
+        MadtEntry::Opaque(bytes) if is_gicr(bytes) => Some(u64_at(bytes, 4)),
+        _ => None,
+    }
+}
+
+/// The length of a range of redistributors.
+pub fn gicr_length(entry: &MadtEntry<'_>) -> Option<u64>
+    ensures { result ≡ gicr_length (madt_value entry.now) }
+{
+    match entry {
+        MadtEntry::Opaque(bytes) if is_gicr(bytes) => Some(u64::from(u32_at(bytes, 12))),
+        _ => None,
+    }
+}
+
+/// The ID of an interrupt translation service.
+pub fn its_id(entry: &MadtEntry<'_>) -> Option<u64>
+    ensures { result ≡ its_id (madt_value entry.now) }
+{
+    match entry {
+        MadtEntry::Opaque(bytes) if is_its(bytes) => Some(u64::from(u32_at(bytes, 4))),
+        _ => None,
+    }
+}
+
+/// The address of an interrupt translation service.
+pub fn its_base(entry: &MadtEntry<'_>) -> Option<u64>
+    ensures { result ≡ its_base (madt_value entry.now) }
+{
+    match entry {
+        MadtEntry::Opaque(bytes) if is_its(bytes) => Some(u64_at(bytes, 8)),
+        _ => None,
+    }
+}
+
+// ---- fields that are wrong, or of another length
+
+/// Whether a bit of an MPIDR is set that is none of an affinity: bits 23:0 and 39:32 are.
+fn is_reserved_mpidr(mpidr: u64) -> bool
+    ensures { result ≡ is_reserved_mpidr mpidr }
+{
+    mpidr >> 24 & 0xFF != 0 || mpidr >> 40 != 0
+}
+
+/// The MPIDR of a CPU interface that is on, if such a bit is set.
+pub fn reserved_mpidr(entry: &MadtEntry<'_>) -> Option<u64>
+    ensures { result ≡ reserved_mpidr (madt_value entry.now) }
+{
+    let mpidr = mpidr_on(entry)?;
+    is_reserved_mpidr(mpidr).then_some(mpidr)
+}
+
+/// The address of a range of redistributors of no bytes.
+pub fn empty_gicr(entry: &MadtEntry<'_>) -> Option<u64>
+    ensures { result ≡ empty_gicr (madt_value entry.now) }
+{
+    match entry {
+        MadtEntry::Opaque(bytes) if is_gicr(bytes) && u32_at(bytes, 12) == 0 => {
+            Some(u64_at(bytes, 4))
+        }
+        _ => None,
+    }
+}
+
+/// The length of an entry of the type of a range of redistributors, if it is another one.
+pub fn other_gicr(entry: &MadtEntry<'_>) -> Option<u64>
+    ensures { result ≡ other_gicr (madt_value entry.now) }
+{
+    match entry {
+        MadtEntry::Opaque(bytes) if bytes.first() == Some(&GICR) && bytes.len() != GICR_LEN => {
+            Some(bytes.len() as u64)
+        }
+        _ => None,
+    }
+}
+
+/// The address of a CPU interface, if it is not this one.
+pub fn other_gicc_base(base: u64, entry: &MadtEntry<'_>) -> Option<u64>
+    ensures { result ≡ other_gicc_base base (madt_value entry.now) }
+{
+    let own = gicc_base(entry)?;
+    (own != base).then_some(own)
+}

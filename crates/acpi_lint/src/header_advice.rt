@@ -1,0 +1,179 @@
+//! Advice on the headers of listed tables (ACPI 6.5, 5.2.6).
+
+ghost use Rattle.std.specs.Prelude.{◌≡◌, ◌==◌, map, ◌≤◌, ◌<◌, ◌+◌, ◌↔◌, ℕ, AllPairs, Contains, IfOk, IsTrue, MatchOption, length, take, drop};
+ghost use Rattle.std.specs.List.{filter_map, list_any};
+ghost use Rattle.acpi_base.specs.Memory.{Memory};
+ghost use Rattle.acpi_lint.specs.CompleteTables.{AreCompleteTables};
+ghost use Rattle.acpi_lint.specs.Places.{FindsLeast};
+ghost use Rattle.acpi_lint.specs.Rules.HeaderAdvice.{IsNoText, IsTextField, IsOddField, IsHeaderText, IsSecondOther, signature_number, is_once};
+ghost use Rattle.acpi_lint.specs.Headers.{IsFirstOdd, FindsOddText, once_numbered};
+ghost use Rattle.acpi_lint.specs.declared.listed_slots.Slot.{Slot};
+
+use crate::complete_tables::CompleteTables;
+use crate::listed_slots::Slot;
+use crate::numbered::{Numbered, Order, first_unlike};
+use crate::place::Place;
+use acpi_base::Image;
+use acpi_base::field::u32_at;
+use std::alloc::{AllocError, Global};
+
+// ---- text
+
+/// Whether a byte is no printable ASCII, and none of the zeros at the end of the text.
+fn is_no_text(text: &[u8]) -> bool
+    ensures { IsTrue result ↔ IsNoText text.now }
+{
+    let mut is_odd = false;
+    for byte in text {
+        if *byte < 0x20 || *byte > 0x7e {
+            is_odd = true;
+        }
+        if is_odd && *byte != 0 {
+            return true;
+        }
+    }
+    false
+}
+
+/// Whether the text at an offset of a header has such a byte.
+fn is_odd_field(header: &[u8], offset: usize, size: usize) -> bool
+    requires { offset + size ≤ length header.now }
+    ensures { IsTrue result ↔ IsNoText (take size (drop offset header.now)) }
+{
+    is_no_text(&header[offset..offset + size])
+}
+
+/// The offset of the first field of a header with such a byte.
+fn odd_field(header: &[u8]) -> Option<u64>
+    requires { length header.now ≡ 36 }
+    ensures { IsFirstOdd header.now result }
+{
+    if is_odd_field(header, 0, 4) {
+        Some(0)
+    } else if is_odd_field(header, 10, 6) {
+        Some(10)
+    } else if is_odd_field(header, 16, 8) {
+        Some(16)
+    } else if is_odd_field(header, 28, 4) {
+        Some(28)
+    } else {
+        None
+    }
+}
+
+/// The place of the first such field of the header that a slot lists.
+fn odd_text(image: &Image, slot: &Slot) -> Option<Place>
+    ensures { FindsOddText image.now slot.now result }
+{
+    let header = image.window(slot.table.address, 36)?;
+    let offset = odd_field(header)?;
+    Some(Place {
+        at: slot.number,
+        other: offset,
+        point: slot.table.address,
+    })
+}
+
+/// The first slot that lists a header with such a field. The tables are those of the image's set.
+pub fn header_text(image: &Image, tables: &CompleteTables<'_>) -> Option<Place>
+    ensures { (p : ℕ) → AreCompleteTables image.now p tables.now
+        → FindsLeast (IsHeaderText image.now p) result }
+{
+    for slot in &tables.slots {
+        if let Some(place) = odd_text(image, slot) {
+            return Some(place);
+        }
+    }
+    None
+}
+
+// ---- tables of which a set has one
+
+/// The signatures of the tables beside the five kinds that are read of which a set has one at most.
+const ONCE: [[u8; 4]; 35] = [
+    *b"BERT", *b"BGRT", *b"CCEL", *b"CPEP", *b"DBG2", *b"DMAR", *b"ECDT", *b"EINJ", *b"ERST",
+    *b"FPDT", *b"GTDT", *b"HEST", *b"HMAT", *b"IORT", *b"IVRS", *b"MCFG", *b"MPST", *b"MSCT",
+    *b"NFIT", *b"PCCT", *b"PDTT", *b"PHAT", *b"PMTT", *b"PRMT", *b"RASF", *b"RAS2", *b"SBST",
+    *b"SDEI", *b"SDEV", *b"SPCR", *b"SVKL", *b"TPM2", *b"VIOT", *b"WAET", *b"WSMT",
+];
+
+/// Whether a signature is one of these.
+fn is_among(names: &[[u8; 4]], signature: u32) -> bool
+    ensures { result ≡ list_any (λ s. s == signature) (map signature_number names.now) }
+{
+    for name in names {
+        if u32_at(name, 0) == signature {
+            return true;
+        }
+    }
+    false
+}
+
+/// Whether a set has one table with this signature at most.
+#[tactic(auto, unfolding(crate::specs::Rules::HeaderAdvice::once_signatures))]
+fn is_once(signature: u32) -> bool
+    ensures { result ≡ is_once signature }
+{
+    is_among(&ONCE, signature)
+}
+
+/// The signature of the header that a slot lists, if a set has one such table at most: the slot's address, at its
+/// number.
+fn once_numbered(image: &Image, slot: &Slot) -> Option<Numbered>
+    ensures { result ≡ once_numbered image.now slot.now }
+{
+    let header = image.window(slot.table.address, 36)?;
+    let signature = u32_at(header, 0);
+    is_once(signature).then_some(Numbered {
+        number: u64::from(signature),
+        at: slot.number,
+        value: slot.table.address,
+    })
+}
+
+/// The same of all slots.
+fn numbered_once(alloc: Global, image: &Image, slots: &[Slot]) -> Result<Vec<Numbered>, AllocError>
+    ensures { IfOk result (λ given. given.items ≡ filter_map (once_numbered image.now) slots.now) }
+{
+    let mut given = Vec::new(alloc);
+    for slot in slots {
+        if let Some(numbered) = once_numbered(image, slot) {
+            given.push(numbered)?;
+        }
+    }
+    Ok(given)
+}
+
+/// The address that the slot with a number lists.
+fn address_of(slots: &[Slot], number: u64) -> u64
+    ensures { AllPairs (λ s t. s.number < t.number) slots.now
+        → (s : Slot) → Contains slots.now s → s.number ≡ number → result ≡ s.table.address }
+{
+    for slot in slots {
+        if slot.number == number {
+            return slot.table.address;
+        }
+    }
+    0
+}
+
+/// The first slot that lists a table of which a set has one, at another address than the first slot with its signature.
+/// The tables are those of the image's set. Allocates for each such slot.
+pub fn second_other(
+    alloc: Global,
+    image: &Image,
+    tables: &CompleteTables<'_>,
+) -> Result<Option<Place>, AllocError>
+    ensures { (p : ℕ) → AreCompleteTables image.now p tables.now
+        → IfOk result (FindsLeast (IsSecondOther image.now p)) }
+{
+    let given = numbered_once(alloc, image, &tables.slots)?;
+    let Some(place) = first_unlike(given, Order::Later)? else {
+        return Ok(None);
+    };
+    Ok(Some(Place {
+        at: place.at,
+        other: place.other,
+        point: address_of(&tables.slots, place.at),
+    }))
+}

@@ -1,0 +1,233 @@
+//! Further rules on a MADT: IDs of local APICs, sources of interrupts, and what a GIC has and lacks (ACPI 6.5, 5.2.12).
+
+ghost use Rattle.std.specs.Prelude.{◌≡◌, ◌↔◌, ◌⊎◌, ◌/◌, IfOk, IsTrue, sum_by};
+ghost use Rattle.acpi_base.specs.Madt.{madt_contents};
+ghost use Rattle.acpi_read.specs.Madts.{madt_value};
+ghost use Rattle.acpi_lint.specs.MadtNumbers.{source_of_gsi};
+ghost use Rattle.acpi_lint.specs.Places.{FindsLeast};
+ghost use Rattle.acpi_lint.specs.Rules.ApicAdvice.{IsX2ApicBelow255, IsTwoSourcesOneGsi, LacksIoApic, IsNoIoApic};
+ghost use Rattle.acpi_lint.specs.Rules.EntryTypes.{HasType};
+ghost use Rattle.acpi_lint.specs.Rules.GicAdvice.{LacksDistributor, IsNoDistributor, LacksRedistributor, IsNoRedistributor, AreGicrsKnown, IsGicrTooSmall, IsGiccBaseDiffers, IsRedistributorTwice, HasVersion};
+
+use crate::gic::GICR;
+use crate::madt_numbers::{MadtNumber, all_numbers, first_number, has_number, has_type};
+use crate::numbered::{Numbered, Order, first_unlike};
+use crate::place::Place;
+use crate::processors::GICD;
+use crate::well_formed::is_madt_well_formed;
+use acpi_base::Policy;
+use acpi_check::collected;
+use acpi_read::{EntryAt, GICC, MadtEntry, Table};
+use std::alloc::{AllocError, Global};
+
+// ---- local APICs and interrupts
+
+/// The first local x2APIC that is on and has an ID below 255, if a local APIC is on and has another ID than 255.
+pub fn x2apic_below_255(madt: &Table<'_>) -> Option<Place>
+    ensures { FindsLeast (IsX2ApicBelow255 (madt_contents madt.now)) result }
+{
+    if !has_number(madt, MadtNumber::PlainApicId) {
+        return None;
+    }
+    first_number(madt, MadtNumber::LowX2apicId, 0)
+}
+
+/// The source of an override, by the interrupt number that it is given.
+fn source_of_gsi(at: &EntryAt<MadtEntry<'_>>) -> Option<Numbered>
+    ensures { result ≡ source_of_gsi at.now.offset (madt_value at.now.entry) }
+{
+    match &at.entry {
+        MadtEntry::Override(named) => Some(Numbered {
+            number: u64::from(named.gsi),
+            at: at.offset,
+            value: u64::from(named.source),
+        }),
+        _ => None,
+    }
+}
+
+/// The first override that gives an ISA interrupt the interrupt number of another one; `other` is the first that gives
+/// it to another, and `point` the number. Allocates for each override.
+pub fn two_sources_one_gsi(alloc: Global, madt: &Table<'_>) -> Result<Option<Place>, AllocError>
+    ensures { IfOk result (FindsLeast (IsTwoSourcesOneGsi (madt_contents madt.now))) }
+{
+    let sources = collected(alloc, madt.entries::<MadtEntry<'_>>(), source_of_gsi)?;
+    first_unlike(sources, Order::Later)
+}
+
+/// Whether a MADT has an entry of one of these two types, of any length.
+fn has_either_type(madt: &Table<'_>, low: u8, high: u8) -> bool
+    ensures { IsTrue result
+        ↔ (HasType (madt_contents madt.now) low ⊎ HasType (madt_contents madt.now) high) }
+{
+    has_type(madt, low) || has_type(madt, high)
+}
+
+/// Whether a MADT that is well-formed has no I/O APIC or I/O SAPIC, though a local APIC or a local x2APIC is on, and
+/// there is an override or an NMI source.
+fn lacks_io_apic(policy: &Policy, madt: &Table<'_>) -> bool
+    ensures { IsTrue result ↔ LacksIoApic (madt_contents madt.now) }
+{
+    if !has_number(madt, MadtNumber::LocalId) {
+        return false;
+    }
+    if !has_either_type(madt, 2, 3) {
+        return false;
+    }
+    if has_either_type(madt, 1, 6) {
+        return false;
+    }
+    is_madt_well_formed(policy, madt)
+}
+
+/// The place of such a MADT.
+pub fn no_io_apic(policy: &Policy, madt: &Table<'_>) -> Option<Place>
+    ensures { FindsLeast (IsNoIoApic (madt_contents madt.now)) result }
+{
+    lacks_io_apic(policy, madt).then_some(Place::at(0))
+}
+
+// ---- a GIC
+
+/// Whether a MADT that is well-formed has no distributor, though it has a CPU interface.
+fn lacks_distributor(policy: &Policy, madt: &Table<'_>) -> bool
+    ensures { IsTrue result ↔ LacksDistributor (madt_contents madt.now) }
+{
+    if !has_type(madt, GICC) {
+        return false;
+    }
+    if has_type(madt, GICD) {
+        return false;
+    }
+    is_madt_well_formed(policy, madt)
+}
+
+/// The place of such a MADT.
+pub fn no_distributor(policy: &Policy, madt: &Table<'_>) -> Option<Place>
+    ensures { FindsLeast (IsNoDistributor (madt_contents madt.now)) result }
+{
+    lacks_distributor(policy, madt).then_some(Place::at(0))
+}
+
+/// Whether a number is one of these two.
+fn is_either(number: u64, low: u64, high: u64) -> bool
+    ensures { IsTrue result ↔ ((number ≡ low) ⊎ (number ≡ high)) }
+{
+    number == low || number == high
+}
+
+/// Whether a GIC of this version should have redistributors, and the MADT, which is well-formed, has none.
+fn lacks_redistributor(policy: &Policy, madt: &Table<'_>, version: u64) -> bool
+    ensures { IsTrue result ↔ LacksRedistributor (madt_contents madt.now) version }
+{
+    if !is_either(version, 3, 4) {
+        return false;
+    }
+    if has_type(madt, GICR) {
+        return false;
+    }
+    if has_number(madt, MadtNumber::OwnRedistributor) {
+        return false;
+    }
+    is_madt_well_formed(policy, madt)
+}
+
+/// The first distributor, with its version as `other`, if that is the version of a GIC with redistributors, and there
+/// are none.
+pub fn no_redistributor(policy: &Policy, madt: &Table<'_>) -> Option<Place>
+    ensures { FindsLeast (IsNoRedistributor (madt_contents madt.now)) result }
+{
+    let gicd = first_number(madt, MadtNumber::GicdVersion, 0)?;
+    lacks_redistributor(policy, madt, gicd.point).then_some(Place {
+        at: gicd.at,
+        other: gicd.point,
+        point: 0,
+    })
+}
+
+/// Whether a GIC's version, that of the first distributor, is one of these two.
+fn has_version(madt: &Table<'_>, low: u64, high: u64) -> bool
+    ensures { IsTrue result ↔ HasVersion (madt_contents madt.now) low high }
+{
+    match first_number(madt, MadtNumber::GicdVersion, 0) {
+        Some(gicd) => is_either(gicd.point, low, high),
+        None => false,
+    }
+}
+
+/// Whether a GIC has redistributors, and all ranges of them are known.
+fn are_gicrs_known(policy: &Policy, madt: &Table<'_>) -> bool
+    ensures { IsTrue result ↔ AreGicrsKnown (madt_contents madt.now) }
+{
+    if !has_version(madt, 3, 4) {
+        return false;
+    }
+    if has_number(madt, MadtNumber::OtherGicr) {
+        return false;
+    }
+    is_madt_well_formed(policy, madt)
+}
+
+/// How many bytes a redistributor takes.
+const REDISTRIBUTOR_SIZE: u64 = 0x20000;
+
+/// How many redistributors ranges of these lengths have.
+fn redistributors(lengths: &[u64]) -> u128
+    ensures { result ≡ sum_by (λ size. size / 0x20000) lengths.now }
+{
+    let mut count = 0;
+    for length in lengths {
+        count += u128::from(length / REDISTRIBUTOR_SIZE);
+    }
+    count
+}
+
+/// The first range of redistributors, with how many there are as `other`, and with how many CPU interfaces are on as
+/// `point`, if these are more, and all ranges are known. Allocates for each of both.
+pub fn gicr_too_small(
+    alloc: Global,
+    policy: &Policy,
+    madt: &Table<'_>,
+) -> Result<Option<Place>, AllocError>
+    ensures { IfOk result (FindsLeast (IsGicrTooSmall (madt_contents madt.now))) }
+{
+    let Some(first) = first_number(madt, MadtNumber::GicrLength, 0) else {
+        return Ok(None);
+    };
+    if !are_gicrs_known(policy, madt) {
+        return Ok(None);
+    }
+    let lengths = all_numbers(alloc, madt, MadtNumber::GicrLength)?;
+    let uids = all_numbers(alloc, madt, MadtNumber::GiccUid)?;
+    let count = redistributors(&lengths);
+    let due = uids.len() as u128;
+    if count >= due {
+        return Ok(None);
+    }
+    Ok(Some(Place {
+        at: first.at,
+        other: count as u64,
+        point: due as u64,
+    }))
+}
+
+/// The first CPU interface whose address, `point`, is not that of the first one, at `other`, if the GIC has no
+/// redistributors by its version.
+pub fn gicc_base_differs(madt: &Table<'_>) -> Option<Place>
+    ensures { FindsLeast (IsGiccBaseDiffers (madt_contents madt.now)) result }
+{
+    if !has_version(madt, 1, 2) {
+        return None;
+    }
+    let first = first_number(madt, MadtNumber::GiccBase, 0)?;
+    first_number(madt, MadtNumber::OtherGiccBase(first.point), first.at)
+}
+
+/// The first CPU interface that is on and names its own redistributor, at the address `point`, if there is a range of
+/// them, of which the first is at `other`.
+pub fn redistributor_twice(madt: &Table<'_>) -> Option<Place>
+    ensures { FindsLeast (IsRedistributorTwice (madt_contents madt.now)) result }
+{
+    let first = first_number(madt, MadtNumber::GicrBase, 0)?;
+    first_number(madt, MadtNumber::OwnRedistributor, first.at)
+}

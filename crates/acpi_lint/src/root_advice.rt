@@ -1,0 +1,159 @@
+//! Advice on the root tables that the RSDP names (ACPI 6.5, 5.2.7, 5.2.8).
+
+ghost use Rattle.std.specs.Prelude.{◌≡◌, ◌≤◌, ℕ, List, IfOk, MatchOption, length};
+ghost use Rattle.acpi_base.specs.Root.{IsSlotWidth};
+ghost use Rattle.acpi_base.specs.Memory.{Memory};
+ghost use Rattle.acpi_lint.specs.CompleteTables.{AreCompleteTables};
+ghost use Rattle.acpi_lint.specs.Places.{FindsLeast};
+ghost use Rattle.acpi_lint.specs.Rules.RootAdvice.{IsNullIn, IsNullSlot, listed_signature, listed_signatures, IsXsdt, IsNamedRsdt, IsRsdtDiffers};
+ghost use Rattle.acpi_lint.specs.Differences.{first_difference, FindsDifference};
+
+use crate::complete_tables::CompleteTables;
+use crate::place::Place;
+use acpi_base::Image;
+use acpi_base::field::{is_signed, number_at, u32_at};
+use acpi_graph::sort_unless_sorted;
+use acpi_read::{Root, Rsdp, Table};
+use std::alloc::{AllocError, Global};
+
+// ---- slots that list nothing
+
+/// The first slot of a root table that is 0.
+fn null_in(root: &Root<'_>) -> Option<Place>
+    ensures { FindsLeast (IsNullIn root.now.bytes root.now.width) result }
+{
+    for slot in 0..root.slots() {
+        if root.slot(slot) == 0 {
+            return Some(Place::at(u64::from(slot)));
+        }
+    }
+    None
+}
+
+/// The first slot that is 0 and lists nothing. The tables are those of the set.
+pub fn null_slot(tables: &CompleteTables<'_>) -> Option<Place>
+    ensures { (m : Memory) (p : ℕ) → AreCompleteTables m p tables.now
+        → FindsLeast (IsNullSlot m p) result }
+{
+    null_in(tables.root.as_ref()?)
+}
+
+// ---- an RSDT beside the XSDT
+
+/// The XSDT of a set, if that is its root table. The tables are those of the set.
+fn xsdt<'a>(tables: &CompleteTables<'a>) -> Option<&'a [u8]>
+    ensures root { (m : Memory) (p : ℕ) → AreCompleteTables m p tables.now
+        → MatchOption result ((bytes : List ℕ) → ¬ IsXsdt m p bytes) (λ bytes. IsXsdt m p bytes.now) }
+    ensures long { MatchOption result (Unit {0}) (λ bytes. 36 ≤ length bytes.now) }
+{
+    let root = tables.root.as_ref()?;
+    if !root.wide() {
+        return None;
+    }
+    Some(root.bytes())
+}
+
+/// The RSDT that the RSDP at an address names, if that has the extended form and the table is complete.
+fn named_rsdt(image: &Image, rsdp: u64) -> Option<Table<'_>>
+    ensures { MatchOption result ((bytes : List ℕ) → ¬ IsNamedRsdt image.now rsdp bytes)
+        (IsNamedRsdt image.now rsdp) }
+{
+    let bytes = image.window(rsdp, Rsdp::EXTENDED_LENGTH)?;
+    let address = u64::from(u32_at(bytes, 16));
+    if address == 0 {
+        return None;
+    }
+    let header = image.window(address, 36)?;
+    if !is_signed(header, b"RSDT") {
+        return None;
+    }
+    Table::complete(image, address)
+}
+
+/// The signature of what is at an address that a slot lists, if that is below 2^32 and the 4 bytes are present.
+#[tactic(auto, unfolding(crate::specs::Rules::RootAdvice::listed_signature))]
+fn listed_signature(image: &Image, address: u64) -> Option<u32>
+    ensures { result ≡ listed_signature image.now address }
+{
+    if address == 0 || address >= 1 << 32 {
+        return None;
+    }
+    Some(u32_at(image.window(address, 4)?, 0))
+}
+
+/// Those of all slots of a root table, which have `width` bytes.
+fn listed_signatures(
+    alloc: Global,
+    image: &Image,
+    bytes: &[u8],
+    width: usize,
+) -> Result<Vec<u32>, AllocError>
+    requires width { IsSlotWidth width }
+    requires long { 36 ≤ length bytes.now }
+    ensures { IfOk result (λ found. found.items ≡ listed_signatures image.now bytes.now width) }
+{
+    let mut found = Vec::new(alloc);
+    for slot in 0..(bytes.len() - 36) / width {
+        let address = number_at(bytes, 36 + width * slot, width);
+        if let Some(signature) = listed_signature(image, address) {
+            found.push(signature)?;
+        }
+    }
+    Ok(found)
+}
+
+/// The first number at which two lists differ: the lower one of the two, or the one that the longer list has.
+fn first_difference(ours: &[u32], theirs: &[u32]) -> Option<u32>
+    ensures { result ≡ first_difference ours.now theirs.now }
+{
+    for i in 0..ours.len().min(theirs.len()) {
+        if ours[i] != theirs[i] {
+            return Some(ours[i].min(theirs[i]));
+        }
+    }
+    if ours.len() > theirs.len() {
+        Some(ours[theirs.len()])
+    } else if theirs.len() > ours.len() {
+        Some(theirs[ours.len()])
+    } else {
+        None
+    }
+}
+
+/// The lowest number that two lists have a different number of times. Allocates while it sorts them.
+fn lowest_difference(mut ours: Vec<u32>, mut theirs: Vec<u32>) -> Result<Option<u32>, AllocError>
+    ensures { IfOk result (FindsDifference ours.items theirs.items) }
+{
+    sort_unless_sorted(&mut ours)?;
+    sort_unless_sorted(&mut theirs)?;
+    Ok(first_difference(&ours, &theirs))
+}
+
+/// The lowest signature that the XSDT and the RSDT list a different number of times, if the RSDP at an address names
+/// both. The tables are those of the set. Allocates for each slot of the two.
+pub fn rsdt_differs(
+    alloc: Global,
+    image: &Image,
+    rsdp: u64,
+    tables: &CompleteTables<'_>,
+) -> Result<Option<Place>, AllocError>
+    requires { AreCompleteTables image.now rsdp tables.now }
+    ensures { IfOk result (FindsLeast (IsRsdtDiffers image.now rsdp)) }
+{
+    let Some(xsdt) = xsdt(tables) else {
+        return Ok(None);
+    };
+    let Some(rsdt) = named_rsdt(image, rsdp) else {
+        return Ok(None);
+    };
+    let ours = listed_signatures(alloc, image, xsdt, 8)?;
+    let theirs = listed_signatures(alloc, image, rsdt.bytes(), 4)?;
+    let Some(signature) = lowest_difference(ours, theirs)? else {
+        return Ok(None);
+    };
+    Ok(Some(Place {
+        at: 16,
+        other: 0,
+        point: u64::from(signature),
+    }))
+}

@@ -1,0 +1,69 @@
+//! Advice on the RSDP (ACPI 6.5, 5.2.5.3).
+
+ghost use Rattle.std.specs.Prelude.{◌≡◌, ℕ, List, Some, length, MatchOption};
+ghost use Rattle.acpi_base.specs.Memory.{bytes_at};
+ghost use Rattle.acpi_lint.specs.Places.{FindsLeast};
+ghost use Rattle.acpi_lint.specs.Rules.RsdpAdvice.{AreExtendedBytes, IsOddRevision, IsLongRsdp, IsOddExtended, IsRsdpReserved};
+
+use crate::limits::used;
+use crate::place::Place;
+use acpi_base::Image;
+use acpi_base::field::{u8_at, u32_at};
+use acpi_read::Rsdp;
+
+/// The place of the Revision, if it is neither 0 nor 2.
+fn odd_revision(image: &Image, rsdp: u64) -> Option<Place>
+    ensures { FindsLeast (IsOddRevision image.now rsdp) result }
+{
+    let head = image.window(rsdp, Rsdp::SHORT_LENGTH)?;
+    let revision = u8_at(head, 15);
+    (revision != 0 && revision != 2).then_some(Place {
+        at: 15,
+        other: 0,
+        point: u64::from(revision),
+    })
+}
+
+/// The 36 bytes of the extended form, if the RSDP has it and they are present.
+fn extended_bytes(image: &Image, rsdp: u64) -> Option<&[u8]>
+    ensures { MatchOption result ((bytes : List ℕ) → ¬ AreExtendedBytes image.now rsdp bytes)
+        (λ bytes. AreExtendedBytes image.now rsdp bytes.now × (length bytes.now ≡ 36)) }
+{
+    let head = image.window(rsdp, Rsdp::SHORT_LENGTH)?;
+    if u8_at(head, 15) < 2 {
+        return None;
+    }
+    image.window(rsdp, Rsdp::EXTENDED_LENGTH)
+}
+
+/// The place of the Length of the extended form, if that is above 36, and as many bytes are present.
+fn long_rsdp(image: &Image, rsdp: u64, bytes: &[u8]) -> Option<Place>
+    requires { length bytes.now ≡ 36 }
+    ensures { FindsLeast (IsLongRsdp image.now rsdp bytes.now) result }
+{
+    let length = u64::from(u32_at(bytes, 20));
+    if length <= 36 {
+        return None;
+    }
+    image.window(rsdp, length)?;
+    Some(Place {
+        at: 20,
+        other: 0,
+        point: length,
+    })
+}
+
+/// The place of the first field or reserved byte of the extended form that has no meaning.
+fn odd_extended(image: &Image, rsdp: u64) -> Option<Place>
+    ensures { FindsLeast (IsOddExtended image.now rsdp) result }
+{
+    let bytes = extended_bytes(image, rsdp)?;
+    long_rsdp(image, rsdp, bytes).or(used(bytes, 33, 36))
+}
+
+/// The place of the first field or reserved byte of the RSDP at an address that has no meaning.
+pub fn rsdp_reserved(image: &Image, rsdp: u64) -> Option<Place>
+    ensures { FindsLeast (IsRsdpReserved image.now rsdp) result }
+{
+    odd_revision(image, rsdp).or(odd_extended(image, rsdp))
+}

@@ -1,0 +1,42 @@
+//! Advice on the memory of a set: the RSDP, the root table, and what they lead to.
+
+ghost use Rattle.std.specs.Prelude.{IfOk};
+ghost use Rattle.acpi_lint.specs.CompleteTables.{AreCompleteTables};
+ghost use Rattle.acpi_lint.specs.Places.{FindsLeast};
+ghost use Rattle.acpi_lint.specs.RuleGroups.{in_set};
+ghost use Rattle.acpi_lint.specs.Rules.Broken.{condition};
+
+use crate::complete_tables::CompleteTables;
+use crate::header_advice::{header_text, second_other};
+use crate::memory_spans::tables_overlap;
+use crate::place::Place;
+use crate::port_overlap::ports_overlap;
+use crate::root_advice::{null_slot, rsdt_differs};
+use crate::rsdp_advice::rsdp_reserved;
+use crate::rule::Rule;
+use acpi_base::Image;
+use std::alloc::{AllocError, Global};
+
+/// The place where a rule on the memory of a set is broken. None for another rule. The tables are those of the set that
+/// the RSDP at an address leads to.
+pub fn set_place(
+    alloc: Global,
+    image: &Image,
+    rsdp: u64,
+    tables: &CompleteTables<'_>,
+    rule: Rule,
+) -> Result<Option<Place>, AllocError>
+    requires { AreCompleteTables image.now rsdp tables.now }
+    ensures { IfOk result (FindsLeast (in_set (condition rule) image.now rsdp)) }
+{
+    match rule {
+        Rule::NullSlot => Ok(null_slot(tables)),
+        Rule::RsdtDiffers => rsdt_differs(alloc, image, rsdp, tables),
+        Rule::TablesOverlap => tables_overlap(alloc, image, rsdp, tables),
+        Rule::PortsOverlap => ports_overlap(alloc, tables),
+        Rule::RsdpReserved => Ok(rsdp_reserved(image, rsdp)),
+        Rule::HeaderText => Ok(header_text(image, tables)),
+        Rule::SecondOther => second_other(alloc, image, tables),
+        _ => Ok(None),
+    }
+}
