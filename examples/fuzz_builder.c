@@ -23,7 +23,7 @@ enum { MOST_PROCESSORS = 64, MOST_NODES = 8, MOST_IO_APICS = 4, MOST_PIECES = 16
 struct machine {
     unsigned processors, nodes, io_apics;
     unsigned node_of[MOST_PROCESSORS];
-    uint64_t memory[MOST_NODES]; /* bytes; a node may have none */
+    uint64_t memory[MOST_NODES]; /* bytes; a node may have none, but the first one */
 };
 
 /* Builds the tables of the machine. Writes where they are to `pieces`, and returns how many pieces there are, at most MOST_PIECES.
@@ -80,11 +80,17 @@ static uint64_t finish(size_t start) {
     return TABLES_AT + start;
 }
 
+/* Without AML, of which there has to be a table all the same. */
+static uint64_t build_dsdt(void) {
+    return finish(begin("DSDT", 2));
+}
+
 /* Hardware-reduced ACPI has no FACS and no register blocks. */
-static uint64_t build_fadt(void) {
+static uint64_t build_fadt(uint64_t dsdt) {
     size_t start = begin("FACP", 6);
     used = start + 276;
     set(start + 112, 1 << 20, 4);
+    set(start + 140, dsdt, 8);
     return finish(start);
 }
 
@@ -152,7 +158,7 @@ static size_t build_tables(const struct machine *machine, struct acpiset_piece *
     static uint8_t rsdp[36];
     memset(memory, 0, sizeof memory);
     used = 0;
-    uint64_t fadt = build_fadt();
+    uint64_t fadt = build_fadt(build_dsdt());
     uint64_t madt = build_madt(machine);
     uint64_t srat = build_srat(machine);
     uint64_t slit = build_slit(machine);
@@ -199,7 +205,7 @@ static struct machine machine_of(const uint8_t *data, size_t size) {
     for (unsigned node = 0; node < machine.nodes; node++) {
         /* up to 12 bits of a number of pages, and an exponent */
         uint64_t pages = next(&data, &size);
-        pages |= (uint64_t)(next(&data, &size) % 16) << 8;
+        pages |= (uint64_t)(next(&data, &size) % 16) << 8 | (node == 0);
         machine.memory[node] = pages << (12 + next(&data, &size) % 12);
     }
     return machine;

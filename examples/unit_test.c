@@ -61,12 +61,13 @@ enum {
     FADT_AT = 0x7fe2000,
     MADT_AT = 0x7fe3000,
     SRAT_AT = 0x7fe4000,
-    SLIT_AT = 0x7fe5000
+    SLIT_AT = 0x7fe5000,
+    DSDT_AT = 0x7fe6000
 };
 enum { PROCESSORS = 4, NODES = 2 };
 
 struct machine {
-    struct table rsdp, xsdt, facs, fadt, madt, srat, slit;
+    struct table rsdp, xsdt, facs, dsdt, fadt, madt, srat, slit;
 };
 
 static struct table make_rsdp(uint64_t xsdt) {
@@ -96,6 +97,13 @@ static struct table make_facs(void) {
     return facs;
 }
 
+/* A DSDT without AML. */
+static struct table make_dsdt(void) {
+    struct table dsdt = begin("DSDT", 2);
+    finish(&dsdt);
+    return dsdt;
+}
+
 static struct table make_fadt(uint64_t facs) {
     struct table fadt = begin("FACP", 6);
     fadt.length = 276;
@@ -107,6 +115,7 @@ static struct table make_fadt(uint64_t facs) {
     fadt.bytes[88] = 4;        /* PM1_EVT_LEN */
     fadt.bytes[89] = 2;        /* PM1_CNT_LEN */
     fadt.bytes[91] = 4;        /* PM_TMR_LEN */
+    set(&fadt, 140, DSDT_AT, 8);
     finish(&fadt);
     return fadt;
 }
@@ -170,7 +179,7 @@ static struct table make_slit(void) {
 
 static struct machine make_machine(void) {
     const uint64_t listed[] = {FADT_AT, MADT_AT, SRAT_AT, SLIT_AT};
-    struct machine machine = {make_rsdp(XSDT_AT),  make_xsdt(listed, 4), make_facs(), make_fadt(FACS_AT),
+    struct machine machine = {make_rsdp(XSDT_AT), make_xsdt(listed, 4), make_facs(), make_dsdt(), make_fadt(FACS_AT),
                               make_madt(), make_srat(), make_slit()};
     return machine;
 }
@@ -183,7 +192,7 @@ static size_t pieces_of(const struct machine *machine, struct acpiset_piece *pie
         {RSDP_AT, machine->rsdp.bytes, machine->rsdp.length}, {XSDT_AT, machine->xsdt.bytes, machine->xsdt.length},
         {FACS_AT, machine->facs.bytes, machine->facs.length}, {FADT_AT, machine->fadt.bytes, machine->fadt.length},
         {MADT_AT, machine->madt.bytes, machine->madt.length}, {SRAT_AT, machine->srat.bytes, machine->srat.length},
-        {SLIT_AT, machine->slit.bytes, machine->slit.length},
+        {SLIT_AT, machine->slit.bytes, machine->slit.length}, {DSDT_AT, machine->dsdt.bytes, machine->dsdt.length},
     };
     memcpy(pieces, all, sizeof all);
     return sizeof all / sizeof all[0];

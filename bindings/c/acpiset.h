@@ -113,7 +113,7 @@ struct acpiset_answer acpiset_confirm(const struct acpiset_piece *pieces, size_t
 
 /* The most findings that acpiset_lint of this version reports. A shared library of a later version may count more. */
 /* begin: most, made by lists.py */
-#define ACPISET_MOST_FINDINGS 87
+#define ACPISET_MOST_FINDINGS 143
 /* end: most */
 
 /* All that is wrong: the first fault of each code that has one, and then the first finding of each rule of advice that is
@@ -248,7 +248,63 @@ enum acpiset_rule {
     ACPISET_NO_LEAF = 125,              /* a usable processor has no leaf in the PPTT, which has nodes */
     ACPISET_LEAF_NOWHERE = 126,         /* a leaf's ACPI Processor ID is no UID, and not all processors are of x86 */
     ACPISET_MADT_UNREAD = 127,          /* a structure of the MADT of a type or length that is not read */
-    ACPISET_SRAT_UNREAD = 128           /* a structure of the SRAT of a type or length that is not read */
+    ACPISET_SRAT_UNREAD = 128,          /* a structure of the SRAT of a type or length that is not read */
+    ACPISET_NULL_SLOT = 129,            /* a slot of the root table is 0 */
+    ACPISET_RSDT_DIFFERS = 130,         /* the RSDT and the XSDT list different numbers of tables with a signature */
+    ACPISET_TABLES_OVERLAP = 131,       /* two tables share bytes of memory */
+    ACPISET_NO_DSDT = 132,              /* the FADT names no DSDT */
+    ACPISET_DSDT_WRONG = 133,           /* the DSDT has another signature, a wrong Length or a wrong checksum */
+    ACPISET_NO_PM1_BLOCK = 134,         /* PM1a_EVT_BLK or PM1a_CNT_BLK is missing */
+    ACPISET_BLOCK_WIDTH = 135,          /* the length of a register block is not the width of its X_ structure */
+    ACPISET_HALF_BLOCK = 136,           /* a register block has an address and no length, or a length and no address */
+    ACPISET_PORTS_OVERLAP = 137,        /* two register blocks share an I/O port */
+    ACPISET_PORT_PAST_END = 138,        /* a register is at an I/O port above FFFFh */
+    ACPISET_GPE_OVERLAP = 139,          /* GPE1_BASE is an event number of the GPE0 block */
+    ACPISET_SMI_HALF = 140,             /* SMI_CMD cannot switch between legacy mode and ACPI mode, or is 0 and its values are not */
+    ACPISET_SCI_ZERO = 141,             /* SCI_INT is 0 */
+    ACPISET_RESET_NOWHERE = 142,        /* the reset register is supported and has the address 0 */
+    ACPISET_FADT_FOR_ARCH = 143,        /* the MADT is of Arm or RISC-V, and the FADT is not of reduced hardware or is too old */
+    ACPISET_SLEEP_REGISTER = 144,       /* a sleep register has no address, or another width or offset than 8 bits at 0 */
+    ACPISET_FADT_RESERVED = 145,        /* a field of the FADT has a reserved value */
+    ACPISET_FACS_RESERVED = 146,        /* a field of the FACS has a reserved value */
+    ACPISET_RSDP_RESERVED = 147,        /* a field of the RSDP has a reserved value */
+    ACPISET_HEADER_TEXT = 148,          /* a text of a table's header has a byte that is not printable */
+    ACPISET_SECOND_OTHER = 149,         /* a second table of a kind is listed that should be listed once */
+    ACPISET_X2_APIC_BELOW255 = 150,     /* a usable local x2APIC has an ID below 255, beside usable local APICs */
+    ACPISET_BROADCAST_ID = 151,         /* a usable processor has the ID of a broadcast */
+    ACPISET_CAPABLE_TOO_EARLY = 152,    /* a processor is Online Capable, which the FADT's version does not have */
+    ACPISET_ENABLED_AND_CAPABLE = 153,  /* a processor is both Enabled and Online Capable */
+    ACPISET_OVERRIDE_PAST_ISA = 154,    /* an override is for an interrupt above 15 that is not SCI_INT */
+    ACPISET_TIMER_LEVEL = 155,          /* the override of ISA interrupt 0, the timer, is level-triggered */
+    ACPISET_TWO_SOURCES_ONE_GSI = 156,  /* two ISA interrupts are overridden with one interrupt number */
+    ACPISET_LINT_NOT_ONE = 157,         /* an NMI is connected to another input than LINT1 */
+    ACPISET_NO_IO_APIC = 158,           /* overrides or NMI sources are there, and no I/O APIC */
+    ACPISET_NO_DISTRIBUTOR = 159,       /* there are GIC CPU interfaces, and no GIC Distributor */
+    ACPISET_NO_REDISTRIBUTOR = 160,     /* the GIC has version 3 or 4, and no redistributor */
+    ACPISET_GICR_TOO_SMALL = 161,       /* the ranges of redistributors are too small for the usable processors */
+    ACPISET_GICC_BASE_DIFFERS = 162,    /* two GIC CPU interfaces of a GIC of version 1 or 2 have different base addresses */
+    ACPISET_SAME_MPIDR = 163,           /* two usable processors have the same MPIDR */
+    ACPISET_MPIDR_RESERVED = 164,       /* a usable processor's MPIDR has a reserved bit set */
+    ACPISET_GICR_EMPTY = 165,           /* a range of redistributors has the length 0 */
+    ACPISET_SAME_ITS = 166,             /* two ITS have the same ID */
+    ACPISET_SAME_MSI_FRAME = 167,       /* two GIC MSI frames have the same ID */
+    ACPISET_GIC_OVERLAP = 168,          /* two structures of the GIC share an address */
+    ACPISET_REDISTRIBUTOR_TWICE = 169,  /* a processor names a redistributor, and ranges of redistributors are there */
+    ACPISET_NO_BOOT_METHOD = 170,       /* there are several processors and neither PSCI nor a parking protocol */
+    ACPISET_SAME_HART = 171,            /* two usable harts have the same ID */
+    ACPISET_MADT_RESERVED = 172,        /* a field of the MADT has a reserved value */
+    ACPISET_NO_MEMORY_RANGE = 173,      /* the SRAT has affinities of processors and no memory */
+    ACPISET_EMPTY_RANGE = 174,          /* a range of memory has the length 0 */
+    ACPISET_INITIATOR_OFF = 175,        /* a Generic Initiator is not enabled */
+    ACPISET_DOMAIN_PAST_REVISION = 176, /* a domain above 255 is in an SRAT of Revision 1 */
+    ACPISET_ITS_NOWHERE = 177,          /* the SRAT has an ITS that the MADT does not have */
+    ACPISET_SRAT_RESERVED = 178,        /* a field of the SRAT has a reserved value */
+    ACPISET_REMOTE_AS_LOCAL = 179,      /* the distance of a locality from another one is 10, that from itself */
+    ACPISET_LEAF_UNFLAGGED = 180,       /* a processor that no node names as Parent is not flagged as a leaf */
+    ACPISET_LEAF_AS_PARENT = 181,       /* a leaf is the Parent of a node */
+    ACPISET_NO_PACKAGE = 182,           /* no node from a leaf to its root is a package */
+    ACPISET_CACHE_NUMBERS = 183,        /* a cache's size is 0 or not the product of its sets, ways and line size */
+    ACPISET_PPTT_RESERVED = 184         /* a field of the PPTT has a reserved value */
 };
 /* end: rules */
 
@@ -343,6 +399,62 @@ static inline const char *acpiset_number_name(uint32_t number) {
     case ACPISET_LEAF_NOWHERE: return "LeafNowhere";
     case ACPISET_MADT_UNREAD: return "MadtUnread";
     case ACPISET_SRAT_UNREAD: return "SratUnread";
+    case ACPISET_NULL_SLOT: return "NullSlot";
+    case ACPISET_RSDT_DIFFERS: return "RsdtDiffers";
+    case ACPISET_TABLES_OVERLAP: return "TablesOverlap";
+    case ACPISET_NO_DSDT: return "NoDsdt";
+    case ACPISET_DSDT_WRONG: return "DsdtWrong";
+    case ACPISET_NO_PM1_BLOCK: return "NoPm1Block";
+    case ACPISET_BLOCK_WIDTH: return "BlockWidth";
+    case ACPISET_HALF_BLOCK: return "HalfBlock";
+    case ACPISET_PORTS_OVERLAP: return "PortsOverlap";
+    case ACPISET_PORT_PAST_END: return "PortPastEnd";
+    case ACPISET_GPE_OVERLAP: return "GpeOverlap";
+    case ACPISET_SMI_HALF: return "SmiHalf";
+    case ACPISET_SCI_ZERO: return "SciZero";
+    case ACPISET_RESET_NOWHERE: return "ResetNowhere";
+    case ACPISET_FADT_FOR_ARCH: return "FadtForArch";
+    case ACPISET_SLEEP_REGISTER: return "SleepRegister";
+    case ACPISET_FADT_RESERVED: return "FadtReserved";
+    case ACPISET_FACS_RESERVED: return "FacsReserved";
+    case ACPISET_RSDP_RESERVED: return "RsdpReserved";
+    case ACPISET_HEADER_TEXT: return "HeaderText";
+    case ACPISET_SECOND_OTHER: return "SecondOther";
+    case ACPISET_X2_APIC_BELOW255: return "X2ApicBelow255";
+    case ACPISET_BROADCAST_ID: return "BroadcastId";
+    case ACPISET_CAPABLE_TOO_EARLY: return "CapableTooEarly";
+    case ACPISET_ENABLED_AND_CAPABLE: return "EnabledAndCapable";
+    case ACPISET_OVERRIDE_PAST_ISA: return "OverridePastIsa";
+    case ACPISET_TIMER_LEVEL: return "TimerLevel";
+    case ACPISET_TWO_SOURCES_ONE_GSI: return "TwoSourcesOneGsi";
+    case ACPISET_LINT_NOT_ONE: return "LintNotOne";
+    case ACPISET_NO_IO_APIC: return "NoIoApic";
+    case ACPISET_NO_DISTRIBUTOR: return "NoDistributor";
+    case ACPISET_NO_REDISTRIBUTOR: return "NoRedistributor";
+    case ACPISET_GICR_TOO_SMALL: return "GicrTooSmall";
+    case ACPISET_GICC_BASE_DIFFERS: return "GiccBaseDiffers";
+    case ACPISET_SAME_MPIDR: return "SameMpidr";
+    case ACPISET_MPIDR_RESERVED: return "MpidrReserved";
+    case ACPISET_GICR_EMPTY: return "GicrEmpty";
+    case ACPISET_SAME_ITS: return "SameIts";
+    case ACPISET_SAME_MSI_FRAME: return "SameMsiFrame";
+    case ACPISET_GIC_OVERLAP: return "GicOverlap";
+    case ACPISET_REDISTRIBUTOR_TWICE: return "RedistributorTwice";
+    case ACPISET_NO_BOOT_METHOD: return "NoBootMethod";
+    case ACPISET_SAME_HART: return "SameHart";
+    case ACPISET_MADT_RESERVED: return "MadtReserved";
+    case ACPISET_NO_MEMORY_RANGE: return "NoMemoryRange";
+    case ACPISET_EMPTY_RANGE: return "EmptyRange";
+    case ACPISET_INITIATOR_OFF: return "InitiatorOff";
+    case ACPISET_DOMAIN_PAST_REVISION: return "DomainPastRevision";
+    case ACPISET_ITS_NOWHERE: return "ItsNowhere";
+    case ACPISET_SRAT_RESERVED: return "SratReserved";
+    case ACPISET_REMOTE_AS_LOCAL: return "RemoteAsLocal";
+    case ACPISET_LEAF_UNFLAGGED: return "LeafUnflagged";
+    case ACPISET_LEAF_AS_PARENT: return "LeafAsParent";
+    case ACPISET_NO_PACKAGE: return "NoPackage";
+    case ACPISET_CACHE_NUMBERS: return "CacheNumbers";
+    case ACPISET_PPTT_RESERVED: return "PpttReserved";
     default: return "";
     }
 }
@@ -359,6 +471,110 @@ static inline uint32_t acpiset_stage_of(uint32_t code) {
     return code < sizeof stages / sizeof stages[0] ? stages[code] : 0;
 }
 /* end: stages */
+
+/* How serious a finding is. */
+enum acpiset_severity {
+    ACPISET_NOT_LOOKED_AT = 1, /* advice: nothing is known to be wrong, but no rule looks at what is there */
+    ACPISET_LOOK_AT_IT = 2,    /* advice: unusual, but there may be such hardware */
+    ACPISET_LIKELY_WRONG = 3,  /* advice: almost always a mistake */
+    ACPISET_FAULT = 4          /* a fault: one of the eighteen statements does not hold */
+};
+
+/* The severity of a code or a rule; 0 if there is none of this number, as for those of a later library. */
+/* begin: severities, made by lists.py */
+static inline uint32_t acpiset_severity_of(uint32_t number) {
+    switch (number) {
+    case ACPISET_MADT_UNREAD:
+    case ACPISET_SRAT_UNREAD:
+        return ACPISET_NOT_LOOKED_AT;
+    case ACPISET_CACHE_SHAPE:
+    case ACPISET_NULL_SLOT:
+    case ACPISET_FADT_RESERVED:
+    case ACPISET_FACS_RESERVED:
+    case ACPISET_RSDP_RESERVED:
+    case ACPISET_HEADER_TEXT:
+    case ACPISET_SECOND_OTHER:
+    case ACPISET_ENABLED_AND_CAPABLE:
+    case ACPISET_LINT_NOT_ONE:
+    case ACPISET_NO_IO_APIC:
+    case ACPISET_MADT_RESERVED:
+    case ACPISET_SRAT_RESERVED:
+    case ACPISET_LEAF_AS_PARENT:
+    case ACPISET_CACHE_NUMBERS:
+    case ACPISET_PPTT_RESERVED:
+        return ACPISET_LOOK_AT_IT;
+    case ACPISET_LISTED_TWICE:
+    case ACPISET_SECOND_TABLE:
+    case ACPISET_LISTED_APART:
+    case ACPISET_FADT_OF_REVISION:
+    case ACPISET_FACS_DIFFERS:
+    case ACPISET_DSDT_DIFFERS:
+    case ACPISET_BLOCK_DIFFERS:
+    case ACPISET_SCI_NOWHERE:
+    case ACPISET_SAME_UID:
+    case ACPISET_SAME_APIC_ID:
+    case ACPISET_IO_APIC_AT_ZERO:
+    case ACPISET_SAME_IO_APIC_ID:
+    case ACPISET_SAME_IO_APIC_ADDRESS:
+    case ACPISET_NMI_NOWHERE:
+    case ACPISET_SECOND_GICD:
+    case ACPISET_NO_PROCESSOR:
+    case ACPISET_TWO_UID_DOMAINS:
+    case ACPISET_AFFINITY_NOWHERE:
+    case ACPISET_NO_DOMAIN:
+    case ACPISET_DOMAIN_PAST_SLIT:
+    case ACPISET_SLIT_DIFFERS:
+    case ACPISET_SAME_LEAF:
+    case ACPISET_SAME_CACHE_ID:
+    case ACPISET_NO_LEAF:
+    case ACPISET_LEAF_NOWHERE:
+    case ACPISET_RSDT_DIFFERS:
+    case ACPISET_TABLES_OVERLAP:
+    case ACPISET_NO_DSDT:
+    case ACPISET_DSDT_WRONG:
+    case ACPISET_NO_PM1_BLOCK:
+    case ACPISET_BLOCK_WIDTH:
+    case ACPISET_HALF_BLOCK:
+    case ACPISET_PORTS_OVERLAP:
+    case ACPISET_PORT_PAST_END:
+    case ACPISET_GPE_OVERLAP:
+    case ACPISET_SMI_HALF:
+    case ACPISET_SCI_ZERO:
+    case ACPISET_RESET_NOWHERE:
+    case ACPISET_FADT_FOR_ARCH:
+    case ACPISET_SLEEP_REGISTER:
+    case ACPISET_X2_APIC_BELOW255:
+    case ACPISET_BROADCAST_ID:
+    case ACPISET_CAPABLE_TOO_EARLY:
+    case ACPISET_OVERRIDE_PAST_ISA:
+    case ACPISET_TIMER_LEVEL:
+    case ACPISET_TWO_SOURCES_ONE_GSI:
+    case ACPISET_NO_DISTRIBUTOR:
+    case ACPISET_NO_REDISTRIBUTOR:
+    case ACPISET_GICR_TOO_SMALL:
+    case ACPISET_GICC_BASE_DIFFERS:
+    case ACPISET_SAME_MPIDR:
+    case ACPISET_MPIDR_RESERVED:
+    case ACPISET_GICR_EMPTY:
+    case ACPISET_SAME_ITS:
+    case ACPISET_SAME_MSI_FRAME:
+    case ACPISET_GIC_OVERLAP:
+    case ACPISET_REDISTRIBUTOR_TWICE:
+    case ACPISET_NO_BOOT_METHOD:
+    case ACPISET_SAME_HART:
+    case ACPISET_NO_MEMORY_RANGE:
+    case ACPISET_EMPTY_RANGE:
+    case ACPISET_INITIATOR_OFF:
+    case ACPISET_DOMAIN_PAST_REVISION:
+    case ACPISET_ITS_NOWHERE:
+    case ACPISET_REMOTE_AS_LOCAL:
+    case ACPISET_LEAF_UNFLAGGED:
+    case ACPISET_NO_PACKAGE:
+        return ACPISET_LIKELY_WRONG;
+    default: return number >= 1 && number <= 59 ? ACPISET_FAULT : 0;
+    }
+}
+/* end: severities */
 
 /* The name of a kind, such as "OutOfMemory"; "" if there is none of this number. */
 /* begin: kinds, made by lists.py */

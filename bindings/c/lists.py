@@ -1,6 +1,7 @@
 #!/usr/bin/env python3
 """Writes the parts of acpiset.h that follow from the crates: the codes and the rules with their numbers, names and stages, the
-names of the kinds, how many findings there can be, and where the fields of each struct are.
+names of the kinds, how many findings there can be, and where the fields of each struct are; and the severities of the rules, which
+docs/FAULTS.md says.
 
 usage: bindings/c/lists.py [HEADER]          writes these parts anew, each between its marks
        bindings/c/lists.py --check [HEADER]  prints what differs from the crates, and ends with status 1 if anything does
@@ -18,12 +19,16 @@ TOP = Path(__file__).resolve().parent.parent.parent
 HEADER = TOP / "bindings" / "c" / "acpiset.h"
 CRATES = TOP / "crates"
 CRATE = TOP / "crates" / "acpi_c"
+FAULTS = TOP / "docs" / "FAULTS.md"
 
 # The source files whose comments say what each code, rule and stage is.
 SOURCES = {it: CRATES / crate / "src" / f"{it}.rt" for it, crate in (("code", "acpi_base"), ("rule", "acpi_lint"), ("stage", "acpi_base"))}
 
 # Enumerators that are spelled otherwise than their variants.
 SPELLED = {"BadHotPlug": "BAD_HOTPLUG"}
+
+# The severities of the rules as the documents call them, and their enumerators.
+SEVERITIES = {"not looked at": "ACPISET_NOT_LOOKED_AT", "look at it": "ACPISET_LOOK_AT_IT", "likely wrong": "ACPISET_LIKELY_WRONG"}
 
 # The structs, as the header calls them, in its order.
 STRUCTS = {it: f"acpiset_{it.lower()}" for it in ("Piece", "Inputs", "Settings", "Finding", "Answer")}
@@ -54,14 +59,15 @@ def numbers(path, function):
 
 @dataclass
 class Crates:
-    """The numbers of codes, rules and kinds, their names, the stages of codes, and what codes, rules and stages are; and the fields of
-    structs, each as its name, offset and size, with the struct's size at the end."""
+    """The numbers of codes, rules and kinds, their names, the stages of codes, the severities of rules, and what codes, rules and stages
+    are; and the fields of structs, each as its name, offset and size, with the struct's size at the end."""
 
     codes: dict
     rules: dict
     kinds: dict
     names: dict
     stages: dict
+    severities: dict
     sentences: dict
     stage_sentences: dict
     structs: dict
@@ -94,11 +100,22 @@ def read_crates():
         kinds=numbers(CRATE / "specs" / "Kinds.antt", "kind_number"),
         names={variant: row[-1] for variant, row in {**code_rows, **rule_rows}.items()},
         stages={code: stage_numbers[row[1]] for code, row in code_rows.items()},
+        severities=severities(rule_rows),
         sentences={**sentences("code"), **sentences("rule")},
         stage_sentences={number: stage_sentences.get(stage) for stage, number in stage_numbers.items()},
         structs=read_structs(),
         abi=int(re.search(r"fn acpiset_abi\(\) -> u32\n.*?\n\{\n    (\d+)\n\}", (CRATE / "src" / "lib.rt").read_text(), re.S)[1]),
     )
+
+
+def severities(rules):
+    """The severity of each rule, by what its part of docs/FAULTS.md begins with."""
+    parts = dict(re.findall(r"^### \d+ (\w+)\n(.*?)(?=^##|\Z)", FAULTS.read_text(), re.M | re.S))
+    found = {rule: re.search(rf"^- Severity: ({'|'.join(SEVERITIES)})\b", parts.get(rule, ""), re.M) for rule in rules}
+    missing = [rule for rule, severity in found.items() if not severity]
+    if missing:
+        sys.exit(f"{FAULTS}: no severity of {', '.join(missing)}")
+    return {rule: severity[1] for rule, severity in found.items()}
 
 
 def read_structs():
@@ -176,6 +193,17 @@ def stage_function(crates):
     yield "}"
 
 
+def severity_function(crates):
+    yield "static inline uint32_t acpiset_severity_of(uint32_t number) {"
+    yield "    switch (number) {"
+    for severity, name in SEVERITIES.items():
+        yield from (f"    case {enumerator(rule)}:" for rule, own in crates.severities.items() if own == severity)
+        yield f"        return {name};"
+    yield f"    default: return number >= {min(crates.codes.values())} && number <= {max(crates.codes.values())} ? ACPISET_FAULT : 0;"
+    yield "    }"
+    yield "}"
+
+
 def layout(crates):
     for name, struct in STRUCTS.items():
         fields, size = crates.structs[name]
@@ -193,6 +221,7 @@ def parts(crates):
         "rules": ["enum acpiset_rule {", *commented(rule_lines(crates)), "};"],
         "names": switch("acpiset_number_name", "number", ((enumerator(it), crates.names[it]) for it in numbered)),
         "stages": stage_function(crates),
+        "severities": severity_function(crates),
         "kinds": switch("acpiset_kind_name", "kind", ((enumerator(it), it) for it in crates.kinds)),
         "layout": layout(crates),
     }

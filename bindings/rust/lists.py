@@ -24,6 +24,8 @@ STAGE = "A part of a check. Each stage is looked at only if all earlier ones hol
 CODE = """What is wrong with a set of tables. The manual page `acpiset-faults(7)` and docs/FAULTS.md of the repository say of each code what
 it means for an operating system and what is to be fixed. "Numbers" are those of a [`Fault`](crate::Fault): offsets are from the start of
 a table, and slots are those of the RSDT or XSDT, from 0 on."""
+# The severities of the rules, as docs/FAULTS.md calls them.
+SEVERITIES = {"not looked at": "NotLookedAt", "look at it": "LookAtIt", "likely wrong": "LikelyWrong"}
 RULE = """A rule of advice. A set of tables may have a reason to break one, so no rule is a fault. "Numbers" are those of an
 [`Advice`](crate::Advice), as with [`Code`]."""
 
@@ -90,12 +92,34 @@ def stages(stage_of):
 """
 
 
+def severities(rules):
+    """The function from a rule to its severity, an arm for each severity."""
+    parts = dict(re.findall(r"^### \d+ (\w+)\n(.*?)(?=^##|\Z)", FAULTS.read_text(), re.M | re.S))
+    own = {rule: re.search(rf"^- Severity: ({'|'.join(SEVERITIES)})\b", parts[rule], re.M)[1] for rule in rules}
+    arms = ""
+    for severity, name in SEVERITIES.items():
+        named = [rule for rule in rules if own[rule] == severity]
+        arms += "            Rule::" + "\n            | Rule::".join(named) + f" => Severity::{name},\n"
+    return f"""impl Rule {{
+    /// How serious a finding of it is; none of a rule that this version of the crate does not know.
+    #[must_use]
+    #[rustfmt::skip]
+    pub const fn severity(self) -> Option<Severity> {{
+        Some(match self {{
+{arms}            Rule::Unknown {{ .. }} => return None,
+        }})
+    }}
+}}
+"""
+
+
 def lists():
     """What src/lists.rs has to be."""
     head = """//! The stages, codes and rules.
 
 // Written by lists.py from definitions and docs/FAULTS.md: change those, and run it again.
 
+use crate::finding::Severity;
 use crate::numbered::numbered;
 """
     parts = [
@@ -103,6 +127,7 @@ use crate::numbered::numbered;
         numbered("Code", CODE, table(CODES, "code_row", r"\((\d+), .*\)"), meanings("Wrong")),
         stages(table(CODES, "code_row", r"\(\d+, stage\.(\w+), .*\)")),
         numbered("Rule", RULE, table(RULES, "rule_row", r"\((\d+), .*\)"), meanings("Found")),
+        severities(table(RULES, "rule_row", r"\((\d+), .*\)")),
     ]
     return "\n".join([head, *parts])
 

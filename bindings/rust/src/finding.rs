@@ -89,6 +89,18 @@ impl Display for Fault {
     }
 }
 
+/// How serious a finding of advice is, from what needs the least attention to what needs the most.
+#[derive(Clone, Copy, Debug, PartialEq, Eq, PartialOrd, Ord, Hash)]
+#[non_exhaustive]
+pub enum Severity {
+    /// Nothing is known to be wrong, but no rule looks at what is there.
+    NotLookedAt,
+    /// Unusual, but there may be such hardware.
+    LookAtIt,
+    /// Almost always a mistake.
+    LikelyWrong,
+}
+
 /// A finding of advice: what is probably wrong but breaks none of the rules that a check tests. A machine may have a
 /// reason for it.
 ///

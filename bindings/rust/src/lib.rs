@@ -64,7 +64,7 @@ mod sys;
 #[cfg(test)]
 mod tests;
 
-pub use finding::{Advice, Fault, Findings};
+pub use finding::{Advice, Fault, Findings, Severity};
 pub use lists::{Code, Rule, Stage};
 pub use refusal::Refusal;
 pub use settings::{HotPlug, Inputs, Processors, Settings};

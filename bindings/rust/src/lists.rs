@@ -2,6 +2,7 @@
 
 // Written by lists.py from definitions and docs/FAULTS.md: change those, and run it again.
 
+use crate::finding::Severity;
 use crate::numbered::numbered;
 
 numbered! {
@@ -528,8 +529,9 @@ numbered! {
         ///
         /// Numbers: `at` is the leaf's offset, `point` is its ACPI Processor ID.
         LeafNowhere = 126,
-        /// The MADT has a structure that no stage and no rule looks at: one of a type other than 0 to 5, 9 to 12, 17
-        /// and 24, a GICC (11) shorter than 40 bytes, a CORE PIC (17) of other than 15, or an RINTC (24) shorter than
+        /// The MADT has a structure that no stage and no rule looks at: one of a type other than 0 to 5, 9 to 15, 17
+        /// and 24, a GICC (11) shorter than 40 bytes, a GICD (12) or an MSI frame (13) of other than 24, a GICR (14) of
+        /// other than 16, an ITS (15) of other than 20, a CORE PIC (17) of other than 15, or an RINTC (24) shorter than
         /// 20. `acpiset` uses only its type and length.
         ///
         /// Numbers: `at` is the offset of the first one, `other` its type.
@@ -540,5 +542,393 @@ numbered! {
         ///
         /// Numbers: `at` is the offset of the first one, `other` its type.
         SratUnread = 128,
+        /// A slot of the XSDT or RSDT holds 0.
+        ///
+        /// Numbers: `at` is the slot's number, from 0.
+        NullSlot = 129,
+        /// The XSDT and the RSDT do not list the same number of tables of each signature. The XSDT is complete, the
+        /// RSDP also names an RSDT, and that one is complete. Slots of 0 do not count, nor slots with an address at
+        /// which fewer than 4 bytes are in the image, nor slots of the XSDT with an address of 0x100000000 or above,
+        /// which no RSDT can list.
+        ///
+        /// Numbers: `at` is 0x10 (16), the offset of RsdtAddress in the RSDP, `point` is the signature as a
+        /// little-endian number: 0x54545050 is `PPTT`. If several signatures differ, it is the lowest of these numbers.
+        RsdtDiffers = 130,
+        /// Two tables share bytes of memory. The RSDP, the XSDT or RSDT, the FACS, the DSDT and the listed tables are
+        /// compared, each with all its bytes, if they are in the image. Tables that begin at the same address count as
+        /// one.
+        ///
+        /// Numbers: `at` and `other` are the addresses at which two such tables begin, the lower one first, `point` is
+        /// the lowest address at which two tables overlap.
+        TablesOverlap = 131,
+        /// The FADT names no DSDT: DSDT is 0, and X_DSDT does not exist or is 0.
+        ///
+        /// Numbers: `at` is 0x28 (40), the offset of DSDT.
+        NoDsdt = 132,
+        /// The FADT names a DSDT, and what is there has another signature, a Length below 36, or a wrong checksum
+        /// (5.2.11.1). Its header, 36 bytes, is in the image; for the checksum all Length bytes are.
+        ///
+        /// Numbers: `at` is 0x28 (40), the offset of DSDT in the FADT, `point` is the DSDT's address.
+        DsdtWrong = 133,
+        /// The hardware is not reduced, and PM1a_EVT_BLK or PM1a_CNT_BLK has no address, neither in its 4-byte field
+        /// nor in its X_ structure.
+        ///
+        /// Numbers: `at` is the offset of the 4-byte field, 0x38 (56) or 0x40 (64).
+        NoPm1Block = 134,
+        /// The hardware is not reduced, and the length byte of a register block is not the bit width of its X_
+        /// structure. Neither address is 0, neither the width nor the length is 0, and the length is at most 31, since
+        /// a width is one byte.
+        ///
+        /// Numbers: `at` is the offset of the 4-byte address, `other` is 8 times the length byte, `point` is the bit
+        /// width.
+        BlockWidth = 135,
+        /// The hardware is not reduced, and one of the register blocks PM2_CNT, PM_TMR, GPE0 and GPE1 has a length and
+        /// no address, or an address and no length.
+        ///
+        /// Numbers: `at` is the offset of the 4-byte field, `other` is the length byte, `point` is the address, or 0 if
+        /// there is none.
+        HalfBlock = 136,
+        /// The hardware is not reduced, and two register blocks in system I/O share a port. A block is at the address
+        /// of its X_ structure or, if that is 0, at its 4-byte address. It has as many ports as its length byte says.
+        /// If that is 0, one with an X_ structure has as many as its bit width needs.
+        ///
+        /// Numbers: `at` and `other` are the offsets of the 4-byte fields of two such blocks, first the one at the
+        /// lower port, `point` is the lowest port at which two blocks overlap.
+        PortsOverlap = 137,
+        /// A register in system I/O is at a port above 0xffff. This is the last port of a register block, or SMI_CMD,
+        /// if the hardware is not reduced; and RESET_REG, if RESET_REG_SUP is set and Length is at least 129.
+        ///
+        /// Numbers: `at` is the offset of the block's 4-byte field, of SMI_CMD, 0x30 (48), or of RESET_REG, 0x74 (116),
+        /// `other` is the number of bytes, `point` is the address.
+        PortPastEnd = 138,
+        /// The hardware is not reduced, there are two GPE blocks, and GPE1_BASE is below 4 * GPE0_BLK_LEN, the number
+        /// of events of GPE0.
+        ///
+        /// Numbers: `at` is 0x5e (94), the offset of GPE1_BASE, `other` is 4 * GPE0_BLK_LEN, `point` is GPE1_BASE.
+        GpeOverlap = 139,
+        /// The hardware is not reduced, and SMI_CMD does not fit its commands. Either SMI_CMD is not 0, and ACPI_ENABLE
+        /// and ACPI_DISABLE are the same; or SMI_CMD is 0, and a command is not.
+        ///
+        /// Numbers: `at` is 0x30 (48), the offset of SMI_CMD, `other` is the offset of ACPI_ENABLE, 0x34 (52), or of
+        /// the first command that is not 0, `point` is SMI_CMD.
+        SmiHalf = 140,
+        /// The hardware is not reduced, and SCI_INT is 0.
+        ///
+        /// Numbers: `at` is 0x2e (46), the offset of SCI_INT.
+        SciZero = 141,
+        /// RESET_REG_SUP is set, Length is at least 129, and the address in RESET_REG is 0.
+        ///
+        /// Numbers: `at` is 0x74 (116), the offset of RESET_REG.
+        ResetNowhere = 142,
+        /// The MADT is of a machine of Arm or RISC-V, and the FADT does not fit it. With a structure of type 11 (GICC)
+        /// or 24 (RINTC), of any length, HW_REDUCED_ACPI must be set; with one of type 11 the FADT must not be older
+        /// than 5.1.
+        ///
+        /// Numbers: for HW_REDUCED_ACPI `at` is 0x70 (112), the offset of Flags. For the version `at` is 0x8, the
+        /// offset of Revision, `other` is Revision, `point` is the minor version.
+        FadtForArch = 143,
+        /// The hardware is reduced, and its sleep registers cannot be used. One of them has an address and a bit width
+        /// other than 8 or a bit offset other than 0; or both exist, and only one has an address.
+        ///
+        /// Numbers: `at` is the register's offset, 0xf4 (244) or 0x100 (256). For a width or an offset `other` is the
+        /// bit width, `point` is the bit offset; for a register without an address both are 0.
+        SleepRegister = 144,
+        /// A field of the FADT has a reserved value. Byte 44 is above 1, Preferred_PM_Profile is above 8, byte 111 is
+        /// not 0, a bit of Flags above bit 23 is set, or bits 22 and 23 both are.
+        ///
+        /// Numbers: `at` is the field's offset, `point` is its value.
+        FadtReserved = 145,
+        /// A field of the FACS has a reserved value. Version is above 2, a byte from 33 to 35 or from 40 to 63 is not
+        /// 0, a bit of Flags above bit 1 is set, or a bit of OSPM Flags above bit 0. Applies only to a FACS without the
+        /// faults 27 to 31.
+        ///
+        /// Numbers: `at` is the field's offset in the FACS, `point` is its value.
+        FacsReserved = 146,
+        /// A field of the RSDP has a reserved value. Revision is neither 0 nor 2; or Revision is 2 or above, and Length
+        /// is above 36 or a byte from 33 to 35 is not 0. Length is looked at if all its bytes are in the image.
+        ///
+        /// Numbers: `at` is the field's offset in the RSDP, `point` is its value.
+        RsdpReserved = 147,
+        /// A text in the header of a listed table has a byte that is not printable ASCII, 0x20 to 0x7e. Zeros at the
+        /// end of a text are allowed. A table counts if its header, 36 bytes, is in the image.
+        ///
+        /// Numbers: `at` is the slot's number, `other` the offset of the text, `point` is the table's address.
+        HeaderText = 148,
+        /// A slot lists a table of a kind of which a set has one, and an earlier slot lists one with the same signature
+        /// at another address. The kinds are BERT, BGRT, CCEL, CPEP, DBG2, DMAR, ECDT, EINJ, ERST, FPDT, GTDT, HEST,
+        /// HMAT, IORT, IVRS, MCFG, MPST, MSCT, NFIT, PCCT, PDTT, PHAT, PMTT, PRMT, RASF, RAS2, SBST, SDEI, SDEV, SPCR,
+        /// SVKL, TPM2, VIOT, WAET and WSMT. A table counts if its header, 36 bytes, is in the image.
+        ///
+        /// Numbers: `at` is the slot's number, `other` that of the first slot with this signature, `point` is the
+        /// address in slot `at`.
+        SecondOther = 149,
+        /// A usable local x2APIC has an X2APIC ID below 255, beside a usable local APIC with another APIC ID than 255
+        /// (5.2.12.12).
+        ///
+        /// Numbers: `at` is the offset of the local x2APIC, `point` is its X2APIC ID.
+        X2ApicBelow255 = 150,
+        /// A usable local APIC has the APIC ID 255, or a usable local x2APIC the X2APIC ID 0xffffffff (5.2.12.2,
+        /// 5.2.12.12).
+        ///
+        /// Numbers: `at` is the structure's offset, `point` is the ID.
+        BroadcastId = 151,
+        /// A processor is Online Capable and not Enabled, and the FADT's version does not have this flag: it is older
+        /// than 6.3 for a local APIC or x2APIC, or older than 6.5 for a GICC (5.2.12.2, 5.2.12.12, 5.2.12.14).
+        ///
+        /// Numbers: `at` is the structure's offset, `other` is the FADT's Revision, `point` is its minor version.
+        CapableTooEarly = 152,
+        /// A processor is both Enabled and Online Capable (5.2.12.2, 5.2.12.12, 5.2.12.14).
+        ///
+        /// Numbers: `at` is the structure's offset, `point` is its Flags.
+        EnabledAndCapable = 153,
+        /// An interrupt source override has a Source above 15 that is not SCI_INT (5.2.12.5). Applies if there is a
+        /// FADT.
+        ///
+        /// Numbers: `at` is the override's offset, `other` is its Source, `point` is its Global System Interrupt.
+        OverridePastIsa = 154,
+        /// The override of Source 0, the timer of the ISA bus, says that the interrupt is level-triggered (5.2.12.5).
+        ///
+        /// Numbers: `at` is the override's offset, `point` is its Flags.
+        TimerLevel = 155,
+        /// An override has the Global System Interrupt of an earlier one with another Source (5.2.12.5).
+        ///
+        /// Numbers: `at` is the override's offset, `other` that of the first one with this number and another Source,
+        /// `point` is the number.
+        TwoSourcesOneGsi = 156,
+        /// The NMI of a local APIC or local x2APIC is wired to another input than LINT1 (5.2.12.7, 5.2.12.13).
+        ///
+        /// Numbers: `at` is the structure's offset, `point` is the LINT number.
+        LintNotOne = 157,
+        /// A local APIC or local x2APIC is usable, the MADT has overrides or NMI sources, and it has no I/O APIC
+        /// (5.2.12.3). There is no I/O SAPIC (type 6) either. Applies only if the MADT is well-formed.
+        ///
+        /// Numbers: all 0.
+        NoIoApic = 158,
+        /// The MADT has a GICC (type 11) and no GIC Distributor (type 12), of any length (5.2.12.15). Applies only if
+        /// the MADT is well-formed.
+        ///
+        /// Numbers: all 0.
+        NoDistributor = 159,
+        /// The GIC has version 3 or 4, and no redistributor is described (5.2.12.17). There is no structure of type 14,
+        /// and no usable GICC has a GICR Base Address other than 0. Applies only if the MADT is well-formed.
+        ///
+        /// Numbers: `at` is the GICD's offset, `other` is its version.
+        NoRedistributor = 160,
+        /// The GIC has version 3 or 4, and the GICRs have room for fewer redistributors than there are usable GICCs
+        /// (5.2.12.17). Each redistributor takes 0x20000 bytes of one range. Applies only if the MADT is well-formed
+        /// and all its structures of type 14 have 16 bytes.
+        ///
+        /// Numbers: `at` is the offset of the first GICR, `other` is the number of redistributors for which there is
+        /// room, `point` that of usable GICCs.
+        GicrTooSmall = 161,
+        /// The GIC has version 1 or 2, and a GICC has another Physical Base Address than the first GICC (5.2.12.14).
+        ///
+        /// Numbers: `at` is the offset of the GICC, `other` that of the first GICC, `point` is the address of the one
+        /// at `at`.
+        GiccBaseDiffers = 162,
+        /// A usable GICC has the MPIDR of an earlier usable one (5.2.12.14).
+        ///
+        /// Numbers: `at` is the structure's offset, `other` that of the first usable one with this MPIDR, `point` is
+        /// the MPIDR.
+        SameMpidr = 163,
+        /// The MPIDR of a usable GICC has a bit set outside of 0xff00ffffff, its four affinity fields (5.2.12.14).
+        ///
+        /// Numbers: `at` is the structure's offset, `point` is the MPIDR.
+        MpidrReserved = 164,
+        /// A GICR has a Discovery Range Length of 0 (5.2.12.17).
+        ///
+        /// Numbers: `at` is the structure's offset, `point` is the base address.
+        GicrEmpty = 165,
+        /// An ITS has the GIC ITS ID of an earlier one (5.2.12.18).
+        ///
+        /// Numbers: `at` is the structure's offset, `other` that of the first one with this ID, `point` is the ID.
+        SameIts = 166,
+        /// An MSI frame has the GIC MSI Frame ID of an earlier one (5.2.12.16).
+        ///
+        /// Numbers: `at` is the structure's offset, `other` that of the first one with this ID, `point` is the ID.
+        SameMsiFrame = 167,
+        /// Two structures of the GIC share an address (5.2.12.15). A GICR has as many bytes as its Discovery Range
+        /// Length says, an ITS 0x20000, an MSI frame 0x1000, and a GICD 0x10000 if its version is 3 or 4 and 0x1000
+        /// otherwise.
+        ///
+        /// Numbers: `at` and `other` are the offsets of two such structures, first the one with the lower address,
+        /// `point` is the lowest address at which two overlap.
+        GicOverlap = 168,
+        /// There is a GICR, and a usable GICC also has a GICR Base Address other than 0 (5.2.12.14, 5.2.12.17).
+        ///
+        /// Numbers: `at` is the offset of the GICC, `other` that of the first GICR, `point` is the GICR Base Address.
+        RedistributorTwice = 169,
+        /// More than one GICC is usable, and nothing says how the other processors are started (5.2.12.14).
+        /// ARM_BOOT_ARCH exists, its bit 0, PSCI_COMPLIANT, is clear, and the Parking Protocol Version is 0 in all
+        /// usable GICCs. Applies only if the MADT is well-formed.
+        ///
+        /// Numbers: `at` is 0x81 (129), the offset of ARM_BOOT_ARCH in the FADT, `point` is ARM_BOOT_ARCH.
+        NoBootMethod = 170,
+        /// A usable RINTC has the Hart ID of an earlier usable one. RINTC comes after ACPI 6.5.
+        ///
+        /// Numbers: `at` is the structure's offset, `other` that of the first usable one with this ID, `point` is the
+        /// ID.
+        SameHart = 171,
+        /// A field of the MADT has a reserved value. It is a bit of the MADT's Flags above bit 0; a reserved byte or a
+        /// reserved bit of the flags in a structure of types 0 to 5, 9 and 10; or, in a GICD, a byte from 16 to 19 that
+        /// is not 0, or a version above 4.
+        ///
+        /// Numbers: for the MADT's Flags `at` is 0x28 (40), `point` is Flags. Otherwise `at` is the structure's offset,
+        /// `other` the offset in it of the first field or byte that is wrong.
+        MadtReserved = 172,
+        /// The SRAT has an affinity, and no enabled memory range with a Length above 0 (5.2.16.2). Applies only if the
+        /// SRAT is well-formed.
+        ///
+        /// Numbers: all 0.
+        NoMemoryRange = 173,
+        /// An enabled memory range has a Length of 0 (5.2.16.2).
+        ///
+        /// Numbers: `at` is the structure's offset, `point` is the Base Address.
+        EmptyRange = 174,
+        /// A generic initiator (type 5, 32 bytes) is not enabled (5.2.16.6).
+        ///
+        /// Numbers: `at` is the structure's offset, `point` is its domain.
+        InitiatorOff = 175,
+        /// The SRAT's Revision is below 2, and an enabled structure of type 0 or 1 has a domain above 255 (5.2.16).
+        ///
+        /// Numbers: `at` is the structure's offset, `other` is the Revision, `point` is the domain.
+        DomainPastRevision = 176,
+        /// An ITS affinity of the SRAT names an ITS that the MADT does not have (5.2.16.5). Applies only if the MADT is
+        /// well-formed and all its structures of type 15 have 20 bytes.
+        ///
+        /// Numbers: `at` is the structure's offset in the SRAT, `point` is its ITS ID.
+        ItsNowhere = 177,
+        /// A field of the SRAT has a reserved value. The 4 bytes at 36 are not the number 1, or a structure of types 0
+        /// to 2 has a reserved byte that is not 0 or a reserved bit of its flags set.
+        ///
+        /// Numbers: for the number `at` is 0x24 (36), `point` is the number. Otherwise `at` is the structure's offset,
+        /// `other` the offset in it of the first field or byte that is wrong.
+        SratReserved = 178,
+        /// The distance from one locality to another one is 10, that of a locality from itself (5.2.17).
+        ///
+        /// Numbers: `at` is the offset of the distance in the SLIT, `other` is i, `point` is j: it is the distance from
+        /// i to j.
+        RemoteAsLocal = 179,
+        /// The PPTT's Revision is 2 or above, and a node with a valid ACPI Processor ID is no node's Parent and is not
+        /// flagged as a leaf (5.2.30.1). Applies only if the PPTT is well-formed.
+        ///
+        /// Numbers: `at` is the node's offset, `point` is its ACPI Processor ID.
+        LeafUnflagged = 180,
+        /// The PPTT's Revision is 2 or above, and a node that is flagged as a leaf is the Parent of a node (5.2.30.1).
+        ///
+        /// Numbers: `at` is the leaf's offset, `other` that of the first node that names it as its Parent.
+        LeafAsParent = 181,
+        /// Neither a leaf nor any node to which its Parents lead is flagged as a physical package (5.2.30.1).
+        ///
+        /// Numbers: `at` is the leaf's offset, `point` is its ACPI Processor ID.
+        NoPackage = 182,
+        /// The valid numbers of a cache contradict each other (5.2.30.2). Its Associativity is valid and 0, or its Size
+        /// is valid and 0; or Size, Number of Sets, Associativity and Line Size are all valid, and Size is not the
+        /// product of the others.
+        ///
+        /// Numbers: `at` is the cache's offset, `other` is its Size, `point` is Number of Sets * Associativity * Line
+        /// Size, as these fields are.
+        CacheNumbers = 183,
+        /// A field of a node or a cache has a reserved value. A reserved byte, 2 or 3, is not 0; or a reserved bit is
+        /// set: above bit 4 in the flags of a node, above bit 7 in those of a cache, above bit 4 in the attributes of a
+        /// cache.
+        ///
+        /// Numbers: `at` is the structure's offset, `other` the offset in it of the first field or byte that is wrong.
+        PpttReserved = 184,
+    }
+}
+
+impl Rule {
+    /// How serious a finding of it is; none of a rule that this version of the crate does not know.
+    #[must_use]
+    #[rustfmt::skip]
+    pub const fn severity(self) -> Option<Severity> {
+        Some(match self {
+            Rule::MadtUnread
+            | Rule::SratUnread => Severity::NotLookedAt,
+            Rule::CacheShape
+            | Rule::NullSlot
+            | Rule::FadtReserved
+            | Rule::FacsReserved
+            | Rule::RsdpReserved
+            | Rule::HeaderText
+            | Rule::SecondOther
+            | Rule::EnabledAndCapable
+            | Rule::LintNotOne
+            | Rule::NoIoApic
+            | Rule::MadtReserved
+            | Rule::SratReserved
+            | Rule::LeafAsParent
+            | Rule::CacheNumbers
+            | Rule::PpttReserved => Severity::LookAtIt,
+            Rule::ListedTwice
+            | Rule::SecondTable
+            | Rule::ListedApart
+            | Rule::FadtOfRevision
+            | Rule::FacsDiffers
+            | Rule::DsdtDiffers
+            | Rule::BlockDiffers
+            | Rule::SciNowhere
+            | Rule::SameUid
+            | Rule::SameApicId
+            | Rule::IoApicAtZero
+            | Rule::SameIoApicId
+            | Rule::SameIoApicAddress
+            | Rule::NmiNowhere
+            | Rule::SecondGicd
+            | Rule::NoProcessor
+            | Rule::TwoUidDomains
+            | Rule::AffinityNowhere
+            | Rule::NoDomain
+            | Rule::DomainPastSlit
+            | Rule::SlitDiffers
+            | Rule::SameLeaf
+            | Rule::SameCacheId
+            | Rule::NoLeaf
+            | Rule::LeafNowhere
+            | Rule::RsdtDiffers
+            | Rule::TablesOverlap
+            | Rule::NoDsdt
+            | Rule::DsdtWrong
+            | Rule::NoPm1Block
+            | Rule::BlockWidth
+            | Rule::HalfBlock
+            | Rule::PortsOverlap
+            | Rule::PortPastEnd
+            | Rule::GpeOverlap
+            | Rule::SmiHalf
+            | Rule::SciZero
+            | Rule::ResetNowhere
+            | Rule::FadtForArch
+            | Rule::SleepRegister
+            | Rule::X2ApicBelow255
+            | Rule::BroadcastId
+            | Rule::CapableTooEarly
+            | Rule::OverridePastIsa
+            | Rule::TimerLevel
+            | Rule::TwoSourcesOneGsi
+            | Rule::NoDistributor
+            | Rule::NoRedistributor
+            | Rule::GicrTooSmall
+            | Rule::GiccBaseDiffers
+            | Rule::SameMpidr
+            | Rule::MpidrReserved
+            | Rule::GicrEmpty
+            | Rule::SameIts
+            | Rule::SameMsiFrame
+            | Rule::GicOverlap
+            | Rule::RedistributorTwice
+            | Rule::NoBootMethod
+            | Rule::SameHart
+            | Rule::NoMemoryRange
+            | Rule::EmptyRange
+            | Rule::InitiatorOff
+            | Rule::DomainPastRevision
+            | Rule::ItsNowhere
+            | Rule::RemoteAsLocal
+            | Rule::LeafUnflagged
+            | Rule::NoPackage => Severity::LikelyWrong,
+            Rule::Unknown { .. } => return None,
+        })
     }
 }

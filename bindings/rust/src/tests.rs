@@ -3,7 +3,8 @@
 use crate::refusal::is_yes;
 use crate::sys::{self, Library};
 use crate::{
-    lint, lint_with_room, Code, HotPlug, Piece, Processors, Refusal, Rule, Settings, Stage,
+    lint, lint_with_room, Code, HotPlug, Piece, Processors, Refusal, Rule, Settings, Severity,
+    Stage,
 };
 
 /// An RSDP with a wrong checksum that names an RSDT, and an RSDT that lists an address at which nothing is.
@@ -131,6 +132,14 @@ fn names_and_numbers_go_together() {
         (Code::from_number(0).stage(), Code::TableSum.stage()),
         (None, Some(Stage::Tables))
     );
+    let severities = [128, 123, 101, 185].map(|number| Rule::from_number(number).severity());
+    let expected = [
+        Severity::NotLookedAt,
+        Severity::LookAtIt,
+        Severity::LikelyWrong,
+    ]
+    .map(Some);
+    assert_eq!((&severities[..3], severities[3]), (&expected[..], None));
     assert_eq!(
         (Stage::Leaves.to_string(), format!("{:>5}", Stage::Rsdp)),
         ("Leaves".into(), " Rsdp".into())

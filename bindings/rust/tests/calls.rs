@@ -96,7 +96,12 @@ fn lint_reports_the_first_fault_of_each_code_and_advice() {
          advice SameApicId 0x34 0x2c 0x0\n\
          advice SameIoApicId 0x48 0x3c 0x0\n\
          advice AffinityNowhere 0x40 0x0 0x1\n\
-         advice SlitDiffers 0x2d 0x2e 0x0"
+         advice SlitDiffers 0x2d 0x2e 0x0\n\
+         advice NoDsdt 0x28 0x0 0x0\n\
+         advice NoPm1Block 0x38 0x0 0x0\n\
+         advice HalfBlock 0x4c 0x4 0x0\n\
+         advice SciZero 0x2e 0x0 0x0\n\
+         advice NoPackage 0x38 0x0 0x0"
     );
     // The last stage that a check goes through is nothing to it.
     assert_eq!(
@@ -202,7 +207,7 @@ fn images_of_real_firmware_have_the_verdicts_of_the_program() {
     .unwrap();
     assert_eq!(
         found.to_string(),
-        "yes\nadvice ListedTwice 0x3 0x2 0x47fc198e\nadvice MadtUnread 0x2c4 0xe 0x0"
+        "yes\nadvice ListedTwice 0x3 0x2 0x47fc198e"
     );
     let Advice {
         rule,
@@ -387,7 +392,7 @@ fn settings_out_of_range_are_refused() {
         assert_eq!(check_text(&[], &settings), Err(Refusal::BadStage));
         assert_eq!(confirm(&[], &settings, &fault), Ok(true));
     }
-    for code in [0, 60, 101, u32::MAX] {
+    for code in [0, 60, 101, 184, u32::MAX] {
         let fault = Fault::new(Code::from_number(code), RSDP, 0, 0);
         assert_eq!(confirm(&[], &settings, &fault), Err(Refusal::BadCode));
     }

@@ -31,16 +31,16 @@ struct acpiset_answer acpiset_confirm(const struct acpiset_piece *pieces, size_t
     return (struct acpiset_answer){ACPISET_BAD_SIZE, 0, 0, 0, 0, 0};
 }
 
-/* 70 faults, of the codes 1 to 70, and 40 findings of advice, of the rules 101 to 140. */
+/* 70 faults, of the codes 1 to 70, and 100 findings of advice, of the rules 101 to 200. */
 struct acpiset_answer acpiset_lint(const struct acpiset_piece *pieces, size_t pieces_count,
                                    const struct acpiset_inputs *inputs, size_t inputs_count,
                                    const struct acpiset_settings *settings,
                                    struct acpiset_finding *findings, size_t findings_count)
 {
     (void)pieces, (void)pieces_count, (void)inputs, (void)inputs_count, (void)settings;
-    for (uint32_t own = 0; own < 110 && own < findings_count; own++)
+    for (uint32_t own = 0; own < 170 && own < findings_count; own++)
         findings[own] = (struct acpiset_finding){own < 70 ? own + 1 : own + 31, own, 0, 0};
-    return (struct acpiset_answer){ACPISET_NO, 0, 0, 70, 40, 0};
+    return (struct acpiset_answer){ACPISET_NO, 0, 0, 70, 100, 0};
 }
 
 struct acpiset_answer acpiset_find(const struct acpiset_piece *pieces, size_t pieces_count)

@@ -73,12 +73,12 @@ fn all_findings_of_a_later_library_are_reported() {
     );
     assert_eq!(
         rules,
-        (70..110)
+        (70..170)
             .map(|own| (own + 31, u64::from(own)))
             .collect::<Vec<_>>()
     );
     assert!(matches!(
-        found.advice[39].rule,
-        Rule::Unknown { number: 140, .. }
+        found.advice[99].rule,
+        Rule::Unknown { number: 200, .. }
     ));
 }
