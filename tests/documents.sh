@@ -218,7 +218,7 @@ agree 'codes and rules of advice (<) and their parts in acpiset-faults(7) (>)' "
 index=$(sed -n '/^### Index of advice$/,/^### What/p' docs/FAULTS.md)
 indexed=$(grep -o '[0-9][0-9]* \[[A-Za-z0-9]*\](#[a-z0-9-]*)' <<<"$index" | sed 's/\[\(.*\)\](#.*/\1/')
 agree 'rules of advice (<) and their index by number in FAULTS.md (>)' "$rules" "$indexed"
-by_name=$(grep -o '\[[A-Za-z]*\](#[0-9]*-[a-z]*) [0-9][0-9]*' <<<"$index" | sed 's/\[\(.*\)\](#.*) \(.*\)/\2 \1/')
+by_name=$(grep -o '\[[A-Za-z0-9]*\](#[0-9]*-[a-z0-9]*) [0-9][0-9]*' <<<"$index" | sed 's/\[\(.*\)\](#.*) \(.*\)/\2 \1/')
 agree 'rules of advice (<) and their index by name in FAULTS.md (>)' "$rules" "$by_name"
 headline=$(sed -n '/^## The headline$/,/^## /{/^```rust$/,/^```$/p}' docs/PROOF.md | grep -v '^```')
 # contract FUNCTION FILE: what comes before the function's body.

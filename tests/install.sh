@@ -58,7 +58,7 @@ wanted=$({
   for tool in $there; do echo "bin/acpiset-$tool"; done
   for page in man/*.1; do echo "share/man/man1/${page#man/}"; done
   echo share/man/man7/acpiset-faults.7
-  for document in README.md CHANGELOG.md CONTRIBUTING.md NOTICES.md SECURITY.md docs/*.md; do echo "share/doc/acpiset/$document"; done
+  for document in README.md CHANGELOG.md CONTRIBUTING.md NOTICES.md SECURITY.md docs/*.md docs/*.png; do echo "share/doc/acpiset/$document"; done
   [ -z "$licence" ] || echo "$licence"
   find share -name '*.py' 2>/dev/null
 } | sorted)

@@ -98,9 +98,13 @@ runs "the smallest set, all findings, strictly" 1 'no 4 NoFadt 0x0 0x0 0x0\n' ''
 runs "nothing to look through" 1 'no rsdp\n' '' /dev/null lint
 runs "no RSDP at the address, all findings" 1 'no 1 RsdpOut 0x1000f 0x0 0x0\n' '' /dev/null lint --rsdp 1000f
 runs "firmware sb-q35-default, all findings" 0 'yes\n' '' images/sb-q35-default.img.txt lint --strict --rsdp f59e0
-unread='yes\nadvice MadtUnread 0x184 0xd 0x0\n'
-runs "firmware q10-efi-virt-smp4, all findings" 0 "$unread" '' images/q10-efi-virt-smp4.img.txt lint --rsdp 4f0b0018
-runs "firmware q10-efi-virt-smp4, all findings, strictly" 1 "$unread" '' images/q10-efi-virt-smp4.img.txt lint --strict --rsdp 4f0b0018
+runs "firmware q10-efi-virt-smp4, all findings" 0 'yes\n' '' images/q10-efi-virt-smp4.img.txt lint --strict --rsdp 4f0b0018
+caches=images/q11-efi-virt-caches.img.txt
+twice='yes\nadvice ListedTwice 0x3 0x2 0x47fc198e\n'
+runs "firmware q11-efi-virt-caches, all findings" 0 "$twice" '' "$caches" lint --rsdp 47fe0000
+runs "firmware q11-efi-virt-caches, all findings, strictly" 1 "$twice" '' "$caches" lint --strict --rsdp 47fe0000
+runs "firmware q11-efi-virt-caches, all findings but one" 0 'yes\n' '' "$caches" lint --strict --rsdp 47fe0000 --allow ListedTwice
+runs "firmware q11-efi-virt-caches, all findings but another" 1 "$twice" '' "$caches" lint --strict --rsdp 47fe0000 --allow SameUid
 
 # ---- sets that are rebuilt: tests/rebuild has the result of each
 runs "the smallest set, rebuilt" 1 'no 4 NoFadt 0x0 0x0 0x0\n' '' "$smallest" rebuild --rsdp e0000 --base e0000
@@ -229,13 +233,13 @@ hints "unexpected argument '-' found" "$input" find -
 for word in --output -o; do
   hints "unexpected argument '$word' found" 'the output goes to standard output: acpiset check < IMAGE > FILE' show "$word" lines
 done
-for option in 'check --through' 'lint --strict' 'confirm --witness' 'rebuild --base'; do
+for option in 'check --through' 'lint --allow' 'lint --strict' 'confirm --witness' 'rebuild --base'; do
   read -r owner name <<<"$option"
   for command in check lint confirm rebuild show find; do
     [ $command = "$owner" ] || hints "unexpected argument '$name' found" "only $owner has $name" $command "$name" 3
   done
 done
-for name in --rsdp --through --strict --witness --base --default-inputs --hotplug --processors; do
+for name in --rsdp --through --allow --strict --witness --base --default-inputs --hotplug --processors; do
   hints "unexpected argument '$name' found" 'the command comes before its options, as in acpiset check --rsdp f59e0' $name 3 check
 done
 refuses "unexpected argument '--rsdp' found" find --rsdp e0000

@@ -334,6 +334,7 @@ SAMPLED = {
     "rebuild, sb-q35-numa4-dist",
     "rebuild, q11-efi-virt-caches",
     "check with 400 counts of inputs",
+    "lint, q11-efi-virt-caches",
 }
 
 

@@ -6,6 +6,7 @@ a row shows what it is about and nothing else.
 
 RSDT_AT = 0x1000
 TABLES_AT = 0x2000
+DSDT_AT = 0x6000000
 FACS_AT = 0x7000
 RSDP_AT = 0xE0000
 XSDT_AT = 0x1100
@@ -46,6 +47,14 @@ def table(signature, body, revision=1):
 def revised(data, revision):
     """A table of another Revision."""
     return changed(data, {8: revision}, (9, len(data)))
+
+
+def placed(data, **fields):
+    """An entry with these bytes at these offsets, as far as it goes."""
+    for name, value in fields.items():
+        at = int(name[1:])
+        data = (data[:at] + value + data[at + len(value) :])[: len(data)] if at < len(data) else data
+    return data
 
 
 # ---- RSDP (5.2.5.3)
@@ -94,9 +103,27 @@ def full_fadt(facs=FACS_AT, length=116, **fields):
     return fadt(0, length, _36=number(facs, 4), **{**blocks, **fields})
 
 
+# Fields of a FADT on which there is no advice: a DSDT, which is nowhere in the images; the SCI and the register blocks of full hardware;
+# and of ACPI 6.5, whose FADT has this many bytes, the minor version and that a GIC's processors are started by firmware.
+WITH_DSDT = {"_40": number(DSDT_AT, 4)}
+WITH_BLOCKS = {"_46": number(9, 2), "_56": number(0x400, 4), "_64": number(0x404, 4), "_76": number(0x408, 4)}
+OF_6_5 = {"_129": b"\1\0\5"}
+LAST_LENGTH = 276
+
+
 def old_fadt(revision, length):
-    """A FADT of reduced hardware, of this Revision and Length."""
-    return revised(fadt(length=length), revision)
+    """A FADT of reduced hardware, of this Revision and Length, that names a DSDT."""
+    return revised(fadt(length=length, **WITH_DSDT), revision)
+
+
+def sound_fadt():
+    """A FADT of reduced hardware and of ACPI 6.5, on which there is no advice."""
+    return revised(fadt(length=LAST_LENGTH, **WITH_DSDT, **OF_6_5), 6)
+
+
+def sound_full_fadt(facs=FACS_AT, **fields):
+    """A FADT of full hardware, on which there is no advice but for what other fields make."""
+    return full_fadt(facs, **{**WITH_DSDT, **WITH_BLOCKS, **fields})
 
 
 def generic_address(address, space=1, width=32, offset=0, access=0):
@@ -158,8 +185,9 @@ def local_nmis(uid, lint, flags=0):
 
 
 def gicc(uid, flags=1, length=80):
-    """A GIC CPU Interface (5.2.12.14), of which a shorter one is cut off."""
-    return (bytes([11, length]) + bytes(6) + number(uid, 4) + number(flags, 4) + bytes(240))[:length]
+    """A GIC CPU Interface (5.2.12.14) whose MPIDR has the bytes of the UID, and of which a shorter one is cut off."""
+    mpidr = number(uid, 3) + b"\0" + number(uid >> 24, 4)
+    return (bytes([11, length]) + bytes(6) + number(uid, 4) + number(flags, 4) + bytes(52) + mpidr + bytes(240))[:length]
 
 
 def gicd(length=24):
@@ -173,13 +201,39 @@ def core_pic(uid, core_id, flags=1, length=15):
 
 
 def rintc(uid, flags=1, length=36):
-    """A hart of RISC-V (RINTC, after ACPI 6.5) with hart ID 0, of which a shorter one is cut off."""
-    return (bytes([24, length, 1, 0]) + number(flags, 4) + bytes(8) + number(uid, 4) + bytes(240))[:length]
+    """A hart of RISC-V (RINTC, after ACPI 6.5) whose hart ID is one more than its UID, and of which a shorter one is cut off."""
+    return (bytes([24, length, 1, 0]) + number(flags, 4) + number(uid + 1, 8) + number(uid, 4) + bytes(240))[:length]
 
 
 def other(kind, length=8):
     """An entry of a type, and nothing in it."""
     return bytes([kind, length]) + bytes(length - 2)
+
+
+def distributor(version, base=0):
+    return placed(gicd(), _8=number(base, 8), _20=bytes([version]))
+
+
+def redistributor(base, size, length=16):
+    return placed(other(14, length), _4=number(base, 8), _12=number(size, 4))
+
+
+def its(its_id, base=0, length=20):
+    return placed(other(15, length), _4=number(its_id, 4), _8=number(base, 8))
+
+
+def frame(frame_id, base=0, length=24):
+    return placed(other(13, length), _4=number(frame_id, 4), _8=number(base, 8))
+
+
+def cpu(base=0, gicr=0, mpidr=0, parking=0, flags=1, length=80):
+    """A GICC with these fields, as far as it goes."""
+    fields = {"_16": number(parking, 4), "_32": number(base, 8), "_60": number(gicr, 8), "_68": number(mpidr, 8)}
+    return placed(gicc(0, flags, length), **fields)
+
+
+def hart(hart_id, flags=1, length=36):
+    return placed(rintc(0, flags, length), _8=number(hart_id, 8))
 
 
 # ---- SRAT (5.2.16)
@@ -223,6 +277,10 @@ def its_domain(domain, length=12):
     return (bytes([4, length]) + number(domain, 4) + bytes(240))[:length]
 
 
+def of_its(its_id, length=12):
+    return placed(its_domain(0, length), _8=number(its_id, 4))
+
+
 def device_domain(kind, domain, flags=1, length=32):
     """A generic initiator affinity (type 5, 5.2.16.6) or port affinity (type 6, 5.2.16.7), of which a shorter one is cut off."""
     return (bytes([kind, length, 0, 0]) + number(domain, 4) + bytes(16) + number(flags, 4) + bytes(240))[:length]
@@ -242,6 +300,7 @@ def even_cells(count, far=20):
 
 # ---- PPTT (5.2.30)
 
+IS_PACKAGE = 1 << 0
 IS_ID_VALID = 1 << 1
 IS_LEAF = 1 << 3
 LEAF = IS_ID_VALID | IS_LEAF
@@ -266,14 +325,19 @@ def leaf(uid, parent=0, flags=LEAF):
     return node(parent, flags, uid)
 
 
+def core(uid, parent=0, flags=LEAF):
+    """A node that is a package of one processor."""
+    return node(parent, flags | IS_PACKAGE, uid)
+
+
 def cache(next_level=0, length=24, flags=0, size=0, sets=0, ways=0, attributes=0, line=0, cache_id=0, reserved=0):
     head = bytes([1, length, reserved, reserved]) + number(flags, 4) + number(next_level, 4) + number(size, 4) + number(sets, 4)
     return (head + bytes([ways, attributes]) + number(line, 2) + number(cache_id, 4) + bytes(length))[:length]
 
 
 def shaped_cache(flags, sets=64, line=64, cache_id=0, length=28):
-    """A cache with these flags, Number of Sets, Line Size and Cache ID."""
-    return cache(0, length, flags, sets=sets, line=line, cache_id=cache_id)
+    """A cache with these flags, Number of Sets, Line Size and Cache ID, of the size that one way has, but at least a byte."""
+    return cache(0, length, flags, max(sets * line, 1), sets, 1, line=line, cache_id=cache_id)
 
 
 # ---- images
@@ -291,3 +355,8 @@ def image_of(*tables, others=(), slots=None):
 def listed(*tables, **pieces):
     """A FADT of reduced hardware at 0x2000, and these tables from 0x3000 on."""
     return image_of(fadt(), *tables, **pieces)
+
+
+def sound(*tables, **pieces):
+    """The same with a FADT on which there is no advice."""
+    return image_of(sound_fadt(), *tables, **pieces)

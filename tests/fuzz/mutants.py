@@ -99,7 +99,7 @@ def made_anew(names, wrong_name=None, wrong_code=None):
         whole_name = f"acpi_images.{name}"
         file = import_module(whole_name).__file__
         made[name] = sys.modules[whole_name] = types.ModuleType(whole_name)
-        made[name].__dict__.update(__file__=file, __package__="acpi_images")
+        made[name].__dict__.update(__file__=file, __package__=whole_name.rpartition(".")[0])
         exec(wrong_code if name == wrong_name else compile(Path(file).read_text(), file, "exec"), made[name].__dict__)
     return made
 
@@ -136,7 +136,8 @@ class Texts:
 class Sets:
     """Sets of tables, judged by faults.py. Advice and the lines of `show` are compared as far as they depend on what is planted."""
 
-    modules = ("table_set", "faults", "advice", "shown")
+    rules = ("facts", "rule", "tables", "fadt", "madt", "gic", "domains", "pptt")
+    modules = ("table_set", "faults", *(f"rules.{name}" for name in rules), "advice", "shown")
     planted = ("table_set", "faults")
 
     def __init__(self, cases):

@@ -18,7 +18,7 @@ from pathlib import Path
 
 sys.path.insert(0, str(Path(__file__).resolve().parents[1]))
 
-from acpi_images.advice import RULES, lint_lines, lint_status
+from acpi_images.advice import RULES, lint_lines, lint_status, without_rules
 from acpi_images.faults import STAGE_OF, Judgement
 from acpi_images.generated.cases import asked, changed_case, made_case
 from acpi_images.program import Cases, answer, finish, refusal
@@ -110,7 +110,8 @@ class Judged:
         self.fault = judgement.verdict()
         through = ["--through", str(case.last)] if case.last != 18 else []
         yield ["check", *self.words, *through], self.line_of(judgement.verdict(case.last))
-        yield ["lint", *self.words, *["--strict"] * case.is_strict], self.linted(image, rsdp)
+        allow = ["--allow", ",".join(case.allowed)] if case.allowed else []
+        yield ["lint", *self.words, *allow, *["--strict"] * case.is_strict], self.linted(image, rsdp)
         text = shown(image, rsdp)
         yield ["show", *case.rsdp_words], self.line_of(self.fault) if text is None else (0, text, "")
         yield ["rebuild", *self.base, *self.words], self.rebuilt(image, rsdp)
@@ -124,7 +125,7 @@ class Judged:
         return answer("yes" if fault is None else f"no {fault}")
 
     def linted(self, image, rsdp):
-        lines = lint_lines(image, rsdp, self.case.settings)
+        lines = without_rules(lint_lines(image, rsdp, self.case.settings), self.case.allowed)
         self.advised = [line.split()[1] for line in lines if line.startswith("advice ")]
         return lint_status(lines, self.case.is_strict), "".join(f"{line}\n" for line in lines), ""
 

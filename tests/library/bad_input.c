@@ -212,7 +212,7 @@ static void late_inputs(void) {
 /* ---- codes */
 
 static void codes(void) {
-    static const uint32_t bad[] = {0, 60, 100, 101, 128, 256 + 1, 256 + 19, 65536 + 19, LARGEST};
+    static const uint32_t bad[] = {0, 60, 100, 101, 128, 129, 184, 185, 256 + 1, 256 + 19, 65536 + 19, LARGEST};
     struct request request = request_of_set();
     for (size_t i = 0; i < COUNTS(bad); i++) {
         request.finding.number = bad[i];

@@ -22,6 +22,7 @@ def lists(cases, scratch):
         ("a kind", "ACPISET_BAD_HOTPLUG = 5,", ""),
         ("a kind's name", 'return "BadHotPlug";', 'return "BadHotplug";'),
         ("the stages", "1, 1, 1, 1, 1, 1, 1, 2", "1, 1, 1, 1, 1, 1, 2, 2"),
+        ("a severity", "        return ACPISET_LOOK_AT_IT;", "        return ACPISET_LIKELY_WRONG;"),
         ("a field", "ACPISET_FIELD(acpiset_answer, point, 32, 8);", ""),
         ("the version", "#define ACPISET_ABI 1", "#define ACPISET_ABI 2"),
         ("the number of findings", "#define ACPISET_MOST_FINDINGS ", "#define ACPISET_MOST_FINDINGS 1"),
@@ -63,12 +64,22 @@ KINDS = """Yes No OutOfMemory BadSize BadDefaultInputs BadHotPlug BadProcessors 
 BadLine NoAddress TextOverlap TextPastEnd TextTooLong""".split()
 
 
+# The rules of which nothing is known to be wrong, and those whose findings may be right; those of all others are likely wrong.
+NOT_LOOKED_AT = {127, 128}
+LOOK_AT_IT = {123, 129, *range(145, 150), 153, 157, 158, 172, 178, 181, 183, 184}
+
+
+def severity(rule):
+    return 1 if rule in NOT_LOOKED_AT else 2 if rule in LOOK_AT_IT else 3
+
+
 def names():
-    """What header.c prints: codes, stages and rules as the second programs of tests/acpi_images have them, and kinds as above."""
+    """What header.c prints: codes, stages and rules as the second programs of tests/acpi_images have them, severities and kinds as
+    above."""
     for number, (name, stage) in enumerate(STAGE_OF.items(), 1):
-        yield f"{number} {name} {stage}"
+        yield f"{number} {name} {stage} 4"
     for number, name in enumerate(RULES, 101):
-        yield f"{number} {name} 0"
+        yield f"{number} {name} 0 {severity(number)}"
     for number, name in enumerate(KINDS):
         yield f"kind {number} {name}"
     yield "settings 32 e0000 24 0 0 18"

@@ -76,8 +76,8 @@ class Subject:
 
 
 def subjects(scratch):
-    """Images of firmware; a clean set; a fault of each stage; the sets with the most findings; and many pieces in falling order.
-    None is so large that it cannot be asked a thousand times."""
+    """Images of firmware; a clean set; a fault of each stage; the sets with the most findings, of which one has more than an earlier
+    library has at most; and many pieces in falling order. None is so large that it cannot be asked a thousand times."""
     made = [("a complete set", COMPLETE), *((f"stage {row.answer.split()[1]}", row.pieces) for row in one_of_each_stage())]
     with_most = sorted((it for it in EXPECTED if it.words == "--rsdp e0000"), key=lambda it: -len(it.lines))[:6]
     made += [(f"findings {place}", it.pieces) for place, it in enumerate(with_most)]

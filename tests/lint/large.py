@@ -1,6 +1,6 @@
-"""`check` and `lint` on tables of a million entries, of each of which they gather a number, and on a set of many slots, in no order, that
-list tables each in its own segment of the image. A rule that gave up on this many would be out of memory by its contract, so only these
-sets show it."""
+"""`check` and `lint` on tables of up to a million entries, clean or all at fault, of each of which they gather a number, and on a set of
+many slots, in no order, that list tables each in its own segment of the image. A rule that gave up on this many would be out of memory by
+its contract, and one that looked through all of them for each one would not end, so only these sets show it."""
 
 import random
 import struct
@@ -12,43 +12,195 @@ from acpi_images.text import text_of
 COUNT = 1_000_000
 LAST = COUNT - 1
 PLACES = (TABLES_AT, 0x10000000, 0x20000000)
+# How many entries of 80 and of 40 bytes, and how many pairs of 12 and 20 bytes, fit into a text.
+GICCS, RANGES, PAIRS = 400_000, 800_000, 900_000
 
 
 def text_with(*tables):
     """The text of a FADT and of these tables, in rows as long as a line may be."""
-    listed = dict(zip(PLACES, (fadt(), *tables)))
+    listed = dict(zip(PLACES, (sound_fadt(), *tables)))
     return text_of({RSDP_AT: rsdp(), RSDT_AT: rsdt(*listed), **listed}, width=32_768, blank="")
+
+
+def advised(*advice, first="yes"):
+    """The lines of a set with this advice, and with this fault if there is one. Numbers of 0 at the end are left out."""
+    lines = [first, *(f"advice {line}" for line in advice)]
+    return [line + " 0x0" * ((6 if line.startswith("no") else 5) - len(line.split())) if " " in line else line for line in lines]
+
+
+# ---- the MADT
 
 
 def interrupt_sources():
     """A processor, an I/O APIC from 0 on, and NMI sources of a number that it serves, but for the last one."""
-    text = text_with(madt(lapic(0, 0), io_apic(0xFEC00000, 0), nmi_source(23) * LAST, nmi_source(24)))
     fault = f"no 17 GsiNowhere {44 + 8 + 12 + 8 * LAST:#x} 0x0 0x18"
-    return text, [fault]
+    yield "the last", madt(lapic(0, 0), io_apic(0xFEC00000, 0), nmi_source(23) * LAST, nmi_source(24)), advised(first=fault)
 
 
 def processors():
-    """Processors whose UIDs fall and whose IDs rise, but the last one has the UID and the ID of the first; and two leaves, of which
-    the second one is no processor."""
+    """Processors whose UIDs fall and whose IDs rise, but the last one has the UID and the ID of the first; and two leaves, of which the
+    second one is no processor."""
     entry = struct.Struct("<BBHIII")
     numbers = [*((place, COUNT - place) for place in range(LAST)), (0, COUNT)]
     entries = b"".join(entry.pack(9, 16, 0, apic_id, 1, uid) for apic_id, uid in numbers)
     last = 44 + 16 * LAST
-    advice = f"SameUid {last:#x} 0x2c {COUNT:#x}", f"SameApicId {last:#x} 0x2c 0x0", f"NoLeaf 0x3c 0x0 {COUNT - 1:#x}"
-    return text_with(madt(entries), pptt(leaf(COUNT), leaf(1))), ["no 18 LeafUnknown 0x38 0x0 0x1", *(f"advice {it}" for it in advice)]
+    advice = f"SameUid {last:#x} 0x2c {COUNT:#x}", f"SameApicId {last:#x} 0x2c", f"NoLeaf 0x3c 0x0 {COUNT - 1:#x}"
+    yield "the last", (madt(entries), pptt(core(COUNT), core(1))), advised(*advice, first="no 18 LeafUnknown 0x38 0x0 0x1")
+
+
+def giccs():
+    """GICCs whose UIDs rise and whose MPIDRs fall, and the last of which has the UID and the MPIDR of the first, and a distributor."""
+    entry = struct.Struct("<BB6xII52xQ4x")
+    mpidr = lambda place: (GICCS - place & 0xFFFFFF) | (place % 256) << 32
+    alike = b"".join(entry.pack(11, 80, place, 1, mpidr(place)) for place in range(GICCS))
+    last = 44 + 80 * GICCS
+    yield "clean", madt(alike, gicd()), advised()
+    yield "the last", madt(alike, gicd(), entry.pack(11, 80, 0, 1, mpidr(0))), advised(
+        f"SameUid {last + 24:#x} 0x2c", f"SameMpidr {last + 24:#x} 0x2c {mpidr(0):#x}"
+    )
+    wrong = b"".join(entry.pack(11, 80, place, 1, place << 24) for place in range(GICCS))
+    yield "all", madt(wrong, gicd()), advised("MpidrReserved 0x7c 0x0 0x1000000")
+
+
+def harts():
+    """Harts whose UIDs rise and whose IDs fall; the last of them has the ID of the first."""
+    entry = struct.Struct("<BBHIQI")
+    alike = [entry.pack(24, 20, 1, 1, COUNT - place, place) for place in range(COUNT)]
+    yield "clean", madt(*alike), advised()
+    yield "the last", madt(*alike[:-1], entry.pack(24, 20, 1, 1, COUNT, LAST)), advised(f"SameHart {44 + 20 * LAST:#x} 0x2c {COUNT:#x}")
+    one = (entry.pack(24, 20, 1, 3, 0, place) for place in range(COUNT))
+    yield "all", madt(*one), advised("EnabledAndCapable 0x2c 0x0 0x3", "SameHart 0x40 0x2c")
+
+
+def overrides():
+    """A processor, an I/O APIC and overrides of 16 sources, each to a number of its own, or all to one."""
+    before = lapic(0, 0) + io_apic(0xFEC00000, 0)
+    alike = b"".join(override(source, source) for source in range(16)) * (COUNT // 16)
+    yield "clean", madt(before, alike), advised()
+    one = b"".join(override(source, 2) for source in range(16)) * (COUNT // 16)
+    yield "all", madt(before, one), advised("TwoSourcesOneGsi 0x4a 0x40 0x2")
+
+
+def redistributors():
+    """A processor, and ranges of redistributors at falling addresses, at one address, or empty."""
+    entry = struct.Struct("<BBHQI")
+    ranges = lambda base, size: b"".join(entry.pack(14, 16, 0, base(place), size) for place in range(COUNT))
+    falling = ranges(lambda place: 0x20000 * (COUNT - place), 0x20000)
+    yield "clean", madt(lapic(0, 0), falling), advised()
+    yield "the last two", madt(lapic(0, 0), falling, entry.pack(14, 16, 0, 0x3FFFF, 1)), advised(
+        f"GicOverlap {52 + 16 * LAST:#x} {52 + 16 * COUNT:#x} 0x3ffff"
+    )
+    yield "all", madt(lapic(0, 0), ranges(lambda _: 0x20000, 0x20000)), advised("GicOverlap 0x34 0x44 0x20000")
+    yield "all empty", madt(lapic(0, 0), ranges(lambda _: 0x20000, 0)), advised("GicrEmpty 0x34 0x0 0x20000")
+
+
+def its_and_frames():
+    """A processor, and ITS and MSI frames whose numbers and addresses fall; or that all have one number."""
+    of_its = struct.Struct("<BBHIQ4x")
+    of_frame = struct.Struct("<BBHIQ8x")
+    half = COUNT // 2
+    entries = lambda number: b"".join(
+        [*(of_its.pack(15, 20, 0, number(place), 0x20000 * (COUNT - place)) for place in range(half))]
+        + [*(of_frame.pack(13, 24, 0, number(place), 0x1000 * place) for place in range(half))]
+    )
+    yield "clean", madt(lapic(0, 0), entries(lambda place: half - place)), advised()
+    frames = 52 + 20 * half
+    alike = advised("SameIts 0x48 0x34 0x7", f"SameMsiFrame {frames + 24:#x} {frames:#x} 0x7")
+    yield "all", madt(lapic(0, 0), entries(lambda _: 7)), alike
+
+
+def distributors():
+    """A processor, and distributors with a reserved byte each."""
+    entries = gicd() + placed(gicd(), _16=b"\1") * LAST
+    yield "all", madt(lapic(0, 0), entries), advised("SecondGicd 0x4c 0x34", "GicOverlap 0x34 0x4c", "MadtReserved 0x4c 0x10")
+
+
+# ---- the SRAT and the SLIT
+
+
+def ranges():
+    """Ranges of memory that are empty, or that all have a reserved flag."""
+    entry = struct.Struct("<BBI2xQQ4xI8x")
+    yield "clean", srat(*(entry.pack(1, 40, 0, 0x1000 * place, 0x1000, 1) for place in reversed(range(RANGES)))), advised()
+    yield "all empty", srat(entry.pack(1, 40, 0, 0, 0, 1) * RANGES), advised("EmptyRange 0x30")
+    yield "all with a flag", srat(entry.pack(1, 40, 0, 0, 0, 8) * RANGES), advised("SratReserved 0x30 0x1c")
+
+
+def affinities_of_its():
+    """ITS whose numbers fall, and affinities of them whose numbers rise, the last one of none."""
+    of_madt, of_srat = struct.Struct("<BBHIQ4x"), struct.Struct("<BBI2xI")
+    entries = b"".join(of_madt.pack(15, 20, 0, PAIRS - place, 0x20000 * place) for place in range(PAIRS))
+    affinities = lambda last: b"".join(of_srat.pack(4, 12, 0, place + 1) for place in range(PAIRS - 1)) + of_srat.pack(4, 12, 0, last)
+    there = madt(lapic(0, 0), entries)
+    yield "clean", (there, srat(affinities(PAIRS))), advised()
+    nowhere = advised(f"ItsNowhere {48 + 12 * (PAIRS - 1):#x} 0x0 {PAIRS + 1:#x}")
+    yield "the last", (there, srat(affinities(PAIRS + 1))), nowhere
+
+
+def localities():
+    """A SLIT of 4,000 localities, all far from each other, or the last two at the distance of one from itself."""
+    count = 4000
+    row = lambda own: bytes([20] * own + [10] + [20] * (count - own - 1))
+    cells = bytearray(b"".join(map(row, range(count))))
+    yield "clean", slit(count, cells), advised()
+    cells[-2] = cells[-count - 1] = 10
+    at = 44 + count * count - count - 1
+    yield "the last two", slit(count, cells), advised(f"RemoteAsLocal {at:#x} {count - 2:#x} {count - 1:#x}")
+
+
+# ---- the PPTT
+
+
+def nodes():
+    """A chain of nodes, the first one a package or not, and as many leaves below its last one; all leaves with a reserved flag."""
+    half = COUNT // 2
+    entry = struct.Struct("<BBHIIII")
+    last = 36 + 20 * (half - 1)
+    chain = b"".join(entry.pack(0, 20, 0, 0, 36 + 20 * (place - 1), 0, 0) for place in range(1, half))
+    leaves = lambda flags: b"".join(entry.pack(0, 20, 0, flags, last, place, 0) for place in range(half))
+    first = lambda flags: entry.pack(0, 20, 0, flags, 0, 0, 0)
+    at = 36 + 20 * half
+    yield "clean", pptt(first(IS_PACKAGE), chain, leaves(LEAF)), advised()
+    yield "no package", pptt(first(0), chain, leaves(LEAF)), advised(f"NoPackage {at:#x}")
+    yield "no flags of leaves", pptt(first(IS_PACKAGE), chain, leaves(IS_ID_VALID)), advised(f"LeafUnflagged {at:#x}")
+    yield "a reserved flag", pptt(first(IS_PACKAGE), chain, leaves(LEAF | 1 << 5)), advised(f"PpttReserved {at:#x} 0x4")
+    under = b"".join(entry.pack(0, 20, 0, LEAF, 36 + 20 * (place - 1), place, 0) for place in range(1, COUNT))
+    yield "leaves below each other", pptt(entry.pack(0, 20, 0, LEAF | IS_PACKAGE, 0, 0, 0), under), advised("LeafAsParent 0x24 0x38")
+
+
+def caches():
+    """Caches of a size, or with a size that is not that of their lines."""
+    right, wrong = (cache(flags=0x47, size=size, sets=64, ways=8, line=64) for size in (0x8000, 0x8001))
+    yield "clean", pptt(right * COUNT), advised()
+    yield "the last", pptt(right * LAST, wrong), advised(f"CacheNumbers {36 + 24 * LAST:#x} 0x8001 0x8000")
+
+
+WITH_CHECK = (interrupt_sources, processors)
+OF_ENTRIES = (giccs, harts, overrides, redistributors, its_and_frames, distributors, ranges, affinities_of_its, localities, nodes, caches)
+
+
+def large_sets():
+    """The name of each set, the tables beside its FADT, its lines, and the commands that are run on it."""
+    for made in (*WITH_CHECK, *OF_ENTRIES):
+        for name, tables, lines in made():
+            tables = tables if isinstance(tables, tuple) else (tables,)
+            yield f"{made.__name__}, {name}", tables, lines, ("check", "lint") if made in WITH_CHECK else ("lint",)
 
 
 def many_entries(cases):
-    for made in (interrupt_sources, processors):
-        text, lines = made()
-        for command, expected in (("check", lines[:1]), ("lint", lines)):
-            cases.writes(f"{command} on {COUNT} entries, {made.__name__}", command, text, expected)
+    for name, tables, lines, commands in large_sets():
+        text = text_with(*tables)
+        for command in commands:
+            cases.writes(f"{command} on many entries, {name}", command, text, lines[:1] if command == "check" else lines)
 
+
+# ---- slots
 
 SLOTS, TABLES = 400_000, 20_000
-ROOT_AT, FIRST_AT, APART = 0x60000000, 0x20000000, 64
-# `lint` may take this many times the processor time of `check`, and this many seconds more.
-TIMES, MORE = 2, 0.2
+ROOT_AT, RSDT_AT_TOO, FIRST_AT, APART = 0x60000000, 0x68000000, 0x20000000, 64
+# `lint` may take this many times the processor time of `check`, and this many seconds more. The rules on headers and on tables that
+# overlap look up each table anew, and here each is in a segment of its own.
+TIMES, MORE = 6, 0.2
 
 
 def listed_in_no_order():
@@ -57,16 +209,36 @@ def listed_in_no_order():
     slots = [TABLES_AT, *(FIRST_AT + APART * place for place in chosen)]
     first = {}
     at = next(slot for slot, address in enumerate(slots) if first.setdefault(address, slot) != slot)
-    pieces = {RSDP_AT: rsdp(ROOT_AT), ROOT_AT: rsdt(*slots), TABLES_AT: fadt()}
+    pieces = {RSDP_AT: rsdp(ROOT_AT), ROOT_AT: rsdt(*slots), TABLES_AT: sound_fadt()}
     pieces.update((FIRST_AT + APART * place, table(b"DATA", b"")) for place in range(TABLES))
-    return pieces, ["yes", f"advice ListedTwice {at:#x} {first[slots[at]]:#x} {slots[at]:#x}"]
+    return pieces, advised(f"ListedTwice {at:#x} {first[slots[at]]:#x} {slots[at]:#x}"), slots
 
 
 def many_slots(cases):
-    pieces, lines = listed_in_no_order()
+    pieces, lines, _ = listed_in_no_order()
     text = text_of(pieces)
     asks = lambda command, due: cases.writes(f"{command} on {SLOTS} slots", f"{command} --rsdp e0000", text, due)
     _, checked = timed(lambda: asks("check", lines[:1]))
     _, linted = timed(lambda: asks("lint", lines))
     slow = linted > TIMES * checked + MORE
     cases.count(f"time with {SLOTS} slots", f"{linted} seconds, and check {checked}" if slow else "")
+
+
+def two_roots():
+    """An XSDT and an RSDT that list the same in other orders, the second one with a table once more; and tables that overlap."""
+    pieces, lines, slots = listed_in_no_order()
+    shuffled = random.Random(2).sample(slots, len(slots))
+    pieces.update({RSDP_AT: extended_rsdp(ROOT_AT, RSDT_AT_TOO), ROOT_AT: xsdt(*slots), RSDT_AT_TOO: rsdt(*shuffled)})
+    yield "two roots", pieces, lines
+    differs = advised("RsdtDiffers 0x10 0x0 0x50434146")[1:]
+    yield "two roots that differ", {**pieces, RSDT_AT_TOO: rsdt(*shuffled, TABLES_AT)}, [*lines, *differs]
+    last = FIRST_AT + APART * (TABLES - 1)
+    inner = {last: table(b"DATA", table(b"DATA", bytes(20)))}
+    overlap = advised(f"TablesOverlap {last:#x} {last + 36:#x} {last + 36:#x}")[1:]
+    roots = {ROOT_AT: xsdt(*slots, last, last + 36), RSDT_AT_TOO: rsdt(*shuffled, last + 36, last)}
+    yield "tables that overlap", {**pieces, **inner, **roots}, [*lines, *overlap]
+
+
+def many_slots_of_two_roots(cases):
+    for name, pieces, lines in two_roots():
+        cases.writes(f"lint on {SLOTS} slots, {name}", "lint --rsdp e0000", text_of(pieces), lines)

@@ -12,7 +12,7 @@ from pathlib import Path
 sys.path.insert(0, str(Path(__file__).resolve().parents[1]))
 
 from acpi_images.program import answer, main
-from acpi_images.tables import RSDP_AT, apic_domain, extended_rsdp, fadt, lapic, madt, rsdp, srat, table, x2apic_domain
+from acpi_images.tables import RSDP_AT, apic_domain, extended_rsdp, lapic, madt, rsdp, sound_fadt, srat, table, x2apic_domain
 from acpi_images.text import text_of
 
 SLOTS = 100_000
@@ -41,7 +41,7 @@ class Set:
         self.tables = {OTHERS + 0x80 * number: other(number) for number in range(TABLES)}
         addresses = list(self.tables)
         self.slots = [0 if numbers.random() < 0.1 else numbers.choice(addresses) for _ in range(count)]
-        self.put(FADT_SLOT, FADT_AT, fadt())
+        self.put(FADT_SLOT, FADT_AT, sound_fadt())
 
     def put(self, slot, address, whole):
         """Lists a table in a slot."""
@@ -49,11 +49,12 @@ class Set:
         self.slots[slot] = address
         return self
 
-    def listed_twice(self):
-        """The advice on the first slot that lists what an earlier one does."""
+    def advice(self):
+        """The advice on the first slot that lists what an earlier one does, and on the first slot of 0."""
         first = {}
         at = next(slot for slot, address in enumerate(self.slots) if address and first.setdefault(address, slot) != slot)
-        return f"advice ListedTwice {at:#x} {first[self.slots[at]]:#x} {self.slots[at]:#x}"
+        twice = f"advice ListedTwice {at:#x} {first[self.slots[at]]:#x} {self.slots[at]:#x}"
+        return f"{twice}\nadvice NullSlot {self.slots.index(0):#x} 0x0 0x0"
 
     def slot_lines(self):
         """What `show` writes of each slot."""
@@ -132,7 +133,7 @@ def last_of(cases, count):
         text = case.put(last, HIGH, whole).text()
         yield asked(cases, ["check"], text, f"no {fault}")
         yield asked(cases, ["confirm", "--witness", fault], text, "true")
-        yield asked(cases, ["lint"], text, f"no {fault}\n{case.listed_twice()}")
+        yield asked(cases, ["lint"], text, f"no {fault}\n{case.advice()}")
     text = case.put(last, HIGH, madt(lapic(0, 0))).text()
     yield asked(cases, ["check"], text, "yes")
     yield difference(f"show, {count} slots", slot_lines(cases, RSDP_AT, text), list(case.slot_lines()))

@@ -120,18 +120,30 @@ LINTED = [
     ("acpiset lint fec00000=8 --strict --default-inputs 1", True), ("acpiset lint --hotplug apart -- fec00000=8", False),
 ]
 # Two I/O APICs with one ID and no processor, in a table that slots 1 and 2 list: advice, and no fault.
-ADVISED = listed(madt(io_apic(0xFEC00000, 0), io_apic(0xFEC01000, 24)), slots=[0x2000, 0x3000, 0x3000])
-ADVICE = "advice ListedTwice 0x2 0x1 0x3000\nadvice SameIoApicId 0x38 0x2c 0x0\nadvice NoProcessor 0x0 0x0 0x0"
+ADVISED = sound(madt(io_apic(0xFEC00000, 0), io_apic(0xFEC01000, 24)), slots=[0x2000, 0x3000, 0x3000])
+ADVICE = ["advice ListedTwice 0x2 0x1 0x3000", "advice SameIoApicId 0x38 0x2c 0x0", "advice NoProcessor 0x0 0x0 0x0"]
+# Lines that allow rules, with the places of what is written of this advice, and the status.
+ALLOWING = [
+    ("acpiset lint --allow ListedTwice", (1, 2), 0), ("acpiset lint --strict --allow=SameIoApicId", (0, 2), 1),
+    ("acpiset lint --allow NoProcessor,ListedTwice --strict", (1,), 1), ("acpiset lint --allow NoDsdt --rsdp e0000", (0, 1, 2), 0),
+    ("acpiset lint --allow ListedTwice,SameIoApicId,NoProcessor --strict --rsdp e0000", (), 0),
+    ("acpiset lint fec00000=8 --strict --allow NoProcessor,SameIoApicId,NoProcessor,ListedTwice", (), 0),
+    ("acpiset lint --allow=PpttReserved,ListedTwice --hotplug apart -- fec00000=8", (1, 2), 0),
+]
 
 
 def lint_cases():
     """Each line with the lines of lint and its status, on a set with advice and on one with a fault."""
     for line, is_strict in LINTED:
-        yield line, text_of(ADVISED), f"yes\n{ADVICE}", int(is_strict)
+        yield line, text_of(ADVISED), "\n".join(["yes", *ADVICE]), int(is_strict)
+        pieces, fault = FAULTY[4]
+        yield line, text_of(pieces), fault, 1
+    for line, places, status in ALLOWING:
+        yield line, text_of(ADVISED), "\n".join(["yes", *(ADVICE[place] for place in places)]), status
         pieces, fault = FAULTY[4]
         yield line, text_of(pieces), fault, 1
     for line, least in (("acpiset lint", 24), ("acpiset lint --default-inputs 16", 16), ("acpiset lint fec00000=32", 32)):
-        pieces = listed(madt(io_apic(0xFEC00000, 0), override(9, least), lapic(0, 0)))
+        pieces = sound(madt(io_apic(0xFEC00000, 0), override(9, least), lapic(0, 0)))
         yield line, text_of(pieces), f"no 17 GsiNowhere 0x38 0x0 {least:#x}", 1
 
 
@@ -140,7 +152,7 @@ def lint_cases():
 REFUSED_WORDS = {
     "acpiset": (
         "--help | -h | help | judge --rsdp e0000 | Check --rsdp e0000 | chec --rsdp e0000 | --rsdp e0000 | fec00000=24 | Lint | "
-        "--strict lint | confirm --strict | show --strict"
+        "--strict lint | confirm --strict | show --strict | --allow SameUid lint | find --allow SameUid | show --allow SameUid"
     ),
     "acpiset check": (
         "--help | --rsdp | --rsdp 0x | --rsdp g | --rsdp 0Xe0000 | --rsdp 0x0x1 | --rsdp +1 | --rsdp -1 | --rsdp e_0000 | "
@@ -153,22 +165,28 @@ REFUSED_WORDS = {
         "-fec00000=24 | --fec00000=24 | fec00000=24 fec01000=0 | --default-inputs | --default-inputs 0 | --default-inputs 257 | "
         "--default-inputs 0024 | --default-inputs 24 --default-inputs 24 | --hotplug | --hotplug Apart | --hotplug apar | "
         "--hotplug aparts | --hotplug counted,apart | --hotplug apart --hotplug counted | --processors | --processors Usable | "
-        "--processors apart | --processors usable --processors usable | --strict | --base e0000"
+        "--processors apart | --processors usable --processors usable | --strict | --base e0000 | "
+        "--allow SameUid"
     ),
     "acpiset find": "--rsdp e0000 | find | fec00000=24 | --default-inputs 24 | --hotplug apart | --processors usable",
     "acpiset lint": (
         "--strict --strict | --strict=true | --strict true | -strict | --through 3 | --rsdp | --rsdp g --strict | "
-        "--default-inputs 0 | fec00000 | --hotplug both | --processors online"
+        "--default-inputs 0 | fec00000 | --hotplug both | --processors online | --allow | --allow SameUid --allow SameUid | "
+        "--allow SameUid --allow SameLeaf | --allow SameUid SameLeaf | --allow SameUid, | --allow ,SameUid | --allow SameUid,,SameLeaf | "
+        "--allow , | --allow sameuid | --allow SAMEUID | --allow SameUI | --allow SameUids | --allow SameUid,Overlap | --allow Overlap | "
+        "--allow 109 | --allow=SameUid,109 | --allow SameUid;SameLeaf | --allow= | -allow SameUid"
     ),
     "acpiset rebuild": "--rsdp e0000 | --base | --base 10000000000000000 | --base e0000 --base e0000 | --base e0000 --through 3",
 }
 REFUSED = ["acpiset", *(f"{command} {words}" for command, lines in REFUSED_WORDS.items() for words in lines.split(" | "))]
 # Lines whose last argument is empty.
-REFUSED += [f"{line} " for line in ("acpiset", "acpiset check --rsdp", "acpiset check --rsdp e0000 --through", "acpiset check --hotplug")]
+WITHOUT_VALUE = ("check --rsdp", "check --rsdp e0000 --through", "check --hotplug", "lint --allow")
+REFUSED += ["acpiset ", *(f"acpiset {line} " for line in WITHOUT_VALUE)]
 
 ADDRESS = "1 to 16 hex digits, with or without 0x before them, as in f59e0"
 COUNT = "from 1 to 256, in at most 3 decimal digits"
 NO_COUNT = "expected ADDRESS=COUNT, as in fec00000=24"
+NAMES_OF_RULES = "names of rules of advice, with a comma between any two"
 # Lines that are refused, and what for.
 MESSAGES = [
     ("acpiset judge", "unrecognized subcommand 'judge'"), ("acpiset check --fix", "unexpected argument '--fix' found"),
@@ -184,6 +202,11 @@ MESSAGES = [
     ("acpiset lint --strict=true", "unexpected value 'true' for '--strict' found; no more were expected"),
     ("acpiset lint --rsdp f59e0h", f"--rsdp 'f59e0h': expected {ADDRESS}"), ("acpiset lint strict", f"'strict': {NO_COUNT}"),
     ("acpiset check --strict", "unexpected argument '--strict' found"),
+    ("acpiset lint --allow listedtwice", f"--allow 'listedtwice': expected {NAMES_OF_RULES}"),
+    ("acpiset lint --allow SameUid,Overlap", f"--allow 'Overlap': expected {NAMES_OF_RULES}"),
+    ("acpiset lint --allow SameUid,", f"--allow '': expected {NAMES_OF_RULES}"),
+    ("acpiset lint --allow ", f"--allow '': expected {NAMES_OF_RULES}"),
+    ("acpiset check --allow SameUid", "unexpected argument '--allow' found"),
     ("acpiset rebuild --base e0000h", f"--base 'e0000h': expected {ADDRESS}"), ("acpiset rebuild", f"rebuild needs --base HEX: {ADDRESS}"),
     # The first wrong word is named, and an option before any word.
     ("acpiset check fec00000=24 fec01000=0 fec02000", f"'fec01000=0': expected a COUNT {COUNT}"),
@@ -200,7 +223,8 @@ PRINTING = "a~\u00a0\u07ff\u0800\uffff\U00010000\U0010ffff"
 PLACES = [
     ["{}"], ["--{}"], ["-{}"], ["check", "--{}"], ["check", "{}"], ["check", "a/{}"], ["check", "{}=24"], ["check", "fec00000={}"],
     ["check", "--rsdp", "{}"], ["check", "--rsdp={}"], ["check", "--through", "{}"], ["check", "--default-inputs", "{}"],
-    ["check", "--hotplug", "{}"], ["check", "--processors", "{}"], ["lint", "--strict={}"], ["rebuild", "--base", "{}"],
+    ["check", "--hotplug", "{}"], ["check", "--processors", "{}"], ["lint", "--strict={}"], ["lint", "--allow", "{}"],
+    ["lint", "--allow", "SameUid,{}"], ["rebuild", "--base", "{}"],
     ["confirm", "--witness", "{}"], ["confirm", "--witness", "10 {} 0x30 0x58 0x0"], ["confirm", "--witness", "{} Overlap 0x30 0x58 0x0"],
     ["confirm", "--witness", "10 Overlap 0x30 0x58 {}"], ["find", "{}"],
 ]

@@ -5,6 +5,7 @@ from __future__ import annotations
 import random
 from dataclasses import dataclass, field
 
+from ..advice import RULES
 from ..faults import STAGE_OF, Fault
 from ..text import TOP, text_of
 from .changed import changed_set
@@ -30,6 +31,8 @@ class Case:
     last: int = 18
     base: int = 0
     is_strict: bool = False
+    # The rules of advice that may be broken.
+    allowed: list = field(default_factory=list)
     # The words that say the RSDP and the settings.
     rsdp_words: list = field(default_factory=list)
     setting_words: list = field(default_factory=list)
@@ -126,6 +129,7 @@ def text_case(dice, place):
 def completed(dice, case):
     """The case with the words of a command line, and the dice, for more."""
     case.base, case.is_strict = dice.choice(BASES), dice.random() < 0.2
+    case.allowed = dice.choices(RULES, k=dice.choice((1, 3, 40))) if dice.random() < 0.2 else []
     case.setting_words = words_of(dice, case.settings)
     if dice.random() < 0.85:
         case.rsdp_words = ["--rsdp", hex_word(dice, case.rsdp, 16)]

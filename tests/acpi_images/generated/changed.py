@@ -3,16 +3,17 @@
 
 from functools import cache as once
 
-from ..advice import MADT_LENGTHS
+from ..known.further import FURTHER, WHOLE
 from ..known.judged import JUDGED
 from ..known.linted import EXPECTED
 from ..known.mistakes import MISTAKES, UNCHANGED
 from ..known.rows import ROWS
 from ..program import IMAGES, firmware_text
-from ..table_set import MadtEntries, PpttEntries, SratEntries, TableSet, complete_table, entries_of
+from ..rules.facts import MADT_LENGTHS
+from ..table_set import MadtEntries, PpttEntries, SratEntries, TableSet, complete_table, entries_of, fadt_of
 from ..tables import *
 from ..text import Image, read
-from .sets import further_domain, further_processor
+from .sets import LATER_FIELDS, further_domain, further_processor, gic_entries, gic_part
 
 KINDS = {b"APIC": MadtEntries, b"SRAT": SratEntries, b"PPTT": PpttEntries}
 LENGTH_AT, REVISION_AT, SUM_AT = 4, 8, 9
@@ -22,8 +23,9 @@ MOST_BYTES = 4000
 @once
 def known_sets():
     """The pieces of sets to begin with, and the address of the RSDP of each."""
-    pieces = [it.pieces for it in (*EXPECTED, *ROWS) if isinstance(it.pieces, dict) and sum(map(len, it.pieces.values())) < MOST_BYTES]
-    made = [(it, RSDP_AT) for it in (*pieces, *(it[1] for it in JUDGED))]
+    rows = (*EXPECTED, *ROWS, *FURTHER)
+    pieces = [it.pieces for it in rows if isinstance(it.pieces, dict) and sum(map(len, it.pieces.values())) < MOST_BYTES]
+    made = [(it, RSDP_AT) for it in (*pieces, *(it[1] for it in (*JUDGED, *WHOLE)))]
     made += [(it.pieces(), int(IMAGES[it.image], 16)) for it in MISTAKES]
     return made + [(read(firmware_text(name)).pieces(), int(IMAGES[name], 16)) for name, _, _ in UNCHANGED * 4]
 
@@ -52,10 +54,9 @@ def madt_entry(dice):
         lambda: io_apic(small(dice), small(dice), byte(dice)),
         lambda: override(byte(dice), small(dice), dice.choice((0, 0, 2, 8, 13)), dice.choice((0, 0, 0, 1))),
         lambda: nmi_source(small(dice), dice.choice((0, 0, 2))),
-        lambda: dice.choice(local_nmis(small(dice), 1, dice.choice((0, 0, 2)))),
+        lambda: dice.choice(local_nmis(small(dice), dice.choice((1, 1, 0, 255)), dice.choice((0, 0, 2, 16)))),
         lambda: lapic_address(small(dice)),
-        lambda: gicd(dice.choice((2, 23, 24, 24, 25))),
-        lambda: other(*dice.choice(((13, 23), (13, 24), (13, 25), (14, 15), (14, 16), (14, 17), (15, 19), (15, 20), (15, 21)))),
+        *[lambda: gic_part(dice, lambda: small(dice))] * 3,
         lambda: other(dice.choice((6, 7, 8, 13, 14, 15, 16, 17, 23, 24, 25, 255)), dice.choice((2, 8, 16))),
     ))
     return make()
@@ -76,14 +77,17 @@ def srat_entry(dice):
 
 def pptt_entry(dice, starts=(36, 56, 76, 96, 64, 92)):
     place = lambda: dice.choice((0, 0, 36, *starts, dice.randrange(300)))
-    leaf_flags = lambda: dice.choice((0, 1, 2, 8, 0xA, 0xA, 0xA, 0xB))
-    cache_flags = lambda: dice.choice((0, 2, 0x40, 0x80, 0xC2, 0xFF))
+    leaf_flags = lambda: dice.choice((0, 1, 2, 8, 0xA, 0xA, 0xA, 0xB, 0x1F, 0x2A))
+    cache_flags = lambda: dice.choice((0, 1, 2, 4, 0x40, 0x47, 0x47, 0x80, 0xC2, 0xFF, 0x100))
     line = lambda: dice.choice((0, 1, 3, 32, 64, 96))
+    size = lambda: dice.choice((0, 1, 64, 128, 64 * 64, 64 * 64 * 2))
     length = lambda: dice.choice((24, 28, 28))
+    ways, attributes = lambda: dice.choice((0, 1, 2)), lambda: dice.choice((0, 0, 0xA, 0x1F, 0x20))
+    shape = lambda: {"size": size(), "sets": dice.choice((0, 1, 64)), "ways": ways(), "attributes": attributes(), "line": line()}
     make = dice.choice((
         lambda: node(place(), leaf_flags(), small(dice), [place() for _ in range(dice.choice((0, 0, 1, 2)))]),
         lambda: node(place(), leaf_flags(), small(dice)),
-        lambda: cache(place(), length(), cache_flags(), sets=dice.choice((0, 1, 64)), line=line(), cache_id=byte(dice)),
+        lambda: cache(place(), length(), cache_flags(), cache_id=byte(dice), **shape()),
         lambda: other(dice.choice((2, 3, 255)), dice.choice((2, 20, 30))),
     ))
     return make()
@@ -94,13 +98,15 @@ def pptt_entry(dice, starts=(36, 56, 76, 96, 64, 92)):
 
 def new_fadt(dice):
     length = dice.choice((115, 116, 128, 129, 139, 140, 147, 148, 159, 160, 219, 220, 243, 244, 267, 268, 275, 276, 300))
-    address = lambda size: number(dice.choice((0, 0, FACS_AT, FACS_AT + 0x1000, 0x600, 0x604)), size)
+    address = lambda size: number(dice.choice((0, 0, FACS_AT, FACS_AT + 0x1000, 0x600, 0x604, 0xFFFD)), size)
     fields = {36: address(4), 40: address(4), 46: number(dice.choice((0, 9, 23, 24, 200, 265)), 2)}
     fields.update((at, address(4)) for at in range(56, 88, 4))
     fields[88] = bytes(map(dice.choice, ((4, 4, 4, 3), (2, 2, 1), (0,), (0, 4, 3), (0, 1), (0, 1))))
     fields[112] = number(dice.choice((0, 0, REDUCED, RESET_REG_SUP)), 4)
     fields.update({116: bytes([dice.choice((1, 1, 3)), 8, 0, 0]), 132: address(8), 140: address(8)})
-    fields.update((at, bytes([dice.choice((0, 1, 1, 1)), 0, 0, 0]) + address(8)) for at in range(148, 244, 12))
+    width = lambda: dice.choice((0, 0, 8, 16, 32))
+    fields.update((at, bytes([dice.choice((0, 1, 1, 1)), width(), 0, 0]) + address(8)) for at in (*range(148, 244, 12), 244, 256))
+    fields.update((at, bytes([dice.choice(values)])) for at, values in LATER_FIELDS.items())
     body = bytearray(300)
     for at, value in fields.items():
         body[at : at + len(value)] = value
@@ -123,8 +129,8 @@ def several(dice, make):
 
 
 def new_madt(dice):
-    """A MADT, in half of the cases without entries that hide which processors there are."""
-    entries = several(dice, madt_entry)
+    """A MADT, often that of a GIC, in half of the cases without entries that hide which processors there are."""
+    entries = gic_entries(dice) if dice.random() < 0.3 else several(dice, madt_entry)
     if dice.random() < 0.5:
         entries = [it for it in entries if it[0] not in (7, 11, 17, 24) or it[1] in MADT_LENGTHS.get(it[0], ())]
     return madt(*entries)
@@ -145,7 +151,10 @@ def new_pptt(dice):
 
 
 def new_other(dice):
-    return dice.choice((hpet(), *(table(signature, bytes(8)) for signature in (b"DSDT", b"FACS", b"SSDT"))))
+    """A table of which only the header is read, some with a byte in it that is no text."""
+    signature = dice.choice((b"HPET", b"DSDT", b"FACS", b"SSDT", b"MCFG", b"MCFG", b"SPCR"))
+    made = table(signature, bytes(20))
+    return changed(made, {dice.choice((10, 15, 23, 31)): dice.choice((0, 0x1F, 0x7F))}, (9, 56)) if dice.random() < 0.2 else made
 
 
 def new_table(dice):
@@ -255,6 +264,68 @@ class Change:
         if b"FACP" in tables.first_slots:
             self.image.replace(tables.slots[tables.first_slots[b"FACP"]], new_fadt(self.dice))
 
+    def change_roots(self):
+        """Puts an RSDP, an XSDT and an RSDT, which list the same, or not quite."""
+        tables = self.tables()
+        slots = [address for _, address in sorted(tables.slots.items())]
+        low = [address for address in slots if address < 1 << 32]
+        if self.dice.random() < 0.6 and low:
+            what = self.dice.choice(("repeat", "drop", "exchange", "zero", "other"))
+            if what == "drop":
+                low.remove(self.dice.choice(low))
+            elif what == "exchange":
+                self.exchange(low)
+            else:
+                more = {"repeat": self.dice.choice(low), "zero": 0, "other": self.dice.choice((RSDP_AT, 0x500000, low[0] + 4))}
+                low.insert(self.dice.randrange(len(low) + 1), more[what])
+        self.image.replace(self.rsdp, extended_rsdp(0x500000, self.dice.choice((0x510000, 0x510000, 0x510000, 0x500000, 0))))
+        self.image.replace(0x500000, xsdt(*slots))
+        self.image.replace(0x510000, rsdt(*low))
+
+    def put_inside(self):
+        """Lists a table and one that lies in it, or beside it, or that shares some bytes with it."""
+        inner = new_table(self.dice)
+        shift, rest = self.dice.choice((0, 0, 1, 20)), self.dice.choice((0, 0, 1))
+        host = table(b"SSDT", bytes(shift) + inner[: len(inner) - self.dice.choice((0, 0, 0, 1))] + bytes(rest))
+        self.image.replace(0x520000, host)
+        self.list_more(0x520000, 0x520000 + self.dice.choice((36 + shift, 36 + shift, len(host))))
+
+    def list_more(self, *addresses):
+        """Writes the root with more slots."""
+        tables = self.tables()
+        if tables.root:
+            slots = [address for _, address in sorted(tables.slots.items())] + list(addresses)
+            self.image.replace(tables.root_at, table(tables.signature, b"".join(number(slot, tables.width) for slot in slots)))
+
+    def name_dsdt(self):
+        """Has the FADT name a DSDT that is right, or not quite."""
+        tables = self.tables()
+        fadt_at, whole = tables.slots.get(tables.first_slots.get(b"FACP")), tables.table(b"FACP")
+        if not whole or len(whole) < 44:
+            return
+        dsdt = self.dice.choice((
+            table(b"DSDT", b""), table(b"DSDT", bytes(3)), table(b"SSDT", b""), changed(table(b"DSDT", b""), {9: 0}),
+            changed(table(b"DSDT", b""), {4: 35}), table(b"DSDT", bytes(9))[:44], table(b"DSDT", b"")[:35],
+        ))
+        at, address = self.dice.choice((40, 40, 140)), self.dice.choice((0x530000, 0x530000, 0x520010))
+        self.image.replace(address, dsdt)
+        size = 4 if at == 40 else 8
+        data = whole.data[:at] + number(address, size) + whole.data[at + size :]
+        self.image.replace(fadt_at, summed(data[: len(whole)], SUM_AT))
+
+    def change_facs(self):
+        """Puts a FACS, with a byte of it changed, where the FADT names one."""
+        facts = fadt_of(self.tables())
+        if facts and facts.facs:
+            at = self.dice.choice((*range(20, 24), 32, 33, 35, 36, 39, 40, 63))
+            self.image.replace(facts.facs, changed(facs(), {at: self.dice.choice((0, 1, 2, 3, 255))}))
+
+    def change_rsdp(self):
+        """Puts another Revision into the RSDP, or a number into bytes that are reserved."""
+        places = {15: (0, 1, 2, 3), 20: (36, 37, 40), 33: (0, 1), 35: (0, 1)}
+        at = self.dice.choice(list(places))
+        self.put_byte(self.rsdp + at, *places[at] * 4)
+
     def cut(self):
         """Takes the last bytes of a run away."""
         if self.image.runs:
@@ -264,14 +335,17 @@ class Change:
             self.image.drop(self.image.starts[place] + kept, size - kept)
 
 
-CHANGES = (Change.change_byte, Change.change_table_byte, Change.change_entries, Change.change_slots, Change.change_fadt, Change.cut)
-WEIGHTS = (1, 5, 8, 4, 2, 1)
+# What is done, each so many times of forty.
+CHANGES = {
+    Change.change_byte: 2, Change.change_table_byte: 9, Change.change_entries: 12, Change.change_slots: 5, Change.change_fadt: 3,
+    Change.change_roots: 2, Change.put_inside: 1, Change.name_dsdt: 2, Change.change_facs: 1, Change.change_rsdp: 1, Change.cut: 2,
+}
 
 
 def changed_set(dice):
     """The image of a set that is known or new, and was changed, and the address of its RSDP."""
     pieces, rsdp = (new_set(dice), RSDP_AT) if dice.random() < 0.4 else dice.choice(known_sets())
     change = Change(dice, Image(pieces), rsdp)
-    for step in dice.choices(CHANGES, WEIGHTS, k=dice.choice((0, 1, 1, 2, 3, 5))):
+    for step in dice.choices(list(CHANGES), CHANGES.values(), k=dice.choice((0, 1, 1, 2, 3, 5))):
         step(change)
     return change.image, rsdp

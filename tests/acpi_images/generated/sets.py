@@ -7,8 +7,8 @@ from types import SimpleNamespace
 from .. import tables as built
 from ..table_set import Policy
 from ..tables import (
-    REDUCED, RESET_REG_SUP, core_pic, device_domain, gicc, gicd, hart_domain, its_domain, lapic, nmi_source, number, override,
-    rintc, summed, uid_domain,
+    REDUCED, RESET_REG_SUP, core_pic, device_domain, distributor, frame, gicc, gicd, hart_domain, its, its_domain, lapic, nmi_source,
+    number, override, placed, redistributor, rintc, summed, uid_domain,
 )
 from ..text import TOP
 
@@ -16,6 +16,12 @@ RSDP_SIZE, LONG_RSDP_SIZE, HEADER_SIZE, FACS_SIZE = 20, 36, 36, 64
 FADT_SIZE = 320
 FADT_LENGTHS = (116, 117, 128, 129, 131, 132, 139, 140, 147, 148, 159, 160, 232, 243, 244, 268, 276, 277, FADT_SIZE)
 LOW = 1 << 32
+# What bytes of a FADT may be that no stage reads: the model and the profile, SMI_CMD and what is written to it, where GPE1 begins, a
+# reserved byte, flags of an Arm machine, and the minor version.
+LATER_FIELDS = {
+    44: (0, 0, 0, 1, 2), 45: (0, 0, 4, 8, 9), 48: (0, 0, 0xB2), 50: (0, 0, 0, 0, 1), 52: (0, 0, 1, 2), 53: (0, 0, 0, 1), 55: (0, 0, 0, 1),
+    94: (0, 8, 16, 255), 95: (0, 0, 0, 1), 111: (0, 0, 0, 0, 1), 129: (0, 1, 1, 2), 131: (0, 1, 3, 5, 0x15),
+}
 
 # Entries whose reserved bytes hold what nothing may depend on: a rebuilt set has 0 there.
 RESERVED = 0xA5
@@ -75,11 +81,45 @@ def other_entry(dice, kinds):
 def further_processor(dice, drawn, flags):
     """A GICC, a CORE PIC or an RINTC, whose UID and ID are drawn. Some are a byte too short or too long to be read."""
     make = dice.choice((
-        lambda: gicc(drawn(), flags, dice.choice((39, 40, 41, 76, 80, 82))),
+        lambda: cpu_interface(dice, drawn(), flags, dice.choice((39, 40, 41, 67, 68, 75, 76, 80, 80, 82))),
         lambda: core_pic(drawn(), drawn(), flags, dice.choice((14, 15, 15, 15, 15, 16))),
-        lambda: rintc(drawn(), flags, dice.choice((19, 20, 21, 36, 36, 36))),
+        lambda: placed(rintc(drawn(), flags, dice.choice((19, 20, 21, 36, 36, 36))), _8=number(drawn(), 8)),
     ))
     return make()
+
+
+# Where parts of a GIC are: at one place, or beside each other.
+GIC_BASES = (0, 0, 0x1000, 0x10000, 0x20000, 0x2F000, 0x40000, LOW, TOP - 0x20000, TOP - 0x1000)
+
+
+def cpu_interface(dice, uid, flags, length=80):
+    """A GICC, of whose other fields most are 0."""
+    parking, base = number(dice.choice((0, 0, 0, 1, LOW - 1)), 4), number(dice.choice((0, 0, 0, 0x1000)), 8)
+    redistributor_at = number(dice.choice((0, 0, 0x20000, 0x40000, TOP - 1)), 8)
+    mpidr = number(dice.choice((uid, uid, uid, uid << 8, uid << 32, uid << 24, LOW - 1)), 8)
+    return placed(gicc(uid, flags, length), _16=parking, _32=base, _60=redistributor_at, _68=mpidr)
+
+
+def gic_part(dice, drawn):
+    """A distributor, a range of redistributors, an ITS or an MSI frame. Some are a byte too short or too long to be read."""
+    more, base = dice.choice((*(0,) * 12, -1, 1)), dice.choice(GIC_BASES)
+    make = dice.choice((
+        lambda: placed(gicd(24 + more), _8=number(base, 8), _16=bytes([0, 0, 0, 0, dice.choice((0, 1, 2, 3, 3, 4, 5))])),
+        lambda: redistributor(base, dice.choice((0, 1, 0x1000, 0x1FFFF, 0x20000, 0x20000, 0x40000, LOW - 1)), 16 + more),
+        lambda: its(drawn(), base, 20 + more),
+        lambda: frame(drawn(), base, 24 + more),
+    ))
+    return make()
+
+
+def gic_entries(dice):
+    """The entries of a GIC: distributors, processors, and what else it may have."""
+    small = partial(dice.randrange, 3)
+    parts = [gic_part(dice, small) for _ in range(dice.choice((0, 0, 1, 2, 4)))]
+    parts += [distributor(dice.choice((1, 2, 3, 3, 4)), 0x80000000) for _ in range(dice.choice((0, 1, 1, 1, 2)))]
+    parts += [cpu_interface(dice, uid, dice.choice((1, 1, 1, 8, 9, 0))) for uid in range(dice.choice((1, 2, 2, 3)))]
+    dice.shuffle(parts)
+    return parts
 
 
 def further_domain(dice, drawn, flags):
@@ -87,9 +127,9 @@ def further_domain(dice, drawn, flags):
     more = dice.choice((-1, 0, 0, 0, 0, 0, 0, 1))
     of_uid = lambda: uid_domain(drawn(), drawn(), flags, 18 + more)
     of_hart = lambda: hart_domain(drawn(), drawn(), flags, 20 + more)
-    of_its = lambda: its_domain(drawn(), 12 + more)
+    of_one_its = lambda: placed(its_domain(drawn(), 12 + more), _8=number(drawn(), 4))
     of_device = lambda: device_domain(dice.choice((5, 6)), drawn(), flags, 32 + more)
-    return dice.choice((of_uid, of_uid, of_hart, of_hart, of_its, of_device))()
+    return dice.choice((of_uid, of_uid, of_hart, of_hart, of_one_its, of_device))()
 
 
 # ---- PPTT (5.2.30)
@@ -177,6 +217,11 @@ class MadeSet:
         body[116:119] = bytes([dice.randrange(3), 8, 0])
         body[46:48] = number(dice.choice((9, 9, 0, 24, 255)), 2)
         body[40:44] = number(dice.choice((0, 0x9011, 0x7FFE0001)), 4)
+        for at, values in LATER_FIELDS.items():
+            body[at] = dice.choice(values)
+        for at in (244, 256):
+            width, offset = dice.choice((8, 8, 8, 0, 16)), dice.choice((0, 0, 0, 1))
+            body[at : at + 12] = built.generic_address(dice.choice((0, 0x600)), 0, width, offset)
         # A part of X_FIRMWARE_CTRL, which is none if Length ends in it.
         body[132:139] = b"\x55" * 7
         for at in (*range(56, 88, 4), *range(152, 244, 12), 140):
@@ -189,6 +234,8 @@ class MadeSet:
         return self.settings.inputs.get(address, self.settings.default_inputs)
 
     def made_madt(self):
+        if self.dice.random() < 0.05:
+            return gic_entries(self.dice)
         dice, base, spans = self.dice, self.dice.choice((0, 0, 0, 16, 0xFFFFF000)), []
         entries = []
         for place in range(dice.choice((0, 1, 1, 2, 3, 4))):
@@ -206,8 +253,8 @@ class MadeSet:
             entries.append(override(source, numbers.setdefault(source, served()), inti()))
         more = (
             lambda: nmi_source(served(), inti()),
-            lambda: built.lapic_nmi(dice.choice((0, 1, 255)), 1, inti()),
-            lambda: x2apic_nmi(dice.choice((0, 256, 0xFFFFFFFF)), 1, inti()),
+            lambda: built.lapic_nmi(dice.choice((0, 1, 255)), dice.choice((1, 1, 1, 0)), inti()),
+            lambda: x2apic_nmi(dice.choice((0, 256, 0xFFFFFFFF)), dice.choice((1, 1, 1, 0)), inti()),
         )
         entries += [dice.choice(more)() for _ in range(dice.choice((0, 1, 2)))]
         entries += [lapic_address(0xFEE00000)] * dice.choice((0, 0, 1))

@@ -1,6 +1,6 @@
 """Sets of tables, each with one of the further rules and the line that `lint` has to write of it, or None where the set just keeps
-the rule. Each line is worked out by hand from the rules in docs/TABLES.md, and none is taken from a program. Numbers of 0 at the end
-of a line are left out, and lines of other rules are not asked for."""
+the rule; and at the end sets with all their lines. Each line is worked out by hand from the rules in docs/TABLES.md, and none is taken
+from a program. Numbers of 0 at the end of a line are left out, and lines of other rules are not asked for."""
 
 from __future__ import annotations
 
@@ -444,36 +444,6 @@ entries_kept("NoIoApic", "an NMI of 5 bytes", lapic(0, 0), override(0, 2), other
 
 
 # ---- the MADT: a GIC
-def placed(data, **fields):
-    """An entry with these bytes at these offsets, as far as it goes."""
-    for name, value in fields.items():
-        at = int(name[1:])
-        data = (data[:at] + value + data[at + len(value) :])[: len(data)] if at < len(data) else data
-    return data
-
-
-def distributor(version, base=0):
-    return placed(gicd(), _8=number(base, 8), _20=bytes([version]))
-
-
-def redistributor(base, size, length=16):
-    return placed(other(14, length), _4=number(base, 8), _12=number(size, 4))
-
-
-def its(its_id, base=0, length=20):
-    return placed(other(15, length), _4=number(its_id, 4), _8=number(base, 8))
-
-
-def frame(frame_id, base=0, length=24):
-    return placed(other(13, length), _4=number(frame_id, 4), _8=number(base, 8))
-
-
-def cpu(base=0, gicr=0, mpidr=0, parking=0, flags=1, length=80):
-    """A GICC with these fields, as far as it goes."""
-    fields = {"_16": number(parking, 4), "_32": number(base, 8), "_60": number(gicr, 8), "_68": number(mpidr, 8)}
-    return placed(gicc(0, flags, length), **fields)
-
-
 entries_broken("NoDistributor", "0x0", "a GICC", gicc(0))
 entries_broken("NoDistributor", "0x0", "a GICC of 2 bytes", other(11, 2))
 entries_kept("NoDistributor", "a GICC and a distributor", gicc(0), gicd())
@@ -582,10 +552,6 @@ kept("NoBootMethod", "a FADT that ends in ARM_BOOT_ARCH", booted(0, cpu(), cpu()
 kept("NoBootMethod", "a MADT that is cut", booted(0, cpu(), cpu(), b"\0"))
 
 
-def hart(hart_id, flags=1, length=36):
-    return placed(rintc(0, flags, length), _8=number(hart_id, 8))
-
-
 entries_broken("SameHart", "0x50 0x2c 0x5", "one hart twice", hart(5), hart(5, 2))
 entries_broken("SameHart", "0x40 0x2c 0x5", "one hart twice, in 20 bytes", hart(5, length=20), hart(5, length=20))
 entries_kept("SameHart", "two harts", hart(5), hart(2**32 + 5))
@@ -667,10 +633,6 @@ affinities_kept(PAST, "domain 255", apic_domain(0, 255), memory(0, 1, 1, 255))
 affinities_kept(PAST, "domain 256 of what is not enabled", apic_domain(0, 256, 0), memory(0, 1, 0, 256))
 affinities_kept(PAST, "domain 256 of other types", x2apic_domain(0, 256), uid_domain(0, 256))
 kept(PAST, "an SRAT of Revision 2", listed(revised(srat(apic_domain(0, 256)), 2)))
-
-
-def of_its(its_id, length=12):
-    return placed(its_domain(0, length), _8=number(its_id, 4))
 
 
 def its_and(affinity, *entries):
@@ -951,13 +913,13 @@ nodes_kept(NUMBERS, "as many bytes as its lines have, and an attribute", cache(f
 nodes_broken(USED_THERE, "0x24 0x4", "a node's flag bit 24", node(flags=HIGH))
 nodes_broken(USED_THERE, "0x24 0x4", "a cache's flag bit 24", cache(flags=HIGH))
 
-# ---- all lines of these rules, in their order, of sets that break several
+# ---- all lines, in their order, of sets that break several rules
 WHOLE = []
 
 
-def whole(name, pieces, *lines):
-    """A set, and all lines that these rules have of it."""
-    WHOLE.append((name, pieces, [with_numbers(f"advice {line}") for line in lines]))
+def whole(name, pieces, *advice, faults=("yes",)):
+    """A set, and all lines of it."""
+    WHOLE.append((name, pieces, list(map(with_numbers, (*faults, *(f"advice {line}" for line in advice))))))
 
 
 whole("a FADT that has a DSDT", of_dsdt(DSDT))
@@ -970,8 +932,9 @@ whole(
 )
 whole(
     "two processors of a GIC", arch(5, 0, distributor(3), cpu(mpidr=1 << 24), cpu(mpidr=1 << 24), flags=0),
-    "NoDsdt 0x28", "NoPm1Block 0x38", "SciZero 0x2e", "FadtForArch 0x8 0x5", "NoRedistributor 0x2c 0x3",
-    "SameMpidr 0x94 0x44 0x1000000", "MpidrReserved 0x44 0x0 0x1000000", "NoBootMethod 0x81",
+    "FadtOfRevision 0x4 0x84 0x10c", "SameUid 0x94 0x44", "NoDsdt 0x28", "NoPm1Block 0x38", "SciZero 0x2e", "FadtForArch 0x8 0x5",
+    "NoRedistributor 0x2c 0x3", "SameMpidr 0x94 0x44 0x1000000", "MpidrReserved 0x44 0x0 0x1000000", "NoBootMethod 0x81",
+    faults=("no 4 PmEventLength 0x58", "no 4 PmControlLength 0x59", "no 5 NoFacs"),
 )
 whole(
     "domains, distances and a topology",
@@ -979,8 +942,9 @@ whole(
         srat(apic_domain(0, 256), device_domain(5, 0, 0)), slit(2, [10] * 4),
         pptt(node(0, IS_ID_VALID, 7, reserved=1), leaf(8), node(56), cache(flags=1)),
     ),
-    "NoDsdt 0x28", "NoMemoryRange 0x0", "InitiatorOff 0x40", "DomainPastRevision 0x30 0x1 0x100", "RemoteAsLocal 0x2d 0x0 0x1",
-    "LeafUnflagged 0x24 0x0 0x7", "LeafAsParent 0x38 0x4c", "NoPackage 0x38 0x0 0x8", "CacheNumbers 0x60", "PpttReserved 0x24 0x2",
+    "DomainPastSlit 0x30 0x2 0x100", "NoDsdt 0x28", "NoMemoryRange 0x0", "InitiatorOff 0x40", "DomainPastRevision 0x30 0x1 0x100",
+    "RemoteAsLocal 0x2d 0x0 0x1", "LeafUnflagged 0x24 0x0 0x7", "LeafAsParent 0x38 0x4c", "NoPackage 0x38 0x0 0x8", "CacheNumbers 0x60",
+    "PpttReserved 0x24 0x2",
 )
-whole("an RSDP alone", {RSDP_AT: rsdp()})
-whole("no RSDP", {})
+whole("an RSDP alone", {RSDP_AT: rsdp()}, faults=("no 2 RootHeaderOut 0x1000",))
+whole("nothing", {}, faults=("no 1 RsdpOut 0xe0000",))

@@ -1,0 +1,137 @@
+"""The rules of advice on the entries of a GIC in the MADT (5.2.12.14 to 5.2.12.18)."""
+
+from __future__ import annotations
+
+from .facts import GICC, GICD, GICR, ITS, MSI_FRAME
+from .rule import field, has_complete_madt, has_fadt, has_madt, is_of_another_length, overlap, rule, same_field
+
+# Versions of a GIC that has redistributors, and of one that has none (5.2.12.15).
+WITH_REDISTRIBUTORS, WITHOUT_REDISTRIBUTORS = (3, 4), (1, 2)
+# How many bytes the registers of one redistributor take, of an ITS, of a frame, and of a distributor with and without redistributors.
+REDISTRIBUTOR_SIZE, ITS_SIZE, FRAME_SIZE, WIDE_GICD_SIZE, GICD_SIZE = 0x20000, 0x20000, 0x1000, 0x10000, 0x1000
+AFFINITY_BITS = 0xFF00FFFFFF
+
+
+@rule(115, "SecondGicd", has_madt)
+def second_distributors(facts):
+    """There is a second distributor (5.2.12.15)."""
+    offsets = [entry.offset for entry in facts.madt.entries if entry.kind == GICD]
+    for offset in offsets[1:]:
+        yield offset, offsets[0]
+
+
+@rule(159, "NoDistributor", has_complete_madt)
+def no_distributor(facts):
+    """There is a GIC CPU interface, and no distributor (5.2.12.15)."""
+    if GICC in facts.madt_kinds and GICD not in facts.madt_kinds:
+        yield ()
+
+
+def own_redistributors(facts):
+    """The GICCs that are on and name a redistributor of their own, with its address (5.2.12.14)."""
+    return [(entry, field(entry, 60, 8)) for entry in facts.on_of(GICC) if field(entry, 60, 8)]
+
+
+@rule(160, "NoRedistributor", has_complete_madt)
+def no_redistributor(facts):
+    """The GIC has redistributors by its version, and neither a structure of them nor a GICC that is on names one (5.2.12.17)."""
+    if facts.gic_version in WITH_REDISTRIBUTORS and GICR not in facts.madt_kinds and not own_redistributors(facts):
+        yield facts.gicds[0].offset, facts.gic_version
+
+
+@rule(161, "GicrTooSmall", has_complete_madt)
+def small_redistributors(facts):
+    """The ranges of redistributors have less of them than there are processors that are on (5.2.12.17)."""
+    if facts.gic_version not in WITH_REDISTRIBUTORS or not facts.gicrs or is_of_another_length(facts, GICR):
+        return
+    count, due = sum(entry.number(12, 4) // REDISTRIBUTOR_SIZE for entry in facts.gicrs), len(facts.on_of(GICC))
+    if count < due:
+        yield facts.gicrs[0].offset, count, due
+
+
+@rule(162, "GiccBaseDiffers", has_madt)
+def differing_bases(facts):
+    """In a GIC without redistributors a CPU interface has another address than the first one (5.2.12.14)."""
+    if facts.gic_version not in WITHOUT_REDISTRIBUTORS:
+        return
+    giccs = facts.of_madt(GICC)
+    for entry in giccs:
+        if entry.number(32, 8) != giccs[0].number(32, 8):
+            yield entry.offset, giccs[0].offset, entry.number(32, 8)
+
+
+def with_mpidr(facts):
+    """The GICCs that are on and have an MPIDR."""
+    return [entry for entry in facts.on_of(GICC) if field(entry, 68, 8) is not None]
+
+
+@rule(163, "SameMpidr", has_madt)
+def same_mpidrs(facts):
+    """Two GICCs that are on have one MPIDR (5.2.12.14)."""
+    yield from same_field(with_mpidr(facts), 68, 8)
+
+
+@rule(164, "MpidrReserved", has_madt)
+def reserved_in_mpidr(facts):
+    """The MPIDR of a GICC that is on has a bit that is none of an affinity (5.2.12.14)."""
+    for entry in with_mpidr(facts):
+        if entry.number(68, 8) & ~AFFINITY_BITS:
+            yield entry.offset, 0, entry.number(68, 8)
+
+
+@rule(165, "GicrEmpty", has_madt)
+def empty_redistributors(facts):
+    """A range of redistributors has no bytes (5.2.12.17)."""
+    for entry in facts.gicrs:
+        if entry.number(12, 4) == 0:
+            yield entry.offset, 0, entry.number(4, 8)
+
+
+@rule(166, "SameIts", has_madt)
+def same_its(facts):
+    """Two ITS have one ID (5.2.12.18)."""
+    yield from same_field(facts.of_madt(ITS), 4, 4)
+
+
+@rule(167, "SameMsiFrame", has_madt)
+def same_frames(facts):
+    """Two MSI frames have one ID (5.2.12.16)."""
+    yield from same_field(facts.of_madt(MSI_FRAME), 4, 4)
+
+
+def gic_ranges(facts):
+    """The (start, size, offset) of the registers of redistributors, ITS, MSI frames and distributors."""
+    for entry in facts.gicrs:
+        yield entry.number(4, 8), entry.number(12, 4), entry.offset
+    for entry in facts.of_madt(ITS):
+        yield entry.number(8, 8), ITS_SIZE, entry.offset
+    for entry in facts.of_madt(MSI_FRAME):
+        yield entry.number(8, 8), FRAME_SIZE, entry.offset
+    for entry in facts.gicds:
+        size = WIDE_GICD_SIZE if entry.number(20, 1) in WITH_REDISTRIBUTORS else GICD_SIZE
+        yield entry.number(8, 8), size, entry.offset
+
+
+@rule(168, "GicOverlap", has_madt)
+def overlapping_gic(facts):
+    """The registers of two parts of the GIC share an address (5.2.12.15)."""
+    yield from overlap(gic_ranges(facts))
+
+
+@rule(169, "RedistributorTwice", has_madt)
+def redistributors_twice(facts):
+    """There are ranges of redistributors, and a GICC that is on names one of its own too (5.2.12.17)."""
+    for entry, base in own_redistributors(facts) if facts.gicrs else ():
+        yield entry.offset, facts.gicrs[0].offset, base
+
+
+@rule(170, "NoBootMethod", lambda facts: has_fadt(facts) and has_complete_madt(facts))
+def no_boot_method(facts):
+    """Of several GICCs that are on none has a parking protocol, and the FADT says that there is no PSCI (5.2.12.14)."""
+    others = facts.on_of(GICC)
+    has_field = len(facts.fadt.bytes) >= 131
+    if len(others) < 2 or not has_field or any(entry.number(16, 4) for entry in others):
+        return
+    flags = facts.fadt.field(129, 2)
+    if flags & 1 == 0:
+        yield 129, 0, flags

@@ -1,0 +1,206 @@
+"""The rules of advice on the MADT: processors, local APICs and I/O APICs, and reserved bytes of all its entries."""
+
+from __future__ import annotations
+
+from collections import defaultdict
+
+from .facts import (
+    GICC, GICD, IO_APIC, IO_SAPIC, LAPIC, LAPIC_NMI, MADT_LENGTHS, NMI_SOURCE, OVERRIDE, RINTC, X2APIC, X2APIC_NMI, processor_of,
+    version_of,
+)
+from .rule import has_complete_madt, has_fadt, has_madt, rule, same, same_field, unread, wrong_entries, zeros
+
+# Of each NMI of local APICs the UID that means all processors (5.2.12.7, 5.2.12.13).
+ALL_PROCESSORS = {LAPIC_NMI: 0xFF, X2APIC_NMI: 0xFFFFFFFF}
+# Of each type of processor the place of its flags, and the flags Enabled and Online Capable (5.2.12.2, 5.2.12.12, 5.2.12.14); the
+# harts of RISC-V came after ACPI 6.5.
+CAPABLE = {LAPIC: (4, 1 << 0, 1 << 1), X2APIC: (8, 1 << 0, 1 << 1), GICC: (12, 1 << 0, 1 << 3), RINTC: (4, 1 << 0, 1 << 1)}
+# Of some of these the version of the FADT since which there is the flag Online Capable.
+CAPABLE_SINCE = {LAPIC: (6, 3), X2APIC: (6, 3), GICC: (6, 5)}
+# Of each type of local APIC the place of its ID, and the ID to which all of them listen.
+APIC_ID = {LAPIC: (3, 1), X2APIC: (4, 4)}
+BROADCAST = {LAPIC: 0xFF, X2APIC: 0xFFFFFFFF}
+
+
+# ---- processors (5.2.12)
+
+
+@rule(109, "SameUid", has_madt)
+def same_uids(facts):
+    """Two processors that are on have one UID (5.2.12)."""
+    yield from same((it.offset, it.uid) for it in facts.on)
+
+
+@rule(110, "SameApicId", has_madt)
+def same_apic_ids(facts):
+    """Two processors that are on have one APIC ID (5.2.12)."""
+    yield from same((it.offset, it.apic_id) for it in facts.on if it.apic_id is not None)
+
+
+@rule(116, "NoProcessor", has_madt)
+def no_processor(facts):
+    """No processor is on (5.2.12)."""
+    if facts.knows_processors and not facts.on:
+        yield ()
+
+
+@rule(150, "X2ApicBelow255", has_madt)
+def low_x2apics(facts):
+    """An x2APIC that is on has an ID that a local APIC can have, beside a local APIC that is on (5.2.12.12)."""
+    if all(entry.number(3, 1) == 0xFF for entry in facts.on_of(LAPIC)):
+        return
+    for entry in facts.on_of(X2APIC):
+        if entry.number(4, 4) < 0xFF:
+            yield entry.offset, 0, entry.number(4, 4)
+
+
+@rule(151, "BroadcastId", has_madt)
+def broadcast_ids(facts):
+    """A local APIC or an x2APIC that is on has the ID that means all of them (5.2.12.2, 5.2.12.12)."""
+    for entry in facts.on_of(LAPIC, X2APIC):
+        apic_id = entry.number(*APIC_ID[entry.kind])
+        if apic_id == BROADCAST[entry.kind]:
+            yield entry.offset, 0, apic_id
+
+
+def capable(facts):
+    """The processors with these two flags: the entry, all its flags, whether it is enabled, and whether it is online capable."""
+    for entry in facts.madt.entries:
+        if entry.kind in CAPABLE and processor_of(entry):
+            at, enabled, online_capable = CAPABLE[entry.kind]
+            flags = entry.number(at, 4)
+            yield entry, flags, flags & enabled != 0, flags & online_capable != 0
+
+
+@rule(152, "CapableTooEarly", lambda facts: has_madt(facts) and has_fadt(facts))
+def too_early_capable(facts):
+    """A processor is not enabled and is Online Capable, by a FADT older than that flag (5.2.12.2, 5.2.12.12, 5.2.12.14)."""
+    version = version_of(facts.fadt)
+    for entry, _, is_on, is_capable in capable(facts):
+        if is_capable and not is_on and version < CAPABLE_SINCE.get(entry.kind, version):
+            yield entry.offset, *version
+
+
+@rule(153, "EnabledAndCapable", has_madt)
+def enabled_and_capable(facts):
+    """A processor is Enabled and Online Capable, of which at most one may be said (5.2.12.2, 5.2.12.12, 5.2.12.14)."""
+    for entry, flags, is_on, is_capable in capable(facts):
+        if is_on and is_capable:
+            yield entry.offset, 0, flags
+
+
+@rule(171, "SameHart", has_madt)
+def same_harts(facts):
+    """Two harts that are on have one hart ID (after ACPI 6.5)."""
+    yield from same_field(facts.on_of(RINTC), 8, 8)
+
+
+# ---- I/O APICs, overrides and NMIs (5.2.12.3 to 5.2.12.7)
+
+
+@rule(111, "IoApicAtZero", has_madt)
+def io_apics_at_zero(facts):
+    """An I/O APIC is at 0 (5.2.12.3)."""
+    for entry in facts.madt.typed(IO_APIC):
+        if entry.number(4, 4) == 0:
+            yield (entry.offset,)
+
+
+@rule(112, "SameIoApicId", has_madt)
+def same_io_apic_ids(facts):
+    """Two I/O APICs have one ID (5.2.12.3)."""
+    yield from same_field(facts.madt.typed(IO_APIC), 2, 1)
+
+
+@rule(113, "SameIoApicAddress", has_madt)
+def same_io_apic_addresses(facts):
+    """Two I/O APICs have one address (5.2.12.3)."""
+    yield from same_field([entry for entry in facts.madt.typed(IO_APIC) if entry.number(4, 4)], 4, 4)
+
+
+@rule(114, "NmiNowhere", has_madt)
+def nowhere_nmis(facts):
+    """An NMI of local APICs has a UID that is no processor's (5.2.12.7)."""
+    for entry in facts.madt.typed(LAPIC_NMI, X2APIC_NMI) if facts.knows_processors else ():
+        uid = entry.number(2, 1) if entry.kind == LAPIC_NMI else entry.number(4, 4)
+        if uid != ALL_PROCESSORS[entry.kind] and uid not in facts.uids:
+            yield entry.offset, 0, uid
+
+
+@rule(154, "OverridePastIsa", lambda facts: has_madt(facts) and has_fadt(facts))
+def overrides_past_isa(facts):
+    """An override of an interrupt that the ISA bus does not have, and that is not the SCI's (5.2.12.5)."""
+    for entry in facts.madt.typed(OVERRIDE):
+        source = entry.number(3, 1)
+        if source > 15 and source != facts.fadt.field(46, 2):
+            yield entry.offset, source, entry.number(4, 4)
+
+
+@rule(155, "TimerLevel", has_madt)
+def level_timers(facts):
+    """An override makes the timer's interrupt, 0, level-triggered (5.2.12.5)."""
+    for entry in facts.madt.typed(OVERRIDE):
+        flags = entry.number(8, 2)
+        if entry.number(3, 1) == 0 and flags >> 2 & 0b11 == 0b11:
+            yield entry.offset, 0, flags
+
+
+@rule(156, "TwoSourcesOneGsi", has_madt)
+def sources_of_one_gsi(facts):
+    """An override gives a number that an earlier one gives to another interrupt of the ISA bus (5.2.12.5)."""
+    earlier = defaultdict(dict)
+    for entry in facts.madt.typed(OVERRIDE):
+        source, gsi = entry.number(3, 1), entry.number(4, 4)
+        others = [offset for its_source, offset in earlier[gsi].items() if its_source != source]
+        if others:
+            yield entry.offset, min(others), gsi
+        earlier[gsi].setdefault(source, entry.offset)
+
+
+@rule(157, "LintNotOne", has_madt)
+def other_lints(facts):
+    """An NMI comes by another pin of the local APICs than LINT1 (5.2.12.7, 5.2.12.13)."""
+    for entry in facts.madt.typed(LAPIC_NMI, X2APIC_NMI):
+        lint = entry.number(5 if entry.kind == LAPIC_NMI else 8, 1)
+        if lint != 1:
+            yield entry.offset, 0, lint
+
+
+@rule(158, "NoIoApic", has_complete_madt)
+def no_io_apic(facts):
+    """There are local APICs that are on, and overrides or NMI sources, and no I/O APIC or I/O SAPIC (5.2.12.3)."""
+    is_told_of = facts.madt_kinds & {OVERRIDE, NMI_SOURCE} and not facts.madt_kinds & {IO_APIC, IO_SAPIC}
+    if is_told_of and facts.on_of(LAPIC, X2APIC):
+        yield ()
+
+
+# ---- entries that nothing reads, and reserved bytes
+
+
+@rule(127, "MadtUnread", has_madt)
+def unread_in_madt(facts):
+    """An entry of a type, or with a length, that neither a stage nor a rule reads (5.2.12)."""
+    yield from unread(facts.madt, MADT_LENGTHS)
+
+
+# Of each type of entry of the MADT what it may have: flags, reserved bytes, and the version of a distributor (5.2.12).
+MADT_LIMITS = {
+    LAPIC: [(4, 4, 0b11)],
+    IO_APIC: zeros(3),
+    OVERRIDE: [(8, 2, 0b1111)],
+    NMI_SOURCE: [(2, 2, 0b1111)],
+    LAPIC_NMI: [(3, 2, 0b1111)],
+    5: zeros(2, 3),
+    X2APIC: [*zeros(2, 3), (8, 4, 0b11)],
+    X2APIC_NMI: [(2, 2, 0b1111), *zeros(9, 10, 11)],
+    GICD: [*zeros(16, 17, 18, 19), (20, 1, 4)],
+}
+
+
+@rule(172, "MadtReserved", has_madt)
+def reserved_in_madt(facts):
+    """A reserved byte, flag or version of the MADT or of one of its entries is used (5.2.12)."""
+    flags = facts.tables.table(b"APIC").number(40, 4)
+    if flags > 0b1:
+        yield 40, 0, flags
+    yield from wrong_entries([*facts.madt.typed(*MADT_LIMITS), *facts.gicds], MADT_LIMITS)

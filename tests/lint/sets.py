@@ -1,0 +1,68 @@
+"""The sets on which `lint` is tested: those with lines written by hand, all of them or that of one rule, those of the other tests, and
+images of real firmware."""
+
+from __future__ import annotations
+
+from dataclasses import dataclass
+
+from acpi_images.known.further import FURTHER, WHOLE
+from acpi_images.known.judged import JUDGED
+from acpi_images.known.linted import EXPECTED
+from acpi_images.known.many import MANY
+from acpi_images.known.mistakes import MISTAKES, UNCHANGED
+from acpi_images.known.rows import ROWS, words_of
+from acpi_images.known.shown import SHOWN
+from acpi_images.program import IMAGES, firmware_text
+from acpi_images.text import text_of
+
+AT_SEED = ["--rsdp", "e0000"]
+
+
+@dataclass
+class Case:
+    """An image text and the words after `lint`, and what is written by hand of it: all its lines, or None; of one rule its line, or an
+    empty text where the set keeps it; the line of `check`, or None if it is to be asked for."""
+
+    name: str
+    text: bytes
+    words: list[str]
+    lines: list[str] | None = None
+    rule: str | None = None
+    line: str = ""
+    checked: str | None = None
+
+    def differences(self, lines):
+        """What is wrong with these lines, one text for each thing that is written by hand."""
+        if self.lines is not None:
+            yield "" if lines == self.lines else f"judged {lines}, not {self.lines}"
+        if self.rule is not None:
+            told = [line for line in lines if line.startswith(f"advice {self.rule} ")]
+            yield "" if told == [self.line] * bool(self.line) else f"judged {told} by {self.rule}, not '{self.line}'"
+
+
+def by_hand():
+    """Sets of which lines are written by hand."""
+    for it in EXPECTED:
+        yield Case(it.name, text_of(it.pieces), it.words.split(), it.lines)
+    for it in MISTAKES:
+        yield Case(it.name, text_of(it.pieces()), it.words.split(), it.lines)
+    for name, words, lines in UNCHANGED:
+        yield Case(f"{name} {words}", firmware_text(name), f"--rsdp {IMAGES[name]} {words}".split(), lines)
+    for it in FURTHER:
+        yield Case(f"{it.rule}, {it.name}", text_of(it.pieces), it.words.split(), rule=it.rule, line=it.line or "")
+    for name, pieces, lines in WHOLE:
+        yield Case(name, text_of(pieces), AT_SEED, lines)
+
+
+def of_row(row):
+    """A row, checked through all stages. What `find` answers says nothing of the set."""
+    checked = None if row.words.startswith("find") or "--through" in row.words else row.answer
+    return Case(row.name, text_of(row.pieces), words_of(row), checked=checked)
+
+
+def of_other_tests():
+    yield from map(of_row, (*ROWS, *MANY))
+    for name, pieces, words, _ in JUDGED:
+        yield Case(name, text_of(pieces), [*AT_SEED, *words.split()])
+    for it in SHOWN:
+        yield Case(it.name, text_of(it.pieces), it.words.split())
