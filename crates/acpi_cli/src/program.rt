@@ -88,14 +88,13 @@ pub fn do_job<R: Read, W: Write>(
         Job::Rebuild { rsdp, policy, base } => {
             run_rebuild(alloc, reader, writer, rsdp, policy, base)
         }
-        Job::Show {
-            rsdp,
-            is_anyway: false,
-        } => run_show(alloc, reader, writer, rsdp),
-        Job::Show {
-            rsdp,
-            is_anyway: true,
-        } => run_show_anyway(alloc, reader, writer, rsdp),
+        Job::Show { rsdp, is_anyway } => {
+            if is_anyway {
+                run_show_anyway(alloc, reader, writer, rsdp)
+            } else {
+                run_show(alloc, reader, writer, rsdp)
+            }
+        }
         Job::Find => run_find(alloc, reader, writer),
     }
 }

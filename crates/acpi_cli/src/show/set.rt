@@ -7,7 +7,7 @@ use crate::show::root::{add_root, add_rsdp};
 use crate::show::slit::add_slit;
 use crate::show::srat::add_srat;
 use acpi_base::{Image, TableKind};
-use acpi_read::{FirstTables, Header, Listed, Root, Table};
+use acpi_read::{FirstTables, Listed, Root, Table};
 use std::alloc::{AllocError, Global};
 
 /// All lines of a set: those of the RSDP at the address `rsdp`, of the root table and its slots, and of the tables that
@@ -58,9 +58,12 @@ fn first_of_kind<'a>(image: &'a Image, root: &Root<'_>, kind: TableKind) -> Opti
     None
 }
 
+/// How many bytes the header of a table has (ACPI 6.5, 5.2.6).
+const HEADER_LENGTH: u64 = 36;
+
 /// Whether there is a header of this kind at an address.
 fn is_of_kind(image: &Image, address: u64, kind: TableKind) -> bool {
-    match image.window(address, Header::LEN as u64) {
+    match image.window(address, HEADER_LENGTH) {
         Some(header) => TableKind::of(header) == Some(kind),
         None => false,
     }
