@@ -1,19 +1,17 @@
 -- Texts of a header: a scan for a byte that is not printable and none of the zeros at the text's end; and the first
 -- slot that
 -- lists a header with one.
-use Rattle.std.proofs.Common.{◌≡◌, ℕ, ◌<◌, ◌≤◌, Bool, false, true≢false, List, length, take, drop, get_or, Some, None, sym, ◌∙◌, ap, subst, inl, inr, arith}
+use Rattle.std.proofs.Common.{◌≡◌, ℕ, ◌<◌, ◌≤◌, Bool, false, true≢false, List, length, take, drop, get_or, Option, Some, None, sym, ◌∙◌, ap, subst, inl, inr, arith}
 use Rattle.std.specs.Prelude.{◌⊎◌, ◌↔◌, IsTrue, slice_index}
 use Rattle.std.proofs.lemmas.Bool.{cases_lt}
 use Rattle.std.proofs.lemmas.List.Elements.{Contains-get_or}
 use Rattle.acpi_base.specs.Memory.{Memory}
 use Rattle.acpi_base.specs.Root.{IsSlot}
-use Rattle.acpi_lint.specs.Headers.{HasOddText, FindsOddText}
 use Rattle.acpi_lint.specs.Places.{FindsLeast, IsNotAfter}
 use Rattle.acpi_lint.specs.Rules.HeaderAdvice.{IsNoText, IsOddField, IsOddText, IsHeaderText}
-use Rattle.acpi_lint.specs.Slots.{IsTableAt, AreSlots}
+use Rattle.acpi_lint.specs.Slots.{FindsOddAt, AreSlots}
 use Rattle.acpi_lint.specs.declared.listed_slots.Slot.{Slot}
-use Rattle.acpi_lint.specs.declared.place.Place.{Place}
-use Rattle.acpi_lint.proofs.ListedSlots.{no_slot}
+use Rattle.acpi_lint.proofs.ListedSlots.{no_slot, table_of_slot}
 use Rattle.acpi_lint.proofs.RisingLists.{at_or_behind, none_such}
 
 -- byte i is not printable
@@ -68,45 +66,60 @@ no_odd header one two three four offset (size, inr (inr (inr (at, is))), odd) = 
 -- ---- the headers that slots list
 
 abbrev pub NoneBefore : List Slot → ℕ → Type 0
-NoneBefore slots i = (j offset : ℕ) → j < i → ¬ HasOddText (get_or slots j no_slot) offset
+NoneBefore slots i = (j : ℕ) → j < i → (get_or slots j no_slot).table.odd_text ≡ None
 
-odd_there : {m : Memory} (s : Slot) (point offset : ℕ) → IsTableAt m s.table → s.table.address ≡ point
-    → IsOddText m point offset → HasOddText s offset
-odd_there s point offset there is (header, present, odd) =
-    (header, sym (there.run 36) ∙ (rw is present), odd)
+text_there : (m : Memory) (a : ℕ) (found : Option ℕ) (first : ℕ) → FindsOddAt m a found → found ≡ Some first
+    → FindsOddAt m a (Some first)
+text_there m a found first finds is = rw is at finds
 
-pub first_text : {m : Memory} {p : ℕ} (slots : List Slot) (i : ℕ) (place : Place) → AreSlots m (IsSlot m p) slots
-    → i < length slots → FindsOddText (get_or slots i no_slot) (Some place) → NoneBefore slots i
-    → FindsLeast (IsHeaderText m p) (Some place)
-first_text {m} {p} slots i place are within (number, address, (header, present, odd), first) passed =
+no_text_there : (m : Memory) (a : ℕ) (found : Option ℕ) (offset : ℕ) → FindsOddAt m a found → found ≡ None
+    → ¬ IsOddText m a offset
+no_text_there m a found offset finds none = (rw none at finds) offset
+
+passed_text : {m : Memory} {p : ℕ} (slots : List Slot) (i offset : ℕ) → AreSlots m (IsSlot m p) slots
+    → i ≤ length slots → NoneBefore slots i → (j : ℕ) → j < i
+    → ¬ IsOddText m (get_or slots j no_slot).table.address offset
+passed_text {m} slots i offset are upto passed j below =
+    no_text_there m _ _ offset (table_of_slot slots j are (omega arith)).text (passed j below)
+
+pub first_text : {m : Memory} {p : ℕ} (slots : List Slot) (i offset : ℕ) → AreSlots m (IsSlot m p) slots
+    → i < length slots → (get_or slots i no_slot).table.odd_text ≡ Some offset → NoneBefore slots i
+    → FindsLeast (IsHeaderText m p) (Some (record {
+      at = (get_or slots i no_slot).number;
+      other = offset;
+      point = (get_or slots i no_slot).table.address;
+    }))
+first_text {m} {p} slots i offset are within found passed =
     let s : Slot = get_or slots i no_slot in
     let (slot, there) = are.listed s (Contains-get_or slots i no_slot within) in
+    let (odd, first) = text_there m _ _ offset there.text found in
     record {
-      here = (rw (number, address) slot, rw address (header, there.run 36 ∙ present, odd));
+      here = (slot, odd);
       least = λ at other point (lists, wrong).
           let (t, listed, same, is) = are.all at point lists in
-          let has : HasOddText t other = odd_there t point other (are.listed t listed).1 is wrong in
-          elim (at_or_behind (λ (x : Slot). x.number) (λ (x : Slot). HasOddText x other) slots i no_slot
-          t are.rise within (λ j below. passed j other below) listed has) [
+          let here : IsOddText m t.table.address other = rw is wrong in
+          elim (at_or_behind (λ (x : Slot). x.number) (λ (x : Slot). IsOddText m x.table.address other) slots i no_slot
+          t are.rise within (passed_text slots i other are (omega arith) passed) listed here) [
             | inl one ↦
-                let low = first other (subst (λ (x : Slot). HasOddText x other) one has) in
-                upto at other point (omega (arith, number, same, ap (λ (x : Slot). x.number) one)) low
-                (omega (arith, address, is, ap (λ (x : Slot). x.table.address) one))
-            | inr more ↦ inl (omega (arith, number, same, more))
+                let low = first other (subst (λ (x : Slot). IsOddText m x.table.address other) one here) in
+                upto s.number offset s.table.address at other point
+                (omega (arith, same, ap (λ (x : Slot). x.number) one)) low
+                (omega (arith, is, ap (λ (x : Slot). x.table.address) one))
+            | inr more ↦ inl (omega (arith, same, more))
           ];
     }
   where
-    upto : (at other point : ℕ) → place.at ≡ at → place.other ≤ other → place.point ≡ point
-        → IsNotAfter place at other point
-    upto at other point here low there =
-        elim (cases_lt place.other other) [
+    upto : (number first address at other point : ℕ) → number ≡ at → first ≤ other → address ≡ point
+        → IsNotAfter (record { at = number; other = first; point = address }) at other point
+    upto number first address at other point here low there =
+        elim (cases_lt first other) [
           | inl less ↦ inr (here, inl less)
           | inr most ↦ inr (here, inr (omega (arith, low, most), omega (arith, there)))
         ]
 
 pub no_text : {m : Memory} {p : ℕ} (slots : List Slot) (i : ℕ) → AreSlots m (IsSlot m p) slots → length slots ≤ i
-    → NoneBefore slots i → FindsLeast (IsHeaderText m p) None
-no_text {m} {p} slots i are end passed = λ at other point (lists, wrong).
+    → i ≤ length slots → NoneBefore slots i → FindsLeast (IsHeaderText m p) None
+no_text {m} {p} slots i are end upto passed = λ at other point (lists, wrong).
     let (t, listed, same, is) = are.all at point lists in
-    none_such (λ (x : Slot). HasOddText x other) slots i no_slot t end (λ j below. passed j other below)
-    listed (odd_there t point other (are.listed t listed).1 is wrong)
+    none_such (λ (x : Slot). IsOddText m x.table.address other) slots i no_slot t end
+    (passed_text slots i other are upto passed) listed (rw is wrong)

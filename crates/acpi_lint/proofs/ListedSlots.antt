@@ -4,7 +4,6 @@ use Rattle.std.specs.Prelude.{◌⊎◌, Contains}
 use Rattle.std.proofs.lemmas.Bool.{cases_lt}
 use Rattle.std.proofs.lemmas.List.{get_or-map, length-map}
 use Rattle.std.proofs.lemmas.List.Elements.{Contains-append_left, Contains-append_right, Contains-append_cases, Contains-get_or}
-use Rattle.acpi_base.specs.Image.Runs.{AreBytesFrom}
 use Rattle.acpi_base.specs.Memory.{Memory}
 use Rattle.acpi_base.specs.Number.{field}
 use Rattle.acpi_base.specs.Root.{HasSlot, IsSlot}
@@ -20,7 +19,7 @@ use Rattle.acpi_lint.proofs.RisingLists.{rise_more}
 
 -- a slot to read lists with
 abbrev pub no_slot : Slot
-no_slot = record { number = 0; table = record { address = 0; run = record { ref_ptr = (0, 0); now = [] }; fault = None; kind = None; is_apart = false } }
+no_slot = record { number = 0; table = record { address = 0; length = 0; signature = 0; odd_text = None; fault = None; kind = None; is_apart = false } }
 
 -- ---- slot by slot
 
@@ -112,11 +111,10 @@ no_slots none =
           (record { named = slot.root; table = slot.table }));
     }
 
--- the bytes from the address of a slot on
-pub run_of : {m : Memory} {Lists : ℕ → ℕ → Type 0} (slots : List Slot) (i : ℕ) → AreSlots m Lists slots
-    → i < length slots
-    → AreBytesFrom m (get_or slots i no_slot).table.address (get_or slots i no_slot).table.run.now
-run_of slots i are within = (are.listed (get_or slots i no_slot) (Contains-get_or slots i no_slot within)).1.run
+-- what is at the address of a slot
+pub table_of_slot : {m : Memory} {Lists : ℕ → ℕ → Type 0} (slots : List Slot) (i : ℕ) → AreSlots m Lists slots
+    → i < length slots → IsTableAt m (get_or slots i no_slot).table
+table_of_slot slots i are within = (are.listed (get_or slots i no_slot) (Contains-get_or slots i no_slot within)).1
 
 -- ---- their addresses
 

@@ -1,19 +1,20 @@
 -- Slots that list tables of which a set has one: a slot is a later one if it gives another address to the number of its
 -- signature than the first slot with that number.
-use Rattle.std.proofs.Common.{◌≡◌, ◌≢◌, ℕ, ◌<◌, ◌≤◌, true, List, length, get_or, Some, None, refl, sym, ◌∙◌, ap, inl, inr, arith}
+use Rattle.std.proofs.Common.{◌≡◌, ◌≢◌, ℕ, ◌<◌, ◌≤◌, true, false, true≢false, List, length, get_or, Some, None, refl, sym, ◌∙◌, ap, inl, inr, arith}
 use Rattle.std.specs.Prelude.{AllPairs, Contains}
 use Rattle.std.specs.List.{filter_map}
 use Rattle.std.proofs.Math.Nat.{eq-or-lt_of_le}
-use Rattle.std.proofs.lemmas.Option.{none-some, cond_some}
-use Rattle.acpi_base.specs.Memory.{Memory}
+use Rattle.std.proofs.lemmas.Option.{cond_some}
+use Rattle.acpi_base.specs.Memory.{Memory, bytes_at}
+use Rattle.acpi_base.specs.Number as number
 use Rattle.acpi_base.specs.Root.{IsSlot}
 use Rattle.acpi_base.proofs.Options.{cases_Option}
 use Rattle.acpi_check.proofs.EntryPasses.Kept.{kept_has, kept_from}
-use Rattle.acpi_lint.specs.Headers.{header_there, once_numbered}
+use Rattle.acpi_lint.specs.Headers.{once_numbered}
 use Rattle.acpi_lint.specs.Numbered.{IsNoLater, IsUnlikeAt}
 use Rattle.acpi_lint.specs.Places.{FindsLeast, IsLeast, IsNotAfter}
-use Rattle.acpi_lint.specs.Rules.HeaderAdvice.{is_once, signature_number, ListsNumber, IsSecondOther}
-use Rattle.acpi_lint.specs.Slots.{IsTableAt, AreSlots}
+use Rattle.acpi_lint.specs.Rules.HeaderAdvice.{is_once, once_signatures, signature_number, ListsNumber, IsSecondOther}
+use Rattle.acpi_lint.specs.Slots.{signature_at, IsTableAt, AreSlots}
 use Rattle.acpi_lint.specs.declared.listed_slots.Slot.{Slot}
 use Rattle.acpi_lint.specs.declared.numbered.Numbered.{Numbered}
 use Rattle.acpi_lint.specs.declared.numbered.Order.TheVariants.{Later}
@@ -49,23 +50,35 @@ IsOnceAt m p n k a = ListsNumber m p n k a × (is_once n ≡ true)
 numbered : ℕ → ℕ → ℕ → Numbered
 numbered n k a = record { number = n; at = k; value = a }
 
+-- no table has the signature 0
+not_once : is_once 0 ≡ false
+unfolding once_signatures number.field
+not_once = refl
+
+once_signed : (m : Memory) (a n : ℕ) → n ≡ signature_at m a → is_once n ≡ true
+    → (header : List ℕ) × (bytes_at m a 36 ≡ Some header) × (signature_number header ≡ n)
+once_signed m a n is once =
+    elim (cases_Option (bytes_at m a 36)) [
+      | inr none ↦
+          let zero : n ≡ 0 = rw none at is in
+          absurd (true≢false (sym (rw zero at once) ∙ not_once))
+      | inl (header, present) ↦ (header, present, sym (rw present at is))
+    ]
+
 once_from : (m : Memory) (p : ℕ) (s : Slot) (g : Numbered) → IsSlot m p s.number s.table.address
     → IsTableAt m s.table → once_numbered s ≡ Some g
     → IsOnceAt m p g.number g.at g.value × (g.at ≡ s.number) × (g.value ≡ s.table.address)
 once_from m p s g slot there is =
-    elim (cases_Option (header_there s.table)) [
-      | inr none ↦ absurd (none-some g (rw none at is))
-      | inl (header, present) ↦
-          let kept = cond_some (is_once (signature_number header))
-          (record { number = signature_number header; at = s.number; value = s.table.address }) g (rw present at is) in
-          rw (← kept.1) (((slot, (header, there.run 36 ∙ present, refl)), kept.0), refl, refl)
-    ]
+    let kept = cond_some (is_once s.table.signature)
+    (record { number = s.table.signature; at = s.number; value = s.table.address }) g is in
+    rw (← kept.1) (((slot, once_signed m _ _ there.signature kept.0), kept.0), refl, refl)
 
 once_to : (m : Memory) (p n k a : ℕ) (s : Slot) → s.number ≡ k → s.table.address ≡ a → IsTableAt m s.table
     → IsOnceAt m p n k a → once_numbered s ≡ Some (record { number = n; at = k; value = a })
 once_to m p n k a s number address there ((slot, (header, present, is)), once) =
-    let here : header_there s.table ≡ Some header = sym (there.run 36) ∙ (rw address present) in
-    rw (here, is, once, number, address) refl
+    let here : bytes_at m s.table.address 36 ≡ Some header = rw address present in
+    let same : s.table.signature ≡ n = there.signature ∙ (rw (here, is) refl) in
+    rw (same, once, number, address) refl
 
 pub given_from : {m : Memory} {p : ℕ} (slots : List Slot) (g : Numbered) → AreSlots m (IsSlot m p) slots
     → Contains (filter_map once_numbered slots) g

@@ -10,7 +10,7 @@ use Rattle.acpi_base.specs.Memory.{Memory, bytes_at}
 use Rattle.acpi_base.specs.Policy.{new_policy}
 use Rattle.acpi_base.specs.Root.{IsSlot}
 use Rattle.acpi_base.specs.Signature.{has_signature}
-use Rattle.acpi_base.proofs.Frames.{length_frame}
+use Rattle.acpi_base.proofs.Frames.{length_frame, one_frame}
 use Rattle.acpi_base.proofs.Root.Named.{one_root, one_root_table, root_width}
 use Rattle.acpi_base.proofs.Root.Slots.{slot_of_root}
 use Rattle.acpi_read.specs.Roots.{RootValue, IsCompleteRoot}
@@ -21,7 +21,7 @@ use Rattle.acpi_lint.specs.Ranges.{IsSpanOf, AreRanges, FindsRange, IsFirstRange
 use Rattle.acpi_lint.specs.Rules.Overlaps.{IsInRange, IsRangeOverlap}
 use Rattle.acpi_lint.specs.Rules.Structures.{IsRsdpRange, IsRootRange, IsFacsRange, IsDsdtRange, IsTableRange, OfNamingFadt, IsStructure, IsFirstStructure, IsTablesOverlap}
 use Rattle.acpi_lint.specs.Rules.Slots.{dsdt_signature}
-use Rattle.acpi_lint.specs.Slots.{AreSlots}
+use Rattle.acpi_lint.specs.Slots.{IsLengthAt, AreSlots}
 use Rattle.acpi_lint.specs.declared.complete_tables.CompleteTables.{CompleteTables}
 use Rattle.acpi_lint.specs.declared.listed_slots.Slot.{Slot}
 use Rattle.acpi_lint.specs.declared.place.Place.{Place}
@@ -61,6 +61,24 @@ dsdt_signed m fadt address header found named some present signed =
       here,
     ))
     (λ s n (_, is, _, here). (is ∙ sym named, here))
+
+one_length : {m : Memory} {a n c : ℕ} → IsTableRange m a n → IsTableRange m a c → n ≡ c
+one_length (header, whole, table, count) (also, other, same, size) =
+    count ∙ ap (λ (bytes : List ℕ). length bytes) (one_frame table same) ∙ sym size
+
+-- the table of a slot
+pub slot_listed : (m : Memory) (o a n : ℕ) (found : Option Span) → IsLengthAt m a n → n ≢ 0
+    → MatchOption found (n ≡ 0) (IsSpanOf o a n) → IfSome found (λ span. span.start < 2 ^ 64)
+    → FindsRange o (λ s c. (s ≡ a) × IsTableRange m s c) found
+slot_listed m o a n found (inl range) some of low =
+    range_found o a n (λ s c. (s ≡ a) × IsTableRange m s c) found of low (refl, range)
+    (λ t c (same, other). (same, one_length (rw same at other) range))
+slot_listed m o a n found (inr (zero, none)) some of low = absurd (some zero)
+
+pub slot_empty : (m : Memory) (a n : ℕ) → IsLengthAt m a n → n ≡ 0 → (s c : ℕ) → (s ≡ a) × IsTableRange m s c → c ≡ 0
+slot_empty m a n (inl (header, whole, table, count)) zero = λ s c _.
+    absurd (omega (arith, zero, count, length_frame table, table.least))
+slot_empty m a n (inr (_, none)) zero = λ s c (same, is). absurd (none c (rw same at is))
 
 -- ---- each of them among all
 

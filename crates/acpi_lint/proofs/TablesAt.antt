@@ -1,11 +1,9 @@
 -- What is at an address that a slot lists.
-use Rattle.std.proofs.Common.{◌≡◌, ℕ, Bool, List, Option, Some, None, true, false, sym, ◌∙◌, ap, subst, inl, inr}
+use Rattle.std.proofs.Common.{◌≡◌, ℕ, List, Option, Some, None, true, false, refl, sym, ◌∙◌, ap, subst, inl, inr}
 use Rattle.std.specs.Prelude.{◌↔◌, ◌⊎◌, IsTrue}
-use Rattle.std.specs.Borrow.{Bor}
 use Rattle.std.proofs.lemmas.Option.{none-some, same_Some}
 use Rattle.acpi_base.specs.Facs.{facs_signature}
 use Rattle.acpi_lint.specs.Rules.Slots.{dsdt_signature}
-use Rattle.acpi_base.specs.Image.Runs.{AreBytesFrom}
 use Rattle.acpi_base.specs.Memory.{Memory, bytes_at}
 use Rattle.acpi_base.specs.Signature.{has_signature}
 use Rattle.acpi_base.specs.TableKinds.{signature_of, IsKindOf}
@@ -13,8 +11,11 @@ use Rattle.acpi_base.specs.Tables.{IsSigned, TableFault}
 use Rattle.acpi_base.specs.declared.code.Code.{Code}
 use Rattle.acpi_base.specs.declared.table_kind.TableKind.{TableKind}
 use Rattle.acpi_base.proofs.Tables.Kinds.{one_kind}
-use Rattle.acpi_lint.specs.Slots.{IsTableAt, HasSought, IsSought}
+use Rattle.acpi_lint.specs.Headers.{IsFirstOdd}
+use Rattle.acpi_lint.specs.Rules.HeaderAdvice.{IsOddField, signature_number}
+use Rattle.acpi_lint.specs.Slots.{IsLengthAt, FindsOddAt, IsTableAt, HasSought, IsSought}
 use Rattle.acpi_lint.specs.declared.table_at.Sought.{Sought}
+use Rattle.acpi_lint.specs.declared.table_at.TableAt.{TableAt}
 use Rattle.acpi_lint.specs.declared.table_at.Sought.TheVariants as sought
 
 signed_there : {m : Memory} {a : ℕ} {signature : List ℕ} (header : List ℕ) → bytes_at m a 36 ≡ Some header
@@ -36,19 +37,36 @@ kind_there header (Some one) kind is = (
   λ signed. ap Some (one_kind header one kind is signed),
 )
 
-pub table_there : {m : Memory} (a : ℕ) (run : Bor (List ℕ)) (header : List ℕ) (fault : Option Code)
-    (kind : Option TableKind) (apart : Bool)
-    → AreBytesFrom m a run.now → bytes_at m a 36 ≡ Some header → ((c : Code) → (fault ≡ Some c) ↔ TableFault m a c) → IsKindOf header kind
-    → (IsTrue apart ↔ ((has_signature header dsdt_signature ≡ true) ⊎ (has_signature header facs_signature ≡ true)))
-    → IsTableAt m (record { address = a; run = run; fault = fault; kind = kind; is_apart = apart })
-table_there {m} a run header fault found apart from present faults is tells = record { run = from; tells = sides }
+odd_there : (m : Memory) (a : ℕ) (header : List ℕ) (found : Option ℕ) → bytes_at m a 36 ≡ Some header
+    → IsFirstOdd header found → FindsOddAt m a found
+odd_there m a header None present none = λ offset (other, here, odd).
+    none offset (subst (λ (h : List ℕ). IsOddField h offset) (same_Some _ _ (sym here ∙ present)) odd)
+odd_there m a header (Some first) present (is, least) = (
+  (header, present, is),
+  λ offset (other, here, odd).
+      least offset (subst (λ (h : List ℕ). IsOddField h offset) (same_Some _ _ (sym here ∙ present)) odd),
+)
+
+pub table_there : {m : Memory} (table : TableAt) (header : List ℕ)
+    → bytes_at m table.address 36 ≡ Some header → IsLengthAt m table.address table.length
+    → table.signature ≡ signature_number header → IsFirstOdd header table.odd_text
+    → ((c : Code) → (table.fault ≡ Some c) ↔ TableFault m table.address c) → IsKindOf header table.kind
+    → (IsTrue table.is_apart
+    ↔ ((has_signature header dsdt_signature ≡ true) ⊎ (has_signature header facs_signature ≡ true)))
+    → IsTableAt m table
+table_there {m} table header present long signature odd faults is tells =
+    record {
+      length = long;
+      signature = signature ∙ (rw present refl);
+      text = odd_there m table.address header table.odd_text present odd;
+      tells = sides;
+    }
   where
-    sides : (s : Sought)
-        → HasSought s (record { address = a; run = run; fault = fault; kind = found; is_apart = apart }) ↔ IsSought m s a
+    sides : (s : Sought) → HasSought s table ↔ IsSought m s table.address
     sides (sought.Fault code) = faults code
     sides (sought.Kind kind) = (
-      λ same. (signed_there header present).0 ((kind_there header found kind is).0 same),
-      λ signed. (kind_there header found kind is).1 ((signed_there header present).1 signed),
+      λ same. (signed_there header present).0 ((kind_there header table.kind kind is).0 same),
+      λ signed. (kind_there header table.kind kind is).1 ((signed_there header present).1 signed),
     )
     sides sought.Apart = (
       λ sure. elim (tells.0 sure) [

@@ -1,10 +1,11 @@
 -- The slots of a root table, and what is at the addresses that they list (ACPI 6.5, 5.2.6 to 5.2.8).
-use Rattle.std.specs.Prelude.{◌≡◌, ℕ, ◌<◌, ◌⊎◌, ◌↔◌, ◌==◌, if◌then◌else◌, List, Option, Some, None, IsTrue, MatchOption, AllPairs, Contains}
+use Rattle.std.specs.Prelude.{◌≡◌, ℕ, ◌<◌, ◌≤◌, ◌⊎◌, option_map, unwrap_or, ◌↔◌, ◌==◌, if◌then◌else◌, List, Option, Some, None, IsTrue, MatchOption, AllPairs, Contains}
 use Rattle.std.specs.Option.{option_and_then}
 use Rattle.acpi_base.specs.Facs.{facs_signature}
+use Rattle.acpi_lint.specs.Rules.HeaderAdvice.{IsOddText, signature_number}
 use Rattle.acpi_lint.specs.Rules.Slots.{dsdt_signature}
-use Rattle.acpi_base.specs.Image.Runs.{AreBytesFrom}
-use Rattle.acpi_base.specs.Memory.{Memory}
+use Rattle.acpi_lint.specs.Rules.Structures.{IsTableRange}
+use Rattle.acpi_base.specs.Memory.{Memory, bytes_at}
 use Rattle.acpi_base.specs.Root.{IsSlot}
 use Rattle.acpi_base.specs.TableKinds.{signature_of}
 use Rattle.acpi_base.specs.Tables.{IsSigned, TableFault}
@@ -37,9 +38,24 @@ HasSought (sought.Fault code) table = table.fault ≡ Some code
 HasSought (sought.Kind kind) table = table.kind ≡ Some kind
 HasSought sought.Apart table = IsTrue table.is_apart
 
+-- the complete table at a has n bytes; or there is none, and n is 0
+abbrev pub IsLengthAt : Memory → ℕ → ℕ → Type 0
+IsLengthAt m a n = IsTableRange m a n ⊎ ((n ≡ 0) × ((c : ℕ) → ¬ IsTableRange m a c))
+
+-- the signature of the header at a as a number, 0 if there is none
+abbrev pub signature_at : Memory → ℕ → ℕ
+signature_at m a = unwrap_or (option_map signature_number (bytes_at m a 36)) 0
+
+-- no text of the header at a is odd, or the first one that is is at this offset
+abbrev pub FindsOddAt : Memory → ℕ → Option ℕ → Type 0
+FindsOddAt m a None = (offset : ℕ) → ¬ IsOddText m a offset
+FindsOddAt m a (Some first) = IsOddText m a first × ((offset : ℕ) → IsOddText m a offset → first ≤ offset)
+
 -- what is recorded about an address is what is there
 pub record IsTableAt (m : Memory) (table : TableAt) : Type 0 where
-  pub run : AreBytesFrom m table.address table.run.now
+  pub length : IsLengthAt m table.address table.length
+  pub signature : table.signature ≡ signature_at m table.address
+  pub text : FindsOddAt m table.address table.odd_text
   pub tells : (sought : Sought) → HasSought sought table ↔ IsSought m sought table.address
 
 -- ---- slots

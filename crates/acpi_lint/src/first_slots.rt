@@ -11,22 +11,22 @@ use acpi_base::TableKind;
 
 /// The first slot with a header of each kind.
 #[derive(Clone, Copy)]
-pub struct FirstSlots<'a> {
+pub struct FirstSlots {
     /// Of a FADT.
-    pub fadt: Option<Slot<'a>>,
+    pub fadt: Option<Slot>,
     /// Of a MADT.
-    pub madt: Option<Slot<'a>>,
+    pub madt: Option<Slot>,
     /// Of an SRAT.
-    pub srat: Option<Slot<'a>>,
+    pub srat: Option<Slot>,
     /// Of a SLIT.
-    pub slit: Option<Slot<'a>>,
+    pub slit: Option<Slot>,
     /// Of a PPTT.
-    pub pptt: Option<Slot<'a>>,
+    pub pptt: Option<Slot>,
 }
 
-impl<'a> FirstSlots<'a> {
+impl FirstSlots {
     /// The first of a set's slots.
-    pub fn of(slots: &[Slot<'a>]) -> FirstSlots<'a>
+    pub fn of(slots: &[Slot]) -> FirstSlots
         ensures { (m : Memory) (p : ℕ) → AreSlots m (IsSlot m p) slots.now
             → AreFirstSlots m p result }
     {
@@ -40,7 +40,7 @@ impl<'a> FirstSlots<'a> {
     }
 
     /// The first slot with a header of this kind.
-    pub fn of_kind(&self, kind: TableKind) -> Option<Slot<'a>>
+    pub fn of_kind(&self, kind: TableKind) -> Option<Slot>
         ensures { result ≡ first_of self.now kind }
     {
         match kind {

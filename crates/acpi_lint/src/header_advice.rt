@@ -6,7 +6,7 @@ ghost use Rattle.acpi_base.specs.Memory.{Memory};
 ghost use Rattle.acpi_lint.specs.CompleteTables.{AreCompleteTables};
 ghost use Rattle.acpi_lint.specs.Places.{FindsLeast};
 ghost use Rattle.acpi_lint.specs.Rules.HeaderAdvice.{IsNoText, IsTextField, IsOddField, IsHeaderText, IsSecondOther, signature_number, is_once};
-ghost use Rattle.acpi_lint.specs.Headers.{IsFirstOdd, FindsOddText, once_numbered};
+ghost use Rattle.acpi_lint.specs.Headers.{IsFirstOdd, once_numbered};
 ghost use Rattle.acpi_lint.specs.declared.listed_slots.Slot.{Slot};
 
 use crate::complete_tables::CompleteTables;
@@ -43,7 +43,7 @@ fn is_odd_field(header: &[u8], offset: usize, size: usize) -> bool
 }
 
 /// The offset of the first field of a header with such a byte.
-fn odd_field(header: &[u8]) -> Option<u64>
+pub fn odd_field(header: &[u8]) -> Option<u8>
     requires { length header.now ≡ 36 }
     ensures { IsFirstOdd header.now result }
 {
@@ -60,27 +60,18 @@ fn odd_field(header: &[u8]) -> Option<u64>
     }
 }
 
-/// The place of the first such field of the header that a slot lists.
-fn odd_text(slot: &Slot<'_>) -> Option<Place>
-    ensures { FindsOddText slot.now result }
-{
-    let header = slot.table.header()?;
-    let offset = odd_field(header)?;
-    Some(Place {
-        at: slot.number,
-        other: offset,
-        point: slot.table.address,
-    })
-}
-
 /// The first slot that lists a header with such a field. The tables are those of a set.
 pub fn header_text(tables: &CompleteTables<'_>) -> Option<Place>
     ensures { (m : Memory) (p : ℕ) → AreCompleteTables m p tables.now
         → FindsLeast (IsHeaderText m p) result }
 {
     for slot in &tables.slots {
-        if let Some(place) = odd_text(slot) {
-            return Some(place);
+        if let Some(offset) = slot.table.odd_text {
+            return Some(Place {
+                at: slot.number,
+                other: u64::from(offset),
+                point: slot.table.address,
+            });
         }
     }
     None
@@ -118,10 +109,10 @@ fn is_once(signature: u32) -> bool
 
 /// The signature of the header that a slot lists, if a set has one such table at most: the slot's address, at its
 /// number.
-fn once_numbered(slot: &Slot<'_>) -> Option<Numbered>
+fn once_numbered(slot: &Slot) -> Option<Numbered>
     ensures { result ≡ once_numbered slot.now }
 {
-    let signature = u32_at(slot.table.header()?, 0);
+    let signature = slot.table.signature;
     is_once(signature).then_some(Numbered {
         number: u64::from(signature),
         at: slot.number,
@@ -130,7 +121,7 @@ fn once_numbered(slot: &Slot<'_>) -> Option<Numbered>
 }
 
 /// The same of all slots.
-fn numbered_once(alloc: Global, slots: &[Slot<'_>]) -> Result<Vec<Numbered>, AllocError>
+fn numbered_once(alloc: Global, slots: &[Slot]) -> Result<Vec<Numbered>, AllocError>
     ensures { IfOk result (λ given. given.items ≡ filter_map once_numbered slots.now) }
 {
     let mut given = Vec::new(alloc);
@@ -143,7 +134,7 @@ fn numbered_once(alloc: Global, slots: &[Slot<'_>]) -> Result<Vec<Numbered>, All
 }
 
 /// The address that the slot with a number lists.
-fn address_of(slots: &[Slot<'_>], number: u64) -> u64
+fn address_of(slots: &[Slot], number: u64) -> u64
     ensures { AllPairs (λ s t. s.number < t.number) slots.now
         → (s : Slot) → Contains slots.now s → s.number ≡ number → result ≡ s.table.address }
 {

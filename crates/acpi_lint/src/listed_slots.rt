@@ -12,19 +12,15 @@ use std::alloc::{AllocError, Global};
 
 /// A slot of the root table that lists an address.
 #[derive(Clone, Copy)]
-pub struct Slot<'a> {
+pub struct Slot {
     /// The slot's number, from 0; slots that list nothing count too.
     pub number: u64,
     /// What is at the address, which is not 0.
-    pub table: TableAt<'a>,
+    pub table: TableAt,
 }
 
 /// The slots of a root table that list an address.
-fn slots_of<'a>(
-    alloc: Global,
-    image: &'a Image,
-    root: &Root<'_>,
-) -> Result<Vec<Slot<'a>>, AllocError>
+fn slots_of(alloc: Global, image: &Image, root: &Root<'_>) -> Result<Vec<Slot>, AllocError>
     ensures { IfOk result
         (λ slots. AreSlots image.now (HasSlot root.now.bytes root.now.width) slots.items) }
 {
@@ -42,11 +38,11 @@ fn slots_of<'a>(
 
 /// The slots of a set's root table that list an address, in their order. None if there is no root table. Each address
 /// is looked up once. Allocates for each of them.
-pub fn listed_slots<'a>(
+pub fn listed_slots(
     alloc: Global,
-    image: &'a Image,
+    image: &Image,
     root: &Option<Root<'_>>,
-) -> Result<Vec<Slot<'a>>, AllocError>
+) -> Result<Vec<Slot>, AllocError>
     ensures { (p : ℕ) → IsRootOf image.now p root.now
         → IfOk result (λ slots. AreSlots image.now (IsSlot image.now p) slots.items) }
 {
@@ -57,7 +53,7 @@ pub fn listed_slots<'a>(
 }
 
 /// The first slot at whose address there is what is looked for. The slots are those of a set.
-pub fn first_slot<'a>(slots: &[Slot<'a>], sought: Sought) -> Option<Slot<'a>>
+pub fn first_slot(slots: &[Slot], sought: Sought) -> Option<Slot>
     ensures { (m : Memory) (p : ℕ) → AreSlots m (IsSlot m p) slots.now
         → FindsSlot m p (IsSought m sought) result }
 {

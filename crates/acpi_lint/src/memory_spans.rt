@@ -1,13 +1,13 @@
 //! Advice on the structures that a set has in memory: two that overlap (ACPI 6.5, 5.2).
 
 ghost use Rattle.std.specs.Prelude.{◌≡◌, ◌≢◌, ◌+◌, ◌-◌, ◌*◌, ◌^◌, ◌<◌, ◌≤◌, ◌⊎◌, ℕ, AllPairs, Contains, IfOk, IsTrue, IsFalse, length, slice_index_or};
-ghost use Rattle.acpi_base.specs.Image.Runs.{AreBytesFrom};
 ghost use Rattle.acpi_base.specs.Memory.{Memory};
 ghost use Rattle.acpi_check.specs.RangeSpans.{BeginLow};
 ghost use Rattle.acpi_graph.specs.Spans.{ComesBefore, NamesDiffer};
 ghost use Rattle.acpi_graph.specs.declared.span.Span.{Span};
 ghost use Rattle.acpi_lint.specs.CompleteTables.{AreCompleteTables};
 ghost use Rattle.acpi_lint.specs.Places.{FindsLeast};
+ghost use Rattle.acpi_lint.specs.Slots.{IsLengthAt};
 ghost use Rattle.acpi_lint.specs.Ranges.{AreRanges, FindsRange, AreFirstOfStarts, IsFirstRange};
 ghost use Rattle.acpi_lint.specs.Rules.Overlaps.{IsRangeOverlap};
 ghost use Rattle.acpi_lint.specs.Rules.Structures.{IsRsdpRange, IsFacsRange, IsDsdtRange, IsTableRange, IsStructure, IsTablesOverlap};
@@ -16,6 +16,7 @@ use crate::complete_tables::CompleteTables;
 use crate::listed_slots::Slot;
 use crate::overlaps::{first_overlap, push, range_span};
 use crate::place::Place;
+use crate::table_at::TableAt;
 use acpi_base::Image;
 use acpi_base::field::{is_signed, u8_at};
 use acpi_graph::{Span, sort_unless_sorted};
@@ -73,14 +74,24 @@ fn dsdt_span(image: &Image, fadt: &Fadt<'_>) -> Option<Span>
 }
 
 /// The table that a slot lists, if it is complete.
-fn slot_span(slot: &Slot<'_>) -> Option<Span>
+fn slot_span(slot: &Slot) -> Option<Span>
     requires low { 4 + slot.now.number < 2 ^ 32 }
-    ensures { (m : Memory) → AreBytesFrom m slot.now.table.address slot.now.table.run.now
+    ensures { (m : Memory) → IsLengthAt m slot.now.table.address slot.now.table.length
         → FindsRange (4 + slot.now.number) (λ s n. (s ≡ slot.now.table.address) × IsTableRange m s n) result }
 {
-    let name = FIRST_LISTED + slot.number as u32;
-    let bytes = slot.table.complete()?;
-    range_span(name, slot.table.address, bytes.len() as u64)
+    let TableAt {
+        address,
+        length,
+        ..
+    } = slot.table;
+    if length == 0 {
+        return None;
+    }
+    range_span(
+        FIRST_LISTED + slot.number as u32,
+        address,
+        u64::from(length),
+    )
 }
 
 /// The structures of a set in memory, by their names. The tables are those of the set that the RSDP at an address leads to.

@@ -23,7 +23,7 @@ use crate::table_at::Sought;
 use std::alloc::{AllocError, Global};
 
 /// The addresses that slots list, each at its slot's number.
-fn numbered_slots(alloc: Global, slots: &[Slot<'_>]) -> Result<Vec<Numbered>, AllocError>
+fn numbered_slots(alloc: Global, slots: &[Slot]) -> Result<Vec<Numbered>, AllocError>
     ensures { IfOk result (λ given. given.items ≡ map numbered_slot slots.now) }
 {
     let mut given = Vec::new(alloc);
@@ -48,7 +48,7 @@ fn listed_twice(alloc: Global, tables: &CompleteTables<'_>) -> Result<Option<Pla
 }
 
 /// The place of a slot that lists a table of a kind at another address than the first slot of this kind.
-fn second_place(firsts: &FirstSlots<'_>, slot: &Slot<'_>) -> Option<Place>
+fn second_place(firsts: &FirstSlots, slot: &Slot) -> Option<Place>
     ensures { result ≡ second_place firsts.now slot.now }
 {
     let kind = slot.table.kind?;

@@ -1,16 +1,16 @@
 //! What is at an address that a slot lists: the fault of the table there, and which table it is (ACPI 6.5, 5.2.6).
 
-ghost use Rattle.std.specs.Prelude.{◌≡◌, ◌≤◌, ◌↔◌, ◌⊎◌, ℕ, List, MatchOption, IfSome, IsTrue, Some, true, length, option_map};
+ghost use Rattle.std.specs.Prelude.{◌≡◌, ◌↔◌, ◌⊎◌, ℕ, IsTrue, Some, true, length};
 ghost use Rattle.acpi_base.specs.Facs.{facs_signature};
 ghost use Rattle.acpi_base.specs.Image.Runs.{AreBytesFrom};
 ghost use Rattle.acpi_lint.specs.Rules.Slots.{dsdt_signature};
 ghost use Rattle.acpi_base.specs.Memory.{Memory, bytes_at};
 ghost use Rattle.acpi_base.specs.Signature.{has_signature};
-ghost use Rattle.acpi_base.specs.Tables.{IsTable, TableFault};
+ghost use Rattle.acpi_base.specs.Tables.{TableFault};
 ghost use Rattle.acpi_base.specs.declared.code.Code.{Code};
-ghost use Rattle.acpi_lint.specs.Headers.{header_there};
-ghost use Rattle.acpi_lint.specs.Slots.{IsTableAt, HasSought};
+ghost use Rattle.acpi_lint.specs.Slots.{IsLengthAt, IsTableAt, HasSought};
 
+use crate::header_advice::odd_field;
 use acpi_base::field::{is_signed, u32_at};
 use acpi_base::{Code, Image, TableKind};
 use acpi_read::sums_to_zero;
@@ -26,13 +26,17 @@ pub enum Sought {
     Apart,
 }
 
-/// What is at an address.
+/// What is at an address. An image may list millions, so this is kept small.
 #[derive(Clone, Copy)]
-pub struct TableAt<'a> {
+pub struct TableAt {
     /// The address.
     pub address: u64,
-    /// The bytes from it on, up to the next address without one.
-    pub run: &'a [u8],
+    /// How many bytes the complete table there has, otherwise 0.
+    pub length: u32,
+    /// The signature of the header there as a number, otherwise 0.
+    pub signature: u32,
+    /// The offset of the first field of the header there whose text is odd, if there is one.
+    pub odd_text: Option<u8>,
     /// The fault of the table there, of which there is at most one.
     pub fault: Option<Code>,
     /// Its kind, by the signature of its header.
@@ -62,6 +66,23 @@ fn table_fault(image: &Image, address: u64, run: &[u8], header: &[u8]) -> Option
     }
 }
 
+/// How many bytes the table has that a header belongs to, if it is complete, otherwise 0. `run` has the bytes from its
+/// address on.
+fn complete_length(run: &[u8], header: &[u8]) -> u32
+    requires long { length header.now ≡ 36 }
+    ensures { (m : Memory) (a : ℕ) → AreBytesFrom m a run.now → bytes_at m a 36 ≡ Some header.now
+        → IsLengthAt m a result }
+{
+    let said = u32_at(header, 4);
+    if said < 36 {
+        return 0;
+    }
+    match run.get(..said as usize) {
+        Some(_) => said,
+        None => 0,
+    }
+}
+
 /// Whether a header is that of a DSDT or of a FACS.
 fn is_apart(header: &[u8]) -> bool
     ensures { IsTrue result
@@ -70,10 +91,10 @@ fn is_apart(header: &[u8]) -> bool
     is_signed(header, b"DSDT") || is_signed(header, b"FACS")
 }
 
-impl<'a> TableAt<'a> {
+impl TableAt {
     /// What is at an address, for which the image is searched once. Its bytes are summed only if all of them are
     /// present.
-    pub fn of(image: &'a Image, address: u64) -> TableAt<'a>
+    pub fn of(image: &Image, address: u64) -> TableAt
         ensures there { result.address ≡ address }
         ensures noted { IsTableAt image.now result }
     {
@@ -81,7 +102,9 @@ impl<'a> TableAt<'a> {
         let Some(header) = run.get(..36) else {
             return TableAt {
                 address,
-                run,
+                length: 0,
+                signature: 0,
+                odd_text: None,
                 fault: Some(Code::TableHeaderOut),
                 kind: None,
                 is_apart: false,
@@ -89,33 +112,13 @@ impl<'a> TableAt<'a> {
         };
         TableAt {
             address,
-            run,
+            length: complete_length(run, header),
+            signature: u32_at(header, 0),
+            odd_text: odd_field(header),
             fault: table_fault(image, address, run, header),
             kind: TableKind::of(header),
             is_apart: is_apart(header),
         }
-    }
-
-    /// The 36 bytes of the header there, if they are present.
-    pub fn header(&self) -> Option<&'a [u8]>
-        ensures there { option_map (λ bytes. bytes.now) result ≡ header_there self.now }
-        ensures count { IfSome result (λ bytes. length bytes.now ≡ 36) }
-    {
-        self.run.get(..36)
-    }
-
-    /// The bytes of the table there, if it is complete.
-    pub fn complete(&self) -> Option<&'a [u8]>
-        ensures { (m : Memory) → AreBytesFrom m self.now.address self.now.run.now
-            → MatchOption result
-            ((header whole : List ℕ) → ¬ IsTable m self.now.address header whole)
-            (λ whole. (header : List ℕ) × IsTable m self.now.address header whole.now) }
-    {
-        let length = u32_at(self.run.get(..36)?, 4);
-        if length < 36 {
-            return None;
-        }
-        self.run.get(..length as usize)
     }
 
     /// Whether the table there has the fault with this code.

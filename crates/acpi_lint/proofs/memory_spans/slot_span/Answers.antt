@@ -1,8 +1,11 @@
-use Rattle.std.proofs.Common.{◌≡◌, None, rules}
+use Rattle.std.proofs.Common.{rules}
+use Rattle.acpi_lint.proofs.StructureSpans.{slot_listed, slot_empty}
 use Rattle.acpi_lint.proofs.memory_spans.slot_span.Goals as goal
 
-pub returns-in_err-bytes : goal.returns-in_err-bytes
-returns-in_err-bytes c = λ m from.
-    let none : c.from_residual.result ≡ None = search rules in
-    let no = rw c.in_err-bytes.was at (c.complete.ensures m from) in
-    rw none (λ s n (is, (header, whole, table, count)). absurd (no header whole (rw is at table)))
+pub returns-then-length-eq0 : goal.returns-then-length-eq0
+returns-then-length-eq0 c = λ m is. slot_empty m _ _ is (search rules)
+
+pub returns : goal.returns
+returns c = λ m is.
+    slot_listed m _ _ _ c.range_span.result is (search rules) (rw c.from.ensures at c.range_span.ensures.range)
+    c.range_span.ensures.low

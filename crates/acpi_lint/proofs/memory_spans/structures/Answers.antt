@@ -1,7 +1,7 @@
 use Rattle.std.proofs.Common.{rules, ◌≡◌, None, inr}
 use Rattle.acpi_read.specs.Roots.{RootValue, IsCompleteRoot}
 use Rattle.acpi_lint.specs.Rules.Structures.{IsStructure}
-use Rattle.acpi_lint.proofs.ListedSlots.{run_of}
+use Rattle.acpi_lint.proofs.ListedSlots.{table_of_slot}
 use Rattle.acpi_lint.proofs.RangeLists.{AreRangesBefore, first_pushed, pushed, all_ranges, begin_low}
 use Rattle.acpi_lint.proofs.StructureSpans.{rsdp_range, root_found, rootless, facs_found, dsdt_found, none_named, no_slots_yet, slot_low, slot_passed, all_passed}
 use Rattle.acpi_lint.proofs.memory_spans.structures.Goals as goal
@@ -58,7 +58,7 @@ loop-slot-preserved c =
     let within = rw c.deref-slot-items.ensures.value at c.loop-slot-test.true in
     let finds = rw c.deref-slot-items.ensures.value at c.slot_span.ensures in
     slot_passed slots i c.slot_span.result c.requires.slots within c.in_ok-push-5.ensures c.loop-slot.invariant
-    (finds c.args.image.now (run_of slots i c.requires.slots within))
+    (finds c.args.image.now (table_of_slot slots i c.requires.slots within).length)
 
 pub returns-clause-ranges : goal.returns-clause-ranges
 returns-clause-ranges c =
