@@ -1,5 +1,5 @@
 """Measures the commands of acpiset on images that take long and that no machine makes, and compares each time with the limit: `check`,
-`confirm` and `find` may take 40 times, and `lint` 100 times, what a plain program takes to read one run of the same size
+`confirm` and `find` may take 40 times, and `lint` 80 times, what a plain program takes to read one run of the same size
 (`reader --one-run`, in turn with them). `show` and `rebuild` have no limit, since they may write many times what they read.
 
 usage: worst.py PROGRAM READER
@@ -18,7 +18,7 @@ from dataclasses import dataclass
 from inputs import CHAINS, MOST_COUNTS, counts, long_run, many_rows, pieces_text, rows_text, set_of, text_of
 from measure import Program, written_by
 
-MOST_TIMES = {"check": 40, "confirm": 40, "find": 40, "lint": 100}
+MOST_TIMES = {"check": 40, "confirm": 40, "find": 40, "lint": 80}
 MEBIBYTES = 64
 BOTH = "confirm --witness '16 TwoDomains 0x48 0x30 0x0'"
 CHECKED = ("check", "lint")

@@ -3,7 +3,7 @@ the first with."""
 
 import re
 
-from .faults import early_faults
+from .faults import Fault, early_faults
 from .table_set import BLOCKS, HEADER, TableSet, complete_table, domain_of, fadt_of, slit_count
 
 # The lines of entries by their types: {OFFSET:SIZE} is a number of the entry, with an x in hex (5.2.12, 5.2.16, 5.2.30).
@@ -31,10 +31,24 @@ PPTT_LINES = {
 def shown(image, rsdp):
     """The text of `show` where the RSDP lies at this address; None where the RSDP, the root or a listed table is not valid."""
     tables = TableSet(image, rsdp)
-    if any(early_faults(tables)):
-        return None
-    parts = (root_lines, slot_lines, fadt_lines, madt_lines, srat_lines, slit_lines, pptt_lines)
-    return "".join(f"{line}\n" for part in parts for line in part(tables))
+    return None if any(early_faults(tables)) else "".join(f"{line}\n" for line in set_lines(tables))
+
+
+def shown_anyway(image, rsdp):
+    """The text of `show --anyway`, and whether the root is complete: the verdict on the RSDP, the root and the listed tables, and the
+    lines of what is complete."""
+    tables = TableSet(image, rsdp)
+    fault = min(early_faults(tables), key=Fault.order, default=None)
+    verdict = f"no {fault}\n" if fault else "yes\n"
+    if tables.root is None:
+        return verdict, False
+    tables.first_slots = {signature: slot for signature, slot in tables.first_slots.items() if tables.table(signature)}
+    return verdict + "".join(f"{line}\n" for line in set_lines(tables)), True
+
+
+def set_lines(tables):
+    for part in (root_lines, slot_lines, fadt_lines, madt_lines, srat_lines, slit_lines, pptt_lines):
+        yield from part(tables)
 
 
 # ---- the RSDP (5.2.5.3), the root (5.2.7, 5.2.8) and its slots
@@ -51,12 +65,13 @@ def slot_count(tables):
 
 def slot_lines(tables):
     for slot in range(slot_count(tables)):
-        header = tables.headers.get(slot)
+        address = tables.slots.get(slot)
+        header = complete_table(tables.image, address) if address else None
         if not header:
-            yield f"slot {slot} empty"
+            yield f"slot {slot} {address:#x} bad" if address else f"slot {slot} empty"
             continue
         printed = "".join(chr(byte) if 0x20 <= byte <= 0x7E else "." for byte in header.data[:4])
-        yield f"slot {slot} {tables.slots[slot]:#x} {printed} length {header.number(4, 4)} revision {header.number(8, 1)}"
+        yield f"slot {slot} {address:#x} {printed} length {header.number(4, 4)} revision {header.number(8, 1)}"
 
 
 # ---- tables, of each kind the first one

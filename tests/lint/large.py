@@ -198,9 +198,8 @@ def many_entries(cases):
 
 SLOTS, TABLES = 400_000, 20_000
 ROOT_AT, RSDT_AT_TOO, FIRST_AT, APART = 0x60000000, 0x68000000, 0x20000000, 64
-# `lint` may take this many times the processor time of `check`, and this many seconds more. The rules on headers and on tables that
-# overlap look up each table anew, and here each is in a segment of its own.
-TIMES, MORE = 6, 0.2
+# `lint` may take this many times the processor time of `check`, and this many seconds more.
+TIMES, MORE = 2, 0.2
 
 
 def listed_in_no_order():

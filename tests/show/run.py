@@ -1,7 +1,7 @@
 #!/usr/bin/env python3
 """Runs the built program's `show`. Its text is compared with texts written by hand (known/shown.py of tests/acpi_images), with those of
-seven images of real firmware (images/), and on every known set with that of a second program (shown.py); then a set with a million
-entries.
+seven images of real firmware (images/), and on every known set with that of a second program (shown.py), without and with `--anyway`; then a set with a
+million entries.
 
 usage: run.py PROGRAM; the last line is 'show: N passed, M failed'."""
 
@@ -14,7 +14,7 @@ sys.path.insert(0, str(Path(__file__).resolve().parents[1]))
 from acpi_images.known.rows import ROWS
 from acpi_images.known.shown import SHOWN
 from acpi_images.program import IMAGES, firmware_text, main, timed
-from acpi_images.shown import shown
+from acpi_images.shown import shown, shown_anyway
 from acpi_images.tables import *
 from acpi_images.text import read, text_of
 
@@ -32,6 +32,32 @@ NOT_SHOWN = [
     ("a listed table that is not present", {RSDP_AT: rsdp(), RSDT_AT: rsdt(0, 0x2000)}, "", "no 3 TableHeaderOut 0x1 0x2000 0x0"),
     ("a listed table whose sum is wrong", image_of(fadt(), hpet().replace(b"A", b"B", 1)), "", "no 3 TableSum 0x1 0x3000 0x0"),
 ]
+
+
+# What `show --anyway` writes of sets that are not valid, and its status, by hand.
+ROOT = "rsdp 0xe0000 revision 0\nroot 0x1000 RSDT length 44 slots 2\n"
+FADT_SLOT = "slot 0 0x2000 FACP length 116 revision 1\n"
+FADT_LINES = "fadt 0x2000 length 116 profile 0 sci 0 flags 0x100000 reduced yes\ndsdt 0x0\n"
+HPET_SLOT = "slot 1 0x3000 HPET length 56 revision 1\n"
+WRONG_FADT = fadt().replace(b"AAAAAA", b"BAAAAA", 1)
+WRONG_HPET = hpet().replace(b"A", b"B", 1)
+WRONG_ROOT = rsdt(0x2000, 0x3000).replace(b"A", b"B", 1)
+SHORT = hpet()[:4] + (35).to_bytes(4, "little") + hpet()[8:]
+ANYWAY = [
+    ("a set of valid tables", image_of(fadt(), hpet()), "yes\n" + ROOT + FADT_SLOT + HPET_SLOT + FADT_LINES, 0),
+    ("an RSDP whose sum is wrong", {**image_of(fadt(), hpet()), RSDP_AT: WRONG_RSDP}, "no 1 RsdpSum 0xe0000 0x0 0x0\n" + ROOT + FADT_SLOT + HPET_SLOT + FADT_LINES, 0),
+    ("a root whose sum is wrong", {**image_of(fadt(), hpet()), RSDT_AT: WRONG_ROOT}, "no 2 RootSum 0x1000 0x0 0x0\n" + ROOT + FADT_SLOT + HPET_SLOT + FADT_LINES, 0),
+    ("a FADT whose sum is wrong", image_of(WRONG_FADT, hpet()), "no 3 TableSum 0x0 0x2000 0x0\n" + ROOT + FADT_SLOT + HPET_SLOT + FADT_LINES, 0),
+    ("another table whose sum is wrong", image_of(fadt(), WRONG_HPET), "no 3 TableSum 0x1 0x3000 0x0\n" + ROOT + FADT_SLOT + HPET_SLOT + FADT_LINES, 0),
+    ("a table whose last byte is not present", image_of(fadt(), hpet()[:-1]), "no 3 TableOut 0x1 0x3000 0x0\n" + ROOT + FADT_SLOT + "slot 1 0x3000 bad\n" + FADT_LINES, 0),
+    ("a table with a Length of 35", image_of(fadt(), SHORT), "no 3 TableLength 0x1 0x3000 0x0\n" + ROOT + FADT_SLOT + "slot 1 0x3000 bad\n" + FADT_LINES, 0),
+    ("a FADT that is not complete, before one that is", image_of(fadt()[:-1], fadt()), "no 3 TableOut 0x0 0x2000 0x0\n" + ROOT + "slot 0 0x2000 bad\nslot 1 0x3000 FACP length 116 revision 1\n", 0),
+    ("a root with another signature", {RSDP_AT: rsdp(), RSDT_AT: xsdt(0x2000), 0x2000: fadt()}, "no 2 RootSignature 0x1000 0x0 0x0\n", 1),
+    ("a root whose last byte is not present", {RSDP_AT: rsdp(), RSDT_AT: rsdt(0x2000)[:-1], 0x2000: fadt()}, "no 2 RootOut 0x1000 0x0 0x0\n", 1),
+    ("a root that ends within a slot", {RSDP_AT: rsdp(), RSDT_AT: table(b"RSDT", b"\0\0")}, "no 2 RootRagged 0x1000 0x0 0x0\nrsdp 0xe0000 revision 0\nroot 0x1000 RSDT length 38 slots 0\n", 0),
+    ("an RSDP that names no root", {RSDP_AT: rsdp(0)}, "no 2 NoRoot 0xe0000 0x0 0x0\n", 1),
+    ("an RSDP that is not present", b"", "no 1 RsdpOut 0xe0000 0x0 0x0\n", 1),
+]  # fmt: skip
 
 
 def both(cases, name, words, pieces, expected):
@@ -54,6 +80,19 @@ def firmware(cases):
 def not_shown(cases):
     for name, pieces, words, line in NOT_SHOWN:
         cases.writes(name, f"show {words}", pieces, [line])
+
+
+def anyway(cases):
+    """By hand, and on the sets that are checked, compared with the second program."""
+    for name, pieces, text, status in ANYWAY:
+        cases.same(f"{name}, anyway, read", shown_anyway(read(text_of(pieces)), RSDP_AT), (text, status == 0))
+        cases.writes(f"{name}, anyway", "show --anyway --rsdp e0000", pieces, text, status)
+    cases.writes("nothing to show anyway", "show --anyway", b"", "no rsdp\n", 1)
+    for row in ROWS:
+        command, *words = row.words.split()
+        if command == "check" and words[:1] == ["--rsdp"]:
+            text, is_shown = shown_anyway(read(text_of(row.pieces)), int(words[1], 16))
+            cases.writes(f"{row.name}, anyway", ["show", "--rsdp", words[1], "--anyway"], row.pieces, text, 0 if is_shown else 1)
 
 
 def rows(cases):
@@ -108,4 +147,4 @@ def large(cases):
     cases.count("time with the number of entries", f"{few} and {most} seconds" if most > 8 * 3 * max(few, 0.1) else "")
 
 
-main("show", by_hand, firmware, not_shown, rows, large, seconds=600)
+main("show", by_hand, firmware, not_shown, anyway, rows, large, seconds=600)

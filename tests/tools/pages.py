@@ -260,7 +260,11 @@ def pictures_have(cases):
     cases.count("a check through a stage", "through stage 9 of 18" not in told and told, has_fault and "a fault of a later stage")
     page = made(cases, changed_example("`@4009 00`"), [], 1)
     has_titles(cases, page, map=["RSDP at 0xe0000", "XSDT at 0x1000", "System Resource Affinity Table at 0x4000"])
-    cases.count("a set with a wrong checksum", "acpiset show writes them only if stages 1 to 3 pass" not in notes_of(page) and notes_of(page))
+    cases.count("a set with a wrong checksum", page.picture("memory") is None and "no picture of memory")
+    page = made(cases, text_of(image_of(fadt(), srat(), hpet()[:-1])), ["--rsdp", "e0000"], 1)
+    has_titles(cases, page, map=["System Resource Affinity Table at 0x3000", "not complete at 0x4000"])
+    page = made(cases, text_of({RSDP_AT: rsdp()}), ["--rsdp", "e0000"], 1)
+    cases.count("a set without a root", "there is no complete root table" not in notes_of(page) and notes_of(page))
     run = cases.run("report", "--format", "html", "--strict", "--rsdp", IMAGES["q11-efi-virt-caches"], FIRMWARE / "q11-efi-virt-caches.img.txt")
     cases.count("advice with --strict", run.returncode != 1 and f"{run}", b"advice fails too" not in run.stdout and "not told")
 

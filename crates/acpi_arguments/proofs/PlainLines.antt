@@ -331,19 +331,21 @@ rebuild_words_asked program base at hex texts rsdp policy a b c =
     ∙ rw (a, b, c) refl
 
 -- a line of `show`, if a value begins with no hyphen
-show_is_asked : (program : Text) (hex : Option Text) (rsdp : Option ℕ) → IfSome hex IsPlain → rsdp_word hex
-    ≡ Some rsdp
-    → asked_job (show_words program hex) ≡ Some (show rsdp)
+show_is_asked : (program : Text) (hex : Option Text) (rsdp : Option ℕ) (anyway : Bool) → IfSome hex IsPlain
+    → rsdp_word hex ≡ Some rsdp
+    → asked_job (show_words program hex anyway) ≡ Some (show rsdp anyway)
 unfolding is_taken command_of command_line check_line lint_line confirm_line rebuild_line show_line find_line
     asked_show
     clap_on_literals
-show_is_asked program None rsdp plain e = ap (option_map show) e
-show_is_asked program (Some []) rsdp plain e = absurd (true≢false (sym plain))
-show_is_asked program (Some (c ∷ cs)) rsdp plain e = simp (not-true (c == 45) plain, e)
+show_is_asked program None rsdp false plain e = ap (option_map (λ at. show at false)) e
+show_is_asked program None rsdp true plain e = ap (option_map (λ at. show at true)) e
+show_is_asked program (Some []) rsdp anyway plain e = absurd (true≢false (sym plain))
+show_is_asked program (Some (c ∷ cs)) rsdp false plain e = simp (not-true (c == 45) plain, e)
+show_is_asked program (Some (c ∷ cs)) rsdp true plain e = simp (not-true (c == 45) plain, e)
 
-pub show_words_asked : (program : Text) (hex : Option Text) (rsdp : Option ℕ) → rsdp_word hex ≡ Some rsdp
-    → asked_job (show_words program hex) ≡ Some (show rsdp)
-show_words_asked program hex rsdp e = show_is_asked program hex rsdp (rsdp_is_plain hex rsdp e) e
+pub show_words_asked : (program : Text) (hex : Option Text) (rsdp : Option ℕ) (anyway : Bool)
+    → rsdp_word hex ≡ Some rsdp → asked_job (show_words program hex anyway) ≡ Some (show rsdp anyway)
+show_words_asked program hex rsdp anyway e = show_is_asked program hex rsdp anyway (rsdp_is_plain hex rsdp e) e
 
 pub find_words_asked : (program : Text) → asked_job (find_words program) ≡ Some find
 unfolding is_taken command_of command_line check_line lint_line confirm_line rebuild_line show_line find_line

@@ -71,9 +71,9 @@ confirm_line = judging_line (new_app (codes "confirm")) (option_rule (codes "wit
 unfoldable pub rebuild_line : App
 rebuild_line = judging_line (new_app (codes "rebuild")) (option_rule (codes "base")) (option_rule (codes "rsdp"))
 
--- `show --rsdp HEX`
+-- `show --rsdp HEX --anyway`
 unfoldable pub show_line : App
-show_line = with_rule (new_app (codes "show")) (option_rule (codes "rsdp"))
+show_line = with_rule (with_rule (new_app (codes "show")) (option_rule (codes "rsdp"))) (flag_rule (codes "anyway"))
 
 -- `find`
 unfoldable pub find_line : App
@@ -114,8 +114,8 @@ pub data Asked : Type 0 where
   confirm : Option ℕ → PolicyValue → Witness → Asked
   -- the RSDP's address, if it is given, the policy, and the base address
   rebuild : Option ℕ → PolicyValue → ℕ → Asked
-  -- the RSDP's address, if it is given
-  show : Option ℕ → Asked
+  -- the RSDP's address, if it is given, and whether checksums and Lengths may be wrong
+  show : Option ℕ → Bool → Asked
   find : Asked
 
 -- `--rsdp HEX`: without it the RSDP is searched for
@@ -264,7 +264,8 @@ asked_rebuild options = judging_asked rebuild (codes "base") base_word (values_o
 
 -- the options of `show`
 unfoldable pub asked_show : List Row → Option Asked
-asked_show options = option_map show (rsdp_word (first_of (codes "rsdp") options))
+asked_show options =
+    option_map (λ rsdp. show rsdp (is_set (first_of (codes "anyway") options))) (rsdp_word (first_of (codes "rsdp") options))
 
 abbrev pub asked_command : Option (Text × List Row) → Option Asked
 asked_command None = None
@@ -339,9 +340,14 @@ rebuild_words program base rsdp texts =
     program ∷ codes "rebuild"
     ∷ options_words ((codes "base", Some base) ∷ (codes "rsdp", rsdp) ∷ policy_options texts) texts.inputs
 
--- `PROGRAM show`, and its option, if it is given
-abbrev pub show_words : Text → Option Text → List Text
-show_words program rsdp = program ∷ codes "show" ∷ option_words (codes "rsdp") rsdp
+-- `--anyway`, if it is given
+abbrev pub anyway_words : Bool → List Text
+anyway_words false = []
+anyway_words true = codes "--anyway" ∷ []
+
+-- `PROGRAM show`, and its option and its flag, if they are given
+abbrev pub show_words : Text → Option Text → Bool → List Text
+show_words program rsdp anyway = program ∷ codes "show" ∷ option_words (codes "rsdp") rsdp ++ anyway_words anyway
 
 -- ---- the job as a value of the program
 
@@ -354,7 +360,7 @@ Does (confirm rsdp policy w) (Confirm given carried witness) =
     (given ≡ rsdp) × (carried ≡ policy) × (witness ≡ w)
 Does (rebuild rsdp policy base) (Rebuild given carried at) =
     (given ≡ rsdp) × (carried ≡ policy) × (at ≡ base)
-Does (show rsdp) (Show given) = given ≡ rsdp
+Does (show rsdp anyway) (Show given is_anyway) = (given ≡ rsdp) × (is_anyway ≡ anyway)
 Does find Find = Unit {0}
 Does _ _ = ⊥
 

@@ -201,7 +201,9 @@ fn show<'a>(alloc: Global) -> Result<Command<'a>, AllocError>
     ensures line { IfOk result (λ command. app_of command ≡ show_line) }
     ensures own { IfOk result (λ command. (out-Command command).has_globals ≡ false) }
 {
-    Command::new(alloc, "show").arg(option(alloc, "rsdp", "HEX"))
+    Command::new(alloc, "show")
+        .arg(option(alloc, "rsdp", "HEX"))?
+        .arg(flag(alloc, "anyway"))
 }
 
 /// `--NAME VALUE`, at most once. The value's name appears only in error messages.

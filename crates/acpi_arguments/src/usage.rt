@@ -17,7 +17,7 @@ const COMMANDS: &str = "usage:
   acpiset rebuild --base HEX [--rsdp HEX]
                 [--default-inputs N] [ADDRESS=COUNT]..
                 [--hotplug counted|apart] [--processors enabled|usable]
-  acpiset show [--rsdp HEX]
+  acpiset show [--rsdp HEX] [--anyway]
   acpiset find
 
 All commands read an image of a machine's memory, as text, from standard input.
@@ -26,6 +26,7 @@ check judges the ACPI tables in it, and prints `yes`, or `no` and the first
 fault. confirm judges one fault, independently of check, and prints `true` if
 the image has it, otherwise `false`. show prints what the tables say, a line
 for each entry, if stages 1 to 3 pass; otherwise what check --through 3 prints.
+With --anyway it prints both, if there is a root table to show.
 
 lint prints everything that is wrong: `yes`, or a line `no` for each name of a
 fault, with the first fault of that name, even if an earlier stage fails; then
@@ -53,6 +54,8 @@ address; TableTooLong, an XSDT of 4 GiB or more.
                the names of rules of advice, with a comma between any two: lint
                prints no line of these and does not count them for --strict
   --strict     lint ends with status 1 also if there is advice but no fault
+  --anyway     show prints what check --through 3 prints, and then the lines of
+               the set, even if checksums or Lengths in it are wrong
 ";
 
 const POLICY: &str = "  --default-inputs N

@@ -56,9 +56,11 @@ pub enum Job {
         policy: Policy,
         base: u64,
     },
-    /// Show what the tables say that are reached from the RSDP (see `Check`).
+    /// Show what the tables say that are reached from the RSDP (see `Check`). If `is_anyway`, checksums and Lengths of these
+    /// tables may be wrong.
     Show {
         rsdp: Option<u64>,
+        is_anyway: bool,
     },
     /// Search for the RSDP.
     Find,
@@ -77,7 +79,7 @@ pub enum WordFault {
 
 /// The job that the arguments `words` give, of which the first is the program's name.
 ///
-/// The commands are `find`, `show [--rsdp HEX]`, `check [--rsdp HEX] [--through N] [--default-inputs N] [--hotplug
+/// The commands are `find`, `show [--rsdp HEX] [--anyway]`, `check [--rsdp HEX] [--through N] [--default-inputs N] [--hotplug
 /// SETTING] [--processors SETTING] [ADDRESS=COUNT]..`, and `lint`, `confirm` and `rebuild` with the same options as
 /// `check`, except that instead of `--through N` `lint` has `--allow NAMES` and the flag `--strict`, `confirm` has
 /// `--witness FAULT` and `rebuild` has `--base HEX`; these two are required. NAMES are the names of rules of advice, with a
@@ -182,7 +184,8 @@ fn show_job(options: &ArgMatches) -> Result<Job, WordFault>
         IsSome (asked_show (rows_of (found_of options.now))) → fault ≡ WordFault.Memory) }
 {
     let rsdp = given_address(value(options, "rsdp")).ok_or(WordFault::Words)?;
-    Ok(Job::Show { rsdp })
+    let is_anyway = is_set(options, "anyway");
+    Ok(Job::Show { rsdp, is_anyway })
 }
 
 /// The address that `--rsdp` gives, if it is present. `None` if its value is not an address.
@@ -242,7 +245,7 @@ pub fn fault_words_are_texts()
 /// Each plain command line with valid values is accepted, and gives the expected job: `find`; `check` with each choice
 /// of its options, in this order, and then any number of arguments `ADDRESS=COUNT`; likewise `lint`, with and without
 /// its flag, `confirm` of each fault, as it is written, and `rebuild` to each address; and `show`, with and without its
-/// option.
+/// option and its flag.
 pub fn plain_lines_are_read()
     ensures find { (program : List ℕ) → asked_job (find_words program) ≡ Some Asked.find }
     ensures check { (program : List ℕ) (hex number : Option (List ℕ)) (texts : PolicyTexts)
@@ -265,7 +268,7 @@ pub fn plain_lines_are_read()
         → rsdp_word hex ≡ Some rsdp
         → policy_words texts ≡ Some policy
         → asked_job (rebuild_words program base hex texts) ≡ Some (Asked.rebuild rsdp policy at) }
-    ensures show { (program : List ℕ) (hex : Option (List ℕ)) (rsdp : Option ℕ)
+    ensures show { (program : List ℕ) (hex : Option (List ℕ)) (rsdp : Option ℕ) (anyway : Bool)
         → rsdp_word hex ≡ Some rsdp
-        → asked_job (show_words program hex) ≡ Some (Asked.show rsdp) }
+        → asked_job (show_words program hex anyway) ≡ Some (Asked.show rsdp anyway) }
 {}

@@ -23,7 +23,8 @@ reports_asked (confirm rsdp policy w) (Confirm given present witness) does m byt
     rw (sym does.0, sym does.1, sym does.2) reports
 reports_asked (rebuild rsdp policy base) (Rebuild given present at) does m bytes returned reports =
     rw (sym does.0, sym does.1, sym does.2) reports
-reports_asked (show rsdp) (Show given) does m bytes returned reports = rw (sym does) reports
+reports_asked (show rsdp anyway) (Show given is_anyway) does m bytes returned reports =
+    rw (sym does.0, sym does.1) reports
 reports_asked find Find does m bytes returned reports = reports
 reports_asked _ _ does m bytes returned reports = absurd does
 

@@ -1,5 +1,5 @@
 -- What a command function reads, writes and returns.
-use Rattle.std.specs.Prelude.{◌≡◌, ◌≤◌, ◌⊎◌, ◌+◌, ◌++◌, ℕ, Bool, if◌then◌else◌, List, [], ◌∷◌, length, take, codes, filter, nat_eq, not, Option, Some, None, Result, Ok, Err, true}
+use Rattle.std.specs.Prelude.{◌≡◌, ◌≤◌, ◌⊎◌, ◌+◌, ◌++◌, ℕ, Bool, if◌then◌else◌, List, [], ◌∷◌, length, take, codes, filter, nat_eq, not, Option, Some, None, Result, Ok, Err, true, false}
 use Rattle.std.specs.List.{flat_map, list_any}
 use Rattle.std.specs.Io.KnownBytes.{Appends, Consumes, IsAtEnd, Keeps}
 use Rattle.acpi_base.specs.Memory.{Memory}
@@ -23,6 +23,7 @@ use Rattle.acpi_base.specs.declared.text.TextFault.{TextFault}
 use Rattle.acpi_base.specs.declared.verdict.Verdict.{Verdict}
 use Rattle.acpi_base.specs.declared.verdict.Verdict.TheVariants as verdict
 use Rattle.acpi_base.specs.declared.witness.Witness.{Witness}
+use Rattle.acpi_read.specs.Roots.{RootValue, IsCompleteRoot}
 use Rattle.acpi_write.specs.Rebuilding.{IsRebuilt, IsRebuildRefusal}
 use Rattle.acpi_write.specs.declared.placing.RebuildFault.{RebuildFault}
 use Rattle.acpi_write.specs.declared.placing.RebuildFault.TheVariants as refusal
@@ -261,6 +262,30 @@ ReportsShow given m bytes returned =
     ((returned ≡ outcome.Yes) × ((p : ℕ) × IsRsdpAddress given m p × CleanTo stage.Tables m (with_rsdp shown_policy p)))
     ⊎ ((returned ≡ outcome.No) × ReportsCheck given shown_policy stage.Tables m bytes returned)
 
+-- After the line of a verdict, the lines of a set, which are not defined here, if there is a complete root table, whatever its
+-- checksum; otherwise nothing.
+abbrev pub IsShownAfter : Memory → ℕ → List ℕ → List ℕ → Outcome → Type 0
+IsShownAfter m p line bytes returned =
+    (((root : RootValue) × IsCompleteRoot m p root) × (returned ≡ outcome.Yes) × ((lines : List ℕ) × (bytes ≡ line ++ lines)))
+    ⊎ (((root : RootValue) → ¬ IsCompleteRoot m p root) × (returned ≡ outcome.No) × (bytes ≡ line))
+
+-- the verdict on the stages up to the listed tables, and what is shown after it
+pub record ReportsAnyway (given : Option ℕ) (m : Memory) (bytes : List ℕ) (returned : Outcome) : Type 0 where
+  pub address : ℕ
+  pub rsdp : IsRsdpAddress given m address
+  pub reported : Verdict
+  pub judged : IsVerdict stage.Tables m (with_rsdp shown_policy address) reported
+  pub shown : IsShownAfter m address (verdict_line reported) bytes returned
+
+-- what is shown for an image even if these stages do not hold
+abbrev pub ReportsShowAnyway : Option ℕ → Memory → List ℕ → Outcome → Type 0
+ReportsShowAnyway given m bytes returned = ReportsAnyway given m bytes returned ⊎ ReportsNoRsdp given m bytes returned
+
+-- the same, by whether a set is shown anyway
+abbrev pub ReportsShown : Bool → Option ℕ → Memory → List ℕ → Outcome → Type 0
+ReportsShown false = ReportsShow
+ReportsShown true = ReportsShowAnyway
+
 -- what a search reports on an image: the RSDP's address, or that none is found
 abbrev pub ReportsFound : Memory → List ℕ → Outcome → Type 0
 ReportsFound m bytes returned =
@@ -273,5 +298,5 @@ ReportsJob (Check given policy last) = ReportsCheck given policy last
 ReportsJob (Lint allowed given policy strict) = ReportsLint allowed.items given policy strict
 ReportsJob (Confirm given policy w) = ReportsConfirm given policy w
 ReportsJob (Rebuild given policy base) = ReportsRebuild given policy base
-ReportsJob (Show given) = ReportsShow given
+ReportsJob (Show given anyway) = ReportsShown anyway given
 ReportsJob Find = ReportsFound

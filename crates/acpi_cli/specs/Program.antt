@@ -9,7 +9,7 @@ use Rattle.acpi_cli.specs.declared.outcome.Outcome.{Outcome}
 use Rattle.acpi_cli.specs.declared.outcome.Outcome.TheVariants as outcome
 use Rattle.acpi_cli.specs.declared.outcome.RunFault.{RunFault}
 use Rattle.acpi_cli.specs.declared.outcome.RunFault.TheVariants as run
-use Rattle.acpi_cli.specs.Commands.{Device, HasNotFailed, ReportsCheck, ReportsConfirm, ReportsFound, ReportsLint, ReportsRebuild, ReportsShow, Runs}
+use Rattle.acpi_cli.specs.Commands.{Device, HasNotFailed, ReportsCheck, ReportsConfirm, ReportsFound, ReportsLint, ReportsRebuild, ReportsShown, Runs}
 
 -- ---- the exit status for what a command function returns
 
@@ -29,7 +29,7 @@ ReportsAsked (check given policy last) m bytes returned =
 ReportsAsked (lint allowed given policy strict) m bytes returned = ReportsLint allowed given policy strict m bytes returned
 ReportsAsked (confirm given policy w) m bytes returned = ReportsConfirm given policy w m bytes returned
 ReportsAsked (rebuild given policy base) m bytes returned = ReportsRebuild given policy base m bytes returned
-ReportsAsked (show given) m bytes returned = ReportsShow given m bytes returned
+ReportsAsked (show given anyway) m bytes returned = ReportsShown anyway given m bytes returned
 ReportsAsked find m bytes returned = ReportsFound m bytes returned
 
 -- nothing was read from the device or written to it

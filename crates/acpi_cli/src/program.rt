@@ -12,7 +12,7 @@ use crate::find::run_find;
 use crate::lint::run_lint;
 use crate::outcome::{Outcome, RunFault, status_of};
 use crate::rebuild::run_rebuild;
-use crate::show::run_show;
+use crate::show::{run_show, run_show_anyway};
 use acpi_arguments::{Job, Reply, WordFault, read_words};
 use acpi_base::Tally;
 use std::alloc::Global;
@@ -88,7 +88,14 @@ pub fn do_job<R: Read, W: Write>(
         Job::Rebuild { rsdp, policy, base } => {
             run_rebuild(alloc, reader, writer, rsdp, policy, base)
         }
-        Job::Show { rsdp } => run_show(alloc, reader, writer, rsdp),
+        Job::Show {
+            rsdp,
+            is_anyway: false,
+        } => run_show(alloc, reader, writer, rsdp),
+        Job::Show {
+            rsdp,
+            is_anyway: true,
+        } => run_show_anyway(alloc, reader, writer, rsdp),
         Job::Find => run_find(alloc, reader, writer),
     }
 }

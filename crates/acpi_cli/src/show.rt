@@ -12,14 +12,17 @@ mod srat;
 mod unread;
 
 ghost use Rattle.std.specs.Prelude.{IfOk};
-ghost use Rattle.acpi_cli.specs.Commands.{device, Runs, ReportsShow};
+ghost use Rattle.acpi_base.specs.Faults.{IsVerdict};
+ghost use Rattle.acpi_base.specs.Policy.{with_rsdp};
+ghost use Rattle.acpi_cli.specs.Commands.{device, shown_policy, Runs, ReportsShow, ReportsShowAnyway};
 
 use crate::check::{no_rsdp, rsdp_address};
 use crate::devices::{Output, read_input, write_output};
 use crate::outcome::{Outcome, RunFault};
-use crate::show::set::set_text;
-use acpi_base::{Image, Tally, Verdict, verdict_text};
+use crate::show::set::{complete_tables, set_text};
+use acpi_base::{Image, Stage, Tally, Verdict, verdict_text};
 use acpi_check::read_set;
+use acpi_read::Root;
 use std::alloc::{AllocError, Global};
 use std::io::{Read, Write};
 
@@ -39,7 +42,7 @@ fn show_output(alloc: Global, image: &Image, given: Option<u64>) -> Result<Outpu
             return Ok(Output { bytes, outcome });
         }
     };
-    let bytes = set_text(alloc, &set)?.into_bytes();
+    let bytes = set_text(alloc, image, address, &set.root, &set.tables)?.into_bytes();
     let outcome = Outcome::Yes;
     Ok(Output { bytes, outcome })
 }
@@ -65,5 +68,59 @@ pub fn run_show<R: Read, W: Write>(
 {
     let image = read_input(alloc, reader)?;
     let output = show_output(alloc, &image, rsdp);
+    write_output(writer, output)
+}
+
+/// The verdict on the stages up to the listed tables, from the RSDP at an address.
+fn tables_verdict(image: &Image, rsdp: u64) -> Verdict
+    ensures { IsVerdict Stage.Tables image.now (with_rsdp shown_policy rsdp) result }
+{
+    match read_set(image, rsdp) {
+        Ok(_) => Verdict::Yes,
+        Err(fault) => Verdict::No(fault),
+    }
+}
+
+/// What is shown for the image even if the stages up to the listed tables do not hold.
+fn anyway_output(alloc: Global, image: &Image, given: Option<u64>) -> Result<Output, AllocError>
+    ensures { IfOk result (λ output. ReportsShowAnyway given image.now output.bytes.items
+        output.outcome) }
+{
+    let Some(address) = rsdp_address(image, given) else {
+        return no_rsdp(alloc);
+    };
+    let mut bytes = verdict_text(alloc, &tables_verdict(image, address))?;
+    let Some(root) = Root::complete(image, address) else {
+        let outcome = Outcome::No;
+        return Ok(Output { bytes, outcome });
+    };
+    let tables = complete_tables(image, &root);
+    let lines = set_text(alloc, image, address, &root, &tables)?.into_bytes();
+    bytes.extend_from_slice(&lines)?;
+    let outcome = Outcome::Yes;
+    Ok(Output { bytes, outcome })
+}
+
+/// Shows the set of tables of the image whose text is on `reader` (see `run_show`), even if checksums and Lengths of these
+/// tables are wrong. The first line is the verdict's on the stages up to the listed tables, `yes` too.
+///
+/// Returns `Yes` if the root table is complete: if it has its signature, a Length of at least 36, and all its bytes are
+/// present, whatever they sum to. The line of a slot with a table that is not complete is `slot K ADDRESS bad`; the first
+/// listed table of a kind has lines only if it is complete. Without such a root table, it writes the verdict's line alone
+/// and returns `No`; if no address is given and none is found, it writes `no rsdp` and returns `No`. All else is as for
+/// `run_show`.
+pub fn run_show_anyway<R: Read, W: Write>(
+    alloc: Global,
+    reader: &mut Tally<R>,
+    writer: &mut Tally<W>,
+    rsdp: Option<u64>,
+) -> Result<Outcome, RunFault>
+    ensures { Runs (ReportsShowAnyway rsdp)
+        (device R.remaining reader.old reader.new)
+        (device W.contents writer.old writer.new)
+        result }
+{
+    let image = read_input(alloc, reader)?;
+    let output = anyway_output(alloc, &image, rsdp);
     write_output(writer, output)
 }

@@ -68,6 +68,15 @@ fadt 0x2000 length 116 profile 0 sci 0 flags 0x100000 reduced yes
 dsdt 0x0
 ";
 
+/// The same after the verdict on the listed tables.
+const SHOWN_ANYWAY: &[u8] = b"yes
+rsdp 0xe0000 revision 0
+root 0x1000 RSDT length 40 slots 1
+slot 0 0x2000 FACP length 116 revision 1
+fadt 0x2000 length 116 profile 0 sci 0 flags 0x100000 reduced yes
+dsdt 0x0
+";
+
 /// No slot lists a FADT.
 const NO_FADT: Witness = Witness {
     code: Code::NoFadt,
@@ -271,7 +280,36 @@ const SHOWS: [(&[u8], Option<u64>, Outcome, &[u8]); 3] = [
 fn a_set_of_valid_tables_is_shown(rt: HostRuntime) -> Result<(), Fail> {
     let alloc = rt.alloc();
     for (text, rsdp, outcome, lines) in SHOWS {
-        expect_report(&rt, alloc, text, Job::Show { rsdp }, outcome, lines)?;
+        let job = Job::Show {
+            rsdp,
+            is_anyway: false,
+        };
+        expect_report(&rt, alloc, text, job, outcome, lines)?;
+    }
+    Ok(())
+}
+
+/// The same with `--anyway`.
+const SHOWS_ANYWAY: [(&[u8], Option<u64>, Outcome, &[u8]); 3] = [
+    (CLEAN, None, Outcome::Yes, SHOWN_ANYWAY),
+    (
+        CLEAN,
+        Some(0xe0010),
+        Outcome::No,
+        b"no 1 RsdpOut 0xe0010 0x0 0x0\n",
+    ),
+    (b"", None, Outcome::No, b"no rsdp\n"),
+];
+
+#[test]
+fn a_set_is_shown_anyway_after_its_verdict(rt: HostRuntime) -> Result<(), Fail> {
+    let alloc = rt.alloc();
+    for (text, rsdp, outcome, lines) in SHOWS_ANYWAY {
+        let job = Job::Show {
+            rsdp,
+            is_anyway: true,
+        };
+        expect_report(&rt, alloc, text, job, outcome, lines)?;
     }
     Ok(())
 }
@@ -299,16 +337,18 @@ enum Command {
     Confirm,
     Rebuild,
     Show,
+    ShowAnyway,
     Find,
 }
 
 /// All commands, each with the first three bytes that its job writes on the set that lists nothing.
-const COMMANDS: [(Command, [u8; 3]); 6] = [
+const COMMANDS: [(Command, [u8; 3]); 7] = [
     (Command::Check, *b"yes"),
     (Command::Lint, *b"no "),
     (Command::Confirm, *b"tru"),
     (Command::Rebuild, *b"no "),
     (Command::Show, *b"rsd"),
+    (Command::ShowAnyway, *b"yes"),
     (Command::Find, *b"rsd"),
 ];
 
@@ -338,7 +378,14 @@ fn job(alloc: Global, command: Command) -> Result<Job, PolicyFault> {
             policy,
             base: 0x7ffe_0000,
         },
-        Command::Show => Job::Show { rsdp },
+        Command::Show => Job::Show {
+            rsdp,
+            is_anyway: false,
+        },
+        Command::ShowAnyway => Job::Show {
+            rsdp,
+            is_anyway: true,
+        },
         Command::Find => Job::Find,
     })
 }

@@ -7,10 +7,10 @@ use Rattle.std.proofs.lemmas.Bool.{cases_lt}
 use Rattle.std.proofs.lemmas.List.Elements.{Contains-get_or}
 use Rattle.acpi_base.specs.Memory.{Memory}
 use Rattle.acpi_base.specs.Root.{IsSlot}
-use Rattle.acpi_lint.specs.Headers.{FindsOddText}
+use Rattle.acpi_lint.specs.Headers.{HasOddText, FindsOddText}
 use Rattle.acpi_lint.specs.Places.{FindsLeast, IsNotAfter}
 use Rattle.acpi_lint.specs.Rules.HeaderAdvice.{IsNoText, IsOddField, IsOddText, IsHeaderText}
-use Rattle.acpi_lint.specs.Slots.{AreSlots}
+use Rattle.acpi_lint.specs.Slots.{IsTableAt, AreSlots}
 use Rattle.acpi_lint.specs.declared.listed_slots.Slot.{Slot}
 use Rattle.acpi_lint.specs.declared.place.Place.{Place}
 use Rattle.acpi_lint.proofs.ListedSlots.{no_slot}
@@ -67,23 +67,29 @@ no_odd header one two three four offset (size, inr (inr (inr (at, is))), odd) = 
 
 -- ---- the headers that slots list
 
-abbrev pub NoneBefore : Memory → List Slot → ℕ → Type 0
-NoneBefore m slots i = (j offset : ℕ) → j < i → ¬ IsOddText m (get_or slots j no_slot).table.address offset
+abbrev pub NoneBefore : List Slot → ℕ → Type 0
+NoneBefore slots i = (j offset : ℕ) → j < i → ¬ HasOddText (get_or slots j no_slot) offset
+
+odd_there : {m : Memory} (s : Slot) (point offset : ℕ) → IsTableAt m s.table → s.table.address ≡ point
+    → IsOddText m point offset → HasOddText s offset
+odd_there s point offset there is (header, present, odd) =
+    (header, sym (there.run 36) ∙ (rw is present), odd)
 
 pub first_text : {m : Memory} {p : ℕ} (slots : List Slot) (i : ℕ) (place : Place) → AreSlots m (IsSlot m p) slots
-    → i < length slots → FindsOddText m (get_or slots i no_slot) (Some place) → NoneBefore m slots i
+    → i < length slots → FindsOddText (get_or slots i no_slot) (Some place) → NoneBefore slots i
     → FindsLeast (IsHeaderText m p) (Some place)
-first_text {m} {p} slots i place are within (number, address, odd, first) passed =
+first_text {m} {p} slots i place are within (number, address, (header, present, odd), first) passed =
     let s : Slot = get_or slots i no_slot in
     let (slot, there) = are.listed s (Contains-get_or slots i no_slot within) in
     record {
-      here = (rw (number, address) slot, rw address odd);
+      here = (rw (number, address) slot, rw address (header, there.run 36 ∙ present, odd));
       least = λ at other point (lists, wrong).
           let (t, listed, same, is) = are.all at point lists in
-          elim (at_or_behind (λ (x : Slot). x.number) (λ (x : Slot). IsOddText m x.table.address other) slots i no_slot
-          t are.rise within (λ j below. passed j other below) listed (rw is wrong)) [
+          let has : HasOddText t other = odd_there t point other (are.listed t listed).1 is wrong in
+          elim (at_or_behind (λ (x : Slot). x.number) (λ (x : Slot). HasOddText x other) slots i no_slot
+          t are.rise within (λ j below. passed j other below) listed has) [
             | inl one ↦
-                let low = first other (subst (λ (x : Slot). IsOddText m x.table.address other) one (rw is wrong)) in
+                let low = first other (subst (λ (x : Slot). HasOddText x other) one has) in
                 upto at other point (omega (arith, number, same, ap (λ (x : Slot). x.number) one)) low
                 (omega (arith, address, is, ap (λ (x : Slot). x.table.address) one))
             | inr more ↦ inl (omega (arith, number, same, more))
@@ -99,8 +105,8 @@ first_text {m} {p} slots i place are within (number, address, odd, first) passed
         ]
 
 pub no_text : {m : Memory} {p : ℕ} (slots : List Slot) (i : ℕ) → AreSlots m (IsSlot m p) slots → length slots ≤ i
-    → NoneBefore m slots i → FindsLeast (IsHeaderText m p) None
+    → NoneBefore slots i → FindsLeast (IsHeaderText m p) None
 no_text {m} {p} slots i are end passed = λ at other point (lists, wrong).
     let (t, listed, same, is) = are.all at point lists in
-    none_such (λ (x : Slot). IsOddText m x.table.address other) slots i no_slot t end (λ j below. passed j other below)
-    listed (rw is wrong)
+    none_such (λ (x : Slot). HasOddText x other) slots i no_slot t end (λ j below. passed j other below)
+    listed (odd_there t point other (are.listed t listed).1 is wrong)

@@ -1,9 +1,10 @@
 -- The slots of a root table that list an address.
-use Rattle.std.proofs.Common.{◌≡◌, ℕ, ◌<◌, ◌≤◌, ◌+◌, ◌*◌, List, [], ◌∷◌, ◌++◌, length, map, None, false, refl, sym, ap, ◌∙◌, inl, inr, arith}
+use Rattle.std.proofs.Common.{◌≡◌, ℕ, ◌<◌, ◌≤◌, ◌+◌, ◌*◌, List, [], ◌∷◌, ◌++◌, length, get_or, map, None, false, refl, sym, ap, ◌∙◌, inl, inr, arith}
 use Rattle.std.specs.Prelude.{◌⊎◌, Contains}
 use Rattle.std.proofs.lemmas.Bool.{cases_lt}
 use Rattle.std.proofs.lemmas.List.{get_or-map, length-map}
-use Rattle.std.proofs.lemmas.List.Elements.{Contains-append_left, Contains-append_right, Contains-append_cases}
+use Rattle.std.proofs.lemmas.List.Elements.{Contains-append_left, Contains-append_right, Contains-append_cases, Contains-get_or}
+use Rattle.acpi_base.specs.Image.Runs.{AreBytesFrom}
 use Rattle.acpi_base.specs.Memory.{Memory}
 use Rattle.acpi_base.specs.Number.{field}
 use Rattle.acpi_base.specs.Root.{HasSlot, IsSlot}
@@ -19,7 +20,7 @@ use Rattle.acpi_lint.proofs.RisingLists.{rise_more}
 
 -- a slot to read lists with
 abbrev pub no_slot : Slot
-no_slot = record { number = 0; table = record { address = 0; fault = None; kind = None; is_apart = false } }
+no_slot = record { number = 0; table = record { address = 0; run = record { ref_ptr = (0, 0); now = [] }; fault = None; kind = None; is_apart = false } }
 
 -- ---- slot by slot
 
@@ -110,6 +111,12 @@ no_slots none =
       all = λ k a slot. absurd (none (record { address = slot.r; width = slot.d; bytes = slot.whole })
           (record { named = slot.root; table = slot.table }));
     }
+
+-- the bytes from the address of a slot on
+pub run_of : {m : Memory} {Lists : ℕ → ℕ → Type 0} (slots : List Slot) (i : ℕ) → AreSlots m Lists slots
+    → i < length slots
+    → AreBytesFrom m (get_or slots i no_slot).table.address (get_or slots i no_slot).table.run.now
+run_of slots i are within = (are.listed (get_or slots i no_slot) (Contains-get_or slots i no_slot within)).1.run
 
 -- ---- their addresses
 

@@ -5,15 +5,15 @@ use Rattle.std.specs.Prelude.{AllPairs, Contains}
 use Rattle.std.specs.List.{filter_map}
 use Rattle.std.proofs.Math.Nat.{eq-or-lt_of_le}
 use Rattle.std.proofs.lemmas.Option.{none-some, cond_some}
-use Rattle.acpi_base.specs.Memory.{Memory, bytes_at}
+use Rattle.acpi_base.specs.Memory.{Memory}
 use Rattle.acpi_base.specs.Root.{IsSlot}
 use Rattle.acpi_base.proofs.Options.{cases_Option}
 use Rattle.acpi_check.proofs.EntryPasses.Kept.{kept_has, kept_from}
-use Rattle.acpi_lint.specs.Headers.{once_numbered}
+use Rattle.acpi_lint.specs.Headers.{header_there, once_numbered}
 use Rattle.acpi_lint.specs.Numbered.{IsNoLater, IsUnlikeAt}
 use Rattle.acpi_lint.specs.Places.{FindsLeast, IsLeast, IsNotAfter}
 use Rattle.acpi_lint.specs.Rules.HeaderAdvice.{is_once, signature_number, ListsNumber, IsSecondOther}
-use Rattle.acpi_lint.specs.Slots.{AreSlots}
+use Rattle.acpi_lint.specs.Slots.{IsTableAt, AreSlots}
 use Rattle.acpi_lint.specs.declared.listed_slots.Slot.{Slot}
 use Rattle.acpi_lint.specs.declared.numbered.Numbered.{Numbered}
 use Rattle.acpi_lint.specs.declared.numbered.Order.TheVariants.{Later}
@@ -50,42 +50,44 @@ numbered : ℕ → ℕ → ℕ → Numbered
 numbered n k a = record { number = n; at = k; value = a }
 
 once_from : (m : Memory) (p : ℕ) (s : Slot) (g : Numbered) → IsSlot m p s.number s.table.address
-    → once_numbered m s ≡ Some g → IsOnceAt m p g.number g.at g.value × (g.at ≡ s.number) × (g.value ≡ s.table.address)
-once_from m p s g slot is =
-    elim (cases_Option (bytes_at m s.table.address 36)) [
+    → IsTableAt m s.table → once_numbered s ≡ Some g
+    → IsOnceAt m p g.number g.at g.value × (g.at ≡ s.number) × (g.value ≡ s.table.address)
+once_from m p s g slot there is =
+    elim (cases_Option (header_there s.table)) [
       | inr none ↦ absurd (none-some g (rw none at is))
       | inl (header, present) ↦
           let kept = cond_some (is_once (signature_number header))
           (record { number = signature_number header; at = s.number; value = s.table.address }) g (rw present at is) in
-          rw (← kept.1) (((slot, (header, present, refl)), kept.0), refl, refl)
+          rw (← kept.1) (((slot, (header, there.run 36 ∙ present, refl)), kept.0), refl, refl)
     ]
 
-once_to : (m : Memory) (p n k a : ℕ) (s : Slot) → s.number ≡ k → s.table.address ≡ a → IsOnceAt m p n k a
-    → once_numbered m s ≡ Some (record { number = n; at = k; value = a })
-once_to m p n k a s number address ((slot, (header, present, is)), once) =
-    rw (address, present, is, once, number) refl
+once_to : (m : Memory) (p n k a : ℕ) (s : Slot) → s.number ≡ k → s.table.address ≡ a → IsTableAt m s.table
+    → IsOnceAt m p n k a → once_numbered s ≡ Some (record { number = n; at = k; value = a })
+once_to m p n k a s number address there ((slot, (header, present, is)), once) =
+    let here : header_there s.table ≡ Some header = sym (there.run 36) ∙ (rw address present) in
+    rw (here, is, once, number, address) refl
 
 pub given_from : {m : Memory} {p : ℕ} (slots : List Slot) (g : Numbered) → AreSlots m (IsSlot m p) slots
-    → Contains (filter_map (once_numbered m) slots) g
+    → Contains (filter_map once_numbered slots) g
     → IsOnceAt m p g.number g.at g.value
     × ((s : Slot) × Contains slots s × (s.number ≡ g.at) × (s.table.address ≡ g.value))
 given_from {m} {p} slots g are listed =
-    let (s, here, is) = kept_from (once_numbered m) slots g listed in
-    let (once, at, value) = once_from m p s g (are.listed s here).0 is in
+    let (s, here, is) = kept_from once_numbered slots g listed in
+    let (once, at, value) = once_from m p s g (are.listed s here).0 (are.listed s here).1 is in
     (once, (s, here, sym at, sym value))
 
 pub given_to : {m : Memory} {p : ℕ} (slots : List Slot) (n k a : ℕ) → AreSlots m (IsSlot m p) slots
     → IsOnceAt m p n k a
-    → Contains (filter_map (once_numbered m) slots) (record { number = n; at = k; value = a })
+    → Contains (filter_map once_numbered slots) (record { number = n; at = k; value = a })
 given_to {m} {p} slots n k a are once =
     let (s, here, number, address) = are.all k a once.0.0 in
-    kept_has (once_numbered m) slots s (record { number = n; at = k; value = a }) here
-    (once_to m p n k a s number address once)
+    kept_has once_numbered slots s (record { number = n; at = k; value = a }) here
+    (once_to m p n k a s number address (are.listed s here).1 once)
 
 -- ---- what is found among them
 
 second_from : {m : Memory} {p : ℕ} (slots : List Slot) (at other n : ℕ) → AreSlots m (IsSlot m p) slots
-    → IsUnlikeAt Later (filter_map (once_numbered m) slots) at other n
+    → IsUnlikeAt Later (filter_map once_numbered slots) at other n
     → (point : ℕ) × IsSecondOther m p at other point
     × ((s : Slot) × Contains slots s × (s.number ≡ at) × (s.table.address ≡ point))
 second_from {m} {p} slots at other n are (g, f, unlike, is) =
@@ -113,7 +115,7 @@ second_from {m} {p} slots at other n are (g, f, unlike, is) =
 
 second_to : {m : Memory} {p at other point : ℕ} (slots : List Slot) → AreSlots m (IsSlot m p) slots
     → (second : IsSecondOther m p at other point)
-    → IsUnlikeAt Later (filter_map (once_numbered m) slots) at other second.signature
+    → IsUnlikeAt Later (filter_map once_numbered slots) at other second.signature
 second_to {m} {p} {at} {other} {point} slots are second = (
   record { number = second.signature; at = at; value = point },
   record { number = second.signature; at = other; value = second.a },
@@ -140,12 +142,12 @@ second_to {m} {p} {at} {other} {point} slots are second = (
 
 -- no such slot is found
 pub no_second : {m : Memory} {p : ℕ} (slots : List Slot) → AreSlots m (IsSlot m p) slots
-    → FindsLeast (IsUnlikeAt Later (filter_map (once_numbered m) slots)) None → FindsLeast (IsSecondOther m p) None
+    → FindsLeast (IsUnlikeAt Later (filter_map once_numbered slots)) None → FindsLeast (IsSecondOther m p) None
 no_second slots are none = λ at other point second. none at other second.signature (second_to slots are second)
 
 -- the first one is found, and this is the address that it lists
 pub first_second : {m : Memory} {p : ℕ} (slots : List Slot) (r : Place) (address : ℕ) → AreSlots m (IsSlot m p) slots
-    → IsLeast (IsUnlikeAt Later (filter_map (once_numbered m) slots)) r
+    → IsLeast (IsUnlikeAt Later (filter_map once_numbered slots)) r
     → ((s : Slot) → Contains slots s → s.number ≡ r.at → address ≡ s.table.address)
     → FindsLeast (IsSecondOther m p) (Some (record { at = r.at; other = r.other; point = address }))
 first_second {m} {p} slots r address are least tells =

@@ -1,15 +1,18 @@
 -- The structures of a set as spans.
-use Rattle.std.proofs.Common.{◌≡◌, ◌≢◌, ℕ, ◌+◌, ◌*◌, ◌^◌, ◌<◌, ◌≤◌, List, length, true, Option, Some, None, refl, sym, ap, ◌∙◌, inl, inr, arith}
-use Rattle.std.specs.Prelude.{IfSome, MatchOption}
+use Rattle.std.proofs.Common.{◌≡◌, ◌≢◌, ℕ, ◌+◌, ◌^◌, ◌<◌, ◌≤◌, List, length, get_or, ◌++◌, true, Option, Some, None, refl, sym, ap, ◌∙◌, inl, inr, arith}
+use Rattle.std.specs.Prelude.{◌⊎◌, IfSome, MatchOption}
+use Rattle.std.specs.Option.{option_to_list}
+use Rattle.std.proofs.Math.Nat.{eq-or-lt_of_le}
+use Rattle.std.proofs.lemmas.Bool.{cases_lt}
+use Rattle.std.proofs.lemmas.List.Elements.{Contains-get_or}
 use Rattle.acpi_base.specs.Fadt.{dsdt_address}
 use Rattle.acpi_base.specs.Memory.{Memory, bytes_at}
-use Rattle.acpi_base.specs.Number.{field}
 use Rattle.acpi_base.specs.Policy.{new_policy}
-use Rattle.acpi_base.specs.Root.{HasSlot}
+use Rattle.acpi_base.specs.Root.{IsSlot}
 use Rattle.acpi_base.specs.Signature.{has_signature}
 use Rattle.acpi_base.proofs.Frames.{length_frame}
 use Rattle.acpi_base.proofs.Root.Named.{one_root, one_root_table, root_width}
-use Rattle.acpi_base.proofs.Root.Slots.{slot_of_root, root_slot}
+use Rattle.acpi_base.proofs.Root.Slots.{slot_of_root}
 use Rattle.acpi_read.specs.Roots.{RootValue, IsCompleteRoot}
 use Rattle.acpi_graph.specs.declared.span.Span.{Span}
 use Rattle.acpi_lint.specs.CompleteTables.{AreCompleteTables, IsLong}
@@ -18,11 +21,16 @@ use Rattle.acpi_lint.specs.Ranges.{IsSpanOf, AreRanges, FindsRange, IsFirstRange
 use Rattle.acpi_lint.specs.Rules.Overlaps.{IsInRange, IsRangeOverlap}
 use Rattle.acpi_lint.specs.Rules.Structures.{IsRsdpRange, IsRootRange, IsFacsRange, IsDsdtRange, IsTableRange, OfNamingFadt, IsStructure, IsFirstStructure, IsTablesOverlap}
 use Rattle.acpi_lint.specs.Rules.Slots.{dsdt_signature}
+use Rattle.acpi_lint.specs.Slots.{AreSlots}
 use Rattle.acpi_lint.specs.declared.complete_tables.CompleteTables.{CompleteTables}
+use Rattle.acpi_lint.specs.declared.listed_slots.Slot.{Slot}
 use Rattle.acpi_lint.specs.declared.place.Place.{Place}
+use Rattle.acpi_lint.proofs.FirstSlots.{one_listed}
+use Rattle.acpi_lint.proofs.ListedSlots.{no_slot}
 use Rattle.acpi_lint.proofs.OfTables.{fadt_lifts}
-use Rattle.acpi_lint.proofs.RangeLists.{AreRangesBefore, none_until, range_as}
+use Rattle.acpi_lint.proofs.RangeLists.{AreRangesBefore, all_ranges, none_until, pushed, range_as}
 use Rattle.acpi_lint.proofs.RangeOverlaps.{overlap_as, range_moved}
+use Rattle.acpi_lint.proofs.RisingLists.{at_or_behind, none_such}
 
 -- ---- one structure
 
@@ -53,19 +61,6 @@ dsdt_signed m fadt address header found named some present signed =
       here,
     ))
     (λ s n (_, is, _, here). (is ∙ sym named, here))
-
--- the table that a slot lists
-pub slot_listed : (m : Memory) (whole : List ℕ) (d k address : ℕ) (found : Option Span)
-    → 36 + d * (k + 1) ≤ length whole → address ≡ field whole (36 + d * k) d → address ≢ 0
-    → FindsRange (4 + k) (λ s n. (s ≡ address) × IsTableRange m s n) found
-    → FindsRange (4 + k) (λ s n. HasSlot whole d k s × IsTableRange m s n) found
-slot_listed m whole d k address found inside is some =
-    range_as (4 + k) found
-    (λ s n (same, here). (
-      record { inside = inside; address = sym is ∙ sym same; listed = λ zero. some (sym same ∙ zero) },
-      here,
-    ))
-    (λ s n (slot, here). (sym slot.address ∙ sym is, here))
 
 -- ---- each of them among all
 
@@ -120,22 +115,20 @@ dsdt_range m p found =
     ])
 
 -- the table of a slot
-pub slot_range : {m : Memory} {p : ℕ} {root : RootValue} (k : ℕ) (found : Option Span) → IsCompleteRoot m p root
-    → FindsRange (4 + k) (λ s n. HasSlot root.bytes root.width k s × IsTableRange m s n) found
+slot_range : {m : Memory} {p : ℕ} (k address : ℕ) (found : Option Span) → IsSlot m p k address
+    → FindsRange (4 + k) (λ s n. (s ≡ address) × IsTableRange m s n) found
     → FindsRange (4 + k) (IsStructure m p (4 + k)) found
-slot_range {m} {p} {root} k found is =
+slot_range {m} {p} k address found lists =
     range_as (4 + k) found
-    (λ s n (slot, here). inr (inr (inr (inr (k, refl, root_slot is.named is.table slot, here)))))
+    (λ s n (is, here). inr (inr (inr (inr (k, refl, rw is lists, here)))))
     (λ s n of. elim of [
       | inl (off, _) ↦ absurd (omega (arith, off))
       | inr (inl (off, _)) ↦ absurd (omega (arith, off))
       | inr (inr (inl (off, _))) ↦ absurd (omega (arith, off))
       | inr (inr (inr (inl (off, _)))) ↦ absurd (omega (arith, off))
       | inr (inr (inr (inr (j, same, slot, here)))) ↦
-          let one : k ≡ j = omega arith in (
-            slot_of_root m p root.address root.width k s root.bytes is.named is.table (rw one slot),
-            here,
-          )
+          let one : k ≡ j = omega arith in
+          (one_listed (rw one slot) lists, here)
     ])
 
 -- ---- the root table
@@ -213,22 +206,97 @@ none_named {m} {p} {tables} {view} spans are long none before =
 
 -- ---- all slots
 
--- each structure is among the first four, or a slot's
-pub all_numbered : {m : Memory} {p : ℕ} {root : RootValue} (end : ℕ) → IsCompleteRoot m p root
-    → ((k : ℕ) → 36 + root.width * (k + 1) ≤ length root.bytes → k < end) → (o s n : ℕ) → IsStructure m p o s n
-    → o < 4 + end
-all_numbered end root inside o s n (inl (is, _)) = omega (arith, is)
-all_numbered end root inside o s n (inr (inl (is, _))) = omega (arith, is)
-all_numbered end root inside o s n (inr (inr (inl (is, _)))) = omega (arith, is)
-all_numbered end root inside o s n (inr (inr (inr (inl (is, _))))) = omega (arith, is)
-all_numbered {m} {p} {root} end is inside o s n (inr (inr (inr (inr (k, same, slot, _))))) =
-    let here = slot_of_root m p root.address root.width k s root.bytes is.named is.table slot in
-    omega (arith, same, inside k here.inside)
+-- these are the structures before the table of the slot with index i; the slots before it have numbers below `end`
+pub record AreStructuresBefore (m : Memory) (p : ℕ) (slots : List Slot) (i : ℕ) (spans : List Span) : Type 0 where
+  pub end : ℕ
+  pub ranges : AreRangesBefore (IsStructure m p) (4 + end) spans
+  pub passed : (j : ℕ) → j < i → (get_or slots j no_slot).number < end
+  pub coming : (j : ℕ) → i ≤ j → j < length slots → end ≤ (get_or slots j no_slot).number
+
+pub no_slots_yet : {m : Memory} {p : ℕ} (slots : List Slot) (spans : List Span)
+    → AreRangesBefore (IsStructure m p) 4 spans → AreStructuresBefore m p slots 0 spans
+no_slots_yet slots spans ranges =
+    record {
+      end = 0;
+      ranges = ranges;
+      passed = λ j before. absurd (omega (arith, before));
+      coming = λ j from within. omega arith;
+    }
+
+pub slot_passed : {m : Memory} {p : ℕ} {spans after : List Span} (slots : List Slot) (i : ℕ) (found : Option Span)
+    → AreSlots m (IsSlot m p) slots → i < length slots → after ≡ spans ++ option_to_list found
+    → AreStructuresBefore m p slots i spans
+    → FindsRange (4 + (get_or slots i no_slot).number)
+    (λ s n. (s ≡ (get_or slots i no_slot).table.address) × IsTableRange m s n) found
+    → AreStructuresBefore m p slots (i + 1) after
+slot_passed {m} {p} {spans} {after} slots i found are within is before finds =
+    record {
+      end = number + 1;
+      ranges = rw next (pushed found is (none_until (4 + number) spans before.ranges (omega (arith, low)) none)
+          (slot_range number slot.table.address found lists finds));
+      passed = λ j below. elim (eq-or-lt_of_le {n = j} {m = i} (omega (arith, below))) [
+        | inl same ↦ rw same (omega arith)
+        | inr less ↦ omega (arith, are.rise j i no_slot less within)
+      ];
+      coming = λ j from inside. omega (arith, are.rise i j no_slot (omega (arith, from)) inside);
+    }
+  where
+    slot : Slot
+    slot = get_or slots i no_slot
+
+    number : ℕ
+    number = slot.number
+
+    lists : IsSlot m p number slot.table.address
+    lists = (are.listed slot (Contains-get_or slots i no_slot within)).0
+
+    low : before.end ≤ number
+    low = before.coming i (omega arith) within
+
+    next : 4 + (number + 1) ≡ 4 + number + 1
+    next = omega arith
+
+    none : (o s n : ℕ) → 4 + before.end ≤ o → o < 4 + number → IsStructure m p o s n → n ≡ 0
+    none o s n from below (inl (off, _)) = absurd (omega (arith, off, from))
+    none o s n from below (inr (inl (off, _))) = absurd (omega (arith, off, from))
+    none o s n from below (inr (inr (inl (off, _)))) = absurd (omega (arith, off, from))
+    none o s n from below (inr (inr (inr (inl (off, _))))) = absurd (omega (arith, off, from))
+    none o s n from below (inr (inr (inr (inr (k, same, listed, _))))) =
+        let (x, here, at, _) = are.all k s listed in
+        elim (at_or_behind (λ (y : Slot). y.number) (λ (y : Slot). before.end ≤ y.number) slots i no_slot x are.rise
+        within (λ j less upto. omega (arith, before.passed j less, upto)) here (omega (arith, from, same, at))) [
+          | inl one ↦ absurd (omega (arith, ap (λ (y : Slot). y.number) one, at, same, below))
+          | inr more ↦ absurd (omega (arith, more, at, same, below))
+        ]
+
+pub all_passed : {m : Memory} {p : ℕ} (slots : List Slot) (i : ℕ) (spans : List Span) → AreSlots m (IsSlot m p) slots
+    → length slots ≤ i → AreStructuresBefore m p slots i spans → AreRanges (IsStructure m p) spans
+all_passed {m} {p} slots i spans are done before = all_ranges spans before.ranges within
+  where
+    within : (o s n : ℕ) → IsStructure m p o s n → (n ≡ 0) ⊎ (o < 4 + before.end)
+    within o s n (inl (is, _)) = inr (omega (arith, is))
+    within o s n (inr (inl (is, _))) = inr (omega (arith, is))
+    within o s n (inr (inr (inl (is, _)))) = inr (omega (arith, is))
+    within o s n (inr (inr (inr (inl (is, _))))) = inr (omega (arith, is))
+    within o s n (inr (inr (inr (inr (k, same, listed, _))))) =
+        let (x, here, at, _) = are.all k s listed in
+        elim (cases_lt k before.end) [
+          | inl less ↦ inr (omega (arith, less, same))
+          | inr upto ↦
+              absurd (none_such (λ (y : Slot). before.end ≤ y.number) slots i no_slot x done
+              (λ j less most. omega (arith, before.passed j less, most)) here (omega (arith, upto, at)))
+        ]
 
 -- a slot of a root table of fewer than 2^32 bytes has a number that is far below
-pub slot_low : {m : Memory} {p : ℕ} {root : RootValue} (k : ℕ) → IsCompleteRoot m p root
-    → 36 + root.width * (k + 1) ≤ length root.bytes → length root.bytes < 2 ^ 32 → 4 + k < 2 ^ 32
-slot_low {root = root} k is inside size = grind (arith, root_width is.named)
+pub slot_low : {m : Memory} {p : ℕ} {root : RootValue} (slots : List Slot) (i : ℕ) → IsCompleteRoot m p root
+    → AreSlots m (IsSlot m p) slots → i < length slots → length root.bytes < 2 ^ 32
+    → 4 + (get_or slots i no_slot).number < 2 ^ 32
+slot_low {m} {p} {root} slots i is are within size =
+    let slot : Slot = get_or slots i no_slot in
+    let lists = (are.listed slot (Contains-get_or slots i no_slot within)).0 in
+    let here =
+    slot_of_root m p root.address root.width slot.number slot.table.address root.bytes is.named is.table lists in
+    grind (arith, root_width is.named, here.inside)
 
 -- ---- their first overlap
 

@@ -1,9 +1,11 @@
 -- What is at an address that a slot lists.
 use Rattle.std.proofs.Common.{◌≡◌, ℕ, Bool, List, Option, Some, None, true, false, sym, ◌∙◌, ap, subst, inl, inr}
 use Rattle.std.specs.Prelude.{◌↔◌, ◌⊎◌, IsTrue}
+use Rattle.std.specs.Borrow.{Bor}
 use Rattle.std.proofs.lemmas.Option.{none-some, same_Some}
 use Rattle.acpi_base.specs.Facs.{facs_signature}
 use Rattle.acpi_lint.specs.Rules.Slots.{dsdt_signature}
+use Rattle.acpi_base.specs.Image.Runs.{AreBytesFrom}
 use Rattle.acpi_base.specs.Memory.{Memory, bytes_at}
 use Rattle.acpi_base.specs.Signature.{has_signature}
 use Rattle.acpi_base.specs.TableKinds.{signature_of, IsKindOf}
@@ -34,14 +36,15 @@ kind_there header (Some one) kind is = (
   λ signed. ap Some (one_kind header one kind is signed),
 )
 
-pub table_there : {m : Memory} (a : ℕ) (header : List ℕ) (fault : Option Code) (kind : Option TableKind) (apart : Bool)
-    → bytes_at m a 36 ≡ Some header → ((c : Code) → (fault ≡ Some c) ↔ TableFault m a c) → IsKindOf header kind
+pub table_there : {m : Memory} (a : ℕ) (run : Bor (List ℕ)) (header : List ℕ) (fault : Option Code)
+    (kind : Option TableKind) (apart : Bool)
+    → AreBytesFrom m a run.now → bytes_at m a 36 ≡ Some header → ((c : Code) → (fault ≡ Some c) ↔ TableFault m a c) → IsKindOf header kind
     → (IsTrue apart ↔ ((has_signature header dsdt_signature ≡ true) ⊎ (has_signature header facs_signature ≡ true)))
-    → IsTableAt m (record { address = a; fault = fault; kind = kind; is_apart = apart })
-table_there {m} a header fault found apart present faults is tells = record { tells = sides }
+    → IsTableAt m (record { address = a; run = run; fault = fault; kind = kind; is_apart = apart })
+table_there {m} a run header fault found apart from present faults is tells = record { run = from; tells = sides }
   where
     sides : (s : Sought)
-        → HasSought s (record { address = a; fault = fault; kind = found; is_apart = apart }) ↔ IsSought m s a
+        → HasSought s (record { address = a; run = run; fault = fault; kind = found; is_apart = apart }) ↔ IsSought m s a
     sides (sought.Fault code) = faults code
     sides (sought.Kind kind) = (
       λ same. (signed_there header present).0 ((kind_there header found kind is).0 same),

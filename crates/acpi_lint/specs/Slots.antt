@@ -3,6 +3,7 @@ use Rattle.std.specs.Prelude.{◌≡◌, ℕ, ◌<◌, ◌⊎◌, ◌↔◌, ◌
 use Rattle.std.specs.Option.{option_and_then}
 use Rattle.acpi_base.specs.Facs.{facs_signature}
 use Rattle.acpi_lint.specs.Rules.Slots.{dsdt_signature}
+use Rattle.acpi_base.specs.Image.Runs.{AreBytesFrom}
 use Rattle.acpi_base.specs.Memory.{Memory}
 use Rattle.acpi_base.specs.Root.{IsSlot}
 use Rattle.acpi_base.specs.TableKinds.{signature_of}
@@ -38,6 +39,7 @@ HasSought sought.Apart table = IsTrue table.is_apart
 
 -- what is recorded about an address is what is there
 pub record IsTableAt (m : Memory) (table : TableAt) : Type 0 where
+  pub run : AreBytesFrom m table.address table.run.now
   pub tells : (sought : Sought) → HasSought sought table ↔ IsSought m sought table.address
 
 -- ---- slots

@@ -22,9 +22,9 @@ pub struct CompleteTables<'a> {
     /// The root table.
     pub root: Option<Root<'a>>,
     /// Its slots that list an address, in their order.
-    pub slots: Vec<Slot>,
+    pub slots: Vec<Slot<'a>>,
     /// The first of these slots of each kind.
-    pub firsts: FirstSlots,
+    pub firsts: FirstSlots<'a>,
     /// The FADT.
     pub fadt: Option<Table<'a>>,
     /// The MADT.
@@ -38,7 +38,7 @@ pub struct CompleteTables<'a> {
 }
 
 /// The first listed table of a kind in a set with these first slots.
-fn found<'a>(image: &'a Image, firsts: &FirstSlots, kind: TableKind) -> Option<Table<'a>>
+fn found<'a>(image: &'a Image, firsts: &FirstSlots<'_>, kind: TableKind) -> Option<Table<'a>>
     ensures { (p : ℕ) → AreFirstSlots image.now p firsts.now
         → IsFound image.now p (signature_of kind) result }
 {

@@ -11,22 +11,22 @@ use acpi_base::TableKind;
 
 /// The first slot with a header of each kind.
 #[derive(Clone, Copy)]
-pub struct FirstSlots {
+pub struct FirstSlots<'a> {
     /// Of a FADT.
-    pub fadt: Option<Slot>,
+    pub fadt: Option<Slot<'a>>,
     /// Of a MADT.
-    pub madt: Option<Slot>,
+    pub madt: Option<Slot<'a>>,
     /// Of an SRAT.
-    pub srat: Option<Slot>,
+    pub srat: Option<Slot<'a>>,
     /// Of a SLIT.
-    pub slit: Option<Slot>,
+    pub slit: Option<Slot<'a>>,
     /// Of a PPTT.
-    pub pptt: Option<Slot>,
+    pub pptt: Option<Slot<'a>>,
 }
 
-impl FirstSlots {
+impl<'a> FirstSlots<'a> {
     /// The first of a set's slots.
-    pub fn of(slots: &[Slot]) -> FirstSlots
+    pub fn of(slots: &[Slot<'a>]) -> FirstSlots<'a>
         ensures { (m : Memory) (p : ℕ) → AreSlots m (IsSlot m p) slots.now
             → AreFirstSlots m p result }
     {
@@ -40,7 +40,7 @@ impl FirstSlots {
     }
 
     /// The first slot with a header of this kind.
-    pub fn of_kind(&self, kind: TableKind) -> Option<Slot>
+    pub fn of_kind(&self, kind: TableKind) -> Option<Slot<'a>>
         ensures { result ≡ first_of self.now kind }
     {
         match kind {

@@ -13,7 +13,6 @@ use crate::complete_tables::CompleteTables;
 use crate::listed_slots::Slot;
 use crate::numbered::{Numbered, Order, first_unlike};
 use crate::place::Place;
-use acpi_base::Image;
 use acpi_base::field::u32_at;
 use std::alloc::{AllocError, Global};
 
@@ -62,10 +61,10 @@ fn odd_field(header: &[u8]) -> Option<u64>
 }
 
 /// The place of the first such field of the header that a slot lists.
-fn odd_text(image: &Image, slot: &Slot) -> Option<Place>
-    ensures { FindsOddText image.now slot.now result }
+fn odd_text(slot: &Slot<'_>) -> Option<Place>
+    ensures { FindsOddText slot.now result }
 {
-    let header = image.window(slot.table.address, 36)?;
+    let header = slot.table.header()?;
     let offset = odd_field(header)?;
     Some(Place {
         at: slot.number,
@@ -74,13 +73,13 @@ fn odd_text(image: &Image, slot: &Slot) -> Option<Place>
     })
 }
 
-/// The first slot that lists a header with such a field. The tables are those of the image's set.
-pub fn header_text(image: &Image, tables: &CompleteTables<'_>) -> Option<Place>
-    ensures { (p : ℕ) → AreCompleteTables image.now p tables.now
-        → FindsLeast (IsHeaderText image.now p) result }
+/// The first slot that lists a header with such a field. The tables are those of a set.
+pub fn header_text(tables: &CompleteTables<'_>) -> Option<Place>
+    ensures { (m : Memory) (p : ℕ) → AreCompleteTables m p tables.now
+        → FindsLeast (IsHeaderText m p) result }
 {
     for slot in &tables.slots {
-        if let Some(place) = odd_text(image, slot) {
+        if let Some(place) = odd_text(slot) {
             return Some(place);
         }
     }
@@ -119,11 +118,10 @@ fn is_once(signature: u32) -> bool
 
 /// The signature of the header that a slot lists, if a set has one such table at most: the slot's address, at its
 /// number.
-fn once_numbered(image: &Image, slot: &Slot) -> Option<Numbered>
-    ensures { result ≡ once_numbered image.now slot.now }
+fn once_numbered(slot: &Slot<'_>) -> Option<Numbered>
+    ensures { result ≡ once_numbered slot.now }
 {
-    let header = image.window(slot.table.address, 36)?;
-    let signature = u32_at(header, 0);
+    let signature = u32_at(slot.table.header()?, 0);
     is_once(signature).then_some(Numbered {
         number: u64::from(signature),
         at: slot.number,
@@ -132,12 +130,12 @@ fn once_numbered(image: &Image, slot: &Slot) -> Option<Numbered>
 }
 
 /// The same of all slots.
-fn numbered_once(alloc: Global, image: &Image, slots: &[Slot]) -> Result<Vec<Numbered>, AllocError>
-    ensures { IfOk result (λ given. given.items ≡ filter_map (once_numbered image.now) slots.now) }
+fn numbered_once(alloc: Global, slots: &[Slot<'_>]) -> Result<Vec<Numbered>, AllocError>
+    ensures { IfOk result (λ given. given.items ≡ filter_map once_numbered slots.now) }
 {
     let mut given = Vec::new(alloc);
     for slot in slots {
-        if let Some(numbered) = once_numbered(image, slot) {
+        if let Some(numbered) = once_numbered(slot) {
             given.push(numbered)?;
         }
     }
@@ -145,7 +143,7 @@ fn numbered_once(alloc: Global, image: &Image, slots: &[Slot]) -> Result<Vec<Num
 }
 
 /// The address that the slot with a number lists.
-fn address_of(slots: &[Slot], number: u64) -> u64
+fn address_of(slots: &[Slot<'_>], number: u64) -> u64
     ensures { AllPairs (λ s t. s.number < t.number) slots.now
         → (s : Slot) → Contains slots.now s → s.number ≡ number → result ≡ s.table.address }
 {
@@ -158,16 +156,12 @@ fn address_of(slots: &[Slot], number: u64) -> u64
 }
 
 /// The first slot that lists a table of which a set has one, at another address than the first slot with its signature.
-/// The tables are those of the image's set. Allocates for each such slot.
-pub fn second_other(
-    alloc: Global,
-    image: &Image,
-    tables: &CompleteTables<'_>,
-) -> Result<Option<Place>, AllocError>
-    ensures { (p : ℕ) → AreCompleteTables image.now p tables.now
-        → IfOk result (FindsLeast (IsSecondOther image.now p)) }
+/// The tables are those of a set. Allocates for each such slot.
+pub fn second_other(alloc: Global, tables: &CompleteTables<'_>) -> Result<Option<Place>, AllocError>
+    ensures { (m : Memory) (p : ℕ) → AreCompleteTables m p tables.now
+        → IfOk result (FindsLeast (IsSecondOther m p)) }
 {
-    let given = numbered_once(alloc, image, &tables.slots)?;
+    let given = numbered_once(alloc, &tables.slots)?;
     let Some(place) = first_unlike(given, Order::Later)? else {
         return Ok(None);
     };

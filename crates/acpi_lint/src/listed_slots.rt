@@ -12,15 +12,19 @@ use std::alloc::{AllocError, Global};
 
 /// A slot of the root table that lists an address.
 #[derive(Clone, Copy)]
-pub struct Slot {
+pub struct Slot<'a> {
     /// The slot's number, from 0; slots that list nothing count too.
     pub number: u64,
     /// What is at the address, which is not 0.
-    pub table: TableAt,
+    pub table: TableAt<'a>,
 }
 
 /// The slots of a root table that list an address.
-fn slots_of(alloc: Global, image: &Image, root: &Root<'_>) -> Result<Vec<Slot>, AllocError>
+fn slots_of<'a>(
+    alloc: Global,
+    image: &'a Image,
+    root: &Root<'_>,
+) -> Result<Vec<Slot<'a>>, AllocError>
     ensures { IfOk result
         (λ slots. AreSlots image.now (HasSlot root.now.bytes root.now.width) slots.items) }
 {
@@ -38,11 +42,11 @@ fn slots_of(alloc: Global, image: &Image, root: &Root<'_>) -> Result<Vec<Slot>, 
 
 /// The slots of a set's root table that list an address, in their order. None if there is no root table. Each address
 /// is looked up once. Allocates for each of them.
-pub fn listed_slots(
+pub fn listed_slots<'a>(
     alloc: Global,
-    image: &Image,
+    image: &'a Image,
     root: &Option<Root<'_>>,
-) -> Result<Vec<Slot>, AllocError>
+) -> Result<Vec<Slot<'a>>, AllocError>
     ensures { (p : ℕ) → IsRootOf image.now p root.now
         → IfOk result (λ slots. AreSlots image.now (IsSlot image.now p) slots.items) }
 {
@@ -53,7 +57,7 @@ pub fn listed_slots(
 }
 
 /// The first slot at whose address there is what is looked for. The slots are those of a set.
-pub fn first_slot(slots: &[Slot], sought: Sought) -> Option<Slot>
+pub fn first_slot<'a>(slots: &[Slot<'a>], sought: Sought) -> Option<Slot<'a>>
     ensures { (m : Memory) (p : ℕ) → AreSlots m (IsSlot m p) slots.now
         → FindsSlot m p (IsSought m sought) result }
 {

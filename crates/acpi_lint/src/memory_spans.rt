@@ -1,11 +1,11 @@
 //! Advice on the structures that a set has in memory: two that overlap (ACPI 6.5, 5.2).
 
 ghost use Rattle.std.specs.Prelude.{◌≡◌, ◌≢◌, ◌+◌, ◌-◌, ◌*◌, ◌^◌, ◌<◌, ◌≤◌, ◌⊎◌, ℕ, AllPairs, Contains, IfOk, IsTrue, IsFalse, length, slice_index_or};
-ghost use Rattle.acpi_base.specs.Root.{HasSlot};
+ghost use Rattle.acpi_base.specs.Image.Runs.{AreBytesFrom};
+ghost use Rattle.acpi_base.specs.Memory.{Memory};
 ghost use Rattle.acpi_check.specs.RangeSpans.{BeginLow};
 ghost use Rattle.acpi_graph.specs.Spans.{ComesBefore, NamesDiffer};
 ghost use Rattle.acpi_graph.specs.declared.span.Span.{Span};
-ghost use Rattle.acpi_read.specs.Roots.{slots_of};
 ghost use Rattle.acpi_lint.specs.CompleteTables.{AreCompleteTables};
 ghost use Rattle.acpi_lint.specs.Places.{FindsLeast};
 ghost use Rattle.acpi_lint.specs.Ranges.{AreRanges, FindsRange, AreFirstOfStarts, IsFirstRange};
@@ -13,12 +13,13 @@ ghost use Rattle.acpi_lint.specs.Rules.Overlaps.{IsRangeOverlap};
 ghost use Rattle.acpi_lint.specs.Rules.Structures.{IsRsdpRange, IsFacsRange, IsDsdtRange, IsTableRange, IsStructure, IsTablesOverlap};
 
 use crate::complete_tables::CompleteTables;
+use crate::listed_slots::Slot;
 use crate::overlaps::{first_overlap, push, range_span};
 use crate::place::Place;
 use acpi_base::Image;
 use acpi_base::field::{is_signed, u8_at};
 use acpi_graph::{Span, sort_unless_sorted};
-use acpi_read::{Facs, Fadt, Root, Rsdp, Table};
+use acpi_read::{Facs, Fadt, Rsdp, Table};
 use std::alloc::{AllocError, Global};
 
 /// The names of the structures before those that slots list.
@@ -71,19 +72,15 @@ fn dsdt_span(image: &Image, fadt: &Fadt<'_>) -> Option<Span>
     table_span(image, DSDT, address)
 }
 
-/// The table that a slot of a root table lists, if it is complete.
-fn slot_span(image: &Image, root: &Root<'_>, slot: u32) -> Option<Span>
-    requires slot { slot < slots_of root.now }
-    requires inside { 36 + root.now.width * (slot + 1) ≤ length root.now.bytes }
-    requires low { 4 + slot < 2 ^ 32 }
-    ensures { FindsRange (4 + slot)
-        (λ s n. HasSlot root.now.bytes root.now.width slot s × IsTableRange image.now s n) result }
+/// The table that a slot lists, if it is complete.
+fn slot_span(slot: &Slot<'_>) -> Option<Span>
+    requires low { 4 + slot.now.number < 2 ^ 32 }
+    ensures { (m : Memory) → AreBytesFrom m slot.now.table.address slot.now.table.run.now
+        → FindsRange (4 + slot.now.number) (λ s n. (s ≡ slot.now.table.address) × IsTableRange m s n) result }
 {
-    let address = root.slot(slot);
-    if address == 0 {
-        return None;
-    }
-    table_span(image, FIRST_LISTED + slot, address)
+    let name = FIRST_LISTED + slot.number as u32;
+    let bytes = slot.table.complete()?;
+    range_span(name, slot.table.address, bytes.len() as u64)
 }
 
 /// The structures of a set in memory, by their names. The tables are those of the set that the RSDP at an address leads to.
@@ -111,8 +108,8 @@ fn structures(
         push(&mut spans, facs_span(image, &fadt))?;
         push(&mut spans, dsdt_span(image, &fadt))?;
     }
-    for slot in 0..root.slots() {
-        push(&mut spans, slot_span(image, root, slot))?;
+    for slot in &tables.slots {
+        push(&mut spans, slot_span(slot))?;
     }
     Ok(spans)
 }

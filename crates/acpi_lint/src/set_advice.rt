@@ -7,11 +7,10 @@ ghost use Rattle.acpi_lint.specs.RuleGroups.{in_set};
 ghost use Rattle.acpi_lint.specs.Rules.Broken.{condition};
 
 use crate::complete_tables::CompleteTables;
-use crate::header_advice::{header_text, second_other};
 use crate::memory_spans::tables_overlap;
 use crate::place::Place;
 use crate::port_overlap::ports_overlap;
-use crate::root_advice::{null_slot, rsdt_differs};
+use crate::root_advice::rsdt_differs;
 use crate::rsdp_advice::rsdp_reserved;
 use crate::rule::Rule;
 use acpi_base::Image;
@@ -30,13 +29,10 @@ pub fn set_place(
     ensures { IfOk result (FindsLeast (in_set (condition rule) image.now rsdp)) }
 {
     match rule {
-        Rule::NullSlot => Ok(null_slot(tables)),
         Rule::RsdtDiffers => rsdt_differs(alloc, image, rsdp, tables),
         Rule::TablesOverlap => tables_overlap(alloc, image, rsdp, tables),
         Rule::PortsOverlap => ports_overlap(alloc, tables),
         Rule::RsdpReserved => Ok(rsdp_reserved(image, rsdp)),
-        Rule::HeaderText => Ok(header_text(image, tables)),
-        Rule::SecondOther => second_other(alloc, image, tables),
         _ => Ok(None),
     }
 }

@@ -13,15 +13,17 @@ ghost use Rattle.acpi_lint.specs.Rules.Broken.{condition};
 
 use crate::complete_tables::CompleteTables;
 use crate::first_slots::FirstSlots;
+use crate::header_advice::{header_text, second_other};
 use crate::listed_slots::{Slot, first_slot};
 use crate::numbered::{Numbered, first_repeated};
 use crate::place::Place;
+use crate::root_advice::null_slot;
 use crate::rule::Rule;
 use crate::table_at::Sought;
 use std::alloc::{AllocError, Global};
 
 /// The addresses that slots list, each at its slot's number.
-fn numbered_slots(alloc: Global, slots: &[Slot]) -> Result<Vec<Numbered>, AllocError>
+fn numbered_slots(alloc: Global, slots: &[Slot<'_>]) -> Result<Vec<Numbered>, AllocError>
     ensures { IfOk result (λ given. given.items ≡ map numbered_slot slots.now) }
 {
     let mut given = Vec::new(alloc);
@@ -46,7 +48,7 @@ fn listed_twice(alloc: Global, tables: &CompleteTables<'_>) -> Result<Option<Pla
 }
 
 /// The place of a slot that lists a table of a kind at another address than the first slot of this kind.
-fn second_place(firsts: &FirstSlots, slot: &Slot) -> Option<Place>
+fn second_place(firsts: &FirstSlots<'_>, slot: &Slot<'_>) -> Option<Place>
     ensures { result ≡ second_place firsts.now slot.now }
 {
     let kind = slot.table.kind?;
@@ -98,6 +100,9 @@ pub fn slot_place(
         Rule::ListedTwice => listed_twice(alloc, tables),
         Rule::SecondTable => Ok(second_table(tables)),
         Rule::ListedApart => Ok(listed_apart(tables)),
+        Rule::NullSlot => Ok(null_slot(tables)),
+        Rule::HeaderText => Ok(header_text(tables)),
+        Rule::SecondOther => second_other(alloc, tables),
         _ => Ok(None),
     }
 }

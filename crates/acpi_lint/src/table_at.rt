@@ -1,13 +1,14 @@
 //! What is at an address that a slot lists: the fault of the table there, and which table it is (ACPI 6.5, 5.2.6).
 
-ghost use Rattle.std.specs.Prelude.{◌≡◌, ◌↔◌, ◌⊎◌, IsTrue, Some, true, length};
+ghost use Rattle.std.specs.Prelude.{◌≡◌, ◌≤◌, ◌↔◌, ◌⊎◌, ℕ, List, MatchOption, IfSome, IsTrue, Some, true, length, option_map};
 ghost use Rattle.acpi_base.specs.Facs.{facs_signature};
 ghost use Rattle.acpi_base.specs.Image.Runs.{AreBytesFrom};
 ghost use Rattle.acpi_lint.specs.Rules.Slots.{dsdt_signature};
-ghost use Rattle.acpi_base.specs.Memory.{bytes_at};
+ghost use Rattle.acpi_base.specs.Memory.{Memory, bytes_at};
 ghost use Rattle.acpi_base.specs.Signature.{has_signature};
-ghost use Rattle.acpi_base.specs.Tables.{TableFault};
+ghost use Rattle.acpi_base.specs.Tables.{IsTable, TableFault};
 ghost use Rattle.acpi_base.specs.declared.code.Code.{Code};
+ghost use Rattle.acpi_lint.specs.Headers.{header_there};
 ghost use Rattle.acpi_lint.specs.Slots.{IsTableAt, HasSought};
 
 use acpi_base::field::{is_signed, u32_at};
@@ -27,9 +28,11 @@ pub enum Sought {
 
 /// What is at an address.
 #[derive(Clone, Copy)]
-pub struct TableAt {
+pub struct TableAt<'a> {
     /// The address.
     pub address: u64,
+    /// The bytes from it on, up to the next address without one.
+    pub run: &'a [u8],
     /// The fault of the table there, of which there is at most one.
     pub fault: Option<Code>,
     /// Its kind, by the signature of its header.
@@ -67,10 +70,10 @@ fn is_apart(header: &[u8]) -> bool
     is_signed(header, b"DSDT") || is_signed(header, b"FACS")
 }
 
-impl TableAt {
+impl<'a> TableAt<'a> {
     /// What is at an address, for which the image is searched once. Its bytes are summed only if all of them are
     /// present.
-    pub fn of(image: &Image, address: u64) -> TableAt
+    pub fn of(image: &'a Image, address: u64) -> TableAt<'a>
         ensures there { result.address ≡ address }
         ensures noted { IsTableAt image.now result }
     {
@@ -78,6 +81,7 @@ impl TableAt {
         let Some(header) = run.get(..36) else {
             return TableAt {
                 address,
+                run,
                 fault: Some(Code::TableHeaderOut),
                 kind: None,
                 is_apart: false,
@@ -85,10 +89,33 @@ impl TableAt {
         };
         TableAt {
             address,
+            run,
             fault: table_fault(image, address, run, header),
             kind: TableKind::of(header),
             is_apart: is_apart(header),
         }
+    }
+
+    /// The 36 bytes of the header there, if they are present.
+    pub fn header(&self) -> Option<&'a [u8]>
+        ensures there { option_map (λ bytes. bytes.now) result ≡ header_there self.now }
+        ensures count { IfSome result (λ bytes. length bytes.now ≡ 36) }
+    {
+        self.run.get(..36)
+    }
+
+    /// The bytes of the table there, if it is complete.
+    pub fn complete(&self) -> Option<&'a [u8]>
+        ensures { (m : Memory) → AreBytesFrom m self.now.address self.now.run.now
+            → MatchOption result
+            ((header whole : List ℕ) → ¬ IsTable m self.now.address header whole)
+            (λ whole. (header : List ℕ) × IsTable m self.now.address header whole.now) }
+    {
+        let length = u32_at(self.run.get(..36)?, 4);
+        if length < 36 {
+            return None;
+        }
+        self.run.get(..length as usize)
     }
 
     /// Whether the table there has the fault with this code.

@@ -95,6 +95,8 @@ class Map:
         places = tuple(f"slot-{number}" for number in numbers)
         if "address" not in slot:
             return Item("empty", "", "the entry is 0", "unread", places, numbers)
+        if "bad" in slot:
+            return Item("not complete", slot["address"], "a Length below 36, or bytes missing", "unread", places, numbers)
         signature, address = slot["signature"], slot["address"]
         depth = self.depth(signature, address)
         is_read = self.first.get(signature) == address and signature in STAGES

@@ -1,41 +1,46 @@
 //! The lines of the RSDP, of the root, and of its slots.
 
-ghost use Rattle.acpi_check.specs.StageSets.{IsListedSet};
-
 use crate::show::fields::{add_decimal, add_hex};
-use acpi_check::ListedSet;
-use acpi_read::{Listed, Rsdp};
+use acpi_base::Image;
+use acpi_base::field::u8_at;
+use acpi_read::{Root, Rsdp, Table};
 use std::alloc::AllocError;
 use std::fmt::Write;
 
-/// Adds `rsdp ADDRESS revision N`.
-pub fn add_rsdp(text: &mut String, rsdp: &Rsdp) -> Result<(), AllocError> {
-    let address = rsdp.address();
-    let revision = rsdp.revision();
+/// The offset of Revision in an RSDP (ACPI 6.5, 5.2.5.3).
+const REVISION: usize = 15;
+
+/// Adds `rsdp ADDRESS revision N`, if the 20 bytes of the RSDP at this address are present.
+pub fn add_rsdp(text: &mut String, image: &Image, address: u64) -> Result<(), AllocError> {
+    let Some(head) = image.window(address, Rsdp::SHORT_LENGTH) else {
+        return Ok(());
+    };
+    let revision = u8_at(head, REVISION);
     writeln!(text, "rsdp 0x{address:x} revision {revision}")
 }
 
 /// Adds the line of the root table, `root ADDRESS RSDT length N slots N`, or the same for an XSDT, and those of its
 /// slots.
-pub fn add_root(text: &mut String, set: &ListedSet<'_>) -> Result<(), AllocError>
-    requires { IsListedSet set.now }
-{
-    let root = &set.root;
+pub fn add_root(text: &mut String, image: &Image, root: &Root<'_>) -> Result<(), AllocError> {
     let kind = if root.wide() { "XSDT" } else { "RSDT" };
     let length = root.bytes().len();
     let slots = root.slots();
     write!(text, "root 0x{:x} {kind}", root.address())?;
     writeln!(text, " length {length} slots {slots}")?;
     for slot in 0..slots {
-        add_slot(text, slot, set.table(slot))?;
+        add_slot(text, image, slot, root.slot(slot))?;
     }
     Ok(())
 }
 
-/// Adds the line of a slot of the root, `slot K ADDRESS SIGNATURE length N revision N`, or `slot K empty`.
-fn add_slot(text: &mut String, slot: u32, listed: Option<Listed<'_>>) -> Result<(), AllocError> {
-    let Some(Listed { address, table }) = listed else {
+/// Adds the line of a slot of the root, `slot K ADDRESS SIGNATURE length N revision N`; `slot K empty`, if it lists nothing;
+/// or `slot K ADDRESS bad`, if the table there is not complete.
+fn add_slot(text: &mut String, image: &Image, slot: u32, address: u64) -> Result<(), AllocError> {
+    if address == 0 {
         return writeln!(text, "slot {slot} empty");
+    }
+    let Some(table) = Table::complete(image, address) else {
+        return writeln!(text, "slot {slot} 0x{address:x} bad");
     };
     let header = table.header();
     add_decimal(text, "slot ", slot)?;

@@ -1,12 +1,8 @@
 use Rattle.std.proofs.Common.{inl, inr, refl}
 use Rattle.acpi_base.specs.Policy.{with_rsdp}
 use Rattle.acpi_base.specs.declared.verdict.Verdict.TheVariants.{No}
-use Rattle.acpi_check.proofs.ListedSets.{listed_itself}
 use Rattle.acpi_cli.specs.Commands.{shown_policy}
 use Rattle.acpi_cli.proofs.show.show_output.Goals as goal
-
-pub set_text-requires : goal.set_text-requires
-set_text-requires c = listed_itself c.in-Ok.set (c.in-Ok.ensures (with_rsdp shown_policy c.in-Some.address) refl).1
 
 pub returns-in-Err : goal.returns-in-Err
 returns-in-Err c =

@@ -6,11 +6,11 @@ use Rattle.acpi_lint.proofs.ListedSlots.{no_slot}
 use Rattle.acpi_lint.proofs.header_advice.header_text.Goals as goal
 
 pub returns-in-Some : goal.returns-in-Some
-returns-in-Some c = λ p whole.
+returns-in-Some c = λ m p whole.
     let slots = c.args.tables.now.slots.items in
     let i = c.loop-slot.slot-index in
     let within = rw c.deref-slot-items.ensures.value at c.loop-slot-test.true in
-    let found : FindsOddText c.args.image.now (get_or slots i no_slot) (Some c.in-Some.place) =
+    let found : FindsOddText (get_or slots i no_slot) (Some c.in-Some.place) =
     rw (c.deref-slot-items.ensures.value, c.in-Some.is) at c.odd_text.ensures in
     first_text slots i c.in-Some.place whole.slots within found c.loop-slot.invariant
 
@@ -19,7 +19,7 @@ loop-slot-preserved c = λ j offset below odd.
     let slots = c.args.tables.now.slots.items in
     let i = c.loop-slot.slot-index in
     let is : c.odd_text.result ≡ None = search rules in
-    let none : FindsOddText c.args.image.now (get_or slots i no_slot) None =
+    let none : FindsOddText (get_or slots i no_slot) None =
     rw (c.deref-slot-items.ensures.value, is) at c.odd_text.ensures in
     elim (cases_lt j i) [
       | inl less ↦ c.loop-slot.invariant j offset less odd
@@ -29,6 +29,6 @@ loop-slot-preserved c = λ j offset below odd.
     ]
 
 pub returns : goal.returns
-returns c = λ p whole.
+returns c = λ m p whole.
     no_text c.args.tables.now.slots.items c.loop-slot.slot-index whole.slots
     (rw c.deref-slot-items.ensures.value at c.loop-slot-test.false) c.loop-slot.invariant

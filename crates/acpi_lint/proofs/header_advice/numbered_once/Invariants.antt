@@ -6,5 +6,5 @@ use Rattle.acpi_lint.proofs.header_advice.numbered_once.Given as goal
 -- those so far, and those still to come
 abbrev pub invariant-loop-slot : goal.invariant-loop-slot
 invariant-loop-slot l =
-    l.given.items ++ filter_map (once_numbered l.image) (drop l.slot-index l.slots)
-    ≡ filter_map (once_numbered l.image) l.slots
+    l.given.items ++ filter_map once_numbered (drop l.slot-index l.slots)
+    ≡ filter_map once_numbered l.slots

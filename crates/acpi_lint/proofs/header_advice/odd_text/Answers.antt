@@ -1,14 +1,13 @@
 use Rattle.std.proofs.Common.{rules, ◌≡◌, ℕ, List, Some, refl, subst}
-use Rattle.acpi_base.specs.Memory.{bytes_at}
 use Rattle.acpi_base.proofs.Options.{same_value}
-use Rattle.acpi_lint.specs.Headers.{IsFirstOdd}
+use Rattle.acpi_lint.specs.Headers.{header_there, IsFirstOdd}
 use Rattle.acpi_lint.specs.Rules.HeaderAdvice.{IsOddField}
 use Rattle.acpi_lint.proofs.header_advice.odd_text.Goals as goal
 
 pub returns-in_err-offset : goal.returns-in_err-offset
 returns-in_err-offset c =
     let header = c.in_ok-header.header.now in
-    let there : bytes_at c.args.image.now c.args.slot.now.table.address 36 ≡ Some header = search rules in
+    let there : header_there c.args.slot.now.table ≡ Some header = search rules in
     let none = rw c.in_err-offset.was at c.odd_field.ensures in
     rw c.from_residual-in_err-offset.ensures
     (λ offset (others, present, odd).
@@ -17,7 +16,7 @@ returns-in_err-offset c =
 pub returns : goal.returns
 returns c =
     let header = c.in_ok-header.header.now in
-    let there : bytes_at c.args.image.now c.args.slot.now.table.address 36 ≡ Some header = search rules in
+    let there : header_there c.args.slot.now.table ≡ Some header = search rules in
     let first : IsFirstOdd header (Some c.in_ok-offset.offset) = rw c.in_ok-offset.was at c.odd_field.ensures in (
       refl,
       refl,

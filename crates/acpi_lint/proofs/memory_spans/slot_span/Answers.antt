@@ -1,8 +1,8 @@
-use Rattle.std.proofs.Common.{rules}
-use Rattle.acpi_lint.proofs.StructureSpans.{slot_listed}
+use Rattle.std.proofs.Common.{◌≡◌, None, rules}
 use Rattle.acpi_lint.proofs.memory_spans.slot_span.Goals as goal
 
-pub returns : goal.returns
-returns c =
-    slot_listed c.args.image.now c.args.root.now.bytes c.args.root.now.width c.args.slot c.slot-address.result
-    c.table_span.result c.requires.inside c.slot-address.ensures (search rules) c.table_span.ensures
+pub returns-in_err-bytes : goal.returns-in_err-bytes
+returns-in_err-bytes c = λ m from.
+    let none : c.from_residual.result ≡ None = search rules in
+    let no = rw c.in_err-bytes.was at (c.complete.ensures m from) in
+    rw none (λ s n (is, (header, whole, table, count)). absurd (no header whole (rw is at table)))

@@ -1,8 +1,9 @@
-use Rattle.std.proofs.Common.{rules, ◌≡◌, ◌+◌, ◌<◌, None, inr, arith}
+use Rattle.std.proofs.Common.{rules, ◌≡◌, None, inr}
 use Rattle.acpi_read.specs.Roots.{RootValue, IsCompleteRoot}
 use Rattle.acpi_lint.specs.Rules.Structures.{IsStructure}
+use Rattle.acpi_lint.proofs.ListedSlots.{run_of}
 use Rattle.acpi_lint.proofs.RangeLists.{AreRangesBefore, first_pushed, pushed, all_ranges, begin_low}
-use Rattle.acpi_lint.proofs.StructureSpans.{rsdp_range, root_found, rootless, facs_found, dsdt_found, none_named, slot_range, all_numbered}
+use Rattle.acpi_lint.proofs.StructureSpans.{rsdp_range, root_found, rootless, facs_found, dsdt_found, none_named, no_slots_yet, slot_low, slot_passed, all_passed}
 use Rattle.acpi_lint.proofs.memory_spans.structures.Goals as goal
 use Rattle.acpi_lint.proofs.memory_spans.structures.Goals.{in-Some-fadt+in_ok-push-3+in_ok-push-4, in_default-fadt}
 
@@ -31,33 +32,38 @@ loop-slot-init c =
     c.range_span.ensures.low) in
     elim c.match-fadt.branch [
       | in-Some-fadt+in_ok-push-3+in_ok-push-4 w ↦
-          rw w.spans-is
+          no_slots_yet c.args.tables.now.slots.items _ (rw w.spans-is
           (pushed w.dsdt_span.result w.in_ok-push-4.ensures
           (pushed w.facs_span.result w.in_ok-push-3.ensures two
           (facs_found w.facs_span.result c.requires c.fadt.ensures w.in-Some-fadt.is w.facs_span.ensures))
-          (dsdt_found w.dsdt_span.result c.requires c.fadt.ensures w.in-Some-fadt.is w.dsdt_span.ensures))
+          (dsdt_found w.dsdt_span.result c.requires c.fadt.ensures w.in-Some-fadt.is w.dsdt_span.ensures)))
       | in_default-fadt w ↦
           let none : c.fadt.result ≡ None = search rules in
-          rw w.spans-is (none_named c.push-2.new.spans.items c.requires c.fadt.ensures none two)
+          no_slots_yet c.args.tables.now.slots.items _
+          (rw w.spans-is (none_named c.push-2.new.spans.items c.requires c.fadt.ensures none two))
     ]
+
+pub slot_span-requires : goal.slot_span-requires
+slot_span-requires c =
+    let is = rw c.in-Some.is at c.requires.root in
+    let within = rw c.deref-slot-items.ensures.value at c.loop-slot-test.true in
+    rw c.deref-slot-items.ensures.value (record {
+      low = slot_low c.args.tables.now.slots.items c.loop-slot.slot-index is c.requires.slots within (search rules);
+    })
 
 pub loop-slot-preserved : goal.loop-slot-preserved
 loop-slot-preserved c =
-    let is = rw c.in-Some.is at c.requires.root in
-    let slot = c.loop-slot.slot in
-    let next : 4 + (slot + 1) ≡ 4 + slot + 1 = omega arith in
-    rw next
-    (pushed c.slot_span.result c.in_ok-push-5.ensures c.loop-slot.invariant
-    (slot_range slot c.slot_span.result is c.slot_span.ensures))
+    let slots = c.args.tables.now.slots.items in
+    let i = c.loop-slot.slot-index in
+    let within = rw c.deref-slot-items.ensures.value at c.loop-slot-test.true in
+    let finds = rw c.deref-slot-items.ensures.value at c.slot_span.ensures in
+    slot_passed slots i c.slot_span.result c.requires.slots within c.in_ok-push-5.ensures c.loop-slot.invariant
+    (finds c.args.image.now (run_of slots i c.requires.slots within))
 
 pub returns-clause-ranges : goal.returns-clause-ranges
 returns-clause-ranges c =
-    let is = rw c.in-Some.is at c.requires.root in
-    all_ranges c.loop-slot.spans.items c.loop-slot.invariant
-    (λ o s n here. inr (all_numbered c.loop-slot.slot is
-    (λ k inside.
-    let below : k < c.slots-slot-end.result = (c.slots-slot-end.ensures.inside k).1 inside in
-    omega (arith, below, c.loop-slot-test.false)) o s n here))
+    all_passed c.args.tables.now.slots.items c.loop-slot.slot-index c.loop-slot.spans.items c.requires.slots
+    (rw c.deref-slot-items.ensures.value at c.loop-slot-test.false) c.loop-slot.invariant
 
 pub returns-clause-low : goal.returns-clause-low
-returns-clause-low c = begin_low c.loop-slot.spans.items c.loop-slot.invariant
+returns-clause-low c = begin_low c.loop-slot.spans.items c.loop-slot.invariant.ranges

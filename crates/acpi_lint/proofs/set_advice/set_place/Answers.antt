@@ -7,17 +7,8 @@ pub returns-in-PortsOverlap : goal.returns-in-PortsOverlap
 returns-in-PortsOverlap c =
     rw c.in-PortsOverlap.is (c.ports_overlap.ensures c.args.image.now c.args.rsdp c.requires)
 
-pub returns-in-NullSlot : goal.returns-in-NullSlot
-returns-in-NullSlot c = rw c.in-NullSlot.is (c.null_slot.ensures c.args.image.now c.args.rsdp c.requires)
-
 pub returns-in-RsdtDiffers : goal.returns-in-RsdtDiffers
 returns-in-RsdtDiffers c = rw c.in-RsdtDiffers.is c.rsdt_differs.ensures
 
 pub returns-in-RsdpReserved : goal.returns-in-RsdpReserved
 returns-in-RsdpReserved c = rw c.in-RsdpReserved.is c.rsdp_reserved.ensures
-
-pub returns-in-HeaderText : goal.returns-in-HeaderText
-returns-in-HeaderText c = rw c.in-HeaderText.is (c.header_text.ensures c.args.rsdp c.requires)
-
-pub returns-in-SecondOther : goal.returns-in-SecondOther
-returns-in-SecondOther c = rw c.in-SecondOther.is (c.second_other.ensures c.args.rsdp c.requires)

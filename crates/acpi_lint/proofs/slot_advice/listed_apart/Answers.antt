@@ -1,4 +1,4 @@
-use Rattle.std.proofs.Common.{rules, Some}
+use Rattle.std.proofs.Common.{rules, Some, refl, inl, inr}
 use Rattle.acpi_lint.specs.Slots.{IsApart}
 use Rattle.acpi_lint.proofs.FirstSlots.{place_of, least_slot}
 use Rattle.acpi_lint.proofs.LeastPlaces.{least_as}
@@ -14,6 +14,12 @@ returns c = λ m p whole.
     let first = rw c.in_ok-slot.was at (rw c.deref.ensures.value at c.first_slot.ensures) m p whole.slots in
     let slot = c.in_ok-slot.slot in
     least_as (Some (place_of (λ a. 0) (λ a. a) slot))
-    (λ at other point (a, slot, signed, second, third). rw third (search rules))
-    (λ at other point (lists, second). search rules)
+    (λ at other point (a, slot, apart, second, third). rw third (elim apart [
+      | inl dsdt ↦ (inl (slot, dsdt), second)
+      | inr facs ↦ (inr (slot, facs), second)
+    ]))
+    (λ at other point (lists, second). elim lists [
+      | inl (slot, dsdt) ↦ (point, slot, inl dsdt, second, refl)
+      | inr (slot, facs) ↦ (point, slot, inr facs, second, refl)
+    ])
     (least_slot m p (IsApart m) (λ a. 0) (λ a. a) (Some slot) first)

@@ -7,5 +7,6 @@ use Rattle.acpi_lint.proofs.table_at.TableAt.of.Goals as goal
 pub returns-clause-noted : goal.returns-clause-noted
 returns-clause-noted c =
     let present : bytes_at c.args.image.now c.args.address 36 ≡ Some c.in-Some.header.now = search rules in
-    table_there c.args.address c.in-Some.header.now c.table_fault.result c.of.result c.is_apart.result present
+    table_there c.args.address c.bytes_from-run.result c.in-Some.header.now c.table_fault.result c.of.result
+    c.is_apart.result c.bytes_from-run.ensures present
     c.table_fault.ensures c.of.ensures c.is_apart.ensures
