@@ -251,7 +251,7 @@ enum acpiset_rule {
     ACPISET_SRAT_UNREAD = 128,          /* a structure of the SRAT of a type or length that is not read */
     ACPISET_NULL_SLOT = 129,            /* a slot of the root table is 0 */
     ACPISET_RSDT_DIFFERS = 130,         /* the RSDT and the XSDT list different numbers of tables with a signature */
-    ACPISET_TABLES_OVERLAP = 131,       /* two tables share bytes of memory */
+    ACPISET_TABLES_OVERLAP = 131,       /* two structures, the RSDP or tables, share bytes of memory */
     ACPISET_NO_DSDT = 132,              /* the FADT names no DSDT */
     ACPISET_DSDT_WRONG = 133,           /* the DSDT has another signature, a wrong Length or a wrong checksum */
     ACPISET_NO_PM1_BLOCK = 134,         /* PM1a_EVT_BLK or PM1a_CNT_BLK is missing */
@@ -264,13 +264,13 @@ enum acpiset_rule {
     ACPISET_SCI_ZERO = 141,             /* SCI_INT is 0 */
     ACPISET_RESET_NOWHERE = 142,        /* the reset register is supported and has the address 0 */
     ACPISET_FADT_FOR_ARCH = 143,        /* the MADT is of Arm or RISC-V, and the FADT is not of reduced hardware or is too old */
-    ACPISET_SLEEP_REGISTER = 144,       /* a sleep register has no address, or another width or offset than 8 bits at 0 */
+    ACPISET_SLEEP_REGISTER = 144,       /* a sleep register of reduced hardware has no address, or not 8 bits from bit 0 on */
     ACPISET_FADT_RESERVED = 145,        /* a field of the FADT has a reserved value */
     ACPISET_FACS_RESERVED = 146,        /* a field of the FACS has a reserved value */
     ACPISET_RSDP_RESERVED = 147,        /* a field of the RSDP has a reserved value */
     ACPISET_HEADER_TEXT = 148,          /* a text of a table's header has a byte that is not printable */
     ACPISET_SECOND_OTHER = 149,         /* a second table of a kind is listed that should be listed once */
-    ACPISET_X2_APIC_BELOW255 = 150,     /* a usable local x2APIC has an ID below 255, beside usable local APICs */
+    ACPISET_X2_APIC_BELOW255 = 150,     /* a usable local x2APIC and a usable local APIC both have an ID below 255 */
     ACPISET_BROADCAST_ID = 151,         /* a usable processor has the ID of a broadcast */
     ACPISET_CAPABLE_TOO_EARLY = 152,    /* a processor is Online Capable, which the FADT's version does not have */
     ACPISET_ENABLED_AND_CAPABLE = 153,  /* a processor is both Enabled and Online Capable */
@@ -293,17 +293,17 @@ enum acpiset_rule {
     ACPISET_NO_BOOT_METHOD = 170,       /* there are several processors and neither PSCI nor a parking protocol */
     ACPISET_SAME_HART = 171,            /* two usable harts have the same ID */
     ACPISET_MADT_RESERVED = 172,        /* a field of the MADT has a reserved value */
-    ACPISET_NO_MEMORY_RANGE = 173,      /* the SRAT has affinities of processors and no memory */
-    ACPISET_EMPTY_RANGE = 174,          /* a range of memory has the length 0 */
+    ACPISET_NO_MEMORY_RANGE = 173,      /* an SRAT with affinities has no enabled memory range of a length above 0 */
+    ACPISET_EMPTY_RANGE = 174,          /* an enabled memory range has the length 0 */
     ACPISET_INITIATOR_OFF = 175,        /* a Generic Initiator is not enabled */
-    ACPISET_DOMAIN_PAST_REVISION = 176, /* a domain above 255 is in an SRAT of Revision 1 */
+    ACPISET_DOMAIN_PAST_REVISION = 176, /* a domain above 255 is in an SRAT of a Revision below 2 */
     ACPISET_ITS_NOWHERE = 177,          /* the SRAT has an ITS that the MADT does not have */
     ACPISET_SRAT_RESERVED = 178,        /* a field of the SRAT has a reserved value */
     ACPISET_REMOTE_AS_LOCAL = 179,      /* the distance of a locality from another one is 10, that from itself */
-    ACPISET_LEAF_UNFLAGGED = 180,       /* a processor that no node names as Parent is not flagged as a leaf */
+    ACPISET_LEAF_UNFLAGGED = 180,       /* a processor that no node names as Parent is not marked as a leaf */
     ACPISET_LEAF_AS_PARENT = 181,       /* a leaf is the Parent of a node */
     ACPISET_NO_PACKAGE = 182,           /* no node from a leaf to its root is a package */
-    ACPISET_CACHE_NUMBERS = 183,        /* a cache's size is 0 or not the product of its sets, ways and line size */
+    ACPISET_CACHE_NUMBERS = 183,        /* a cache's size or associativity is 0, or its size is not sets * ways * line size */
     ACPISET_PPTT_RESERVED = 184         /* a field of the PPTT has a reserved value */
 };
 /* end: rules */
@@ -475,7 +475,7 @@ static inline uint32_t acpiset_stage_of(uint32_t code) {
 /* How serious a finding is. */
 enum acpiset_severity {
     ACPISET_NOT_LOOKED_AT = 1, /* advice: nothing is known to be wrong, but no rule looks at what is there */
-    ACPISET_LOOK_AT_IT = 2,    /* advice: unusual, but there may be such hardware */
+    ACPISET_LOOK_AT_IT = 2,    /* advice: unusual, but there may be such hardware, or a later standard may define the value */
     ACPISET_LIKELY_WRONG = 3,  /* advice: almost always a mistake */
     ACPISET_FAULT = 4          /* a fault: one of the eighteen statements does not hold */
 };

@@ -52,11 +52,13 @@ def unexplained(program, line, text):
 
 
 def wrong(cases, image, name, part, command):
-    """What is wrong with a part's example, a fault of `check` or advice of `lint`; nothing where it is right."""
-    example = EXAMPLE.search(part)
-    if not example:
-        return "no example"
-    changes, line = example.groups()
+    """What is wrong with a part's examples, each a fault of `check` or advice of `lint`; nothing where they are right."""
+    found = [wrong_example(cases, image, name, *example.groups(), command) for example in EXAMPLE.finditer(part)]
+    return " ".join(filter(None, found)) if found else "no example"
+
+
+def wrong_example(cases, image, name, changes, line, command):
+    """What is wrong with one of them."""
     if name not in line.split()[1:3]:
         return f"the example's line is '{line}'"
     text = text_of(changed(image, changes).pieces())

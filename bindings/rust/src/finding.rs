@@ -95,7 +95,7 @@ impl Display for Fault {
 pub enum Severity {
     /// Nothing is known to be wrong, but no rule looks at what is there.
     NotLookedAt,
-    /// Unusual, but there may be such hardware.
+    /// Unusual, but there may be such hardware, or a later version of the standard may define the value.
     LookAtIt,
     /// Almost always a mistake.
     LikelyWrong,

@@ -554,12 +554,13 @@ numbered! {
         /// Numbers: `at` is 0x10 (16), the offset of RsdtAddress in the RSDP, `point` is the signature as a
         /// little-endian number: 0x54545050 is `PPTT`. If several signatures differ, it is the lowest of these numbers.
         RsdtDiffers = 130,
-        /// Two tables share bytes of memory. The RSDP, the XSDT or RSDT, the FACS, the DSDT and the listed tables are
-        /// compared, each with all its bytes, if they are in the image. Tables that begin at the same address count as
-        /// one.
+        /// Two structures share bytes of memory. Compared are the RSDP; the XSDT or RSDT; the FACS, if it has none of
+        /// the faults 27 to 31; the DSDT, if its signature is `DSDT`; and the listed tables, by slot. Each counts with
+        /// all its bytes, if they are in the image; a table with a Length below 36 does not count. Of those that begin
+        /// at the same address only the first in this order counts, with its length.
         ///
-        /// Numbers: `at` and `other` are the addresses at which two such tables begin, the lower one first, `point` is
-        /// the lowest address at which two tables overlap.
+        /// Numbers: `at` and `other` are the addresses at which two such structures begin, the lower one first, `point`
+        /// is the lowest address at which two of them overlap.
         TablesOverlap = 131,
         /// The FADT names no DSDT: DSDT is 0, and X_DSDT does not exist or is 0.
         ///
@@ -589,14 +590,16 @@ numbered! {
         /// there is none.
         HalfBlock = 136,
         /// The hardware is not reduced, and two register blocks in system I/O share a port. A block is at the address
-        /// of its X_ structure or, if that is 0, at its 4-byte address. It has as many ports as its length byte says.
-        /// If that is 0, one with an X_ structure has as many as its bit width needs.
+        /// of its X_ structure or, if that is missing or 0, at its 4-byte address. It has as many ports as its length
+        /// byte says. If the length byte is 0, a block at its X_ address has its bit width / 8 ports, rounded up, and
+        /// one at its 4-byte address has none.
         ///
         /// Numbers: `at` and `other` are the offsets of the 4-byte fields of two such blocks, first the one at the
         /// lower port, `point` is the lowest port at which two blocks overlap.
         PortsOverlap = 137,
-        /// A register in system I/O is at a port above 0xffff. This is the last port of a register block, or SMI_CMD,
-        /// if the hardware is not reduced; and RESET_REG, if RESET_REG_SUP is set and Length is at least 129.
+        /// A register in system I/O is at a port above 0xffff. Checked are the last port of each register block and
+        /// SMI_CMD, unless the hardware is reduced, and RESET_REG in system I/O, if RESET_REG_SUP is set and Length is
+        /// at least 129.
         ///
         /// Numbers: `at` is the offset of the block's 4-byte field, of SMI_CMD, 0x30 (48), or of RESET_REG, 0x74 (116),
         /// `other` is the number of bytes, `point` is the address.
@@ -645,7 +648,8 @@ numbered! {
         /// Numbers: `at` is the field's offset in the FACS, `point` is its value.
         FacsReserved = 146,
         /// A field of the RSDP has a reserved value. Revision is neither 0 nor 2; or Revision is 2 or above, and Length
-        /// is above 36 or a byte from 33 to 35 is not 0. Length is looked at if all its bytes are in the image.
+        /// is above 36 or a byte from 33 to 35 is not 0. Length is looked at if as many bytes as it says are in the
+        /// image.
         ///
         /// Numbers: `at` is the field's offset in the RSDP, `point` is its value.
         RsdpReserved = 147,
@@ -654,10 +658,10 @@ numbered! {
         ///
         /// Numbers: `at` is the slot's number, `other` the offset of the text, `point` is the table's address.
         HeaderText = 148,
-        /// A slot lists a table of a kind of which a set has one, and an earlier slot lists one with the same signature
-        /// at another address. The kinds are BERT, BGRT, CCEL, CPEP, DBG2, DMAR, ECDT, EINJ, ERST, FPDT, GTDT, HEST,
-        /// HMAT, IORT, IVRS, MCFG, MPST, MSCT, NFIT, PCCT, PDTT, PHAT, PMTT, PRMT, RASF, RAS2, SBST, SDEI, SDEV, SPCR,
-        /// SVKL, TPM2, VIOT, WAET and WSMT. A table counts if its header, 36 bytes, is in the image.
+        /// A slot lists a table of a kind of which a set has at most one, and an earlier slot lists one with the same
+        /// signature at another address. The kinds are BERT, BGRT, CCEL, CPEP, DBG2, DMAR, ECDT, EINJ, ERST, FPDT,
+        /// GTDT, HEST, HMAT, IORT, IVRS, MCFG, MPST, MSCT, NFIT, PCCT, PDTT, PHAT, PMTT, PRMT, RASF, RAS2, SBST, SDEI,
+        /// SDEV, SPCR, SVKL, TPM2, VIOT, WAET and WSMT. A table counts if its header, 36 bytes, is in the image.
         ///
         /// Numbers: `at` is the slot's number, `other` that of the first slot with this signature, `point` is the
         /// address in slot `at`.
@@ -697,7 +701,7 @@ numbered! {
         TwoSourcesOneGsi = 156,
         /// The NMI of a local APIC or local x2APIC is wired to another input than LINT1 (5.2.12.7, 5.2.12.13).
         ///
-        /// Numbers: `at` is the structure's offset, `point` is the LINT number.
+        /// Numbers: `at` is the structure's offset, `point` is the LINT#.
         LintNotOne = 157,
         /// A local APIC or local x2APIC is usable, the MADT has overrides or NMI sources, and it has no I/O APIC
         /// (5.2.12.3). There is no I/O SAPIC (type 6) either. Applies only if the MADT is well-formed.
@@ -804,21 +808,23 @@ numbered! {
         /// Numbers: for the number `at` is 0x24 (36), `point` is the number. Otherwise `at` is the structure's offset,
         /// `other` the offset in it of the first field or byte that is wrong.
         SratReserved = 178,
-        /// The distance from one locality to another one is 10, that of a locality from itself (5.2.17).
+        /// The distance from one locality to another one is 10, which means the same locality (5.2.17).
         ///
         /// Numbers: `at` is the offset of the distance in the SLIT, `other` is i, `point` is j: it is the distance from
         /// i to j.
         RemoteAsLocal = 179,
         /// The PPTT's Revision is 2 or above, and a node with a valid ACPI Processor ID is no node's Parent and is not
-        /// flagged as a leaf (5.2.30.1). Applies only if the PPTT is well-formed.
+        /// marked as a leaf (5.2.30.1). Applies only if the PPTT is well-formed.
         ///
         /// Numbers: `at` is the node's offset, `point` is its ACPI Processor ID.
         LeafUnflagged = 180,
-        /// The PPTT's Revision is 2 or above, and a node that is flagged as a leaf is the Parent of a node (5.2.30.1).
+        /// The PPTT's Revision is 2 or above, and a node that is marked as a leaf is the Parent of a node (5.2.30.1).
         ///
         /// Numbers: `at` is the leaf's offset, `other` that of the first node that names it as its Parent.
         LeafAsParent = 181,
-        /// Neither a leaf nor any node to which its Parents lead is flagged as a physical package (5.2.30.1).
+        /// The Parents of a leaf lead to a node whose Parent is 0, and neither the leaf nor any of these nodes is
+        /// marked as a physical package (5.2.30.1). Parents that lead to no node (52) or in a circle (55) keep the
+        /// rule.
         ///
         /// Numbers: `at` is the leaf's offset, `point` is its ACPI Processor ID.
         NoPackage = 182,

@@ -51,8 +51,8 @@ address; TableTooLong, an XSDT of 4 GiB or more.
                before them. If absent, the address that find prints; if there
                is none, all commands but find print `no rsdp`
   --allow NAMES
-               the names of rules of advice, with a comma between any two, of
-               which lint prints no line and takes no account
+               the names of rules of advice, with a comma between any two: lint
+               prints no line of these and does not count them for --strict
   --strict     lint ends with status 1 also if there is advice but no fault
   --anyway     show prints what check --through 3 prints, and then the lines of
                the set, even if checksums or Lengths in it are wrong

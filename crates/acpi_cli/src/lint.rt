@@ -110,11 +110,13 @@ fn lint_output(
 /// Searches for everything that is wrong with the tables of the image whose text is on `reader`, from the RSDP at the
 /// address `rsdp`, or if that is `None` from the one that is found. The policy's own address is ignored.
 ///
-/// Writes a line `no` with the first fault of each code that has one, or `yes` if none has, then a line `advice` with
-/// the first finding of each rule that is broken, but for the rules `allowed`, which do not count. Returns `No` if there is a fault, and if `is_strict` also if there is
-/// advice, otherwise `Yes`. If no address is given and none is found, it writes `no rsdp` and returns `No`. Nothing is
-/// written before the image is read and checked and all lines are made. Returns `Image` if the input is not image text,
-/// `Memory`, or `Device` if a read or a write failed; what was written then is a prefix of the lines.
+/// Writes a line `no` with the first fault of each code that has one, or `yes` if none has, then
+/// a line `advice` with the first finding of each rule that is broken, but for the rules
+/// `allowed`, which do not count. Returns `No` if there is a fault, and if `is_strict` also if
+/// there is advice, otherwise `Yes`. If no address is given and none is found, it writes
+/// `no rsdp` and returns `No`. Nothing is written before the image is read and checked and all
+/// lines are made. Returns `Image` if the input is not image text, `Memory`, or `Device` if a read
+/// or a write failed; what was written then is a prefix of the lines.
 pub fn run_lint<R: Read, W: Write>(
     alloc: Global,
     reader: &mut Tally<R>,

@@ -1,11 +1,12 @@
 -- The examples of further advice on local APICs, harts and interrupts, by computing.
-use Rattle.std.proofs.Common.{◌≡◌, ℕ, ◌≤◌, refl, sym, ◌∙◌, inr, arith}
-use Rattle.std.specs.Prelude.{◌-◌, ◌^◌, ◌==◌, Some}
+use Rattle.std.proofs.Common.{◌≡◌, ℕ, ◌≤◌, true, refl, sym, ◌∙◌, inl, inr, arith}
+use Rattle.std.specs.Prelude.{◌-◌, ◌^◌, ◌⊎◌, ◌==◌, Some}
+use Rattle.std.proofs.lemmas.Bool.Decides.{nat_tests}
 use Rattle.std.proofs.lemmas.Option.{none-some, cond_some}
 use Rattle.acpi_base.specs.Number.{field, has_bit}
 use Rattle.acpi_lint.specs.Rules.ApicAdvice.{plain_apic_id, low_x2apic_id, broadcast_id, both_flags, hart_id_on, level_timer, other_lint, source_for}
 use Rattle.acpi_lint.specs.Rules.Numbered.{NamesAt}
-use Rattle.acpi_examples.specs.Advice.{two_entries, processor, gicc}
+use Rattle.acpi_examples.specs.Advice.{one_entry, two_entries, processor, gicc}
 use Rattle.acpi_examples.specs.AdviceApic.{apic, x2apic, override, local_nmi, x2apic_nmi, nmi_source, three_overrides, AreLowIds, AreProcessorNumbers, AreInterrupts, AreTwoSources, AreIoApics, IsApicAdvised}
 use Rattle.acpi_examples.proofs.Advice.{both_say, two_differ}
 use Rattle.acpi_examples.proofs.NamedEntries.{none_stands, each_entry, never}
@@ -28,6 +29,7 @@ processor_numbers : AreProcessorNumbers
 unfolding has_bit field
 processor_numbers = record {
   all = says broadcast_id 8 (apic 255) 255 refl;
+  last = silent broadcast_id 8 (apic 254) refl;
   not_all = silent broadcast_id 16 (x2apic 255) refl;
   all_wide = says broadcast_id 16 (x2apic (2 ^ 32 - 1)) (2 ^ 32 - 1) refl;
   both = says both_flags 8 (processor 3) 3 refl;
@@ -63,8 +65,34 @@ two_sources = record {
   };
   one = λ at other point it.
       it.differ (nine other point it.its_source it.earlier ∙ sym (nine at point it.source it.here));
+  apart = λ at other point it.
+      elim (own other point it.its_source it.earlier) [
+        | inl (first, nine_too) ↦
+            elim (own at point it.source it.here) [
+              | inl (same, _) ↦ omega (arith, first, same, it.before)
+              | inr (_, ten) ↦ omega (arith, nine_too, ten)
+            ]
+        | inr (second, _) ↦
+            elim (own at point it.source it.here) [
+              | inl (first, _) ↦ omega (arith, first, second, it.before)
+              | inr (same, _) ↦ omega (arith, same, second, it.before)
+            ]
+      ];
 }
   where
+    equal : (m n : ℕ) → (m == n) ≡ true → n ≡ m
+    equal m n is = grind (arith, nat_tests)
+
+    own : (o gsi s : ℕ)
+        → NamesAt (source_for gsi) (two_entries 10 (override 9 9 0) 10 (override 7 10 0)).entries o s
+        → ((o ≡ 44) × (gsi ≡ 9)) ⊎ ((o ≡ 54) × (gsi ≡ 10))
+    own o gsi s named =
+        each_entry (two_entries 10 (override 9 9 0) 10 (override 7 10 0)).entries
+        (λ o e. source_for gsi e ≡ Some s → ((o ≡ 44) × (gsi ≡ 9)) ⊎ ((o ≡ 54) × (gsi ≡ 10))) (
+          (λ is. inl (refl, equal 9 gsi (cond_some (9 == gsi) 9 s is).0)),
+          ((λ is. inr (refl, equal 10 gsi (cond_some (10 == gsi) 7 s is).0)), tt),
+        ) o named.0 named.1 named.2
+
     nine : (o gsi s : ℕ) → NamesAt (source_for gsi) (three_overrides 9 9 9).entries o s → s ≡ 9
     nine o gsi s named =
         each_entry (three_overrides 9 9 9).entries (λ o e. source_for gsi e ≡ Some s → s ≡ 9) (
@@ -88,6 +116,11 @@ io_apics = record {
     refl,
     (refl, refl),
   );
+  no_source = λ at other point it.
+      elim it.0.named [
+        | inl named ↦ has_none (one_entry 8 (apic 5)) 2 ((λ is. omega (arith, is)), tt) named
+        | inr named ↦ has_none (one_entry 8 (apic 5)) 3 ((λ is. omega (arith, is)), tt) named
+      ];
   sapic = λ at other point it. it.0.no_sapic (60, (_, (2, omega arith, refl), refl));
   cut = λ at other point it. none-some 60 (sym it.0.well_formed.0);
 }

@@ -16,7 +16,7 @@ use Rattle.acpi_lint.specs.Rules.Processors.{processor_domain}
 use Rattle.acpi_lint.specs.Rules.WellFormed.{HasOtherMadtLength, HasOtherSratLength, IsWellFormedSrat}
 use Rattle.acpi_examples.specs.Advice.{one_entry}
 use Rattle.acpi_examples.specs.AdviceSrat.{one_affinity, generic_affinity}
-use Rattle.acpi_examples.specs.AdviceDomains.{range_of, affinity_and_range, early_srat, its, affinity_of_its, two_distances, AreNoMemoryRanges, AreEmptyRanges, AreInitiatorsOff, AreDomainsPastRevision, AreItsNowhere, AreRemotesLocal, AreDomainsAdvised}
+use Rattle.acpi_examples.specs.AdviceDomains.{range_of, affinity_and_range, early_srat, early_memory, its, affinity_of_its, two_distances, AreNoMemoryRanges, AreEmptyRanges, AreInitiatorsOff, AreDomainsPastRevision, AreItsNowhere, AreRemotesLocal, AreDomainsAdvised}
 use Rattle.acpi_examples.proofs.Advice.{unnamed, other_number}
 use Rattle.acpi_examples.proofs.NamedEntries.{none_stands, never}
 
@@ -56,6 +56,7 @@ no_memory_ranges = record {
   no_affinity = λ at other point it.
       unnamed processor_domain (affinity_and_range 0 0 1).entries it.0.1.0
       (none-some it.0.1.0, (none-some it.0.1.0, tt)) it.0.1.1;
+  cut = λ at other point it. none-some 104 (sym it.0.0.0);
 }
 
 empty_ranges : AreEmptyRanges
@@ -92,6 +93,10 @@ domains_past : AreDomainsPastRevision
 unfolding first_entry entries_from entries_of has_form field has_bit srat_entry srat_contents
 domains_past = record {
   past = (refl, omega arith, (_, (0, omega arith, refl), refl), omega arith);
+  memory = (refl, omega arith, (_, (0, omega arith, refl), refl), omega arith);
+  memory_within = λ at other point (_, _, names, past).
+      none_stands (srat_contents (early_memory 1 255 0)).entries at (λ o e. early_domain e ≡ Some point)
+      ((λ is. omega (arith, past, same_Some 255 point is)), tt) names;
   within = λ at other point (_, _, names, past).
       none_stands (srat_contents (early_srat 1 255 0)).entries at (λ o e. early_domain e ≡ Some point)
       ((λ is. omega (arith, past, same_Some 255 point is)), tt) names;

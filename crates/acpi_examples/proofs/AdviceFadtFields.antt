@@ -111,6 +111,20 @@ sleeps_odd = record {
       }),
     ),
   );
+  offset = (
+    refl,
+    (
+      256,
+      inl (refl, refl),
+      inl (record {
+        there = omega arith;
+        used = λ same. omega arith;
+        width = refl;
+        offset = refl;
+        odd = inr (λ same. omega arith);
+      }),
+    ),
+  );
   one = (
     refl,
     (
@@ -137,11 +151,11 @@ sleeps_odd = record {
         no_left_out (sleep_fadt 268 8 4) 256 at beside other point is (λ same. omega arith) out
 
     not_cut : (at beside other point : ℕ) → AreSleepRegisters at beside
-        → ¬ (IsOddRegister (sleep_fadt 267 8 4) at other point ⊎ IsLeftOut (sleep_fadt 267 8 4) at beside other point)
+        → ¬ (IsOddRegister (sleep_fadt 267 8 0) at other point ⊎ IsLeftOut (sleep_fadt 267 8 0) at beside other point)
     not_cut at beside other point (inl (is, _)) (inl odd) =
-        no_odd (sleep_fadt 267 8 4) 244 at other point is refl refl odd
+        no_odd (sleep_fadt 267 8 0) 244 at other point is refl refl odd
     not_cut at beside other point (inr (is, _)) (inl odd) =
-        no_odd (sleep_fadt 267 8 4) 256 at other point is refl refl odd
+        no_odd (sleep_fadt 267 8 0) 256 at other point is refl refl odd
     not_cut at beside other point which (inr out) = omega (arith, out.there)
 
 -- ---- reserved values
@@ -217,6 +231,36 @@ neither : (whole : List ℕ) (k other point : ℕ) → block_length whole k ≡ 
 neither whole k other point length address (is, place, inl (used, none)) = used (is ∙ length)
 neither whole k other point length address (is, place, inr (none, used)) = used (place ∙ address)
 
+-- no block from 4 on has just one of both
+none_half : (whole : List ℕ) (k other point : ℕ) → (block_length whole 4 ≡ 0) × (block_address whole 4 ≡ 0)
+    → (block_length whole 5 ≡ 0) × (block_address whole 5 ≡ 0)
+    → (block_length whole 6 ≡ 0) × (block_address whole 6 ≡ 0)
+    → (block_length whole 7 ≡ 0) × (block_address whole 7 ≡ 0)
+    → k < 8 → 4 ≤ k → ¬ IsHalf whole k other point
+none_half whole k other point pm2 timer gpe0 gpe1 block from =
+    each_below (λ k. 4 ≤ k → ¬ IsHalf whole k other point) 8 (
+      (λ from. neither whole 7 other point gpe1.0 gpe1.1),
+      (
+        (λ from. neither whole 6 other point gpe0.0 gpe0.1),
+        (
+          (λ from. neither whole 5 other point timer.0 timer.1),
+          (
+            (λ from. neither whole 4 other point pm2.0 pm2.1),
+            (
+              (λ from. omega (arith, from)),
+              (
+                (λ from. omega (arith, from)),
+                (
+                  (λ from. omega (arith, from)),
+                  ((λ from. omega (arith, from)), tt),
+                ),
+              ),
+            ),
+          ),
+        ),
+      ),
+    ) k block from
+
 blocks_half : AreBlocksHalf
 unfolding field has_flag wide_address block_value
 blocks_half = record {
@@ -238,6 +282,16 @@ blocks_half = record {
       block = omega arith;
       place = refl;
       is = (refl, refl, inr (refl, (λ same. omega arith)));
+    },
+  );
+  first = (
+    refl,
+    record {
+      k = 4;
+      from = omega arith;
+      block = omega arith;
+      place = refl;
+      is = (refl, refl, inl ((λ same. omega arith), refl));
     },
   );
   both = λ at other point (full, it).
@@ -269,29 +323,11 @@ blocks_half = record {
         ),
       ) it.k it.block it.from it.is;
   event = λ at other point (full, it).
-      let whole = one_byte 116 88 4 in
-      each_below (λ k. 4 ≤ k → ¬ IsHalf whole k other point) 8 (
-        (λ from. neither whole 7 other point refl refl),
-        (
-          (λ from. neither whole 6 other point refl refl),
-          (
-            (λ from. neither whole 5 other point refl refl),
-            (
-              (λ from. neither whole 4 other point refl refl),
-              (
-                (λ from. omega (arith, from)),
-                (
-                  (λ from. omega (arith, from)),
-                  (
-                    (λ from. omega (arith, from)),
-                    ((λ from. omega (arith, from)), tt),
-                  ),
-                ),
-              ),
-            ),
-          ),
-        ),
-      ) it.k it.block it.from it.is;
+      none_half (one_byte 116 88 4) it.k other point (refl, refl) (refl, refl) (refl, refl) (refl, refl) it.block
+      it.from it.is;
+  control = λ at other point (full, it).
+      none_half (one_byte 116 69 5) it.k other point (refl, refl) (refl, refl) (refl, refl) (refl, refl) it.block
+      it.from it.is;
 }
 
 -- ---- ports
@@ -339,6 +375,16 @@ ports_past_end = record {
               ),
             ) on.k on.block on.is
         | inr reset ↦ both_ways _ refl reset.0.0.0
+      ];
+  reset_last = λ at other point it.
+      elim it [
+        | inl (full, _) ↦ both_ways _ full refl
+        | inr (_, (_, past)) ↦ omega (arith, past.3)
+      ];
+  reset_cut = λ at other point it.
+      elim it [
+        | inl (full, _) ↦ both_ways _ full refl
+        | inr (there, _) ↦ omega (arith, there.0.1)
       ];
 }
 

@@ -7,7 +7,7 @@ use Rattle.acpi_lint.specs.Rules.Gic.{mpidr_on, msi_frame_id, its_id, gicc_base,
 use Rattle.acpi_lint.specs.Rules.GicAdvice.{reserved_mpidr, empty_gicr, other_gicr}
 use Rattle.acpi_lint.specs.Rules.Numbered.{NamesAt}
 use Rattle.acpi_examples.specs.Advice.{one_entry, two_entries, gicc}
-use Rattle.acpi_examples.specs.AdviceGic.{interface, fourth, fifth, zeros, distributor, range, gic, AreMpidrs, AreGicParts, AreDistributors, AreRedistributors, AreBases, IsGicAdvised}
+use Rattle.acpi_examples.specs.AdviceGic.{interface, sized_interface, fourth, fifth, sixth, zeros, distributor, range, gic, two_ranges, AreMpidrs, AreGicParts, AreDistributors, AreRedistributors, AreRanges, AreBases, IsGicAdvised}
 use Rattle.acpi_examples.proofs.Advice.{both_say, two_differ}
 use Rattle.acpi_examples.proofs.NamedEntries.{none_stands, each_entry}
 use Rattle.acpi_examples.proofs.OwnNumbers.{says, silent, is_first, has_none, is_well_formed}
@@ -17,16 +17,20 @@ unfolding has_bit field
 mpidrs = record {
   reserved = says reserved_mpidr 76 (interface zeros zeros (fourth 1)) 0x1000000 refl;
   affinity = silent reserved_mpidr 76 (interface zeros zeros (fifth 1)) refl;
+  past = says reserved_mpidr 76 (interface zeros zeros (sixth 1)) 0x10000000000 refl;
+  highest = silent reserved_mpidr 76 (interface zeros zeros (fifth 0x80)) refl;
   same = both_say mpidr_on 44 _ 120 _ 0x100000000 refl refl (omega arith);
   differ = two_differ mpidr_on 44 _ 120 _
       (λ n one two. omega (arith, same_Some 0x100000000 n one, same_Some 0x200000000 n two));
+  short = two_differ mpidr_on 44 _ 119 _ (λ n one two. none-some n one);
+  off = two_differ mpidr_on 44 _ 120 _ (λ n one two. none-some n two);
 }
 
 parts : AreGicParts
 unfolding field
 parts = record {
-  empty = says empty_gicr 16 (range 0 0) 0 refl;
-  not_empty = silent empty_gicr 16 (range 1 0) refl;
+  empty = says empty_gicr 16 (range 0 0 0) 0 refl;
+  not_empty = silent empty_gicr 16 (range 1 0 0) refl;
   same_its = both_say its_id 44 _ 64 _ 5 refl refl (omega arith);
   its_differ = two_differ its_id 44 _ 64 _ (λ n one two. omega (arith, same_Some 5 n one, same_Some 6 n two));
   same_frame = both_say msi_frame_id 44 _ 68 _ 5 refl refl (omega arith);
@@ -46,6 +50,7 @@ distributors = record {
     (refl, refl),
   );
   one = λ at other point it. it.0.none (84, (_, (1, omega arith, refl), refl));
+  short = λ at other point it. it.0.none (84, (_, (1, omega arith, refl), refl));
   cut = λ at other point it. none-some 84 (sym it.0.well_formed.0);
 }
 
@@ -73,26 +78,75 @@ redistributors = record {
       ((λ is. sym (same_Some 2 other is)), ((λ is. absurd (none-some other is)), tt)) at named.0 named.1 named.2 in
       omega (arith, two, it.1.versioned);
   named = λ at other point it. it.1.none_named 0x1000000 (68, (_, (1, omega arith, refl), refl));
+  short = (
+    is_first gicd_version (two_entries 24 (distributor 3) 67 (sized_interface 67 7)).entries 44 3
+        (_, (0, omega arith, refl), refl) (λ m. ((λ is. omega arith), ((λ is. omega arith), tt))),
+    record {
+      versioned = inl refl;
+      no_range = has_none (two_entries 24 (distributor 3) 67 (sized_interface 67 7)) 14
+          ((λ is. omega (arith, is)), ((λ is. omega (arith, is)), tt));
+      none_named = λ a (o, named). none_stands (two_entries 24 (distributor 3) 67 (sized_interface 67 7)).entries o
+          (λ o e. own_redistributor e ≡ Some a) (none-some a, (none-some a, tt)) named;
+      well_formed = is_well_formed (two_entries 24 (distributor 3) 67 (sized_interface 67 7)) refl
+          ((λ is. omega (arith, is)), ((λ is. omega (arith, is)), tt));
+    },
+    refl,
+  );
+  long = λ at other point it. it.1.none_named 0x101010101010101 (68, (_, (1, omega arith, refl), refl));
+  other = λ at other point it. it.1.no_range (144, (_, (2, omega arith, refl), refl));
+}
+
+ranges : AreRanges
+unfolding has_bit field
+ranges = record {
   few = record {
     known = record {
       versioned = (
         44,
         3,
-        is_first gicd_version (gic 3 (interface zeros zeros zeros) 16 (range 255 1)).entries 44 3
+        is_first gicd_version (gic 3 (interface zeros zeros zeros) 16 (range 0xff 0xff 1)).entries 44 3
             (_, (0, omega arith, refl), refl)
             (λ m. ((λ is. omega arith), ((λ is. omega arith), ((λ is. omega arith), tt)))),
         inl refl,
       );
-      read = λ n (o, named). none_stands (gic 3 (interface zeros zeros zeros) 16 (range 255 1)).entries o
+      read = λ n (o, named). none_stands (gic 3 (interface zeros zeros zeros) 16 (range 0xff 0xff 1)).entries o
           (λ o e. other_gicr e ≡ Some n) (none-some n, (none-some n, (none-some n, tt))) named;
-      well_formed = is_well_formed (gic 3 (interface zeros zeros zeros) 16 (range 255 1)) refl
+      well_formed = is_well_formed (gic 3 (interface zeros zeros zeros) 16 (range 0xff 0xff 1)) refl
           ((λ is. omega (arith, is)), ((λ is. omega (arith, is)), ((λ is. omega (arith, is)), tt)));
     };
     first = (
-      0x100ff,
-      is_first gicr_length (gic 3 (interface zeros zeros zeros) 16 (range 255 1)).entries 144 0x100ff
+      0x1ffff,
+      is_first gicr_length (gic 3 (interface zeros zeros zeros) 16 (range 0xff 0xff 1)).entries 144 0x1ffff
           (_, (2, omega arith, refl), refl)
           (λ m. ((λ is. absurd (none-some m is)), ((λ is. absurd (none-some m is)), ((λ is. omega arith), tt)))),
+    );
+    count = refl;
+    due = refl;
+    fewer = omega arith;
+  };
+  halves = record {
+    known = record {
+      versioned = (
+        44,
+        3,
+        is_first gicd_version (two_ranges 16 (range 0 0 1)).entries 44 3 (_, (0, omega arith, refl), refl)
+            (λ m. ((λ is. omega arith), ((λ is. omega arith), ((λ is. omega arith), ((λ is. omega arith), tt))))),
+        inl refl,
+      );
+      read = λ n (o, named). none_stands (two_ranges 16 (range 0 0 1)).entries o (λ o e. other_gicr e ≡ Some n)
+          (none-some n, (none-some n, (none-some n, (none-some n, tt)))) named;
+      well_formed = is_well_formed (two_ranges 16 (range 0 0 1)) refl (
+        (λ is. omega (arith, is)),
+        ((λ is. omega (arith, is)), ((λ is. omega (arith, is)), ((λ is. omega (arith, is)), tt))),
+      );
+    };
+    first = (
+      0x10000,
+      is_first gicr_length (two_ranges 16 (range 0 0 1)).entries 144 0x10000 (_, (2, omega arith, refl), refl)
+          (λ m. (
+            (λ is. absurd (none-some m is)),
+            ((λ is. absurd (none-some m is)), ((λ is. omega arith), ((λ is. omega arith), tt))),
+          )),
     );
     count = refl;
     due = refl;
@@ -102,17 +156,18 @@ redistributors = record {
       let count : other ≡ 1 = it.count in
       let due : point ≡ 1 = it.due in
       omega (arith, count, due, it.fewer);
+  other = λ at other point it. it.known.read 17 (160, (_, (3, omega arith, refl), refl));
   twice = (
     (_, (1, omega arith, refl), refl),
     (
       0,
-      is_first gicr_base (gic 3 (interface zeros (fourth 1) zeros) 16 (range 0 2)).entries 144 0
+      is_first gicr_base (gic 3 (interface zeros (fourth 1) zeros) 16 (range 0 0 2)).entries 144 0
           (_, (2, omega arith, refl), refl)
           (λ m. ((λ is. absurd (none-some m is)), ((λ is. absurd (none-some m is)), ((λ is. omega arith), tt)))),
     ),
   );
   once =
-      λ at other point it. none_stands (gic 3 (interface zeros zeros zeros) 16 (range 0 2)).entries at
+      λ at other point it. none_stands (gic 3 (interface zeros zeros zeros) 16 (range 0 0 2)).entries at
       (λ o e. own_redistributor e ≡ Some point) (none-some point, (none-some point, (none-some point, tt))) it.0;
 }
 
@@ -165,5 +220,6 @@ gic_advised = record {
   parts = parts;
   distributors = distributors;
   redistributors = redistributors;
+  ranges = ranges;
   bases = bases;
 }

@@ -10,7 +10,7 @@ use Rattle.acpi_lint.specs.Rules.FadtBlocks.{block_address, port_bytes}
 use Rattle.acpi_lint.specs.Rules.GicRanges.{registers_of, IsGicRange}
 use Rattle.acpi_lint.specs.Rules.Ports.{IsBlockRange}
 use Rattle.acpi_examples.specs.Advice.{two_entries}
-use Rattle.acpi_examples.specs.AdviceRanges.{ports_fadt, redistributors, versioned, service, with_redistributors, with_distributor, ArePortsOverlapping, ArePartsOverlapping, AreRangesAdvised}
+use Rattle.acpi_examples.specs.AdviceRanges.{ports_fadt, wide_fadt, redistributors, versioned, service, with_redistributors, with_distributor, ArePortsOverlapping, ArePartsOverlapping, AreRangesAdvised}
 use Rattle.acpi_examples.proofs.NamedEntries.{each_entry}
 use Rattle.acpi_examples.proofs.NestedTables.{structures_overlapping}
 use Rattle.acpi_examples.proofs.TwoRanges.{RangeValue, range, IsValue, AreTwoRanges, two_overlap, two_apart}
@@ -38,6 +38,27 @@ block_ranges low first bytes o s n (k, inside, is, start, count) = of k inside i
     of (suc (suc (suc (suc (suc (suc (suc zero))))))) inside is start count = inr (inr (inr (inr count)))
     of (suc (suc (suc (suc (suc (suc (suc (suc k)))))))) inside is start count = absurd (omega (arith, inside))
 
+-- the blocks of a FADT with PM1a_CNT at its X_ address, of so many ports
+wide_ranges : (space width size : ℕ) → block_address (wide_fadt space width) 2 ≡ 0x3ff
+    → port_bytes (wide_fadt space width) 2 ≡ size
+    → AreTwoRanges (IsBlockRange (wide_fadt space width)) 0 (range 64 0x3ff size) (range 56 0x400 4) 0
+unfolding field block_value wide_address
+wide_ranges space width size first bytes o s n (k, inside, is, start, count) = of k inside is start count
+  where
+    of : (k : ℕ) → k < 8 → o ≡ 56 + 4 * k → s ≡ block_address (wide_fadt space width) k
+        → n ≡ port_bytes (wide_fadt space width) k
+        → IsValue (range 64 0x3ff size) o s n ⊎ IsValue (range 56 0x400 4) o s n
+        ⊎ ((o ≡ 0) × (s + n ≤ 0x3ff)) ⊎ ((o ≡ 0) × (0x400 + 4 ≤ s)) ⊎ (n ≡ 0)
+    of zero inside is start count = inr (inl (is, start, count))
+    of (suc zero) inside is start count = inr (inr (inr (inr count)))
+    of (suc (suc zero)) inside is start count = inl (is, start ∙ first, count ∙ bytes)
+    of (suc (suc (suc zero))) inside is start count = inr (inr (inr (inr count)))
+    of (suc (suc (suc (suc zero)))) inside is start count = inr (inr (inr (inr count)))
+    of (suc (suc (suc (suc (suc zero))))) inside is start count = inr (inr (inr (inr count)))
+    of (suc (suc (suc (suc (suc (suc zero)))))) inside is start count = inr (inr (inr (inr count)))
+    of (suc (suc (suc (suc (suc (suc (suc zero))))))) inside is start count = inr (inr (inr (inr count)))
+    of (suc (suc (suc (suc (suc (suc (suc (suc k)))))))) inside is start count = absurd (omega (arith, inside))
+
 ports_overlapping : ArePortsOverlapping
 unfolding field has_flag block_value wide_address
 ports_overlapping =
@@ -51,6 +72,16 @@ ports_overlapping =
       apart = λ at other point it. two_apart (IsBlockRange (ports_fadt 4 0)) 0 (range 56 0x400 4) (range 64 0x404 2) 0
           (block_ranges 4 refl refl) (omega arith) at other point it.1;
       reduced = λ at other point it. both_ways _ it.0 refl;
+      bits = (
+        refl,
+        two_overlap (IsBlockRange (wide_fadt 1 9)) 0 (range 64 0x3ff 2) (range 56 0x400 4) 0
+            (wide_ranges 1 9 2 refl refl) (2, omega arith, refl, refl, refl) (0, omega arith, refl, refl, refl)
+            (λ same. omega arith) (omega arith) (omega arith) (omega arith),
+      );
+      byte = λ at other point it. two_apart (IsBlockRange (wide_fadt 1 8)) 0 (range 64 0x3ff 1) (range 56 0x400 4) 0
+          (wide_ranges 1 8 1 refl refl) (omega arith) at other point it.1;
+      memory = λ at other point it. two_apart (IsBlockRange (wide_fadt 0 9)) 0 (range 64 0x3ff 0) (range 56 0x400 4) 0
+          (wide_ranges 0 9 0 refl refl) (omega arith) at other point it.1;
     }
 
 -- ---- the parts of a GIC

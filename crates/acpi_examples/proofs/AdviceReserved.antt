@@ -7,9 +7,9 @@ use Rattle.acpi_base.specs.Madt.{madt_entry}
 use Rattle.acpi_base.specs.Srat.{srat_entry}
 use Rattle.acpi_base.specs.Pptt.{pptt_entry, has_node_form, has_cache_form}
 use Rattle.acpi_lint.specs.Rules.Numbered.{OnEntry}
-use Rattle.acpi_lint.specs.Rules.Reserved.{Limit, first_past, IsEntryPast, madt_limits, srat_limits, pptt_limits}
+use Rattle.acpi_lint.specs.Rules.Reserved.{Limit, first_past, IsEntryPast, IsMadtReserved, madt_limits, srat_limits, pptt_limits}
 use Rattle.acpi_examples.specs.Advice.{IsKept}
-use Rattle.acpi_examples.specs.AdviceReserved.{madt_with, srat_with, pptt_with, x2apic, distributor, short_distributor, memory, cache, AreMadtsReserved, AreSratsReserved, ArePpttsReserved, IsReservedAdvised}
+use Rattle.acpi_examples.specs.AdviceReserved.{madt_with, srat_with, pptt_with, apic, override, nmi_source, local_nmi, wide_nmi, x2apic, distributor, short_distributor, memory, node, cache, AreMadtsReserved, AreTypesReserved, AreSratsReserved, ArePpttsReserved, IsReservedAdvised}
 use Rattle.acpi_examples.proofs.NamedEntries.{none_stands}
 
 -- a table of one entry in which nothing is past its limits
@@ -21,6 +21,16 @@ kept limits first whole e is none at other point found =
     ((λ (past, _). none-some other (sym none ∙ past)), tt)
     (subst (λ (entries : List (PlacedEntry (List ℕ))). OnEntry (IsEntryPast limits) entries at other point) is found)
 
+-- a MADT with flag 0 and one such entry
+madt_kept : (e : List ℕ) → entries_of 44 (madt_with 1 e) ≡ record { offset = 44; entry = e } ∷ []
+    → first_past (madt_limits (madt_entry e)) e ≡ None → IsKept (IsMadtReserved (madt_with 1 e))
+unfolding field
+madt_kept e is none at other point (inl (_, _, flags, past)) =
+    let one : point ≡ 1 = flags in
+    omega (arith, one, past)
+madt_kept e is none at other point (inr it) =
+    kept (λ e. madt_limits (madt_entry e)) 44 (madt_with 1 e) e is none at other point it
+
 madts_reserved : AreMadtsReserved
 unfolding first_entry entries_from entries_of has_form field madt_entry
 madts_reserved = record {
@@ -28,19 +38,27 @@ madts_reserved = record {
   byte = inr (_, (0, omega arith, refl), (refl, refl));
   flag = inr (_, (0, omega arith, refl), (refl, refl));
   version = inr (_, (0, omega arith, refl), (refl, refl));
-  defined = λ at other point found. elim found [
-    | inl (_, _, is, past) ↦ omega (arith, is, past)
-    | inr it ↦ kept (λ e. madt_limits (madt_entry e)) 44 (madt_with 1 (x2apic 0 0 3)) _ refl refl at other point it
-  ];
-  highest = λ at other point found. elim found [
-    | inl (_, _, is, past) ↦ omega (arith, is, past)
-    | inr it ↦ kept (λ e. madt_limits (madt_entry e)) 44 (madt_with 1 (distributor 4)) _ refl refl at other point it
-  ];
-  short = λ at other point found. elim found [
-    | inl (_, _, is, past) ↦ omega (arith, is, past)
-    | inr it ↦
-        kept (λ e. madt_limits (madt_entry e)) 44 (madt_with 1 (short_distributor 5)) _ refl refl at other point it
-  ];
+  defined = madt_kept (x2apic 0 0 3) refl refl;
+  highest = madt_kept (distributor 4) refl refl;
+  short = madt_kept (short_distributor 5) refl refl;
+}
+
+types_reserved : AreTypesReserved
+unfolding first_entry entries_from entries_of has_form field madt_entry
+types_reserved = record {
+  type_0 = inr (_, (0, omega arith, refl), (refl, refl));
+  type_1 = inr (_, (0, omega arith, refl), (refl, refl));
+  type_2 = inr (_, (0, omega arith, refl), (refl, refl));
+  type_3 = inr (_, (0, omega arith, refl), (refl, refl));
+  type_4 = inr (_, (0, omega arith, refl), (refl, refl));
+  type_5 = inr (_, (0, omega arith, refl), (refl, refl));
+  type_10 = inr (_, (0, omega arith, refl), (refl, refl));
+  type_10_byte = inr (_, (0, omega arith, refl), (refl, refl));
+  kept_0 = madt_kept (apic 3) refl refl;
+  kept_2 = madt_kept (override 15) refl refl;
+  kept_3 = madt_kept (nmi_source 15) refl refl;
+  kept_4 = madt_kept (local_nmi 15) refl refl;
+  kept_10 = madt_kept (wide_nmi 15 0) refl refl;
 }
 
 srats_reserved : AreSratsReserved
@@ -58,10 +76,14 @@ srats_reserved = record {
 pptts_reserved : ArePpttsReserved
 unfolding first_entry entries_from entries_of has_form has_node_form has_cache_form field pptt_entry
 pptts_reserved = record {
+  byte = (_, (0, omega arith, refl), (refl, refl));
+  node_flag = (_, (0, omega arith, refl), (refl, refl));
+  node_defined = kept (λ e. pptt_limits (pptt_entry e)) 36 (pptt_with (node 0 31)) _ refl refl;
   flag = (_, (0, omega arith, refl), (refl, refl));
   attribute = (_, (0, omega arith, refl), (refl, refl));
   defined = kept (λ e. pptt_limits (pptt_entry e)) 36 (pptt_with (cache 0 31)) _ refl refl;
 }
 
 pub reserved_advised : IsReservedAdvised
-reserved_advised = record { madt = madts_reserved; srat = srats_reserved; pptt = pptts_reserved }
+reserved_advised =
+    record { madt = madts_reserved; types = types_reserved; srat = srats_reserved; pptt = pptts_reserved }

@@ -1,9 +1,10 @@
 -- The examples of advice on what the RSDP, the root tables and the FADT name, by computing.
 use Rattle.std.proofs.Common.{◌≡◌, ◌≢◌, ℕ, zero, suc, ◌+◌, ◌*◌, ◌<◌, ◌≤◌, ◌==◌, ◌&&◌, Bool, true, false, List, [], ◌∷◌, take, Option, Some, None, refl, sym, ap, subst, ◌∙◌, inl, inr, arith}
-use Rattle.std.specs.Prelude.{◌⊎◌, slice_index, codes}
+use Rattle.std.specs.Prelude.{◌++◌, ◌⊎◌, slice_index, codes}
 use Rattle.std.specs.List.{cons_option}
 use Rattle.std.proofs.lemmas.Bool.{both_ways, and_parts, cases_eq}
 use Rattle.std.proofs.lemmas.Bool.Decides.{nat_tests}
+use Rattle.std.proofs.lemmas.Option.{none-some}
 use Rattle.acpi_base.specs.Fadt.{wide_address}
 use Rattle.acpi_base.specs.Frames.{IsFrame}
 use Rattle.acpi_base.specs.Image.Runs.{Run, lookup, memory_of}
@@ -19,7 +20,7 @@ use Rattle.acpi_lint.specs.Rules.NamedAdvice.{IsBrokenDsdt}
 use Rattle.acpi_lint.specs.Rules.FixedFields.{IsUsed}
 use Rattle.acpi_lint.specs.Rules.RootAdvice.{IsNullIn, listed_signature, listed_signatures, times_in, IsXsdt, IsNamedRsdt}
 use Rattle.acpi_lint.specs.Rules.Slots.{dsdt_signature}
-use Rattle.acpi_examples.specs.AdviceSet.{short_rsdp, long_rsdp, rsdp_runs, one_xsdt, both_runs, no_rsdt_slot, late_rsdt_slot, plain_header, odd_header, two_tables, dsdt_runs, flagged_facs, AreRootsAdvised, AreRsdpsAdvised, AreHeadersAdvised, AreNamedAdvised, AreSetsAdvised}
+use Rattle.acpi_examples.specs.AdviceSet.{short_rsdp, sized_rsdp, long_rsdp, rsdp_runs, one_xsdt, both_runs, no_rsdt_slot, late_rsdt_slot, cut_rsdt, same_rsdt, rsdt_runs, plain_header, odd_header, two_tables, header_runs, dsdt_runs, flagged_facs, AreRootsAdvised, AreRsdpsAdvised, AreHeadersAdvised, AreNamedAdvised, AreSetsAdvised}
 use Rattle.acpi_examples.specs.AdviceSlots.{twice_bytes}
 use Rattle.acpi_examples.specs.Sets.{rsdp_at, rsdt_bytes, set_of, uid_bytes, new_leaf_bytes}
 use Rattle.acpi_examples.specs.Tables.{table}
@@ -73,6 +74,50 @@ none_null at other point (inside, null, unused) =
       | inl first ↦ (let here : 0x2000 ≡ 0 = rw first at null in omega (arith, here))
       | inr second ↦ (let here : 0x3000 ≡ 0 = rw second at null in omega (arith, here))
     ]
+
+-- an RSDT alone
+rsdt_root : (rsdt bytes : List ℕ) → IsRoot (memory_of (rsdt_runs rsdt bytes)) rsdp_at 0x1000 4
+unfolding run_of cons_both addresses_at chosen_root field
+rsdt_root rsdt bytes =
+    record { named = record { rsdt = 0x1000; xsdt = 0 }; read = rw present refl; chosen = refl }
+  where
+    present : bytes_at (memory_of (rsdt_runs rsdt bytes)) rsdp_at 20 ≡ Some (short_rsdp 0)
+    present = bytes_in (rsdt_runs rsdt bytes) rsdp_at 20
+
+cut_table : IsRootTable (memory_of (rsdt_runs cut_rsdt [])) 0x1000 4 cut_rsdt
+unfolding run_of cons_both has_signature field
+cut_table = record {
+  header = take 36 cut_rsdt;
+  table = record {
+    header_present = bytes_in (rsdt_runs cut_rsdt []) 0x1000 36;
+    least = omega arith;
+    present = bytes_in (rsdt_runs cut_rsdt []) 0x1000 39;
+  };
+  signed = refl;
+}
+
+same_table : (bytes : List ℕ) → IsRootTable (memory_of (rsdt_runs same_rsdt bytes)) 0x1000 4 same_rsdt
+unfolding run_of cons_both has_signature field
+same_table bytes = record {
+  header = take 36 same_rsdt;
+  table = record {
+    header_present = bytes_in (rsdt_runs same_rsdt bytes) 0x1000 36;
+    least = omega arith;
+    present = bytes_in (rsdt_runs same_rsdt bytes) 0x1000 44;
+  };
+  signed = refl;
+}
+
+same_slot : (bytes : List ℕ) (k a : ℕ) → IsSlot (memory_of (rsdt_runs same_rsdt bytes)) rsdp_at k a → a ≡ 0x2000
+unfolding field
+same_slot bytes k a slot =
+    of k (slot_of_root (memory_of (rsdt_runs same_rsdt bytes)) rsdp_at 0x1000 4 k a same_rsdt
+    (rsdt_root same_rsdt bytes) (same_table bytes) slot)
+  where
+    of : (k : ℕ) → HasSlot same_rsdt 4 k a → a ≡ 0x2000
+    of zero slot = sym slot.address
+    of (suc zero) slot = sym slot.address
+    of (suc (suc k)) slot = absurd (omega (arith, slot.inside))
 
 both_root : (rsdt : List ℕ) → IsRoot (memory_of (both_runs rsdt)) rsdp_at 0x1000 8
 unfolding run_of cons_both addresses_at chosen_root field
@@ -203,6 +248,11 @@ roots_advised = record {
       none_null at other point
       (of_root (λ d whole. IsNullIn whole d at other point) it.root (root uid_bytes new_leaf_bytes) it.table
       (root_table uid_bytes new_leaf_bytes) it.null);
+  cut = λ at other point it.
+      let null = of_root (λ d whole. IsNullIn whole d at other point) it.root (rsdt_root cut_rsdt []) it.table cut_table
+      it.null in
+      let inside : 36 + 4 * (at + 1) ≤ 39 = null.0 in
+      omega (arith, inside);
   differs = (
     refl,
     refl,
@@ -239,6 +289,40 @@ rsdps_advised = record {
     ),
     inr (omega arith, omega arith, refl, refl, λ same. omega (arith, same)),
   );
+  long = inr (
+    sized_rsdp 37 0,
+    (
+      (
+        take 20 (sized_rsdp 37 0),
+        bytes_in (rsdp_runs (sized_rsdp 37 0 ++ 0 ∷ [])) rsdp_at 20,
+        omega arith,
+      ),
+      bytes_in (rsdp_runs (sized_rsdp 37 0 ++ 0 ∷ [])) rsdp_at 36,
+    ),
+    inl (
+      refl,
+      refl,
+      refl,
+      omega arith,
+      (sized_rsdp 37 0 ++ 0 ∷ [], bytes_in (rsdp_runs (sized_rsdp 37 0 ++ 0 ∷ [])) rsdp_at 37),
+    ),
+  );
+  cut = λ at other point it. elim it [
+    | inl (place, unused, some, other_form, (head, present, is)) ↦
+        let same : head ≡ take 20 (sized_rsdp 37 0) =
+        same_value head (take 20 (sized_rsdp 37 0)) present (bytes_in (rsdp_runs (sized_rsdp 37 0)) rsdp_at 20) in
+        let two : point ≡ 2 = rw same at is in
+        other_form two
+    | inr (bytes, there, odd) ↦
+        let same : bytes ≡ sized_rsdp 37 0 =
+        same_value bytes (sized_rsdp 37 0) there.1 (bytes_in (rsdp_runs (sized_rsdp 37 0)) rsdp_at 36) in
+        elim odd [
+          | inl (place, unused, is, more, (whole, present)) ↦
+              let size : point ≡ 37 = rw same at is in
+              none-some whole (sym (bytes_in (rsdp_runs (sized_rsdp 37 0)) rsdp_at 37) ∙ (rw size at present))
+          | inr used ↦ none_used (sized_rsdp 37 0) 33 3 36 at other point refl refl (rw same at used)
+        ]
+  ];
   none_reserved = λ at other point it. elim it [
     | inl (place, unused, some, other_form, (head, present, is)) ↦
         let same : head ≡ take 20 (long_rsdp 0) =
@@ -305,6 +389,15 @@ two_of_six = omega arith
 zero_odd : 0 < 32
 zero_odd = omega arith
 
+low_odd : 0x1f < 32
+low_odd = omega arith
+
+high_odd : 126 < 0x7f
+high_odd = omega arith
+
+in_one : 0 < 1
+in_one = omega arith
+
 headers_advised : AreHeadersAdvised
 unfolding run_of cons_both field once_signatures
 headers_advised = record {
@@ -327,6 +420,22 @@ headers_advised = record {
       ),
     ),
   );
+  low = record {
+    i = 0;
+    j = 0;
+    order = omega arith;
+    inside = in_one;
+    odd = inl low_odd;
+    used = λ same. (let here : 0x1f ≡ 0 = same in omega (arith, here));
+  };
+  high = record {
+    i = 0;
+    j = 0;
+    order = omega arith;
+    inside = in_one;
+    odd = inr high_odd;
+    used = λ same. (let here : 0x7f ≡ 0 = same in omega (arith, here));
+  };
   text = λ it. plain it.i it.j it.order it.inside it.odd it.used;
   second = record {
     signature = 0x4746434d;
@@ -353,6 +462,9 @@ headers_advised = record {
     first = λ k b lists. omega arith;
     differs = λ same. omega (arith, same);
   };
+  same = λ at other point it.
+      it.differs (same_slot (plain_header (codes "MCFG")) other it.a it.there.0
+      ∙ sym (same_slot (plain_header (codes "MCFG")) at point it.here.0));
   several = λ at other point it. no_once it.signature (ssdts at point it.signature it.here) it.once;
 }
 
@@ -368,6 +480,22 @@ dsdt_frame checksum =
       present = bytes_in (dsdt_runs checksum) 0x3000 36;
     }
 
+other_dsdt : IsBrokenDsdt (memory_of (header_runs (codes "SSDT") 36 0)) 0x3000
+unfolding run_of cons_both has_signature
+other_dsdt = inl (
+  table (codes "SSDT") 36 2 0 [],
+  bytes_in (header_runs (codes "SSDT") 36 0) 0x3000 36,
+  refl,
+)
+
+short_dsdt : IsBrokenDsdt (memory_of (header_runs dsdt_signature 35 0)) 0x3000
+unfolding run_of cons_both field
+short_dsdt = inr (inl (
+  table dsdt_signature 35 2 0 [],
+  bytes_in (header_runs dsdt_signature 35 0) 0x3000 36,
+  omega arith,
+))
+
 right_dsdt : ¬ IsBrokenDsdt (memory_of (dsdt_runs 23)) 0x3000
 unfolding has_signature byte_sum
 right_dsdt (inl signature) = both_ways _ (stands_wrong (question.Signature dsdt_signature) signature (dsdt_frame 23))
@@ -378,6 +506,8 @@ right_dsdt (inr (inr sum)) = stands_wrong question.Sum sum (dsdt_frame 23) refl
 named_advised : AreNamedAdvised
 unfolding wide_address field byte_sum
 named_advised = record {
+  signature = (refl, refl, refl, (λ same. omega (arith, same)), other_dsdt);
+  short = (refl, refl, refl, (λ same. omega (arith, same)), short_dsdt);
   sum = (
     refl,
     refl,
@@ -393,6 +523,10 @@ named_advised = record {
   );
   right = λ at other point (place, unused, is, some, wrong). right_dsdt (rw is at wrong);
   flags = inl (refl, refl, refl, omega arith);
+  version = inr (inl (refl, refl, refl, omega arith));
+  first = inr (inr (inl (omega arith, omega arith, refl, refl, (λ same. omega (arith, same)))));
+  ospm = inr (inr (inr (inl (refl, refl, refl, omega arith))));
+  last = inr (inr (inr (inr (omega arith, omega arith, refl, refl, (λ same. omega (arith, same))))));
   two_flags = λ at other point it. elim it [
     | inl (place, unused, is, more) ↦ (let three : point ≡ 3 = is in omega (arith, three, more))
     | inr (inl (place, unused, is, more)) ↦ (let two : point ≡ 2 = is in omega (arith, two, more))

@@ -1,4 +1,5 @@
--- Examples of further advice on the MADT: local APICs, harts, interrupts and I/O APICs (ACPI 6.5, 5.2.12.2 to 5.2.12.13).
+-- Examples of further advice on the MADT: local APICs, harts, interrupts and I/O APICs (ACPI 6.5, 5.2.12.2 to
+-- 5.2.12.13).
 use Rattle.std.specs.Prelude.{ℕ, ◌+◌, ◌-◌, ◌^◌, [], ◌∷◌, replicate}
 use Rattle.acpi_base.specs.Madt.{MadtEntry, LocalApic, Override, NmiSource, LocalNmi, X2apic, X2apicNmi, Opaque, MadtContents}
 use Rattle.acpi_lint.specs.Rules.ApicAdvice.{broadcast_id, both_flags, hart_id_on, level_timer, other_lint, IsX2ApicBelow255, IsTwoSourcesOneGsi, IsNoIoApic}
@@ -24,7 +25,7 @@ hart id flags = Opaque (24 ∷ 20 ∷ 1 ∷ 0 ∷ flags ∷ 0 ∷ 0 ∷ 0 ∷ id
 abbrev pub override : ℕ → ℕ → ℕ → MadtEntry
 override source gsi flags = Override (record { bus = 0; source = source; gsi = gsi; flags = flags })
 
--- NMIs of all processors by this pin (5.2.12.7, 5.2.12.13)
+-- NMIs of all processors with this Local APIC LINT# (5.2.12.7, 5.2.12.13)
 abbrev pub local_nmi : ℕ → MadtEntry
 local_nmi lint = LocalNmi (record { uid = 255; flags = 0; lint = lint })
 
@@ -55,17 +56,18 @@ three_overrides first second third =
 
 -- ---- what they state
 
--- a local x2APIC of an ID that a local APIC could have, beside one that is on; not so from 255 on, or if the ID of the local APIC is
--- 255
+-- a local x2APIC of an ID that a local APIC could have, beside one that is on; not so from 255 on, or if the ID of the
+-- local APIC is 255
 pub record AreLowIds : Type 0 where
   pub low : IsX2ApicBelow255 (two_entries 8 (apic 5) 16 (x2apic 254)) 0x34 0 254
   pub high : IsKept (IsX2ApicBelow255 (two_entries 8 (apic 5) 16 (x2apic 255)))
   pub all : IsKept (IsX2ApicBelow255 (two_entries 8 (apic 255) 16 (x2apic 254)))
 
--- IDs that mean all; flags that exclude each other, of which Online Capable is bit 3 for a GIC CPU interface; two harts of one ID, not
--- so if the second is off
+-- IDs that mean all, not so 254; flags that exclude each other, of which Online Capable is bit 3 for a GIC CPU
+-- interface; two harts of one ID, not so if the second is off
 pub record AreProcessorNumbers : Type 0 where
   pub all : OnEntry (HasNumber broadcast_id) (one_entry 8 (apic 255)).entries 0x2c 0 255
+  pub last : IsKept (OnEntry (HasNumber broadcast_id) (one_entry 8 (apic 254)).entries)
   pub not_all : IsKept (OnEntry (HasNumber broadcast_id) (one_entry 16 (x2apic 255)).entries)
   pub all_wide : OnEntry (HasNumber broadcast_id) (one_entry 16 (x2apic (2 ^ 32 - 1))).entries 0x2c 0 (2 ^ 32 - 1)
   pub both : OnEntry (HasNumber both_flags) (one_entry 8 (processor 3)).entries 0x2c 0 3
@@ -75,7 +77,8 @@ pub record AreProcessorNumbers : Type 0 where
   pub same_hart : Repeats hart_id_on (two_entries 20 (hart 7 1) 20 (hart 7 2)).entries 0x40 0x2c 7
   pub hart_off : IsKept (Repeats hart_id_on (two_entries 20 (hart 7 1) 20 (hart 7 0)).entries)
 
--- an override that makes the timer level-triggered; not so if it is of another source, or one bit is clear; NMIs by LINT0
+-- an override that makes the timer level-triggered; not so if it is of another source, or one bit is clear; NMIs at
+-- LINT0 and LINT2, not so at LINT1
 pub record AreInterrupts : Type 0 where
   pub level : OnEntry (HasNumber level_timer) (one_entry 10 (override 0 2 15)).entries 0x2c 0 15
   pub edge : IsKept (OnEntry (HasNumber level_timer) (one_entry 10 (override 0 2 7)).entries)
@@ -84,14 +87,16 @@ pub record AreInterrupts : Type 0 where
   pub lint_wide : OnEntry (HasNumber other_lint) (one_entry 12 (x2apic_nmi 2)).entries 0x2c 0 2
   pub one : IsKept (OnEntry (HasNumber other_lint) (one_entry 6 (local_nmi 1)).entries)
 
--- two sources of one interrupt number, the first of three; not so if all three are one source
+-- two sources of one interrupt number, the first of three; not so if all three are one source, or of two numbers
 pub record AreTwoSources : Type 0 where
   pub third : IsTwoSourcesOneGsi (three_overrides 9 9 7) 0x40 0x2c 9
   pub one : IsKept (IsTwoSourcesOneGsi (three_overrides 9 9 9))
+  pub apart : IsKept (IsTwoSourcesOneGsi (two_entries 10 (override 9 9 0) 10 (override 7 10 0)))
 
--- no I/O APIC, though there is an NMI source; not so with an I/O SAPIC, or if the MADT is cut
+-- no I/O APIC, though there is an NMI source; not so without one, with an I/O SAPIC, or if the MADT is cut
 pub record AreIoApics : Type 0 where
   pub none : IsNoIoApic (two_entries 8 (apic 5) 8 nmi_source) 0 0 0
+  pub no_source : IsKept (IsNoIoApic (one_entry 8 (apic 5)))
   pub sapic : IsKept (IsNoIoApic (with_nmi_source 16 io_sapic))
   pub cut : IsKept (IsNoIoApic (cut_madt (two_entries 8 (apic 5) 8 nmi_source)))
 

@@ -1,4 +1,5 @@
--- Examples of advice on the FADT: each rule broken, and kept (ACPI 6.5, 5.2.9). Checksums are 0, since no rule checks them.
+-- Examples of advice on the FADT: each rule broken, and kept (ACPI 6.5, 5.2.9). Checksums are 0, since no rule checks
+-- them.
 use Rattle.std.specs.Prelude.{◌≡◌, ℕ, ◌-◌, ◌/◌, ◌%◌, List, [], ◌∷◌, ◌++◌, replicate}
 use Rattle.acpi_base.specs.Listed.{fadt_signature}
 use Rattle.acpi_base.specs.Policy.{PolicyValue, inputs_of}
@@ -35,8 +36,8 @@ abbrev pub cut_dsdt_fadt : List ℕ
 cut_dsdt_fadt =
     table fadt_signature 147 2 0 (replicate 4 0 ++ 0 ∷ 0x30 ∷ 0 ∷ 0 ∷ replicate 96 0 ++ 0 ∷ 0x40 ∷ replicate 5 0)
 
--- a FADT of 160 bytes with these bits 23 to 16 of its flags, PM1a_EVT_BLK in this page, and X_PM1a_EVT_BLK of this space in
--- that page
+-- a FADT of 160 bytes with these bits 23 to 16 of its flags, PM1a_EVT_BLK in this page, and X_PM1a_EVT_BLK of this
+-- space in that page
 abbrev pub block_fadt : ℕ → ℕ → ℕ → ℕ → List ℕ
 block_fadt flags narrow space wide =
     table fadt_signature 160 2 0
@@ -91,7 +92,8 @@ pub record AreOfRevision : Type 0 where
   pub six_whole : IsKept (IsFadtOfRevision (plain_fadt 6 276))
   pub two : IsKept (IsFadtOfRevision (plain_fadt 2 116))
 
--- two addresses of the FACS, and of the DSDT; not so if they are the same, one is 0, or the wide one's last byte is missing
+-- two addresses of the FACS, and of the DSDT; not so if they are the same, one is 0, or the wide one's last byte is
+-- missing
 pub record AreAddressesOdd : Type 0 where
   pub facs : IsFacsDiffers (facs_fadt 0x30 0x40) 0x24 0x3000 0x4000
   pub facs_same : IsKept (IsFacsDiffers (facs_fadt 0x30 0x30))
@@ -115,8 +117,9 @@ pub record AreBlocksOdd : Type 0 where
   pub reduced : IsKept (IsBlockDiffers (block_fadt 0x10 4 1 5))
   pub in_memory : IsKept (IsBlockDiffers (block_fadt 0 4 0 5))
 
--- SCI_INT 9 has the number 24 by its first override, and SCI_INT 24 by none, which an I/O APIC with 24 inputs does not serve;
--- not so with 25, without the override, if that is of another bus, on reduced hardware, without an I/O APIC, or if the MADT is cut
+-- SCI_INT 9 has the number 24 by its first override, and SCI_INT 24 by none, which an I/O APIC with 24 inputs does
+-- not serve; not so with 25, without the override, if that is of another bus, on reduced hardware, without an I/O
+-- APIC, or if the MADT is cut
 pub record AreScisNowhere (q : PolicyValue) : Type 0 where
   pub nowhere : inputs_of q 0xfec00000 ≡ 24 → IsSciNowhere q (sci_fadt 9 0) (overridden 0) 0x2e 0 24
   pub first : inputs_of q 0xfec00000 ≡ 24 → IsSciNowhere q (sci_fadt 9 0) twice_overridden 0x2e 0 24

@@ -37,6 +37,12 @@ abbrev pub sleep_fadt : ℕ → ℕ → ℕ → List ℕ
 sleep_fadt size width status =
     with_byte 257 8 (with_byte 261 status (with_byte 245 width (two_bytes size 114 0x10 249 4)))
 
+-- one of reduced hardware, of so many bytes, with RESET_REG in system I/O; the lower two bytes of its address are
+-- this, and the third one that
+abbrev pub reset_fadt : ℕ → ℕ → ℕ → List ℕ
+reset_fadt size low third =
+    with_byte 121 low (with_byte 120 low (with_byte 114 0x10 (three_bytes size 113 4 116 1 122 third)))
+
 -- ---- what they state
 
 -- no DSDT, or one in the wide field, the last byte of which is missing; not so with either address
@@ -59,7 +65,8 @@ pub record AreResetsNowhere : Type 0 where
   pub no_flag : IsKept (IsResetNowhere (zeros 129))
   pub somewhere : IsKept (IsResetNowhere (two_bytes 129 113 4 127 1))
 
--- one command for both, at a port, and commands without a port; not so if the two differ, without commands, or on reduced hardware
+-- one command for both, at a port, and commands without a port; not so if the two differ, without commands, or on
+-- reduced hardware
 pub record AreSmisHalf : Type 0 where
   pub one : IsSmiHalf (three_bytes 116 48 0xb2 52 0xa0 53 0xa0) 48 52 0xb2
   pub no_port : IsSmiHalf (one_byte 116 55 1) 48 55 0
@@ -68,12 +75,13 @@ pub record AreSmisHalf : Type 0 where
   pub none : IsKept (IsSmiHalf (zeros 116))
   pub reduced : IsKept (IsSmiHalf (two_bytes 116 55 1 114 0x10))
 
--- a sleep register of 16 bits, and one without an address; not so with 8 bits each, or if only one exists
+-- a sleep register of 16 bits, one at bit 1, and one without an address; not so with 8 bits each, or if only one exists
 pub record AreSleepsOdd : Type 0 where
   pub wide : IsSleepRegister (sleep_fadt 268 16 4) 244 16 0
+  pub offset : IsSleepRegister (with_byte 246 1 (sleep_fadt 268 8 4)) 244 8 1
   pub one : IsSleepRegister (sleep_fadt 268 8 0) 256 0 0
   pub both : IsKept (IsSleepRegister (sleep_fadt 268 8 4))
-  pub cut : IsKept (IsSleepRegister (sleep_fadt 267 8 4))
+  pub cut : IsKept (IsSleepRegister (sleep_fadt 267 8 0))
 
 -- the least reserved values; not so the greatest that are used
 pub record AreFieldsReserved : Type 0 where
@@ -97,19 +105,25 @@ pub record AreWidthsOdd : Type 0 where
   pub same : IsKept (IsBlockWidth (wide_fadt 4 32))
   pub past : IsKept (IsBlockWidth (wide_fadt 32 32))
 
--- GPE0 with a length alone, and with an address alone; not so with both, nor PM1a_EVT with one alone
+-- GPE0 with a length alone, and with an address alone, and PM2_CNT with a length alone; not so with both, nor
+-- PM1a_EVT or PM1b_CNT with one alone
 pub record AreBlocksHalf : Type 0 where
   pub length : IsHalfBlock (one_byte 116 92 2) 80 2 0
   pub address : IsHalfBlock (one_byte 116 81 4) 80 0 0x400
+  pub first : IsHalfBlock (one_byte 116 90 1) 72 1 0
   pub both : IsKept (IsHalfBlock (two_bytes 116 81 4 92 2))
   pub event : IsKept (IsHalfBlock (one_byte 116 88 4))
+  pub control : IsKept (IsHalfBlock (one_byte 116 69 5))
 
--- PM1a_EVT, of 4 bytes from FFFDh on, and SMI_CMD at 10000h; not so from FFFCh on, or at FFFFh
+-- PM1a_EVT, of 4 bytes from FFFDh on, and SMI_CMD and, on reduced hardware, RESET_REG at 10000h; not so from FFFCh
+-- on, at FFFFh, or in a table of 128 bytes
 pub record ArePortsPastEnd : Type 0 where
   pub block : IsPortPastEnd (three_bytes 116 56 0xfd 57 0xff 88 4) 56 4 0xfffd
   pub smi : IsPortPastEnd (one_byte 116 50 1) 48 1 0x10000
-  pub reset : IsPortPastEnd (with_byte 114 0x10 (three_bytes 129 113 4 116 1 122 1)) 116 1 0x10000
+  pub reset : IsPortPastEnd (reset_fadt 129 0 1) 116 1 0x10000
   pub last : IsKept (IsPortPastEnd (with_byte 48 0xff (with_byte 49 0xff (three_bytes 116 56 0xfc 57 0xff 88 4))))
+  pub reset_last : IsKept (IsPortPastEnd (reset_fadt 129 0xff 0))
+  pub reset_cut : IsKept (IsPortPastEnd (reset_fadt 128 0 1))
 
 -- GPE1 from 15 on, beside 16 events of GPE0; not so from 16 on
 pub record AreGpesOverlapping : Type 0 where

@@ -27,8 +27,8 @@ two_giccs version = two_entries 40 (gicc 1 1) 40 (parking_gicc version)
 
 -- ---- what they state
 
--- a GICC or a hart beside hardware that is not reduced, and a GICC beside version 5.0; not so with 5.1, whose byte has errata, or
--- with a local APIC
+-- a GICC or a hart beside hardware that is not reduced, and a GICC beside version 5.0; not so with 5.1, whose byte
+-- has errata, or with a local APIC
 pub record AreArchesOdd : Type 0 where
   pub interface : IsFadtForArch (versioned 5 1 0) (one_entry 39 short_gicc) 112 0 0
   pub full_hart : IsFadtForArch (versioned 5 0 0) (one_entry 20 (rintc 1 1)) 112 0 0
@@ -37,7 +37,8 @@ pub record AreArchesOdd : Type 0 where
   pub hart : IsKept (IsFadtForArch (versioned 4 0 0x10) (one_entry 20 (rintc 1 1)))
   pub local_apic : IsKept (IsFadtForArch (versioned 4 0 0) (one_entry 8 (processor 1)))
 
--- processors that are Online Capable alone, beside versions 6.2 and 6.4; not so with 6.3 and 6.5, or if they are Enabled too
+-- processors that are Online Capable alone, beside versions 6.2 and 6.4; not so with 6.3 and 6.5, or if they are
+-- Enabled too
 pub record AreCapablesEarly : Type 0 where
   pub local_apic : IsCapableTooEarly (versioned 6 2 0) (one_entry 8 (processor 2)) 44 6 2
   pub interface : IsCapableTooEarly (versioned 6 4 0) (one_entry 40 (gicc 1 8)) 44 6 4
@@ -51,8 +52,8 @@ pub record AreOverridesPastIsa : Type 0 where
   pub last : IsKept (IsOverridePastIsa (sci_fadt 9 0) (override_of 15))
   pub sci : IsKept (IsOverridePastIsa (sci_fadt 16 0) (override_of 16))
 
--- two GICCs without the parking protocol, and no PSCI; not so if one has it, if there is PSCI, if one of them is off, if the table
--- has 130 bytes, or if the MADT is cut
+-- two GICCs without the parking protocol, and no PSCI; not so if one has it, if there is PSCI, if one of them is off,
+-- if the table has 130 bytes, or if the MADT is cut
 pub record AreBootsMissing : Type 0 where
   pub none : IsNoBootMethod (plain_fadt 6 131) (two_giccs 0) 129 0 0
   pub parking : IsKept (IsNoBootMethod (plain_fadt 6 131) (two_giccs 1))

@@ -10,17 +10,29 @@ use Rattle.acpi_examples.specs.Advice.{IsKept, one_entry, two_entries, gicc, cut
 
 -- ---- the entries
 
--- a CPU interface of 76 bytes that is Enabled, with these bytes of its address, of that of its own redistributor, and of its MPIDR
+-- a CPU interface of 76 bytes that is Enabled, with these bytes of its address, of that of its own redistributor, and
+-- of its MPIDR
 abbrev pub interface : List ℕ → List ℕ → List ℕ → MadtEntry
 interface base redistributor mpidr =
     Opaque (11 ∷ 76 ∷ replicate 10 0 ++ 1 ∷ replicate 19 0 ++ base ++ replicate 20 0 ++ redistributor ++ mpidr)
 
--- the 8 bytes of a number whose fourth or fifth byte is this, and of 0
+-- one that is not Enabled
+abbrev pub off_interface : List ℕ → MadtEntry
+off_interface mpidr = Opaque (11 ∷ 76 ∷ replicate 66 0 ++ mpidr)
+
+-- one of so many bytes that is Enabled; this many, those from 60 on, are 1
+abbrev pub sized_interface : ℕ → ℕ → MadtEntry
+sized_interface size ones = Opaque (11 ∷ size ∷ replicate 10 0 ++ 1 ∷ replicate 47 0 ++ replicate ones 1)
+
+-- the 8 bytes of a number whose fourth, fifth or sixth byte is this, and of 0
 abbrev pub fourth : ℕ → List ℕ
 fourth n = 0 ∷ 0 ∷ 0 ∷ n ∷ 0 ∷ 0 ∷ 0 ∷ 0 ∷ []
 
 abbrev pub fifth : ℕ → List ℕ
 fifth n = 0 ∷ 0 ∷ 0 ∷ 0 ∷ n ∷ 0 ∷ 0 ∷ 0 ∷ []
+
+abbrev pub sixth : ℕ → List ℕ
+sixth n = 0 ∷ 0 ∷ 0 ∷ 0 ∷ 0 ∷ n ∷ 0 ∷ 0 ∷ []
 
 abbrev pub zeros : List ℕ
 zeros = replicate 8 0
@@ -29,13 +41,21 @@ zeros = replicate 8 0
 abbrev pub distributor : ℕ → MadtEntry
 distributor version = Opaque (12 ∷ 24 ∷ replicate 18 0 ++ version ∷ 0 ∷ 0 ∷ 0 ∷ [])
 
+-- one of a byte less
+abbrev pub short_distributor : MadtEntry
+short_distributor = Opaque (12 ∷ 23 ∷ replicate 21 0)
+
 -- an MSI frame of this ID (5.2.12.16)
 abbrev pub msi_frame : ℕ → MadtEntry
 msi_frame id = Opaque (13 ∷ 24 ∷ 0 ∷ 0 ∷ id ∷ replicate 19 0)
 
--- a range of redistributors of these two low bytes and this third byte of its length (5.2.12.17)
-abbrev pub range : ℕ → ℕ → MadtEntry
-range low third = Opaque (14 ∷ 16 ∷ replicate 10 0 ++ low ∷ 0 ∷ third ∷ 0 ∷ [])
+-- a range of redistributors with these three low bytes of its length (5.2.12.17), and an entry of its type of a byte
+-- more
+abbrev pub range : ℕ → ℕ → ℕ → MadtEntry
+range low second third = Opaque (14 ∷ 16 ∷ replicate 10 0 ++ low ∷ second ∷ third ∷ 0 ∷ [])
+
+abbrev pub long_range : MadtEntry
+long_range = Opaque (14 ∷ 17 ∷ replicate 15 0)
 
 -- an interrupt translation service of this ID (5.2.12.18)
 abbrev pub its : ℕ → MadtEntry
@@ -49,40 +69,63 @@ gic version first size e =
     said_madt (144 + size)
     (placed_entry 44 (distributor version) ∷ placed_entry 68 first ∷ placed_entry 144 e ∷ [])
 
+-- a distributor of version 3, a CPU interface, a range of half a redistributor, and another entry of so many bytes
+abbrev pub two_ranges : ℕ → MadtEntry → MadtContents
+two_ranges size e =
+    said_madt (160 + size)
+    (placed_entry 44 (distributor 3) ∷ placed_entry 68 (interface zeros zeros zeros) ∷ placed_entry 144 (range 0 0 1)
+    ∷ placed_entry 160 e
+    ∷ [])
+
 -- ---- what they state
 
--- MPIDRs: a bit that is none of an affinity, not so bit 32; two of one MPIDR, not so of two
+-- MPIDRs: bits 24 and 40, which are none of an affinity, not so 32 and 39; two of one MPIDR, not so of two, of 75
+-- bytes, or if the second is off
 pub record AreMpidrs : Type 0 where
   pub reserved : OnEntry (HasNumber reserved_mpidr) (one_entry 76 (interface zeros zeros (fourth 1))).entries 0x2c 0 0x1000000
   pub affinity : IsKept (OnEntry (HasNumber reserved_mpidr) (one_entry 76 (interface zeros zeros (fifth 1))).entries)
+  pub past : OnEntry (HasNumber reserved_mpidr) (one_entry 76 (interface zeros zeros (sixth 1))).entries 0x2c 0 0x10000000000
+  pub highest : IsKept (OnEntry (HasNumber reserved_mpidr) (one_entry 76 (interface zeros zeros (fifth 0x80))).entries)
   pub same : Repeats mpidr_on (two_entries 76 (interface zeros zeros (fifth 1)) 76 (interface zeros zeros (fifth 1))).entries 0x78 0x2c 0x100000000
   pub differ : IsKept (Repeats mpidr_on (two_entries 76 (interface zeros zeros (fifth 1)) 76 (interface zeros zeros (fifth 2))).entries)
+  pub short : IsKept (Repeats mpidr_on (two_entries 75 (sized_interface 75 15) 75 (sized_interface 75 15)).entries)
+  pub off : IsKept (Repeats mpidr_on (two_entries 76 (interface zeros zeros (fifth 1)) 76 (off_interface (fifth 1))).entries)
 
 -- a range of no bytes, not so of one; two services and two frames of one ID
 pub record AreGicParts : Type 0 where
-  pub empty : OnEntry (HasNumber empty_gicr) (one_entry 16 (range 0 0)).entries 0x2c 0 0
-  pub not_empty : IsKept (OnEntry (HasNumber empty_gicr) (one_entry 16 (range 1 0)).entries)
+  pub empty : OnEntry (HasNumber empty_gicr) (one_entry 16 (range 0 0 0)).entries 0x2c 0 0
+  pub not_empty : IsKept (OnEntry (HasNumber empty_gicr) (one_entry 16 (range 1 0 0)).entries)
   pub same_its : Repeats its_id (two_entries 20 (its 5) 20 (its 5)).entries 0x40 0x2c 5
   pub its_differ : IsKept (Repeats its_id (two_entries 20 (its 5) 20 (its 6)).entries)
   pub same_frame : Repeats msi_frame_id (two_entries 24 (msi_frame 5) 24 (msi_frame 5)).entries 0x44 0x2c 5
   pub frames_differ : IsKept (Repeats msi_frame_id (two_entries 24 (msi_frame 5) 24 (msi_frame 6)).entries)
 
--- a CPU interface without a distributor; not so if there is one, or if the MADT is cut
+-- a CPU interface without a distributor; not so if there is one, also of another length, or if the MADT is cut
 pub record AreDistributors : Type 0 where
   pub none : IsNoDistributor (one_entry 40 (gicc 3 1)) 0 0 0
   pub one : IsKept (IsNoDistributor (two_entries 40 (gicc 3 1) 24 (distributor 2)))
+  pub short : IsKept (IsNoDistributor (two_entries 40 (gicc 3 1) 23 short_distributor))
   pub cut : IsKept (IsNoDistributor (cut_madt (one_entry 40 (gicc 3 1))))
 
--- a GIC of version 3 without redistributors; not so of version 2, or if a CPU interface names one; too few of them, not so if just as
--- many as are needed; one named twice
+-- a GIC of version 3 without redistributors, also if a CPU interface is a byte too short to name one; not so of
+-- version 2, if a CPU interface names one, or if there is an entry of their type of another length
 pub record AreRedistributors : Type 0 where
   pub none : IsNoRedistributor (two_entries 24 (distributor 3) 40 (gicc 3 1)) 0x2c 3 0
   pub version_2 : IsKept (IsNoRedistributor (two_entries 24 (distributor 2) 40 (gicc 3 1)))
   pub named : IsKept (IsNoRedistributor (two_entries 24 (distributor 3) 76 (interface zeros (fourth 1) zeros)))
-  pub few : IsGicrTooSmall (gic 3 (interface zeros zeros zeros) 16 (range 255 1)) 0x90 0 1
-  pub enough : IsKept (IsGicrTooSmall (gic 3 (interface zeros zeros zeros) 16 (range 0 2)))
-  pub twice : IsRedistributorTwice (gic 3 (interface zeros (fourth 1) zeros) 16 (range 0 2)) 0x44 0x90 0x1000000
-  pub once : IsKept (IsRedistributorTwice (gic 3 (interface zeros zeros zeros) 16 (range 0 2)))
+  pub short : IsNoRedistributor (two_entries 24 (distributor 3) 67 (sized_interface 67 7)) 0x2c 3 0
+  pub long : IsKept (IsNoRedistributor (two_entries 24 (distributor 3) 68 (sized_interface 68 8)))
+  pub other : IsKept (IsNoRedistributor (gic 3 (interface zeros zeros zeros) 17 long_range))
+
+-- a range of a byte less than a redistributor, and two ranges of half of one; not so if it has just as many bytes, or
+-- if an entry of their type has another length; one that is named twice
+pub record AreRanges : Type 0 where
+  pub few : IsGicrTooSmall (gic 3 (interface zeros zeros zeros) 16 (range 0xff 0xff 1)) 0x90 0 1
+  pub halves : IsGicrTooSmall (two_ranges 16 (range 0 0 1)) 0x90 0 1
+  pub enough : IsKept (IsGicrTooSmall (gic 3 (interface zeros zeros zeros) 16 (range 0 0 2)))
+  pub other : IsKept (IsGicrTooSmall (two_ranges 17 long_range))
+  pub twice : IsRedistributorTwice (gic 3 (interface zeros (fourth 1) zeros) 16 (range 0 0 2)) 0x44 0x90 0x1000000
+  pub once : IsKept (IsRedistributorTwice (gic 3 (interface zeros zeros zeros) 16 (range 0 0 2)))
 
 -- CPU interfaces of a GIC of version 2 at two addresses; not so at one, or of version 3
 pub record AreBases : Type 0 where
@@ -96,4 +139,5 @@ pub record IsGicAdvised : Type 0 where
   pub parts : AreGicParts
   pub distributors : AreDistributors
   pub redistributors : AreRedistributors
+  pub ranges : AreRanges
   pub bases : AreBases

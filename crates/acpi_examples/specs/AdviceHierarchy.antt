@@ -1,4 +1,5 @@
--- Examples of advice on the hierarchy of a PPTT, and on the numbers of its caches: each rule broken, and kept (ACPI 6.5, 5.2.30).
+-- Examples of advice on the hierarchy of a PPTT, and on the numbers of its caches: each rule broken, and kept (ACPI
+-- 6.5, 5.2.30).
 use Rattle.std.specs.Prelude.{ℕ, [], ◌∷◌, None}
 use Rattle.acpi_base.specs.Pptt.{PpttEntry, Cache, PpttContents}
 use Rattle.acpi_lint.specs.Rules.Hierarchy.{IsLeafUnflagged, IsLeafAsParent, IsNoPackage, IsCacheNumbers}
@@ -32,8 +33,8 @@ one_cache flags size sets associativity line_size =
 
 -- ---- what they state
 
--- a node with a valid ID that has no child and is not marked as a leaf; not so if it is marked, its ID is not valid, it is a
--- Parent, at Revision 1, or if the PPTT is cut
+-- a node with a valid ID that has no child and is not marked as a leaf; not so if it is marked, its ID is not valid,
+-- it is a Parent, at Revision 1, or if the PPTT is cut
 pub record AreLeavesUnflagged : Type 0 where
   pub unflagged : IsLeafUnflagged (nodes 2 2 0 8 0) 36 0 7
   pub marked : IsKept (IsLeafUnflagged (nodes 2 10 0 8 0))
@@ -42,15 +43,16 @@ pub record AreLeavesUnflagged : Type 0 where
   pub old : IsKept (IsLeafUnflagged (nodes 1 2 0 8 0))
   pub cut : IsKept (IsLeafUnflagged (cut_pptt (nodes 2 2 0 8 0)))
 
--- a node that is marked as a leaf and has a child; not so if it is not marked, or the child has another Parent, or at Revision 1
+-- a node that is marked as a leaf and has a child; not so if it is not marked, or the child has another Parent, or at
+-- Revision 1
 pub record AreLeavesParents : Type 0 where
   pub parent : IsLeafAsParent (nodes 2 8 0 0 36) 36 56 0
   pub not_marked : IsKept (IsLeafAsParent (nodes 2 7 0 0 36))
   pub other : IsKept (IsLeafAsParent (nodes 2 8 0 0 35))
   pub old : IsKept (IsLeafAsParent (nodes 1 8 0 0 36))
 
--- a leaf whose Parent is no package; not so if the Parent is one, or the leaf itself, if the Parent is not there, or if they are in
--- a cycle
+-- a leaf whose Parent is no package; not so if the Parent is one, or the leaf itself, if the Parent is not there, or
+-- if they are in a cycle
 pub record AreNoPackages : Type 0 where
   pub none : IsNoPackage (nodes 2 0 0 10 36) 56 0 8
   pub inside : IsKept (IsNoPackage (nodes 2 1 0 10 36))
@@ -58,7 +60,8 @@ pub record AreNoPackages : Type 0 where
   pub dangling : IsKept (IsNoPackage (nodes 2 0 0 10 37))
   pub cycle : IsKept (IsNoPackage (nodes 2 0 56 10 36))
 
--- no ways, no size, and a size that is a byte more than that of the lines; not so that of the lines, nor if a number is not valid
+-- no ways, no size, and a size that is a byte more than that of the lines; not so that of the lines, nor if a number
+-- is not valid
 pub record AreCacheNumbers : Type 0 where
   pub no_ways : OnEntry IsCacheNumbers (one_cache 4 5 6 0 7).entries 36 5 0
   pub no_size : OnEntry IsCacheNumbers (one_cache 1 0 2 3 4).entries 36 0 24

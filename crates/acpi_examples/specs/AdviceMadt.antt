@@ -71,8 +71,9 @@ read_entries =
 
 -- ---- what they state
 
--- UIDs and APIC IDs: two usable processors have one; Online Capable is bit 1, for a GIC CPU interface bit 3, and a core has no
--- such bit; not so if the second is not usable, or has another. Of three the first is named, not the second.
+-- UIDs and APIC IDs: two usable processors have one; Online Capable is bit 1, for a GIC CPU interface bit 3, and a
+-- core has no such bit; not so if the second is not usable, or has another. Of three the first is named, not the
+-- second.
 pub record AreSameProcessors : Type 0 where
   pub uid : Repeats uid_on (two_processors 3 6 2).entries 0x34 0x2c 3
   pub third : Repeats uid_on three_processors.entries 0x44 0x2c 3
@@ -90,8 +91,8 @@ pub record AreSameProcessors : Type 0 where
   pub ids_differ : IsKept (Repeats apic_id_on (two_processors 3 6 2).entries)
   pub id_off : IsKept (Repeats apic_id_on (two_processors 3 5 0).entries)
 
--- no processor is usable, or there is none; not so if one is Online Capable, if a local SAPIC is not read, or if the MADT is cut
--- or has an entry of a wrong length
+-- no processor is usable, or there is none; not so if one is Online Capable, if a local SAPIC is not read, or if the
+-- MADT is cut or has an entry of a wrong length
 pub record AreNoProcessors : Type 0 where
   pub off : IsNoProcessor (one_entry 8 (processor 0)) 0 0 0
   pub empty : IsNoProcessor (said_madt 44 []) 0 0 0
@@ -101,8 +102,8 @@ pub record AreNoProcessors : Type 0 where
   pub cut : IsKept (IsNoProcessor (cut_madt (said_madt 44 [])))
   pub wrong_length : IsKept (IsNoProcessor (one_entry 4 (small_entry 0)))
 
--- NMIs of the UID of no processor; not so if a processor that is not usable has it, if it means all processors, or if a local
--- SAPIC is not read. 0xFF means all processors only in a local APIC NMI.
+-- NMIs of the UID of no processor; not so if a processor that is not usable has it, if it means all processors, or if
+-- a local SAPIC is not read. 0xFF means all processors only in a local APIC NMI.
 pub record AreNmisNowhere : Type 0 where
   pub local : IsNmiNowhere (with_nmi 6 (local_nmi 4)) 0x34 0 4
   pub local_known : IsKept (IsNmiNowhere (with_nmi 6 (local_nmi 3)))
@@ -123,8 +124,8 @@ pub record AreControllers : Type 0 where
   pub second : Repeats gicd (two_entries 24 distributor 24 distributor).entries 0x44 0x2c 0
   pub one : IsKept (Repeats gicd (one_entry 24 distributor).entries)
 
--- entries that are not read, of type 6, or of types 11 to 15, 17 and 24 with another length; not so with theirs, or of a type that
--- the stages read, whatever their length
+-- entries that are not read, of type 6, or of types 11 to 15, 17 and 24 with another length; not so with theirs, or
+-- of a type that the stages read, whatever their length
 pub record AreMadtUnread : Type 0 where
   pub six : OnEntry IsMadtUnread (one_entry 4 (small_entry 6)).entries 0x2c 6 0
   pub short : OnEntry IsMadtUnread (one_entry 39 short_gicc).entries 0x2c 11 0

@@ -54,8 +54,8 @@ two_caches revision size flags id =
 
 -- ---- what they state
 
--- two leaves of one ID; not so if the second is no leaf. From Revision 2 on the flags say so, below it that a node names
--- it as its Parent, or that the PPTT is cut.
+-- two leaves of one ID; not so if the second is no leaf. From Revision 2 on the flags say so, below it that a node
+-- names it as its Parent, or that the PPTT is cut.
 pub record AreSameLeaves : Type 0 where
   pub same : IsSameLeaf (two_nodes 2 10 36) 0x38 0x24 7
   pub no_leaf : IsKept (IsSameLeaf (two_nodes 2 2 36))
@@ -80,8 +80,8 @@ pub record AreSameCacheIds : Type 0 where
   pub differ : IsKept (IsSameCacheId (two_caches 3 92 0x80 (Some 4)))
   pub no_id : IsKept (IsSameCacheId (two_caches 3 88 0x80 None))
 
--- a usable processor without a leaf, even if there is none; not so if it has one, is not usable, if there is no node, a local SAPIC
--- is not read, or the PPTT is cut
+-- a usable processor without a leaf, even if there is none; not so if it has one, is not usable, if there is no node,
+-- a local SAPIC is not read, or the PPTT is cut
 pub record AreNoLeaves : Type 0 where
   pub none : IsNoLeaf (one_entry 8 (processor 2)) (one_node 10 7) 0x2c 0 3
   pub has : IsKept (IsNoLeaf (one_entry 8 (processor 2)) (one_node 10 3))
@@ -91,8 +91,8 @@ pub record AreNoLeaves : Type 0 where
   pub cut : IsKept (IsNoLeaf (one_entry 8 (processor 2)) (cut_pptt (one_node 10 7)))
   pub not_read : IsKept (IsNoLeaf (two_entries 8 (processor 2) 16 sapic) (one_node 10 7))
 
--- a leaf of no processor, with a GIC CPU interface or a core; not so if a processor that is not usable has the ID, if all
--- processors are of x86, if a second interface is too short to be read, or if the MADT is cut
+-- a leaf of no processor, with a GIC CPU interface or a core; not so if a processor that is not usable has the ID, if
+-- all processors are of x86, if a second interface is too short to be read, or if the MADT is cut
 pub record AreLeavesNowhere : Type 0 where
   pub nowhere : IsLeafNowhere (one_entry 40 (gicc 3 0)) (one_node 10 7) 0x24 0 7
   pub known : IsKept (IsLeafNowhere (one_entry 40 (gicc 3 0)) (one_node 10 3))

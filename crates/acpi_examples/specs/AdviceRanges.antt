@@ -1,5 +1,5 @@
--- Examples of advice on ranges that overlap: tables (ACPI 6.5, 5.2), register blocks of the FADT (5.2.9), and parts of a GIC
--- (5.2.12.15 to 5.2.12.18). Checksums are 0, since no rule checks them.
+-- Examples of advice on ranges that overlap: tables (ACPI 6.5, 5.2), register blocks of the FADT (5.2.9), and parts
+-- of a GIC (5.2.12.15 to 5.2.12.18). Checksums are 0, since no rule checks them.
 use Rattle.std.specs.Prelude.{ℕ, List, [], ◌∷◌, ◌++◌, replicate, codes}
 use Rattle.std.specs.FinMap.{empty}
 use Rattle.acpi_base.specs.Listed.{fadt_signature}
@@ -30,8 +30,8 @@ abbrev pub nested_set : ℕ → Memory
 nested_set size =
     with_bytes (with_bytes (with_bytes empty 0x2000 (nested_bytes size)) 0x1000 near_bytes) rsdp_at rsdp_bytes
 
--- a FADT of 116 bytes with the four ports of PM1a_EVT at 0x400, the two ports of PM1a_CNT at 0x400 + `low`, and these bits 23 to 16
--- of its flags
+-- a FADT of 116 bytes with the four ports of PM1a_EVT at 0x400, the two ports of PM1a_CNT at 0x400 + `low`, and these
+-- bits 23 to 16 of its flags
 abbrev pub ports_fadt : ℕ → ℕ → List ℕ
 ports_fadt low flags =
     table fadt_signature 116 1 0
@@ -39,6 +39,15 @@ ports_fadt low flags =
     ++ low ∷ 4 ∷ 0 ∷ 0 ∷ replicate 20 0
     ++ 4 ∷ 2 ∷ replicate 22 0
     ++ 0 ∷ 0 ∷ flags ∷ 0 ∷ [])
+
+-- a FADT of 184 bytes with the four ports of PM1a_EVT at 0x400, and PM1a_CNT, without a length, in this address
+-- space, of this width, at 0x3ff
+abbrev pub wide_fadt : ℕ → ℕ → List ℕ
+wide_fadt space width =
+    table fadt_signature 184 3 0
+    (replicate 20 0 ++ 0 ∷ 4 ∷ 0 ∷ 0 ∷ replicate 28 0
+    ++ 4 ∷ replicate 83 0
+    ++ space ∷ width ∷ 0 ∷ 0 ∷ 0xff ∷ 3 ∷ replicate 6 0)
 
 -- a range of redistributors of 0x20000 bytes at 0x80000 (5.2.12.17)
 abbrev pub redistributors : MadtEntry
@@ -67,14 +76,18 @@ pub record AreStructuresOverlapping : Type 0 where
   pub shared : IsTablesOverlap (nested_set 72) rsdp_at 0x2000 0x2024 0x2024
   pub apart : IsKept (IsTablesOverlap (nested_set 36) rsdp_at)
 
--- the last port of one block is the first of the next; not so if that begins a port later, or on reduced hardware
+-- the last port of one block is the first of the next, also if the first has 9 bits and no length; not so if the next
+-- begins a port later, on reduced hardware, with 8 bits, or if the first is in memory
 pub record ArePortsOverlapping : Type 0 where
   pub shared : IsBlockOverlap (ports_fadt 3 0) 0x38 0x40 0x403
   pub apart : IsKept (IsBlockOverlap (ports_fadt 4 0))
   pub reduced : IsKept (IsBlockOverlap (ports_fadt 3 0x10))
+  pub bits : IsBlockOverlap (wide_fadt 1 9) 0x40 0x38 0x400
+  pub byte : IsKept (IsBlockOverlap (wide_fadt 1 8))
+  pub memory : IsKept (IsBlockOverlap (wide_fadt 0 9))
 
--- a service in redistributors, and one in the wide registers of a distributor of version 4; not so if it begins where they end,
--- or beside a distributor of version 2
+-- a service in redistributors, and one in the wide registers of a distributor of version 4; not so if it begins where
+-- they end, or beside a distributor of version 2
 pub record ArePartsOverlapping : Type 0 where
   pub shared : IsGicOverlap (with_redistributors 0xff 9) 44 60 0x9ff00
   pub apart : IsKept (IsGicOverlap (with_redistributors 0 10))

@@ -1,4 +1,5 @@
--- Examples of advice on what the RSDP, the root tables and the FADT name: each rule broken, and kept (ACPI 6.5, 5.2.5 to 5.2.11).
+-- Examples of advice on what the RSDP, the root tables and the FADT name: each rule broken, and kept (ACPI 6.5, 5.2.5
+-- to 5.2.11).
 use Rattle.std.specs.Prelude.{ℕ, List, [], ◌∷◌, ◌++◌, replicate, codes}
 use Rattle.acpi_base.specs.Image.Runs.{Run, run_at, memory_of}
 use Rattle.acpi_base.specs.Facs.{facs_signature}
@@ -21,12 +22,15 @@ use Rattle.acpi_examples.specs.Tables.{table}
 abbrev pub short_rsdp : ℕ → List ℕ
 short_rsdp revision = rsdp_signature ++ 0 ∷ replicate 6 0x41 ++ revision ∷ 0 ∷ 0x10 ∷ 0 ∷ 0 ∷ []
 
--- one of 36 bytes whose RSDT is at 0x2000 and whose XSDT is at 0x1000, with this last reserved byte
-abbrev pub long_rsdp : ℕ → List ℕ
-long_rsdp last =
+-- 36 bytes of one whose RSDT is at 0x2000 and whose XSDT is at 0x1000, with this Length and this last reserved byte
+abbrev pub sized_rsdp : ℕ → ℕ → List ℕ
+sized_rsdp size last =
     rsdp_signature ++ 0 ∷ replicate 6 0x41 ++ 2 ∷ 0 ∷ 0x20 ∷ 0 ∷ 0
-    ∷ 36 ∷ 0 ∷ 0 ∷ 0 ∷ 0 ∷ 0x10 ∷ 0 ∷ 0 ∷ 0 ∷ 0 ∷ 0 ∷ 0 ∷ 0 ∷ 0 ∷ 0 ∷ last
+    ∷ size ∷ 0 ∷ 0 ∷ 0 ∷ 0 ∷ 0x10 ∷ 0 ∷ 0 ∷ 0 ∷ 0 ∷ 0 ∷ 0 ∷ 0 ∷ 0 ∷ 0 ∷ last
     ∷ []
+
+abbrev pub long_rsdp : ℕ → List ℕ
+long_rsdp last = sized_rsdp 36 last
 
 -- the image of one of these alone
 abbrev pub rsdp_runs : List ℕ → List Run
@@ -54,6 +58,19 @@ no_rsdt_slot = some_rsdt 36 []
 abbrev pub late_rsdt_slot : List ℕ
 late_rsdt_slot = some_rsdt 44 (0 ∷ 0 ∷ 0 ∷ 0 ∷ 0 ∷ 0x30 ∷ 0 ∷ 0 ∷ [])
 
+-- ---- an RSDT alone
+
+-- one of 39 bytes, which end within its only slot, and one whose two slots list 0x2000
+abbrev pub cut_rsdt : List ℕ
+cut_rsdt = some_rsdt 39 (0 ∷ 0 ∷ 0 ∷ [])
+
+abbrev pub same_rsdt : List ℕ
+same_rsdt = some_rsdt 44 (0 ∷ 0x20 ∷ 0 ∷ 0 ∷ 0 ∷ 0x20 ∷ 0 ∷ 0 ∷ [])
+
+-- the image of one of these, and of these bytes at 0x2000
+abbrev pub rsdt_runs : List ℕ → List ℕ → List Run
+rsdt_runs rsdt bytes = run_at rsdp_at (short_rsdp 0) ∷ run_at 0x1000 rsdt ∷ run_at 0x2000 bytes ∷ []
+
 -- ---- headers
 
 -- a header with this signature and this OEM ID
@@ -76,42 +93,66 @@ odd_set = set_of odd_header odd_header
 
 -- ---- what the FADT names
 
--- the image of a DSDT at 0x3000 with this checksum
-abbrev pub dsdt_runs : ℕ → List Run
-dsdt_runs checksum = run_at 0x3000 (table dsdt_signature 36 2 checksum []) ∷ []
+-- the image of 36 bytes at 0x3000 with this signature, Length and checksum, and of a DSDT with this checksum
+abbrev pub header_runs : List ℕ → ℕ → ℕ → List Run
+header_runs signature size checksum = run_at 0x3000 (table signature size 2 checksum []) ∷ []
 
--- a FACS with these flags, a Version of 2, and OSPM Flags of 1
+abbrev pub dsdt_runs : ℕ → List Run
+dsdt_runs checksum = header_runs dsdt_signature 36 checksum
+
+-- a FACS with these flags, this Version, this byte at 33, these OSPM Flags, and this last byte
+abbrev pub facs_of : ℕ → ℕ → ℕ → ℕ → ℕ → List ℕ
+facs_of flags version first ospm last =
+    facs_signature ++ 64 ∷ replicate 15 0 ++ flags ∷ replicate 11 0 ++ version ∷ first ∷ 0 ∷ 0 ∷ ospm
+    ∷ replicate 26 0
+    ++ last ∷ []
+
+-- one with these flags, a Version of 2, and OSPM Flags of 1
 abbrev pub flagged_facs : ℕ → List ℕ
-flagged_facs flags =
-    facs_signature ++ 64 ∷ replicate 15 0 ++ flags ∷ replicate 11 0 ++ 2 ∷ 0 ∷ 0 ∷ 0 ∷ 1 ∷ replicate 27 0
+flagged_facs flags = facs_of flags 2 0 1 0
 
 -- ---- what they state
 
--- a slot of 0; an RSDT that lists nothing, and one that lists the same
+-- a slot of 0, not so three bytes of one; an RSDT that lists nothing, and one that lists the same
 pub record AreRootsAdvised : Type 0 where
   pub null : IsNullSlot twice_set rsdp_at 0 0 0
   pub no_null : IsKept (IsNullSlot leaf_set rsdp_at)
+  pub cut : IsKept (IsNullSlot (memory_of (rsdt_runs cut_rsdt [])) rsdp_at)
   pub differs : IsRsdtDiffers (memory_of (both_runs no_rsdt_slot)) rsdp_at 16 0 0x54445353
   pub same : IsKept (IsRsdtDiffers (memory_of (both_runs late_rsdt_slot)) rsdp_at)
 
--- a Revision of 1; a reserved byte; a Revision of 2 with 36 bytes
+-- a Revision of 1; a reserved byte; a Length of 37, if 37 bytes are present; not so if 36 are, nor a Revision of 2
+-- with 36
 pub record AreRsdpsAdvised : Type 0 where
   pub revision : IsRsdpReserved (memory_of (rsdp_runs (short_rsdp 1))) rsdp_at 15 0 1
   pub reserved : IsRsdpReserved (memory_of (rsdp_runs (long_rsdp 7))) rsdp_at 35 0 7
+  pub long : IsRsdpReserved (memory_of (rsdp_runs (sized_rsdp 37 0 ++ 0 ∷ []))) rsdp_at 20 0 37
+  pub cut : IsKept (IsRsdpReserved (memory_of (rsdp_runs (sized_rsdp 37 0))) rsdp_at)
   pub none_reserved : IsKept (IsRsdpReserved (memory_of (rsdp_runs (long_rsdp 0))) rsdp_at)
 
--- a zero before a letter of the OEM ID, and one behind the lowest and the highest printable byte; a second MCFG, and a second SSDT
+-- a zero before a letter of the OEM ID, and the bytes next to those that are printable; not so a zero after the
+-- lowest and the highest of these; a second MCFG, not so at the same address, nor a second SSDT
 pub record AreHeadersAdvised : Type 0 where
   pub odd : IsHeaderText odd_set rsdp_at 0 10 0x2000
+  pub low : IsNoText (0x1f ∷ [])
+  pub high : IsNoText (0x7f ∷ [])
   pub text : ¬ IsNoText (0x20 ∷ 0x7e ∷ 0 ∷ [])
   pub second : IsSecondOther (two_tables (codes "MCFG")) rsdp_at 1 0 0x3000
+  pub same : IsKept (IsSecondOther (memory_of (rsdt_runs same_rsdt (plain_header (codes "MCFG")))) rsdp_at)
   pub several : IsKept (IsSecondOther (two_tables (codes "SSDT")) rsdp_at)
 
--- a DSDT with a wrong checksum, and with the right one; a FACS with a third flag, and with two
+-- an SSDT in place of the DSDT, a Length of 35, a wrong checksum, and the right one; a FACS with a third flag,
+-- Version 3, a reserved byte, or a second OSPM Flag, and with two flags
 pub record AreNamedAdvised : Type 0 where
+  pub signature : IsDsdtWrong (memory_of (header_runs (codes "SSDT") 36 0)) (dsdt_fadt 0 0x30) 40 0 0x3000
+  pub short : IsDsdtWrong (memory_of (header_runs dsdt_signature 35 0)) (dsdt_fadt 0 0x30) 40 0 0x3000
   pub sum : IsDsdtWrong (memory_of (dsdt_runs 0)) (dsdt_fadt 0 0x30) 40 0 0x3000
   pub right : IsKept (IsDsdtWrong (memory_of (dsdt_runs 23)) (dsdt_fadt 0 0x30))
   pub flags : IsOddFacs (flagged_facs 4) 20 0 4
+  pub version : IsOddFacs (facs_of 0 3 0 0 0) 32 0 3
+  pub first : IsOddFacs (facs_of 0 2 1 0 0) 33 0 1
+  pub ospm : IsOddFacs (facs_of 0 2 0 2 0) 36 0 2
+  pub last : IsOddFacs (facs_of 0 2 0 0 1) 63 0 1
   pub two_flags : IsKept (IsOddFacs (flagged_facs 3))
 
 -- all of these

@@ -1,4 +1,5 @@
--- Examples of advice on the slots of the root table, on small images: each rule broken, and kept (ACPI 6.5, 5.2, 5.2.7, 5.2.9).
+-- Examples of advice on the slots of the root table, on small images: each rule broken, and kept (ACPI 6.5, 5.2,
+-- 5.2.7, 5.2.9).
 use Rattle.std.specs.Prelude.{List, ℕ, [], ◌∷◌}
 use Rattle.std.specs.FinMap.{empty}
 use Rattle.acpi_base.specs.Memory.{Memory, with_bytes}

@@ -75,8 +75,8 @@ read_affinities =
 
 -- ---- what they state
 
--- a UID in two domains, of entries of one type or of two; not so if the second affinity is not enabled, is of the same domain, or
--- of another UID
+-- a UID in two domains, of entries of one type or of two; not so if the second affinity is not enabled, is of the
+-- same domain, or of another UID
 pub record AreTwoUidDomains : Type 0 where
   pub two : IsTwoUidDomains (two_giccs 3 1 1) 0x30 0x42 3
   pub two_types : IsTwoUidDomains (gicc_and_rintc 1) 0x30 0x42 3
@@ -85,8 +85,8 @@ pub record AreTwoUidDomains : Type 0 where
   pub same_domain : IsKept (IsTwoUidDomains (two_giccs 3 0 1))
   pub other_uid : IsKept (IsTwoUidDomains (two_giccs 4 1 1))
 
--- an affinity of no processor; not so if the processor is not usable, the affinity not enabled, a local SAPIC not read, or the MADT
--- cut. APIC IDs, x2APIC IDs and those of cores are one number space, and UIDs another.
+-- an affinity of no processor; not so if the processor is not usable, the affinity not enabled, a local SAPIC not
+-- read, or the MADT cut. APIC IDs, x2APIC IDs and those of cores are one number space, and UIDs another.
 pub record AreAffinitiesNowhere : Type 0 where
   pub nowhere : IsAffinityNowhere (one_entry 8 (processor 0)) (one_affinity 16 (apic_affinity 6 0 1)) 0x30 0 6
   pub known : IsKept (IsAffinityNowhere (one_entry 8 (processor 0)) (one_affinity 16 (apic_affinity 5 0 1)))
@@ -99,8 +99,8 @@ pub record AreAffinitiesNowhere : Type 0 where
   pub not_read : IsKept (IsAffinityNowhere (two_entries 8 (processor 0) 16 sapic) (one_affinity 16 (apic_affinity 6 0 1)))
   pub cut : IsKept (IsAffinityNowhere (cut_madt (one_entry 8 (processor 0))) (one_affinity 16 (apic_affinity 6 0 1)))
 
--- a usable processor without an affinity: a core is sought by its ID, and one without such an ID by its UID; not so if it has one,
--- is not usable, if no affinity is enabled, a local SAPIC is not read, or the SRAT is cut
+-- a usable processor without an affinity: a core is sought by its ID, and one without such an ID by its UID; not so
+-- if it has one, is not usable, if no affinity is enabled, a local SAPIC is not read, or the SRAT is cut
 pub record AreNoDomains : Type 0 where
   pub none : IsNoDomain (one_entry 8 (processor 2)) (one_affinity 16 (apic_affinity 6 0 1)) 0x2c 0 5
   pub placed : IsKept (IsNoDomain (one_entry 8 (processor 2)) (one_affinity 16 (apic_affinity 5 0 1)))
@@ -122,8 +122,8 @@ pub record AreDomainsPastSlit : Type 0 where
   pub initiator : OnEntry (IsDomainPastSlit 2) (one_affinity 32 (generic_affinity 5 2 1)).entries 0x30 2 2
   pub port_disabled : IsKept (OnEntry (IsDomainPastSlit 2) (one_affinity 32 (generic_affinity 6 2 2)).entries)
 
--- entries that are not read, from type 8 on, or of a type that only these rules read and of another length; not so entries of a
--- type that the stages read, whatever their length
+-- entries that are not read, from type 8 on, or of a type that only these rules read and of another length; not so
+-- entries of a type that the stages read, whatever their length
 pub record AreSratUnread : Type 0 where
   pub eight : OnEntry IsSratUnread (one_affinity 4 (Opaque (8 ∷ 4 ∷ 0 ∷ 0 ∷ []))).entries 0x30 8 0
   pub short_its : OnEntry IsSratUnread (one_affinity 4 (Opaque (4 ∷ 4 ∷ 0 ∷ 0 ∷ []))).entries 0x30 4 0

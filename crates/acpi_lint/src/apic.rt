@@ -111,7 +111,7 @@ pub fn level_timer(entry: &MadtEntry<'_>) -> Option<u64>
     }
 }
 
-/// The pin of an NMI of local APICs, if it is not LINT1.
+/// The Local APIC LINT# of an NMI of local APICs, if it is not 1.
 pub fn other_lint(entry: &MadtEntry<'_>) -> Option<u64>
     ensures { result ≡ other_lint (madt_value entry.now) }
 {

@@ -244,7 +244,8 @@ fn fixed_past_end(fadt: &Fadt<'_>) -> Option<Place>
     block_past_end(fadt)
 }
 
-/// The first of these and of the reset register that ends past the last port.
+/// SMI_CMD or the first register block that ends past the last port, if the hardware is not
+/// reduced; or else RESET_REG, if it is past the last port.
 pub fn port_past_end(fadt: &Fadt<'_>) -> Option<Place>
     ensures { FindsLeast (IsPortPastEnd fadt.now) result }
 {

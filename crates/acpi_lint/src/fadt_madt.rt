@@ -101,7 +101,8 @@ fn capable_since(entry: &MadtEntry<'_>) -> Option<u8>
     }
 }
 
-/// The place of an entry with such flags, if the FADT is older.
+/// The place of an entry that is Online Capable and not Enabled, if the FADT is older than that
+/// flag.
 fn too_early(fadt: &Fadt<'_>, at: &EntryAt<MadtEntry<'_>>) -> Option<Place>
     ensures { FindsOwn (λ at. IsTooEarly fadt.now) (entry_at_value madt_value at.now) result }
 {
@@ -109,7 +110,8 @@ fn too_early(fadt: &Fadt<'_>, at: &EntryAt<MadtEntry<'_>>) -> Option<Place>
     is_older(fadt, 6, minor).then_some(version_at(fadt, at.offset))
 }
 
-/// The place of the first such entry.
+/// The first entry that is Online Capable and not Enabled, with the FADT's version, if the FADT
+/// is older than that flag.
 pub fn capable_too_early(fadt: &Fadt<'_>, madt: &Table<'_>) -> Option<Place>
     ensures { FindsLeast (IsCapableTooEarly fadt.now (madt_contents madt.now)) result }
 {
@@ -134,7 +136,7 @@ fn past_isa(sci: u16, at: &EntryAt<MadtEntry<'_>>) -> Option<Place>
     }
 }
 
-/// The place of the first such override.
+/// The first override whose Source, `other`, is above 15 and is not SCI_INT.
 pub fn override_past_isa(fadt: &Fadt<'_>, madt: &Table<'_>) -> Option<Place>
     ensures { FindsLeast (IsOverridePastIsa fadt.now (madt_contents madt.now)) result }
 {
@@ -154,7 +156,7 @@ fn gicc_on(at: &EntryAt<MadtEntry<'_>>) -> Option<Place>
     }
 }
 
-/// The place of such an entry after this offset, with it.
+/// The place of a GICC that is on and comes after this offset, which is `other`.
 fn gicc_after(first: u64, at: &EntryAt<MadtEntry<'_>>) -> Option<Place>
     ensures { FindsOwn (IsGiccAfter first) (entry_at_value madt_value at.now) result }
 {
@@ -190,7 +192,7 @@ fn parking(at: &EntryAt<MadtEntry<'_>>) -> Option<()>
     }
 }
 
-/// Whether no GICC of a MADT is so.
+/// Whether none of a MADT's GICCs that are on has a version of the parking protocol.
 fn are_none_parking(madt: &Table<'_>) -> bool
     ensures { IsTrue result
         ↔ ((o : ℕ) → ¬ StandsWith (madt_contents madt.now).entries o IsParking) }
@@ -198,7 +200,8 @@ fn are_none_parking(madt: &Table<'_>) -> bool
     first_picked(madt.entries::<MadtEntry<'_>>(), parking).is_none()
 }
 
-/// The same for a MADT that is well-formed.
+/// Whether a MADT is well-formed, and none of its GICCs that are on has a version of the parking
+/// protocol.
 fn is_none_parking(policy: &Policy, madt: &Table<'_>) -> bool
     ensures { IsTrue result ↔ IsNoneParking (madt_contents madt.now) }
 {

@@ -53,7 +53,7 @@ fn registers_of(entry: &MadtEntry<'_>) -> Option<(u64, u64)>
     redistributors.or(service).or(frame).or(distributor)
 }
 
-/// They as a span, by the entry's offset.
+/// The registers of the part that an entry describes as a span, by the entry's offset.
 fn registers_span(at: &EntryAt<MadtEntry<'_>>) -> Option<Span>
     requires { at.now.offset < 2 ^ 32 }
     ensures { FindsRange at.now.offset (HasRegisters (madt_value at.now.entry)) result }
@@ -75,7 +75,8 @@ fn register_spans(alloc: Global, madt: &Table<'_>) -> Result<Vec<Span>, AllocErr
     )
 }
 
-/// The lowest address that the registers of two parts have, and the first two that have it. Allocates for each part.
+/// The lowest address that the registers of two parts have, and the first two that have it. None
+/// if no two parts share an address. Allocates for each part.
 pub fn gic_overlap(alloc: Global, madt: &Table<'_>) -> Result<Option<Place>, AllocError>
     ensures { IfOk result (FindsLeast (IsGicOverlap (madt_contents madt.now))) }
 {

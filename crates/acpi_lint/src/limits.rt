@@ -21,7 +21,7 @@ pub fn above(bytes: &[u8], offset: usize, width: usize, greatest: u64) -> Option
     })
 }
 
-/// The place of the first byte that is not 0 from `start` up to `end`.
+/// The place of the first byte that is not 0 from `start` up to `end`. None if all are 0.
 pub fn used(bytes: &[u8], start: usize, end: usize) -> Option<Place>
     requires { end ≤ length bytes.now }
     ensures { FindsLeast (IsUsed bytes.now start end) result }

@@ -80,7 +80,8 @@ fn lacks_io_apic(policy: &Policy, madt: &Table<'_>) -> bool
     is_madt_well_formed(policy, madt)
 }
 
-/// The place of such a MADT.
+/// A place without numbers, if a MADT that is well-formed has no I/O APIC or I/O SAPIC, though a
+/// local APIC or a local x2APIC is on, and there is an override or an NMI source.
 pub fn no_io_apic(policy: &Policy, madt: &Table<'_>) -> Option<Place>
     ensures { FindsLeast (IsNoIoApic (madt_contents madt.now)) result }
 {
@@ -102,7 +103,7 @@ fn lacks_distributor(policy: &Policy, madt: &Table<'_>) -> bool
     is_madt_well_formed(policy, madt)
 }
 
-/// The place of such a MADT.
+/// A place without numbers, if a MADT that is well-formed has a CPU interface and no distributor.
 pub fn no_distributor(policy: &Policy, madt: &Table<'_>) -> Option<Place>
     ensures { FindsLeast (IsNoDistributor (madt_contents madt.now)) result }
 {

@@ -38,7 +38,7 @@ pub enum MadtNumber {
     BothFlags,
     /// The flags of an override, if they make the timer's interrupt level-triggered.
     LevelTimer,
-    /// The pin of an NMI of local APICs, if it is not LINT1.
+    /// The Local APIC LINT# of an NMI of local APICs, if it is not 1.
     OtherLint,
     /// The version of a GIC distributor.
     GicdVersion,

@@ -31,8 +31,9 @@ pub fn push(spans: &mut Vec<Span>, found: Option<Span>) -> Result<(), AllocError
     Ok(())
 }
 
-/// The lowest number that is in two spans, which is the point, and the names of the first two that contain it, by start
-/// and then by name. The names differ. Allocates while it sorts the spans.
+/// The lowest number that is in two spans, which is the point, and the names of the first two
+/// that contain it, by start and then by name. None if no two have a number in common. The names
+/// differ. Allocates while it sorts the spans.
 pub fn first_overlap(alloc: Global, spans: Vec<Span>) -> Result<Option<Place>, AllocError>
     requires names { NamesDiffer spans.items }
     requires low { BeginLow spans.items }

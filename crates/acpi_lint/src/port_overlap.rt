@@ -39,7 +39,8 @@ fn block_spans(alloc: Global, fadt: &Fadt<'_>) -> Result<Vec<Span>, AllocError>
     Ok(spans)
 }
 
-/// The lowest port that two register blocks have, and the first two that have it, if the hardware is not reduced.
+/// The lowest port that two register blocks have, and the first two that have it, if the hardware
+/// is not reduced. Allocates for each block.
 fn block_overlap(alloc: Global, fadt: &Fadt<'_>) -> Result<Option<Place>, AllocError>
     ensures { IfOk result (FindsLeast (IsBlockOverlap fadt.now)) }
 {
@@ -50,7 +51,9 @@ fn block_overlap(alloc: Global, fadt: &Fadt<'_>) -> Result<Option<Place>, AllocE
     first_overlap(alloc, spans)
 }
 
-/// The same for the FADT of a set. The tables are those of the set.
+/// The lowest port that two register blocks of a set's FADT have, and the first two that have it,
+/// if the hardware is not reduced. None if there is no FADT, or no two blocks share a port. The
+/// tables are those of the set. Allocates for each block.
 pub fn ports_overlap(
     alloc: Global,
     tables: &CompleteTables<'_>,

@@ -18,7 +18,7 @@ use std::alloc::{AllocError, Global};
 
 // ---- slots that list nothing
 
-/// The first slot of a root table that is 0.
+/// The first slot of a root table that is 0. None if no slot is.
 fn null_in(root: &Root<'_>) -> Option<Place>
     ensures { FindsLeast (IsNullIn root.now.bytes root.now.width) result }
 {
@@ -30,7 +30,8 @@ fn null_in(root: &Root<'_>) -> Option<Place>
     None
 }
 
-/// The first slot that is 0 and lists nothing. The tables are those of the set.
+/// The first slot of a set's root table that is 0. None if no slot is, or the set has no complete
+/// root table. The tables are those of the set.
 pub fn null_slot(tables: &CompleteTables<'_>) -> Option<Place>
     ensures { (m : Memory) (p : ℕ) → AreCompleteTables m p tables.now
         → FindsLeast (IsNullSlot m p) result }
@@ -53,7 +54,8 @@ fn xsdt<'a>(tables: &CompleteTables<'a>) -> Option<&'a [u8]>
     Some(root.bytes())
 }
 
-/// The RSDT that the RSDP at an address names, if that has the extended form and the table is complete.
+/// The RSDT that the RSDP at an address names, if 36 bytes of that are present and the table is
+/// complete.
 fn named_rsdt(image: &Image, rsdp: u64) -> Option<Table<'_>>
     ensures { MatchOption result ((bytes : List ℕ) → ¬ IsNamedRsdt image.now rsdp bytes)
         (IsNamedRsdt image.now rsdp) }
@@ -120,7 +122,8 @@ fn first_difference(ours: &[u32], theirs: &[u32]) -> Option<u32>
     }
 }
 
-/// The lowest number that two lists have a different number of times. Allocates while it sorts them.
+/// The lowest number that two lists have a different number of times. None if there is none.
+/// Allocates while it sorts them.
 fn lowest_difference(mut ours: Vec<u32>, mut theirs: Vec<u32>) -> Result<Option<u32>, AllocError>
     ensures { IfOk result (FindsDifference ours.items theirs.items) }
 {

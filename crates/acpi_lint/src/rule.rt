@@ -67,7 +67,7 @@ pub enum Rule {
     NullSlot,
     /// The RSDT and the XSDT list different numbers of tables with a signature (5.2.7).
     RsdtDiffers,
-    /// Two tables share bytes of memory (5.2).
+    /// Two structures, the RSDP or tables, share bytes of memory (5.2).
     TablesOverlap,
     /// The FADT names no DSDT (5.2.9).
     NoDsdt,
@@ -93,7 +93,7 @@ pub enum Rule {
     ResetNowhere,
     /// The MADT is of Arm or RISC-V, and the FADT is not of reduced hardware or is too old (5.2.9).
     FadtForArch,
-    /// A sleep register has no address, or another width or offset than 8 bits at 0 (5.2.9).
+    /// A sleep register of reduced hardware has no address, or not 8 bits from bit 0 on (5.2.9).
     SleepRegister,
     /// A field of the FADT has a reserved value (5.2.9).
     FadtReserved,
@@ -105,7 +105,7 @@ pub enum Rule {
     HeaderText,
     /// A second table of a kind is listed that should be listed once (5.2.6).
     SecondOther,
-    /// A usable local x2APIC has an ID below 255, beside usable local APICs (5.2.12.12).
+    /// A usable local x2APIC and a usable local APIC both have an ID below 255 (5.2.12.12).
     X2ApicBelow255,
     /// A usable processor has the ID of a broadcast (5.2.12.2).
     BroadcastId,
@@ -151,13 +151,13 @@ pub enum Rule {
     SameHart,
     /// A field of the MADT has a reserved value (5.2.12).
     MadtReserved,
-    /// The SRAT has affinities of processors and no memory (5.2.16.2).
+    /// An SRAT with affinities has no enabled memory range of a length above 0 (5.2.16.2).
     NoMemoryRange,
-    /// A range of memory has the length 0 (5.2.16.2).
+    /// An enabled memory range has the length 0 (5.2.16.2).
     EmptyRange,
     /// A Generic Initiator is not enabled (5.2.16.6).
     InitiatorOff,
-    /// A domain above 255 is in an SRAT of Revision 1 (5.2.16).
+    /// A domain above 255 is in an SRAT of a Revision below 2 (5.2.16).
     DomainPastRevision,
     /// The SRAT has an ITS that the MADT does not have (5.2.16.5).
     ItsNowhere,
@@ -165,13 +165,13 @@ pub enum Rule {
     SratReserved,
     /// The distance of a locality from another one is 10, that from itself (5.2.17).
     RemoteAsLocal,
-    /// A processor that no node names as Parent is not flagged as a leaf (5.2.30.1).
+    /// A processor that no node names as Parent is not marked as a leaf (5.2.30.1).
     LeafUnflagged,
     /// A leaf is the Parent of a node (5.2.30.1).
     LeafAsParent,
     /// No node from a leaf to its root is a package (5.2.30.1).
     NoPackage,
-    /// A cache's size is 0 or not the product of its sets, ways and line size (5.2.30.2).
+    /// A cache's size or associativity is 0, or its size is not sets * ways * line size (5.2.30.2).
     CacheNumbers,
     /// A field of the PPTT has a reserved value (5.2.30).
     PpttReserved,

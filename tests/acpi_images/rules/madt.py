@@ -159,7 +159,7 @@ def sources_of_one_gsi(facts):
 
 @rule(157, "LintNotOne", has_madt)
 def other_lints(facts):
-    """An NMI comes by another pin of the local APICs than LINT1 (5.2.12.7, 5.2.12.13)."""
+    """The Local APIC LINT# of an NMI is not 1 (5.2.12.7, 5.2.12.13)."""
     for entry in facts.madt.typed(LAPIC_NMI, X2APIC_NMI):
         lint = entry.number(5 if entry.kind == LAPIC_NMI else 8, 1)
         if lint != 1:

@@ -1,5 +1,5 @@
--- Further advice on the MADT: local APICs, harts, overrides, NMIs and I/O APICs (ACPI 6.5, 5.2.12.2 to 5.2.12.13). `at` is an entry's
--- offset from the table's start.
+-- Further advice on the MADT: local APICs, harts, overrides, NMIs and I/O APICs (ACPI 6.5, 5.2.12.2 to 5.2.12.13).
+-- `at` is an entry's offset from the table's start.
 use Rattle.std.specs.Prelude.{◌≡◌, ◌≢◌, ℕ, ◌-◌, ◌^◌, ◌<◌, ◌≤◌, ◌⊎◌, Bool, Option, Some, None, nat_lt, not, ◌==◌, ◌&&◌, ◌||◌, if◌then◌else◌}
 use Rattle.acpi_base.specs.Entries.{AreUnused}
 use Rattle.acpi_base.specs.Madt.{MadtEntry, LocalApic, Override, LocalNmi, X2apic, X2apicNmi, Opaque, MadtContents}
@@ -36,7 +36,7 @@ abbrev pub IsX2ApicBelow255 : MadtContents → ℕ → ℕ → ℕ → Type 0
 IsX2ApicBelow255 c at other point =
     ((id : ℕ) × IsNamed plain_apic_id c.entries id) × NamesAt low_x2apic_id c.entries at point × (other ≡ 0)
 
--- the ID of a local APIC or a local x2APIC that is on, if it is the one that means all (5.2.12.2)
+-- the ID of a local APIC or a local x2APIC that is on, if it is the one that means all (5.2.12.2, 5.2.12.12)
 abbrev pub broadcast_id : MadtEntry → Option ℕ
 broadcast_id (LocalApic v) = if is_on v.flags && (v.apic_id == 255) then Some v.apic_id else None
 broadcast_id (X2apic v) = if is_on v.flags && (v.x2apic_id == 2 ^ 32 - 1) then Some v.x2apic_id else None
@@ -46,8 +46,8 @@ broadcast_id _ = None
 abbrev pub both_set : ℕ → ℕ → Option ℕ
 both_set flags bit = if has_bit flags 0 && has_bit flags bit then Some flags else None
 
--- the flags of a processor, if it is Enabled and Online Capable, which exclude each other (5.2.12.2, 5.2.12.12, 5.2.12.14, and RINTC
--- after ACPI 6.5)
+-- the flags of a processor, if it is Enabled and Online Capable, which exclude each other (5.2.12.2, 5.2.12.12,
+-- 5.2.12.14, and RINTC after ACPI 6.5)
 abbrev pub both_flags : MadtEntry → Option ℕ
 both_flags (LocalApic v) = both_set v.flags 1
 both_flags (X2apic v) = both_set v.flags 1
@@ -68,7 +68,7 @@ level_timer (Override v) =
     if (v.source == 0) && has_bit v.flags 2 && has_bit v.flags 3 then Some v.flags else None
 level_timer _ = None
 
--- the pin of an NMI of local APICs, if it is not LINT1 (5.2.12.7, 5.2.12.13)
+-- the Local APIC LINT# of an NMI of local APICs, if it is not 1 (5.2.12.7, 5.2.12.13)
 abbrev pub other_lint : MadtEntry → Option ℕ
 other_lint (LocalNmi v) = if v.lint == 1 then None else Some v.lint
 other_lint (X2apicNmi v) = if v.lint == 1 then None else Some v.lint
@@ -79,8 +79,8 @@ abbrev pub source_for : ℕ → MadtEntry → Option ℕ
 source_for gsi (Override v) = if v.gsi == gsi then Some v.source else None
 source_for gsi _ = None
 
--- the override at `at` gives an ISA interrupt the interrupt number `point`, which an earlier one gives to another; `other` is the
--- first that gives it to another
+-- the override at `at` gives an ISA interrupt the interrupt number `point`, which an earlier one gives to another;
+-- `other` is the first that gives it to another
 pub record IsTwoSourcesOneGsi (c : MadtContents) (at other point : ℕ) : Type 0 where
   pub source : ℕ
   pub here : NamesAt (source_for point) c.entries at source
@@ -90,8 +90,8 @@ pub record IsTwoSourcesOneGsi (c : MadtContents) (at other point : ℕ) : Type 0
   pub before : other < at
   pub first : (p s : ℕ) → NamesAt (source_for point) c.entries p s → s ≢ source → other ≤ p
 
--- a local APIC or a local x2APIC is on, there is an override (2) or an NMI source (3), and there is neither an I/O APIC (1) nor an
--- I/O SAPIC (6)
+-- a local APIC or a local x2APIC is on, there is an override (2) or an NMI source (3), there is neither an I/O APIC
+-- (1) nor an I/O SAPIC (6), and the MADT is well-formed
 pub record LacksIoApic (c : MadtContents) : Type 0 where
   pub on : (id : ℕ) × IsNamed local_id_on c.entries id
   pub named : HasType c 2 ⊎ HasType c 3
@@ -99,6 +99,6 @@ pub record LacksIoApic (c : MadtContents) : Type 0 where
   pub no_sapic : ¬ HasType c 6
   pub well_formed : IsWellFormedMadt c
 
--- that is so, and the MADT is well-formed (5.2.12.3)
+-- the MADT lacks an I/O APIC (5.2.12.3)
 abbrev pub IsNoIoApic : MadtContents → ℕ → ℕ → ℕ → Type 0
 IsNoIoApic c at other point = LacksIoApic c × (at ≡ 0) × AreUnused other point

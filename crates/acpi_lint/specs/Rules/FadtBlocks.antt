@@ -81,15 +81,15 @@ abbrev pub IsPastEnd : ℕ → ℕ → ℕ → ℕ → Type 0
 IsPastEnd first bytes other point =
     (other ≡ bytes) × (point ≡ first) × (1 ≤ bytes) × (2 ^ 16 < first + bytes)
 
--- the same at an offset
+-- the same of the bytes of a register, whose field is at an offset of the table
 abbrev pub IsPastEndAt : ℕ → ℕ → ℕ → ℕ → ℕ → ℕ → Type 0
 IsPastEndAt offset first bytes at other point = (at ≡ offset) × IsPastEnd first bytes other point
 
--- SMI_CMD is such a port
+-- SMI_CMD is a port past the last one
 abbrev pub IsSmiPastEnd : List ℕ → ℕ → ℕ → ℕ → Type 0
 IsSmiPastEnd whole = IsPastEndAt 48 (field whole 48 4) 1
 
--- block k ends so
+-- block k ends past the last port
 abbrev pub IsBlockPastEnd : List ℕ → ℕ → ℕ → ℕ → Type 0
 IsBlockPastEnd whole k = IsPastEnd (block_address whole k) (port_bytes whole k)
 
@@ -97,23 +97,23 @@ IsBlockPastEnd whole k = IsPastEnd (block_address whole k) (port_bytes whole k)
 abbrev pub HasResetRegister : List ℕ → Type 0
 HasResetRegister whole = (has_reset whole ≡ true) × (129 ≤ length whole)
 
--- which is a port
+-- the table has a reset register, and it is in system I/O
 abbrev pub IsResetPort : List ℕ → Type 0
 IsResetPort whole = HasResetRegister whole × ((gas_at whole 116).space ≡ 1)
 
--- and is past the last one
+-- the reset register is a port past the last one
 abbrev pub IsResetPastEnd : List ℕ → ℕ → ℕ → ℕ → Type 0
 IsResetPastEnd whole at other point =
     IsResetPort whole
     × IsPastEndAt 116 (gas_at whole 116).address 1 at other point
 
--- SMI_CMD or a block is; applies if the hardware is not reduced
+-- SMI_CMD is past the last port, or a block ends past it; applies if the hardware is not reduced
 abbrev pub IsFixedPastEnd : List ℕ → ℕ → ℕ → ℕ → Type 0
 IsFixedPastEnd whole at other point =
     (is_reduced whole ≡ false)
     × (IsSmiPastEnd whole at other point ⊎ OnBlock (IsBlockPastEnd whole) 0 at other point)
 
--- one of these is, or the reset register, reduced or not
+-- SMI_CMD or a block of hardware that is not reduced, or the reset register of any, is past the last port
 abbrev pub IsPortPastEnd : List ℕ → ℕ → ℕ → ℕ → Type 0
 IsPortPastEnd whole at other point = IsFixedPastEnd whole at other point ⊎ IsResetPastEnd whole at other point
 

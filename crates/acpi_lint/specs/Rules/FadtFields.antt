@@ -57,7 +57,7 @@ pub record IsLeftOut (whole : List ℕ) (at beside other point : ℕ) : Type 0 w
   pub used : (gas_at whole beside).address ≢ 0
   pub unused : AreUnused other point
 
--- one of these
+-- a sleep register of reduced hardware has an address and has not 8 bits at bit 0, or has none and the other one has
 abbrev pub IsSleepRegister : List ℕ → ℕ → ℕ → ℕ → Type 0
 IsSleepRegister whole at other point =
     (is_reduced whole ≡ true)
@@ -77,7 +77,7 @@ AreFlagsReserved whole at other point =
     (at ≡ 112) × (other ≡ 0) × (point ≡ field whole 112 4)
     × ((2 ^ 24 ≤ point) ⊎ ((has_flag whole 22 ≡ true) × (has_flag whole 23 ≡ true)))
 
--- one of these: reserved bytes are 0 or 1 at 44, and 0 at 111; Preferred_PM_Profile, at 45, is up to 8
+-- byte 44 is above 1, Preferred_PM_Profile, at 45, above 8, byte 111 not 0, or Flags has a reserved value
 abbrev pub IsFadtReserved : List ℕ → ℕ → ℕ → ℕ → Type 0
 IsFadtReserved whole at other point =
     IsByteAbove whole 44 1 at other point

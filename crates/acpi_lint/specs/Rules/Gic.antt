@@ -1,5 +1,5 @@
--- The parts of a GIC, as entries of the MADT describe them: which bytes are one, and its fields (ACPI 6.5, 5.2.12.14 to 5.2.12.18).
--- Offsets of fields are from the entry's start.
+-- The parts of a GIC, as entries of the MADT describe them: which bytes are one, and its fields (ACPI 6.5, 5.2.12.14
+-- to 5.2.12.18). Offsets of fields are from the entry's start.
 use Rattle.std.specs.Prelude.{ℕ, Bool, List, length, slice_index, Option, Some, None, nat_le, not, ◌==◌, ◌&&◌, ◌||◌, if◌then◌else◌}
 use Rattle.acpi_base.specs.Number.{field, has_bit}
 use Rattle.acpi_base.specs.Madt.{MadtEntry, Opaque}

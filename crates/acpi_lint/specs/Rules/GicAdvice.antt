@@ -1,4 +1,4 @@
--- Further advice on the MADT: the parts of a GIC (ACPI 6.5, 5.2.12.14 to 5.2.12.18). `at` is an entry's offset from the table's start.
+-- Advice on the parts of a GIC in the MADT (ACPI 6.5, 5.2.12.14 to 5.2.12.18). `at` is an entry's offset in the table.
 use Rattle.std.specs.Prelude.{◌≡◌, ◌≢◌, ℕ, ◌/◌, ◌%◌, ◌^◌, ◌<◌, ◌⊎◌, Bool, length, slice_index, Option, Some, None, sum_by, not, ◌==◌, ◌&&◌, ◌||◌, if◌then◌else◌}
 use Rattle.std.specs.Option.{option_and_then}
 use Rattle.acpi_base.specs.Entries.{AreUnused}
@@ -40,15 +40,15 @@ pub record LacksDistributor (c : MadtContents) : Type 0 where
 abbrev pub IsNoDistributor : MadtContents → ℕ → ℕ → ℕ → Type 0
 IsNoDistributor c at other point = LacksDistributor c × (at ≡ 0) × AreUnused other point
 
--- a GIC of this version has redistributors (3 and 4 do), and there is no entry of a range of them (14), nor does a CPU interface that is on name
--- its own
+-- a GIC of this version has redistributors (3 and 4 do), and there is no entry of a range of them (14), nor does a
+-- CPU interface that is on name its own
 pub record LacksRedistributor (c : MadtContents) (v : ℕ) : Type 0 where
   pub versioned : (v ≡ 3) ⊎ (v ≡ 4)
   pub no_range : ¬ HasType c 14
   pub none_named : (a : ℕ) → ¬ IsNamed own_redistributor c.entries a
   pub well_formed : IsWellFormedMadt c
 
--- so of the GIC of the distributor at `at`, of the version `other`
+-- the first distributor is at `at`, and a GIC of its version, `other`, lacks redistributors (5.2.12.17)
 abbrev pub IsNoRedistributor : MadtContents → ℕ → ℕ → ℕ → Type 0
 IsNoRedistributor c at other point =
     IsFirstNamed gicd_version c.entries at other × LacksRedistributor c other × (point ≡ 0)
@@ -72,7 +72,7 @@ redistributor_count c = sum_by (λ size. size / 0x20000) (numbers_of gicr_length
 abbrev pub interface_count : MadtContents → ℕ
 interface_count c = length (numbers_of gicc_uid_on c.entries)
 
--- the ranges, of which the first is at `at`, have `other` redistributors, fewer than `point`, the CPU interfaces that are on
+-- the ranges, the first at `at`, have `other` redistributors, fewer than `point`, the number of CPU interfaces on
 pub record IsGicrTooSmall (c : MadtContents) (at other point : ℕ) : Type 0 where
   pub known : AreGicrsKnown c
   pub first : (size : ℕ) × IsFirstNamed gicr_length c.entries at size
@@ -82,8 +82,8 @@ pub record IsGicrTooSmall (c : MadtContents) (at other point : ℕ) : Type 0 whe
 
 -- ---- CPU interfaces
 
--- the GIC has no redistributors by its version (1 and 2 have none), and the address of the CPU interface at `at`, `point`, is not that of the first, at `other`
--- (5.2.12.14)
+-- the GIC has no redistributors by its version (1 and 2 have none), and the address of the CPU interface at `at`,
+-- `point`, is not that of the first, at `other` (5.2.12.14)
 pub record IsGiccBaseDiffers (c : MadtContents) (at other point : ℕ) : Type 0 where
   pub versioned : HasVersion c 1 2
   pub here : NamesAt gicc_base c.entries at point
@@ -91,8 +91,8 @@ pub record IsGiccBaseDiffers (c : MadtContents) (at other point : ℕ) : Type 0 
   pub first : IsFirstNamed gicc_base c.entries other base
   pub differ : point ≢ base
 
--- the CPU interface at `at` is on and names its own redistributor, at the address `point`, though there are ranges of them, of which
--- the first is at `other` (5.2.12.17)
+-- the CPU interface at `at` is on and names its own redistributor, at the address `point`, though there are ranges of
+-- them, of which the first is at `other` (5.2.12.17)
 abbrev pub IsRedistributorTwice : MadtContents → ℕ → ℕ → ℕ → Type 0
 IsRedistributorTwice c at other point =
     NamesAt own_redistributor c.entries at point × ((base : ℕ) × IsFirstNamed gicr_base c.entries other base)

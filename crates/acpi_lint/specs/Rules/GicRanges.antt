@@ -28,7 +28,7 @@ registers_of e =
 abbrev pub HasRegisters : MadtEntry → ℕ → ℕ → Type 0
 HasRegisters e s n = registers_of e ≡ Some (s, n)
 
--- that of the entry at the offset o
+-- the entry at the offset o has n bytes of registers from the address s on
 abbrev pub IsGicRange : MadtContents → ℕ → ℕ → ℕ → Type 0
 IsGicRange c o s n = StandsWith c.entries o (λ e. HasRegisters e s n)
 

@@ -50,8 +50,8 @@ gicd _ = None
 
 -- ---- entries that are not checked
 
--- entries with this type and length are read: by the stages types 0 to 5, 9 and 10, of any length, by these rules GICC (11), GICD (12),
--- MSI frame (13), GICR (14), ITS (15), CORE PIC (17) and RINTC (24)
+-- entries with this type and length are read: by the stages types 0 to 5, 9 and 10, of any length, by these rules
+-- GICC (11), GICD (12), MSI frame (13), GICR (14), ITS (15), CORE PIC (17) and RINTC (24)
 abbrev pub IsReadForm : ℕ → ℕ → Type 0
 IsReadForm type size =
     (type ≤ 5) ⊎ (type ≡ 9) ⊎ (type ≡ 10) ⊎ ((type ≡ 11) × (40 ≤ size)) ⊎ ((type ≡ 12) × (size ≡ 24))

@@ -9,15 +9,15 @@ use Rattle.acpi_base.specs.declared.frame.Question.TheVariants as question
 use Rattle.acpi_lint.specs.Rules.FixedFields.{IsAbove, IsUsed}
 use Rattle.acpi_lint.specs.Rules.Slots.{dsdt_signature}
 
--- the header at a is present, and is not a DSDT's, or says a Length below 36; or the table there is complete, and its checksum is
--- wrong
+-- the header at a is present, and is not a DSDT's, or says a Length below 36; or the table there is complete, and its
+-- checksum is wrong
 abbrev pub IsBrokenDsdt : Memory → ℕ → Type 0
 IsBrokenDsdt m a =
     FrameFault table_frame m a (question.Signature dsdt_signature)
     ⊎ FrameFault table_frame m a question.Length
     ⊎ FrameFault table_frame m a question.Sum
 
--- that is so of what the FADT names as the DSDT; `at` is the offset of the FADT's field, `point` the address
+-- the DSDT that the FADT names, at `point`, has a wrong signature, Length or checksum; `at` is the field's offset
 abbrev pub IsDsdtWrong : Memory → List ℕ → ℕ → ℕ → ℕ → Type 0
 IsDsdtWrong m fadt at other point =
     (at ≡ 40) × (other ≡ 0) × (point ≡ dsdt_address fadt) × (point ≢ 0) × IsBrokenDsdt m point
@@ -31,7 +31,7 @@ IsOddFacs facs at other point =
     ⊎ IsAbove facs 36 4 1 at other point  -- OSPM Flags, of one bit
     ⊎ IsUsed facs 40 64 at other point
 
--- that is so of the FACS that the FADT names, which is valid
+-- the FACS that the FADT names, and that is valid, has a field or a reserved byte without a meaning
 abbrev pub IsFacsReserved : Memory → List ℕ → ℕ → ℕ → ℕ → Type 0
 IsFacsReserved m fadt at other point =
     (facs_address fadt ≢ 0) × ((facs : List ℕ) × IsFacs m (facs_address fadt) facs × IsOddFacs facs at other point)

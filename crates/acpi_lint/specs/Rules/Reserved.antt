@@ -1,6 +1,6 @@
--- Advice on what the standard reserves in the MADT, the SRAT and the PPTT (ACPI 6.5, 5.2.12, 5.2.16, 5.2.30): bytes that should be
--- 0, flags that are not defined, and a number that should be 1. `at` is the offset of a field of the table itself, whose value is
--- `point`, or of an entry, in which `other` is the offset of the first number that is wrong.
+-- Advice on what the standard reserves in the MADT, the SRAT and the PPTT (ACPI 6.5, 5.2.12, 5.2.16, 5.2.30): bytes
+-- that should be 0, flags that are not defined, and a number that should be 1. `at` is the offset of a field of the
+-- table itself, whose value is `point`, or of an entry, in which `other` is the offset of the first wrong number.
 use Rattle.std.specs.Prelude.{◌≡◌, ◌≢◌, ℕ, ◌+◌, ◌<◌, ◌⊎◌, Bool, List, [], ◌∷◌, ◌++◌, length, map, Option, Some, None, nat_le, nat_lt, ◌&&◌, if◌then◌else◌}
 use Rattle.std.specs.List.{range_with_len}
 use Rattle.acpi_base.specs.Entries.{entries_of}

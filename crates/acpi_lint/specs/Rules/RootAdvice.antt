@@ -14,7 +14,7 @@ abbrev pub IsNullIn : List ℕ → ℕ → ℕ → ℕ → ℕ → Type 0
 IsNullIn whole d at other point =
     (36 + d * (at + 1) ≤ length whole) × (field whole (36 + d * at) d ≡ 0) × AreUnused other point
 
--- that is so of the root table that the RSDP at p names; `at` is the slot's number
+-- a slot of the root table that the RSDP at p names is 0; `at` is the slot's number
 pub record IsNullSlot (m : Memory) (p at other point : ℕ) : Type 0 where
   pub r : ℕ
   pub d : ℕ
@@ -44,7 +44,7 @@ pub record IsXsdt (m : Memory) (p : ℕ) (whole : List ℕ) : Type 0 where
   pub root : IsRoot m p r 8
   pub table : IsRootTable m r 8 whole
 
--- the extended form of the RSDP at p names an RSDT, at 16, with these bytes
+-- the RSDP at p, of which 36 bytes are present, names an RSDT, at 16, with these bytes
 pub record IsNamedRsdt (m : Memory) (p : ℕ) (whole : List ℕ) : Type 0 where
   pub rsdp : List ℕ
   pub present : bytes_at m p 36 ≡ Some rsdp

@@ -21,12 +21,12 @@ IsLongRsdp m p bytes at other point =
     (at ≡ 20) × (other ≡ 0) × (point ≡ frame_length extended_frame bytes) × (36 < point)
     × ((whole : List ℕ) × (bytes_at m p point ≡ Some whole))
 
--- the extended form is longer than that, or has a reserved byte that is not 0
+-- the extended form is longer than 36 bytes, or has a reserved byte that is not 0
 abbrev pub IsOddExtended : Memory → ℕ → ℕ → ℕ → ℕ → Type 0
 IsOddExtended m p at other point =
     (bytes : List ℕ) × AreExtendedBytes m p bytes
     × (IsLongRsdp m p bytes at other point ⊎ IsUsed bytes 33 36 at other point)
 
--- one of these
+-- the Revision is neither 0 nor 2, or the extended form is longer than 36 bytes or has a reserved byte that is not 0
 abbrev pub IsRsdpReserved : Memory → ℕ → ℕ → ℕ → ℕ → Type 0
 IsRsdpReserved m p at other point = IsOddRevision m p at other point ⊎ IsOddExtended m p at other point
