@@ -434,14 +434,5 @@ PARTS = (
 
 
 def all_cases(cases):
-    # The tool runs the program that is tested.
-    folder = os.path.join(cases.folder, "path")
-    os.mkdir(folder)
-    os.symlink(cases.program, os.path.join(folder, "acpiset"))
-    before = os.environ["PATH"]
-    os.environ["PATH"] = f"{folder}:{before}"
-    try:
-        for part in PARTS:
-            part(cases)
-    finally:
-        os.environ["PATH"] = before
+    for part in PARTS:
+        part(cases)
