@@ -288,6 +288,11 @@ def unread(tests):
     texts += [f"  type 3 (GICC affinity): 2, the first at offset 0x3e (62): {by_advice}"]
     texts += ["  type 16 (multiprocessor wakeup): 1 at offset 0x53 (83): not looked at"]
     tests.says("yes", texts, sets.UNREAD)
+    head = "structures of this table that neither the stages nor advice look at:"
+    texts = [head, "  type 11 (GICC): 1 at offset 0x2c (44)", "  type 16 (multiprocessor wakeup): 1 at offset 0x53 (83)"]
+    tests.says("advice MadtUnread 0x2c 0xb 0x0", texts, sets.UNREAD)
+    texts = [head, "  type 3 (GICC affinity): 1 at offset 0x30 (48)"]
+    tests.says("advice SratUnread 0x30 0x3 0x0", texts, sets.UNREAD, without=["offset 0x3e"])
     texts = [f"  type {kind} ({name}): 1 at offset {at}: {told}" for kind, name, at, told in (
         (12, "GIC distributor", "0x2c (44)", "not looked at"), (13, "GIC MSI frame", "0x43 (67)", "not looked at"),
         (14, "GIC redistributor", "0x5c (92)", by_advice), (15, "GIC ITS", "0x6c (108)", "not looked at"),

@@ -382,25 +382,47 @@ def is_advised(signature, kind, size):
     return size >= {11: 40, 24: 20}.get(kind, 256) or size == {12: 24, 13: 24, 14: 16, 15: 20, 17: 15}.get(kind)
 
 
-def unread(report, signature):
-    """Which structures of a table the stages do not look at, by type."""
-    table = report.tables.first(signature)
-    staged = (0, 1, 2) if signature == "SRAT" else (0, 1, 2, 3, 4, 5, 9, 10)
+def unread_kinds(table):
+    """Types at which the stages do not look, each with whether advice does: how many structures a table has of them, and the first one."""
+    staged = (0, 1, 2) if table.signature == "SRAT" else (0, 1, 2, 3, 4, 5, 9, 10)
     alike, kinds = {}, {}
-    for at in table.places() if table else ():
+    for at in table.places():
         key = table.data[at : at + 2]
         if key not in alike:
             alike[key] = [0, at]
         alike[key][0] += 1
     for (kind, size), (count, at) in alike.items():
         if kind not in staged:
-            found = kinds.setdefault((kind, is_advised(signature, kind, size)), [0, at])
+            found = kinds.setdefault((kind, is_advised(table.signature, kind, size)), [0, at])
             found[0] += count
+    return kinds
+
+
+def told_kind(signature, kind, count, at):
+    """A type, how many structures have it, and where the first one is."""
+    name = f" ({UNREAD[signature, kind]})" if (signature, kind) in UNREAD else ""
+    return f"  type {kind}{name}: {count}{', the first' if count > 1 else ''} at offset {both(at)}"
+
+
+def unread(report, signature):
+    """Which structures of a table the stages do not look at, by type."""
+    table = report.tables.first(signature)
+    kinds = unread_kinds(table) if table else {}
     if kinds:
         if not report.lines:
             report.say("`yes` does not cover these structures:")
         report.say(table.told)
-    for (kind, is_read), (count, at) in kinds.items():
-        name = f" ({UNREAD[signature, kind]})" if (signature, kind) in UNREAD else ""
-        first = f"{count}{', the first' if count > 1 else ''} at offset {both(at)}"
-        report.say(f"  type {kind}{name}: {first}: {'looked at by the advice of lint only' if is_read else 'not looked at'}")
+    for (kind, is_read), found in kinds.items():
+        report.say(f"{told_kind(signature, kind, *found)}: {'looked at by the advice of lint only' if is_read else 'not looked at'}")
+
+
+def unread_entry(report, code, at, other, point):
+    """The first structure that lint reports, and how many there are of each type, as it reports no other one."""
+    signature, of_table = ("APIC", madt) if code == 127 else ("SRAT", srat)
+    of_table(report, code, at, other, point)
+    table = report.tables.first(signature)
+    if table:
+        report.say("structures of this table that neither the stages nor advice look at:")
+    for (kind, is_read), found in (unread_kinds(table) if table else {}).items():
+        if not is_read:
+            report.say(told_kind(signature, kind, *found))
