@@ -45,8 +45,15 @@ def lines_without_image(tests):
             tests.count(titles[-1], "" if found == 2 * [titles[-1]] else f"the parts {found}")
     tests.count("parts of faults and of rules", "" if len(titles) == len(parts.codes) > 0 else f"{len(titles)}")
     tests.says("\n".join(lines), lines + titles)
+    lower = [part and part.title for part in map(parts.named, (title.partition(" ")[2].lower() for title in titles))]
+    tests.same("names in lower case", lower, titles)
+    for words in ("no 10 Overlap 0x90 0xb8 0x100000000", "10 Overlap 0x90 0xb8 0x100000000"):
+        tests.says(b"", [OVERLAP, "45 Overlap"], None, *words.split())
+    tests.says(b"", ["..its RSDP is at 0xf77e014: acpiset check --rsdp 0xf77e014 < IMAGE"], "ovmf-q35.img.txt", "no", "rsdp")
+    tests.says(b"", ["both cover 0x100000000 to 0x107ffffff"], "sb-pc-nvdimm-numa.img.txt", *OVERLAP.split(), "--rsdp", "f59d0")
+    tests.says(b"", "101 ListedTwice", None, *"advice ListedTwice 0x3 0x2 0x47fc198e".split())
     for word, title in (
-        ("43", "43 SratEntryLength"), ("Overlap", "45 Overlap"), ("128", "128 SratUnread"), ("NoLeaf", "125 NoLeaf"),
+        ("43", "43 SratEntryLength"), ("Overlap", "45 Overlap"), ("overlap", "45 Overlap"), ("128", "128 SratUnread"), ("NoLeaf", "125 NoLeaf"),
         ("184", "184 PpttReserved"), ("NoDsdt", "132 NoDsdt"),
     ):
         tests.says(b"", [title, "..- Example: "], None, word)
@@ -94,8 +101,17 @@ def refused_lines(tests):
     tests.refuses(1, "more than 100 lines", tests.file(sets.LEAF), text=b"yes\n" * 101)
     tests.refuses(1, "absent: cannot be read", "absent", text=b"yes\n")
     tests.refuses(1, "\\x1b[2J: cannot be read", "\x1b[2J", text=b"yes\n")
-    tests.refuses(1, "cannot be read: it is a folder", "/", text=b"yes\n")
-    tests.refuses(1, "Overlp: cannot be read", "Overlp")
+    tests.refuses(1, "/: a directory: give the file with the image", "/", text=b"yes\n")
+    tests.refuses(1, "Overlp: cannot be read: No such file or directory (nor is it", "Overlp")
+    tests.refuses(1, "a similar name is Overlap)", "overlp")
+    tests.refuses(1, "a name or a code of acpiset)", "image.bin")
+    with open(os.path.join(IMAGES, "example.img.txt"), "rb") as file:
+        tests.refuses(1, "standard input is image text: give it as IMAGE, and here what acpiset writes", text=file.read())
+    dump = os.path.join(IMAGES, "example.acpidump.txt")
+    tests.refuses(1, "it looks like text of acpidump, of which acpidump2image makes image text", dump, text=b"yes\n")
+    for data, what, tool in ((b"\x7fELF" + bytes(60), "a dump of memory", "memory2image"), (sets.hpet(), "raw tables", "tables2image")):
+        tests.refuses(1, f"it looks like {what}, of which {tool} makes image text", tests.file(data), text=b"yes\n")
+    tests.refuses(1, f"is in {TOP}/docs/TROUBLESHOOTING.md", tool=os.path.join(TOP, "tools", "explain"))
     for words in (["--rsdp", "g"], ["--rsdp", "0X0"], ["--rsdp", "1" * 17], ["one", "two"], ["--help"], ["--nothing"], ["--rsdp"]):
         tests.refuses(2, "usage: ", *words, text=b"yes\n")
     for words in (["43", "44"], ["43", tests.file(b"")], ["yes", "43"], ["1=0"], ["1=257"]):
@@ -425,7 +441,11 @@ def places(tests):
     tests.says("no 10 Overlap 0x50 0x78 0x0", f"..{DOUBT}", "example.img.txt", tool=installed)
     os.symlink(installed, os.path.join(tests.scratch, "link"))
     tests.says("yes", "..the image passes every stage", tool=os.path.join(tests.scratch, "link"))
-    os.remove(os.path.join(tests.scratch, "prefix", "share", "doc", "acpiset", "docs", "FAULTS.md"))
+    other_page = os.path.join(tests.scratch, "prefix", "share", "acpiset", "FAULTS.md")
+    os.rename(os.path.join(tests.scratch, "prefix", "share", "doc", "acpiset", "docs", "FAULTS.md"), other_page)
+    tests.says("no 18 LeafUnknown 0x0 0x0 0x0", "59 LeafUnknown", tool=installed, without=["another project"])
+    tests.refuses(1, "on standard error is in TROUBLESHOOTING.md", tool=installed)
+    os.remove(other_page)
     os.remove(os.path.join(tests.scratch, "prefix", "docs", "FAULTS.md"))
     tests.refuses(1, "acpiset's FAULTS.md is at neither", tool=installed, text=b"yes\n")
     left = [name for _, folders, names in os.walk(tests.scratch) for name in folders + names if "pyc" in name]

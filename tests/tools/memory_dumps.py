@@ -167,10 +167,10 @@ def of_the_search(cases):
     halves = {**tables, 0x700000: bytes(16) + new[:5], 0x700015: new[5:]}
     cases.write("halves", core_of(halves))
     cases.makes("RSDP at 0x700010", "yes", "memory2image", "halves")
-    cases.refuses("no RSDP is found; 2 places have its signature", "memory2image", raw_dump(cases, "ram.bin", {0x20: wrong, 0x60: broken}))
-    cases.refuses("no RSDP is found; 0 places have its signature", "memory2image", raw_dump(cases, "ram.bin", tables))
+    cases.refuses("no RSDP found: its signature is at 2 places, none with a valid checksum", "memory2image", raw_dump(cases, "ram.bin", {0x20: wrong, 0x60: broken}))
+    cases.refuses("no RSDP found: its signature is at 0 places", "memory2image", raw_dump(cases, "ram.bin", tables))
     many = cases.write("signatures", b"RSD PTR " * 1_000_100)
-    cases.refuses("more than 1000000 places have the signature of an RSDP: those from 0x7a1200 on are not looked at", "memory2image", "--base", "0", many)
+    cases.refuses("more than 1000000 places have the signature of an RSDP: those from 0x7a1200 on are skipped", "memory2image", "--base", "0", many)
 
 
 # ---- what is wrong with dumps
@@ -206,7 +206,11 @@ def refused(cases):
     for word in ("", "g", "0x", "1" * 17, "-1", "1_0", " 1"):
         refuses("no address of 1 to 16 hex digits", "memory2image", "--rsdp", word, "ram.bin", status=2)
     refuses("absent.bin: cannot be read: No such file or directory", "memory2image", "absent.bin")
-    refuses("folder: not a regular file", "memory2image", "folder")
+    refuses("folder: a directory: give the dump's file", "memory2image", "folder")
+    refuses("old.image: image text: acpiset reads it itself, as in acpiset check < IMAGE", "memory2image", "old.image")
+    refuses("whole.txt: text of acpidump: use acpidump2image", "memory2image", "whole.txt")
+    refuses("apic.dat: one raw table, APIC: use tables2image; or give --base, if it is a raw dump", "memory2image", "apic.dat")
+    refuses("no RSDP found", "memory2image", "--base", "0", "apic.dat")
     refuses("/dev/zero: not a regular file: copy it first, as with dd", "memory2image", "/dev/zero")
     refuses("empty.bin: empty", "memory2image", write("empty.bin", b""))
     refuses("the dump holds no 20 bytes at 0xffffffffffffffff", "memory2image", "--rsdp", "f" * 16, "ram.bin")

@@ -1,10 +1,14 @@
 """Cases of tools/tables2image."""
 
 import os
+import shutil
+import subprocess
+import sys
 
 from acpi_images.tables import *
 from acpi_images.text import text_of
 from files import DSDT, FADT, HPET, MADT, image_of_files, image_of_one, wide_fadt
+from tool_cases import TOP
 
 RESERVED_INTI = madt(lapic(0, 0), io_apic(0xFEC00000, 0), override(0, 2, flags=2))
 OVERLAPPING = srat(memory(0, 0x1000), memory(0x800, 0x1000))
@@ -21,6 +25,11 @@ VALID = {
 OWN = "the RSDP and the root, an XSDT, are made by this tool: they are not the machine's own"
 MADE_FADT = "no file has a FADT: one of reduced hardware is made by this tool, and is not the machine's own"
 MADE_DSDT = "DSDT at 0x103000, where the FADT says, made by this tool: it is empty"
+# Tools, each with another tool's file, and what names that tool by its installed name.
+CALLED = (
+    ("tables2image", "whole.txt", "use acpiset-acpidump2image"), ("memory2image", "apic.dat", "use acpiset-tables2image"),
+    ("explain", "whole.txt", "of which acpiset-acpidump2image makes image text"), ("acpidump2image", "apic.dat", "use acpiset-tables2image"),
+)
 USAGE = "usage: tables2image FILE.., as tables2image /sys/firmware/acpi/tables/*"
 
 
@@ -32,7 +41,7 @@ def of_files(cases):
     files = "facp.dat", "apic.dat", "hpet.dat", "facs.dat"
     makes(OWN, "yes", "tables2image", *files, image=old)
     makes("slot 0: HPET at 0x101000, from hpet.dat", "yes", "tables2image", "facs.dat", "hpet.dat", "apic.dat", "facp.dat", image=order)
-    makes("folder: a folder, passed over", "yes", "tables2image", "folder", *files, image=old)
+    makes("folder: a directory, skipped", "yes", "tables2image", "folder", *files, image=old)
     makes("rsdp.dat: an RSDP, left out: the image has one of its own", "yes", "tables2image", "rsdp.dat", "xsdt.dat", *files, image=old)
     makes("xsdt.dat: an XSDT, left out: the image has a root of its own", "yes", "tables2image", "xsdt.dat", *files, image=old)
     makes("dsdt.dat: the DSDT, left out", "yes", "tables2image", "dsdt.dat", *files, image=old)
@@ -148,10 +157,16 @@ def refused(cases):
     refuses("/dev/null: not a regular file", "tables2image", "/dev/null")
     refuses("empty.dat: empty", "tables2image", "facp.dat", "empty.dat")
     refuses("short.dat: 35 bytes, and a table has 36 at least", "tables2image", "facp.dat", "short.dat")
-    refuses("zeros.dat: begins with no signature of a table", "tables2image", "zeros.dat")
+    refuses("zeros.dat: does not begin with the signature of a table: not a raw table", "tables2image", "zeros.dat")
     refuses("packed.dat: gzip data", "tables2image", "packed.dat")
     refuses("whole.txt: text of acpidump", "tables2image", "whole.txt")
-    refuses("old.image: begins with no signature of a table", "tables2image", "old.image")
+    refuses("old.image: image text: acpiset reads it itself, as in acpiset check < IMAGE", "tables2image", "old.image")
+    refuses("old.image: image text", "tables2image", "facp.dat", "old.image")
+    refuses("core.dat: an ELF file: if it is a dump of memory, use memory2image", "tables2image", cases.write("core.dat", b"\x7fELF" + bytes(60)))
+    refuses("wide.txt: text of 16 bits a character", "tables2image", cases.write("wide.txt", "@1000\n41\n".encode("utf-16")))
+    for line in (b"yes\n", b"no 10 Overlap 0x30 0x58 0x800\n", b"advice SameUid 0x2c 0x34 0x0\n", b"no rsdp\n", b"rsdp 0xf59e0\n"):
+        refuses("lines.txt: lines of acpiset: use explain", "tables2image", cases.write("lines.txt", line))
+    refuses("folder: a directory: give the files in it, as folder/*", "tables2image", "folder/")
     refuses("facs2.dat: a second FACS", "tables2image", "facp.dat", "facs.dat", "facs2.dat")
     refuses("facs.dat: a FACS, and named.dat names no address for it", "tables2image", "facs.dat", "named.dat")
     refuses("facs.dat: from 0xffffffffffffffe0 on the FACS goes past the last address", "tables2image", "facs.dat", "past.dat")
@@ -168,6 +183,20 @@ def refused(cases):
         os.chmod(cases.path("hpet.dat"), 0o644)
 
 
+def installed(cases):
+    """A tool that is called by its installed name calls the others so."""
+    folder = cases.path("prefix/bin")
+    os.makedirs(folder)
+    for tool, _, _ in CALLED:
+        shutil.copy(os.path.join(TOP, "tools", tool), os.path.join(folder, f"acpiset-{tool}"))
+    shutil.copytree(os.path.join(TOP, "share"), cases.path("prefix/share"))
+    shutil.copy(os.path.join(TOP, "docs", "FAULTS.md"), cases.path("prefix/share/acpiset"))
+    for tool, data, told in CALLED:
+        words = [sys.executable, cases.path(f"prefix/bin/acpiset-{tool}"), data]
+        run = subprocess.run(words, input=b"yes\n", capture_output=True, cwd=cases.folder, timeout=60)
+        cases.count(f"acpiset-{tool} {data}", run.returncode != 1 and f"{run}", told.encode() not in run.stderr and f"{run}")
+
+
 def all_cases(cases):
-    for part in (of_files, of_one_table, of_a_log, refused):
+    for part in (of_files, of_one_table, of_a_log, refused, installed):
         part(cases)
