@@ -397,7 +397,7 @@ if [ -e "$unpacked/lib/acpiset.o" ]; then
   same 'libraries that its program asks for' "$(readelf -d "$unpacked/bin/acpiset" | grep -c NEEDED)" 0
   same 'its program on the known sets' "$(tests/rows/run.py "$unpacked/bin/acpiset" | grep -c ' 0 failed$')" 1
 else
-  left_out 'the program of the archive with the C library inside' 'it could not be linked here'
+  left_out 'the statically linked program of the archive' 'it could not be linked here'
   same 'the C library in the list of parts' "$(grep -A 1 '"relationshipType": "DYNAMIC_LINK"' "$unpacked/acpiset.spdx.json" | grep -c acpiset)" 1
 fi
 

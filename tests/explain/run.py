@@ -93,8 +93,8 @@ no"""
 
 def refused_lines(tests):
     for line in NO_LINES.split("\n"):
-        tests.refuses(1, "no line that acpiset check, lint or find writes", text=line.encode())
-    tests.refuses(1, "no line that acpiset check, lint or find writes", text=b"yes\nfoo\n")
+        tests.refuses(1, "not a line that acpiset check, lint or find writes", text=line.encode())
+    tests.refuses(1, "not a line that acpiset check, lint or find writes", text=b"yes\nfoo\n")
     tests.refuses(1, "'\\x1b[2J\\xff'", text=b"\x1b[2J\xff\n")
     tests.refuses(1, "no line on standard input")
     tests.refuses(1, "standard input has more than 65,536 bytes", text=b"41 " * 1_000_000)
@@ -184,10 +184,10 @@ def chains(tests):
     tests.says("no 15 CacheCycle 0x24 0x1 0x2", [told, "..  0x54 cache flags 0x0 next 0x3c "], sets.CACHES, without=[MISMATCH])
     inside = ["no structure begins at offset 0x40 (64): it is inside this one", "  0x38 node flags 0x0 parent 0x4c id 0 resources"]
     tests.says("no 13 DanglingParent 0x24 0x40 0x0", inside, sets.DANGLING, without=[MISMATCH])
-    tests.says("no 13 DanglingParent 0x38 0x4c 0x0", "it is of type 1, and has to be a node, type 0", sets.DANGLING, without=[MISMATCH])
+    tests.says("no 13 DanglingParent 0x38 0x4c 0x0", "it is of type 1, and must be a node, type 0", sets.DANGLING, without=[MISMATCH])
     past = "no structure begins at offset 0x1000 (4096): the table's structures are at 36 to 123"
     tests.says("no 13 DanglingCache 0x4c 0x1000 0x0", past, sets.DANGLING, without=[MISMATCH])
-    tests.says("no 13 DanglingResource 0x64 0x0 0x24", "it is of type 0, and has to be of another type", sets.DANGLING, without=[MISMATCH])
+    tests.says("no 13 DanglingResource 0x64 0x0 0x24", "it is of type 0, and must be of another type", sets.DANGLING, without=[MISMATCH])
 
 
 def numbers(tests):
@@ -201,7 +201,7 @@ def numbers(tests):
     texts += ["0xfffffff0 and 24 inputs are 0x100000008, and at most 0x100000000 is allowed"]
     tests.says("no 6 GsiPastEnd 0x2c 0x0 0x0", texts, sets.HIGH_BASE, without=[MISMATCH])
     texts = ["signature HPET, Length 4294967295"]
-    texts += ["of the 4294967295 bytes that have to be in the image the first 56 are; the next one, at 0x11038, is not"]
+    texts += ["of the 4294967295 bytes that must be in the image the first 56 are; the next one, at 0x11038, is not"]
     tests.says("no 3 TableOut 0x1 0x11000 0x0", texts, sets.LONGEST, without=[MISMATCH])
 
 
@@ -211,7 +211,7 @@ def fields(tests):
     tests.says("no 3 TableSum 0x1 0x3000 0x0", "signature HPET, Length 56", sets.SUMS["no 3 TableSum 0x1 0x3000 0x0"][0])
     tests.says("no 3 TableSum 0x0 0x10000 0x0", "..sum to 0: is this the image that the line is of?", sets.LEAF)
     tests.says("no 3 TableOut 0x0 0x10000 0x0", "..all 116 bytes are in the image: is this the image", sets.LEAF)
-    told = "of the 116 bytes that have to be in the image the first 68 are; the next one, at 0x2044, is not"
+    told = "of the 116 bytes that must be in the image the first 68 are; the next one, at 0x2044, is not"
     tests.says("no 3 TableOut 0x0 0x2000 0x0", told, sets.CUT, without=[MISMATCH])
     tests.says("no 3 TableOut 0x1 0x3000 0x0", "  (--: a byte that is not in the image)", "ovmf-q35.img.txt")
     tests.says("no 4 PmEventLength 0x58 0x0 0x0", ["the field at offset 0x58 (88), at 0x10058:", f"..{DOUBT}"], sets.LEAF)

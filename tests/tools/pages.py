@@ -306,10 +306,10 @@ def from_lines(cases):
         run = cases.run("report", "--format", "html", *words, data=data)
         told = verdict_of(Page(run.stdout.decode()))
         cases.count(f"a page without a verdict {words}", run.returncode != status and f"{run}", not told.startswith("no verdict") and told)
-    cases.refuses("line 2: 'x': no line that acpiset writes there", "report", "--format", "html", data=b"yes\nx\n", status=3)
+    cases.refuses("line 2: 'x': not a line that acpiset writes there", "report", "--format", "html", data=b"yes\nx\n", status=3)
     number = len(linted.splitlines()) + 2
     lines = f"{linted}\n{shown.splitlines()[0]}\nx\n".encode()
-    cases.refuses(f"line {number}: 'x': no line of acpiset show", "report", "--format", "html", data=lines, status=3)
+    cases.refuses(f"line {number}: 'x': not a line of acpiset show", "report", "--format", "html", data=lines, status=3)
 
 
 # ---- files

@@ -22,7 +22,7 @@ VALID = {
     "HPET": HPET,
     "SSDT": table(b"SSDT", b"\x5b\x80"),
 }
-OWN = "the RSDP and the root, an XSDT, are made by this tool: they are not the machine's own"
+OWN = "the RSDP and the root table, an XSDT, are made by this tool: they are not the machine's own"
 MADE_FADT = "no file has a FADT: one of reduced hardware is made by this tool, and is not the machine's own"
 MADE_DSDT = "DSDT at 0x103000, where the FADT says, made by this tool: it is empty"
 # Tools, each with another tool's file, and what names that tool by its installed name.
@@ -43,19 +43,19 @@ def of_files(cases):
     makes("slot 0: HPET at 0x101000, from hpet.dat", "yes", "tables2image", "facs.dat", "hpet.dat", "apic.dat", "facp.dat", image=order)
     makes("folder: a directory, skipped", "yes", "tables2image", "folder", *files, image=old)
     makes("rsdp.dat: an RSDP, left out: the image has one of its own", "yes", "tables2image", "rsdp.dat", "xsdt.dat", *files, image=old)
-    makes("xsdt.dat: an XSDT, left out: the image has a root of its own", "yes", "tables2image", "xsdt.dat", *files, image=old)
+    makes("xsdt.dat: an XSDT, left out: the image has a root table of its own", "yes", "tables2image", "xsdt.dat", *files, image=old)
     makes("dsdt.dat: the DSDT, left out", "yes", "tables2image", "dsdt.dat", *files, image=old)
     makes("FACS at 0x123456789abc0, where the FADT says", "yes", "tables2image", "wide.dat", "facs.dat", image=wide)
     makes("FACS at 0xffffffffffffffc0", "yes", "tables2image", "last.dat", "facs.dat")
     makes("FACS at 0xe0000", "yes", "tables2image", "first.dat", "facs.dat", "hpet.dat")
     makes("FACS at 0x101000", "yes", "tables2image", "second.dat", "facs.dat", "hpet.dat")
     makes("slot 0: FACP at 0x101000", "yes", "tables2image", "reduced.dat", image=text_of(image_of_files(fadt(), facs_at=None)))
-    makes("has 83 bytes, and its Length says 80: put as it is", "yes", "tables2image", "facp.dat", "longer.dat", "facs.dat")
+    makes("has 83 bytes, and its Length says 80: written as it is", "yes", "tables2image", "facp.dat", "longer.dat", "facs.dat")
     makes("has 79 bytes, and its Length says 80", "no 3 TableOut 0x1 0x102000 0x0", "tables2image", "facp.dat", "cut.dat", "hpet.dat", "facs.dat")
     makes("has 36 bytes, and its Length says 4294967295", "no 3 TableOut 0x1 0x102000 0x0", "tables2image", "reduced.dat", "huge.dat")
     makes("no file has it: check will say FacsHeaderOut", "no 5 FacsHeaderOut 0x7000 0x0 0x0", "tables2image", "facp.dat")
     makes("names no FACS: check will say NoFacs", "no 5 NoFacs 0x0 0x0 0x0", "tables2image", "named.dat")
-    told = "second.srat: a second SRAT: only first.srat is read, and of this one header, length and sum"
+    told = "second.srat: a second SRAT: only first.srat is read, and of this one the header, the Length and the checksum"
     cases.write("first.srat", VALID["SRAT"])
     cases.write("second.srat", OVERLAPPING)
     makes(told, "yes", "tables2image", "reduced.dat", "first.srat", "second.srat")
@@ -156,7 +156,7 @@ def refused(cases):
     refuses("absent.dat: no such file", "tables2image", "facp.dat", "absent.dat")
     refuses("/dev/null: not a regular file", "tables2image", "/dev/null")
     refuses("empty.dat: empty", "tables2image", "facp.dat", "empty.dat")
-    refuses("short.dat: 35 bytes, and a table has 36 at least", "tables2image", "facp.dat", "short.dat")
+    refuses("short.dat: 35 bytes, and a table has at least 36", "tables2image", "facp.dat", "short.dat")
     refuses("zeros.dat: does not begin with the signature of a table: not a raw table", "tables2image", "zeros.dat")
     refuses("packed.dat: gzip data", "tables2image", "packed.dat")
     refuses("whole.txt: text of acpidump", "tables2image", "whole.txt")
@@ -176,10 +176,10 @@ def refused(cases):
             file.write(b"SSDT" + number(size, 4))
             file.truncate(size)
     refuses("larger.dat: larger than any table", "tables2image", "larger.dat")
-    refuses("the image would have 120000348 bytes of text, and acpiset reads 67108864 at most", "tables2image", "large.dat", "large.dat")
+    refuses("the image would have 120000348 bytes of text, and acpiset reads at most 67108864", "tables2image", "large.dat", "large.dat")
     if os.getuid() != 0:
         os.chmod(cases.path("hpet.dat"), 0)
-        refuses("hpet.dat: may not be read", "tables2image", "hpet.dat")
+        refuses("hpet.dat: permission denied", "tables2image", "hpet.dat")
         os.chmod(cases.path("hpet.dat"), 0o644)
 
 

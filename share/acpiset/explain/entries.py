@@ -266,7 +266,7 @@ def reference(report, table, at, due):
     before = table.before(at)
     if table.begins(at):
         found = report.structure(table, "what is named", at)
-        report.say(f"it is of type {found.type}, and has to be {due}")
+        report.say(f"it is of type {found.type}, and must be {due}")
     elif before and at < before.offset + before.size:
         report.say(f"no structure begins at offset {both(at)}: it is inside this one")
         report.structure(table, "the structure", before.offset)
