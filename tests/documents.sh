@@ -230,6 +230,12 @@ contracts=$(
   contract run_check crates/acpi_cli/src/check.rt
 )
 agree 'the contracts of the headline, as PROOF.md has them (<) and in the code (>)' "$headline" "$contracts"
+within 'files of these contracts that PROOF.md does not name' "$(printf 'crates/%s.rt\n' acpi_check/src/stages acpi_confirm/src/lib acpi_cli/src/laws acpi_cli/src/check)" \
+  "$(sed -n '/^## The headline$/,/^## /p' docs/PROOF.md | grep -o '`crates/[a-z_/.]*`' | tr -d '`')"
+# README's mistakes: each line is that of an example in FAULTS.md.
+found=$(sed -n '/^## What it finds$/,/^## /p' README.md | grep -o '`no [0-9][^`]*`')
+within 'lines of mistakes in README that are in no example of FAULTS.md' "$found" "$(sed -n '/^- Example: /,/\.$/p' docs/FAULTS.md | grep -o '`no [0-9][^`]*`')"
+same 'mistakes that README names' "$(wc -l <<<"$found")" 6
 
 count 'definitions that public contracts rest on' "$(tests/definitions.py 2>&1)"
 for crate in $crates; do
@@ -342,7 +348,12 @@ within 'libraries of the toolchain in crates.txt that release/parts.txt does not
 agree 'libraries in release/parts.txt (<) and those with a notice in release/NOTICES.md (>)' "$(sed -n 's/^\([a-z_]*\) | .*/\1/p' release/parts.txt)" \
   "$(sed -n 's/^## //p' release/NOTICES.md)"
 if command -v rt >/dev/null; then
-  count 'libraries of the toolchain, and what release/parts.txt and release/NOTICES.md say of them' "$(scripts/parts check "$(dirname "$(rt doc)")" 2>&1)"
+  kit=$(dirname "$(rt doc)")
+  count 'libraries of the toolchain, and what release/parts.txt and release/NOTICES.md say of them' "$(scripts/parts check "$kit" 2>&1)"
+  # rounded SIZE UNIT: how many units a number of bytes is.
+  rounded() { echo $((($1 + $2 / 2) / $2)); }
+  same 'how large the toolchain is, by PROOF.md' "$(sed -n '/^## What is trusted$/,$p' docs/PROOF.md | tr '\n' ' ' | sed -n 's/.*`rattle`, \([0-9]*\) MB.* \([0-9]*\) KB of C.*/\1 \2/p')" \
+    "$(rounded "$(stat -c %s "$kit/bin/rattle")" 1000000) $(rounded "$(cat "$kit"/c/lib*_c.a | wc -c)" 1000)"
 fi
 
 # ---- what other programs say about the scripts and the manual pages
