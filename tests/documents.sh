@@ -312,6 +312,7 @@ options=$(sed -n 's/.*option(alloc, "\([a-z-]*\)".*/--\1/p' crates/acpi_argument
 option_names() { grep -o -- '--[a-z-]*[a-z]'; }
 within 'options that the synopsis of man/acpiset.1 does not name' "$options" "$(page SYNOPSIS | option_names)"
 within 'options that man/acpiset.1 does not explain' "$options" "$(terms OPTIONS | option_names)"
+count 'options of man/acpiset.1 that are not those of the help' "$(tests/manual.py 2>&1)"
 commands=$(sed -n 's/.*Command::new(alloc, "\([a-z]*\)").*/\1/p' crates/acpi_arguments/src/command_line.rt | grep -vx acpiset)
 agree 'commands (<) and those in the synopsis of man/acpiset.1 (>)' "$commands" "$(page SYNOPSIS | sed -n 's/^\.B acpiset //p')"
 agree 'commands (<) and those that man/acpiset.1 explains (>)' "$commands" "$(terms DESCRIPTION | sed -n 's/^\.B //p')"
