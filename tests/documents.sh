@@ -256,6 +256,7 @@ fi
 minutes=$(tr '\n' ' ' <CONTRIBUTING.md | sed -n 's/.*clean `make run` took \([0-9]*\) minutes.*`make test` after it \([0-9]*\).*/\1 and \2 minutes/p')
 count 'minutes of make run and make test that README does not name' "$(grep -qF "${minutes:-none}" README.md || echo "$minutes")"
 
+count 'commands on images of the repository, and not on those of IMAGES' "$(grep -nE '(<|\$SOURCE/) *tests/images|SOURCE/tests' README.md docs/*.md)"
 count 'links that lead nowhere' "$(tests/links.py 2>&1)"
 count 'lines of README beyond 150' "$(tail -n +151 README.md)"
 paths=$(cat README.md docs/*.md | grep -o '`\(bindings\|crates\|docs\|examples\|tests\|bench\|tools\|man\|scripts\|release\|share/acpiset\)/[A-Za-z0-9_./-]*[A-Za-z0-9_]`' | tr -d '`' | sort -u)
