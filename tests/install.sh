@@ -457,8 +457,8 @@ rm -rf "$unpacked"
 tar -xzf "$archive" -C "$scratch/unpacked"
 beside=$({
   printf '%s\n' bindings/rust/Cargo.lock bindings/rust/Cargo.toml bindings/rust/README.md bindings/rust/build.rs bindings/rust/tests/tables_in_memory.rs
-  for file in bindings/rust/src/*.rs examples/*.c; do echo "$file"; done
-  [ ! -d bindings/python ] || find bindings/python -type f ! -path '*/__pycache__/*' ! -path '*/.*' ! -path '*/build/*' ! -path '*.egg-info/*' ! -name lists.py
+  for file in bindings/rust/src/*.rs examples/*.*; do echo "$file"; done
+  [ ! -d bindings/python ] || find bindings/python -type f | grep -v '/__pycache__/\|/build/\|\.egg-info/\|/lists.py$\|/\.[^/]*$'
 } | sorted)
 mapfile -t installed <<<"$with_library"$'\n'"$beside"
 same 'files in the archive with the library' "$(files_in "$unpacked" | grep -v SHA256SUMS)" "$(packed "${installed[@]}")"

@@ -1,7 +1,7 @@
 #!/usr/bin/env bash
-# Builds the Debian packages of release/debian from the program and the library, if debhelper is installed, looks at what is in them, has
-# lintian look them over, if that is installed, and runs their own test on the unpacked files. If `make library` has left no library, another
-# one with the same functions replaces it.
+# Builds the Debian packages of release/debian from the program and the library, if debhelper is installed, looks at what is in them,
+# has lintian look them over, if that is installed, and runs their own test on the unpacked files. If `make library` has left no
+# library, another one with the same functions replaces it.
 # usage: tests/package.sh PROGRAM; the last line is 'package: N passed, M failed'.
 program=$(realpath -- "${1:?usage: tests/package.sh PROGRAM}")
 # shellcheck source=tests/prelude.sh
@@ -54,7 +54,7 @@ packed=$(for folder in "$scratch"/in-*; do files_in "$folder"; done | sed 's|\(/
   grep -v '^usr/share/doc/[a-z0-9-]*/\(changelog.*\|copyright\|examples/.*\)$' | sorted)
 count 'files of the packages (<), each in one, and those that are installed (>)' \
   "$(diff <(printf '%s\n' "$packed") <(files_in "$scratch/installed" | grep -v '/CHANGELOG.md$') | grep '^[<>]')"
-same 'examples of the package' "$(files_in "$scratch/in-libacpiset-dev" | sed -n 's|.*/examples/\(.*\)|\1|p')" "$(cd examples && printf '%s\n' *.c)"
+same 'examples of the package' "$(files_in "$scratch/in-libacpiset-dev" | sed -n 's|.*/examples/\(.*\)|\1|p')" "$(cd examples && printf '%s\n' *.*)"
 same "the package's own test" "$(IMAGES="$scratch/in-acpiset/usr/share/acpiset/images" PATH="$scratch/in-acpiset/usr/bin:$PATH" sh $debian/tests/check-image 2>&1)" \
   'images: as expected'
 if has lintian; then

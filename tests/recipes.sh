@@ -11,7 +11,8 @@
 # With 'own' its output depends on the machine: then only its last line is tested. A block after '<!-- file NAME -->' is a file that
 # recipes use. All run in one folder and in one shell, so each finds what those before it left. acpiset and acpiset-NAME are on the
 # PATH, IMAGES names the folder of images, and SOURCE one that has what the archive has of the sources, and nothing else. The folder
-# has ./acpiset and bench, for the one recipe that runs in the repository alone. The kernel is the one that the variable KERNEL names, or that of /boot.
+# has ./acpiset and bench, for the one recipe that runs in the repository alone. The kernel is the one that the variable KERNEL names, or
+# that of /boot.
 program=$(realpath "${1:?usage: tests/recipes.sh PROGRAM}")
 # shellcheck source=tests/prelude.sh
 . "$(dirname "$0")/prelude.sh"

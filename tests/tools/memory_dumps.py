@@ -167,10 +167,12 @@ def of_the_search(cases):
     halves = {**tables, 0x700000: bytes(16) + new[:5], 0x700015: new[5:]}
     cases.write("halves", core_of(halves))
     cases.makes("RSDP at 0x700010", "yes", "memory2image", "halves")
-    cases.refuses("no RSDP found: its signature is at 2 places, none with a valid checksum", "memory2image", raw_dump(cases, "ram.bin", {0x20: wrong, 0x60: broken}))
+    told = "no RSDP found: its signature is at 2 places, none with a valid checksum"
+    cases.refuses(told, "memory2image", raw_dump(cases, "ram.bin", {0x20: wrong, 0x60: broken}))
     cases.refuses("no RSDP found: its signature is at 0 places", "memory2image", raw_dump(cases, "ram.bin", tables))
     many = cases.write("signatures", b"RSD PTR " * 1_000_100)
-    cases.refuses("more than 1000000 places have the signature of an RSDP: those from 0x7a1200 on are skipped", "memory2image", "--base", "0", many)
+    told = "more than 1000000 places have the signature of an RSDP: those from 0x7a1200 on are skipped"
+    cases.refuses(told, "memory2image", "--base", "0", many)
 
 
 # ---- what is wrong with dumps

@@ -162,7 +162,8 @@ def refused(cases):
     refuses("whole.txt: text of acpidump", "tables2image", "whole.txt")
     refuses("old.image: image text: acpiset reads it itself, as in acpiset check < IMAGE", "tables2image", "old.image")
     refuses("old.image: image text", "tables2image", "facp.dat", "old.image")
-    refuses("core.dat: an ELF file: if it is a dump of memory, use memory2image", "tables2image", cases.write("core.dat", b"\x7fELF" + bytes(60)))
+    cases.write("core.dat", b"\x7fELF" + bytes(60))
+    refuses("core.dat: an ELF file: if it is a dump of memory, use memory2image", "tables2image", "core.dat")
     refuses("wide.txt: text of 16 bits a character", "tables2image", cases.write("wide.txt", "@1000\n41\n".encode("utf-16")))
     for line in (b"yes\n", b"no 10 Overlap 0x30 0x58 0x800\n", b"advice SameUid 0x2c 0x34 0x0\n", b"no rsdp\n", b"rsdp 0xf59e0\n"):
         refuses("lines.txt: lines of acpiset: use explain", "tables2image", cases.write("lines.txt", line))
