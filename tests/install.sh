@@ -519,9 +519,10 @@ same 'make clean leaves no library' "$? $(find "$tree/library" 2>&1 | grep -c 'N
 
 # The program takes from the C library exactly what docs/PROOF.md names.
 if has nm; then
-  named=$(sed -n '/^- The functions that the built program takes/,/^- What the last line/p' docs/PROOF.md | grep -o '`[A-Za-z0-9_]*`' | tr -d '`' | sort -u)
-  same 'functions that the program takes from the C library' \
-    "$(nm -D --undefined-only "$program" | awk '{ sub(/@.*/, "", $2); print $2 }' | sort -u)" "$named"
+  named=$(sed -n '/^- The functions that the built program takes/,/^- What the last line/p' docs/PROOF.md | grep -o '`[A-Za-z0-9_]*`' | tr -d '`')
+  taken=$(nm -D --undefined-only "$program" | awk '{ sub(/@.*/, "", $2); print $2 }')
+  # The text of an error of `main` is needed or not, as the compiler inlines it.
+  same 'functions that the program takes from the C library' "$(printf '%s\n' "$taken" __xpg_strerror_r | sort -u)" "$(sort -u <<<"$named")"
 fi
 
 # It is linked as SECURITY.md says.

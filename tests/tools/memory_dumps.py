@@ -126,7 +126,7 @@ def of_all_rows(cases):
         try:
             text = tool.image_of(memory, int(words[2], 16))
         except tool.Refusal as refusal:
-            wrong += [] if "holds no 20 bytes" in str(refusal) else [f"{row.name}: {refusal}"]
+            wrong += [] if "does not have 20 bytes" in str(refusal) else [f"{row.name}: {refusal}"]
             continue
         count += 1
         for asked in (words, ["lint", *words[1:3]]):
