@@ -13,9 +13,8 @@ OF_RULES = {
     entries.fadt_madt: (108, 143, 170),
     fadt.facs_advice: (146,),
     fixed.rsdp_advice: (147,),
-    entries.unread_entry: (127, 128),
-    entries.madt: (*range(109, 117), 119, 125, *range(150, 170), 171, 172),
-    entries.srat: (117, 118, 120, *range(173, 179)),
+    entries.madt: (*range(109, 117), 119, 125, 127, *range(150, 170), 171, 172),
+    entries.srat: (117, 118, 120, 128, *range(173, 179)),
     fixed.slit_advice: (121, 179),
     entries.pptt: (122, 123, 124, 126, *range(180, 185)),
 }

@@ -141,6 +141,8 @@ def madt(report, code, at, other, point):
         io_apics(report, table)
     elif code == 119:
         affinities(report, found)
+    elif code == 127:
+        count_unread(report, table)
     elif code in (114, 125):
         looked_for(report, code)
     elif code in (152, 154):
@@ -205,6 +207,8 @@ def srat(report, code, at, other, point):
         report.say(f"the SRAT's Revision is {known(table.number(8, 1))}")
     elif code == 177:
         looked_for(report, code)
+    elif code == 128:
+        count_unread(report, table)
     elif code == 120 and (slit := report.table("SLIT")):
         report.field(slit, "the number of localities", 36, 8)
         report.say(f"the SLIT has {known(slit.number(36, 8))} localities, numbered from 0")
@@ -416,13 +420,9 @@ def unread(report, signature):
         report.say(f"{told_kind(signature, kind, *found)}: {'looked at by the advice of lint only' if is_read else 'not looked at'}")
 
 
-def unread_entry(report, code, at, other, point):
-    """The first structure that lint reports, and how many there are of each type, as it reports no other one."""
-    signature, of_table = ("APIC", madt) if code == 127 else ("SRAT", srat)
-    of_table(report, code, at, other, point)
-    table = report.tables.first(signature)
-    if table:
-        report.say("structures of this table that neither the stages nor advice look at:")
-    for (kind, is_read), found in (unread_kinds(table) if table else {}).items():
+def count_unread(report, table):
+    """How many structures lint does not read, by type: it reports the first one alone."""
+    report.say("structures of this table that neither the stages nor advice look at:")
+    for (kind, is_read), found in unread_kinds(table).items():
         if not is_read:
-            report.say(told_kind(signature, kind, *found))
+            report.say(told_kind(table.signature, kind, *found))
