@@ -15,6 +15,7 @@ PAGE, HELP = TOP / "man" / "acpiset.1", TOP / "tests" / "help.txt"
 SECTION = re.compile(r"(?<=^\.SH OPTIONS\n).*?(?=^\.SH )", re.M | re.S)
 # A term begins at the third column, and its text at the sixteenth, on the same line or on the next one.
 TERM = re.compile(r"  (--[a-z-]+(?: [A-Za-z|]+)?|ADDRESS=COUNT)(?:  +(.*))?")
+COMMANDS = "check", "lint", "confirm", "rebuild", "show", "find"
 LISTED = re.compile(r" +\d+ ")
 
 
@@ -32,7 +33,7 @@ class Option:
     def roff(self):
         """The option as the manual page has it."""
         text = re.sub(r"`([^`]*)`", r"\\fB\1\\fP", " ".join(self.lines).replace("--", r"\-\-"))
-        text = text if text.startswith("lint ") else text[:1].upper() + text[1:]
+        text = text if text.partition(" ")[0] in COMMANDS else text[:1].upper() + text[1:]
         text = text if text.endswith(":") else text + "."
         lines = [r"\&" * line.startswith(("'", ".")) + line for line in textwrap.wrap(text, 76)]
         return "\n".join([".TP", self.head(), *lines, *([".nf", *self.listed, ".fi"] if self.listed else []), ""])
