@@ -491,6 +491,8 @@ else
     cc examples/unit_test.c "${flags[@]}" -o unit_test &&
       LD_LIBRARY_PATH=lib ./unit_test >"$scratch/log" 2>&1
     same 'a program with libacpiset.so' "$? $(tail -n 1 "$scratch/log" | grep -c ' 0 failed$')" '0 1'
+    cc examples/unit_test.c "${flags[@]}" -Wl,-rpath,"$PWD/lib" -o unit_test && ./unit_test >"$scratch/log" 2>&1
+    same 'a program with the folder of the library' "$? $(tail -n 1 "$scratch/log" | grep -c ' 0 failed$')" '0 1'
     same 'the library that it asks for' "$(readelf -d unit_test | grep -c 'NEEDED.*\[libacpiset.so.1\]')" 1
   fi
   cd - >"$scratch/log" || exit
