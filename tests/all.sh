@@ -49,7 +49,7 @@ ran() {
   echo $? >"$log.status"
 }
 
-scripts=(refusals.py lint/run.py rows/many_slots.py recipes.sh fuzz/run.py show/run.py rows/texts.py lint/second.py program.sh valgrind.sh explain/run.py tools/run.py install.sh refused_calls.py rebuild/run.py rows/confirm.py documents.sh rows/run.py rows/words.py rows/examples.py scripts.sh)
+scripts=(refusals.py lint/run.py rows/many_slots.py recipes.sh fuzz/run.py show/run.py rows/texts.py lint/second.py program.sh valgrind.sh explain/run.py tools/run.py install.sh package.sh refused_calls.py rebuild/run.py rows/confirm.py documents.sh rows/run.py rows/words.py rows/examples.py scripts.sh)
 timed=(times.py limits.py)
 # The library is tested if `make library` has left it.
 [ ! -e library/libacpiset.a ] || scripts=(library/run.py library/rust.sh "${scripts[@]}")

@@ -2,10 +2,11 @@
 """Compares the tables of definitions in docs/PROOF.md with what public contracts rest on: each file of definitions that the
 contract of a public call names, and each that such a file imports, is in one of these tables with its number of
 lines, and no other file does. The first table has exactly those of the headline, a file comes after those that it
-imports, and none names a private type of a library.
+imports, and none names a private type of a library. The sums in sentences of that page and of README.md are those of the tables,
+and a definition that the page quotes is in the sources.
 
 usage: tests/definitions.py [--write]; prints what differs and what to write in its place, and nothing where all agrees.
-With --write it puts the right numbers of lines and sums into that page."""
+With --write it puts the right numbers of lines and sums into both pages."""
 
 import re
 import sys
@@ -15,6 +16,10 @@ from pathlib import Path
 
 TOP = Path(__file__).resolve().parent.parent
 PAGE = TOP / "docs" / "PROOF.md"
+README = TOP / "README.md"
+# Sentences with a sum: of the first table, or of all.
+SUM_OF_FIRST = re.compile(r"(?<=toolchain and )\d+(?= lines\sof definitions)|(?<=`confirm` )\d+(?= lines\sof definitions)")
+SUM_OF_ALL = re.compile(r"(?<=and )\d+(?= for all that is promised)")
 CRATES = re.findall(r"^([a-z_]+)(?: staticlib)?:", (TOP / "crates.txt").read_text(), re.M)
 # Those that are libraries for C: what they export is functions alone.
 FOR_C = re.findall(r"^([a-z_]+) staticlib:", (TOP / "crates.txt").read_text(), re.M)
@@ -198,6 +203,25 @@ def right_lines(lines):
     return {place: line for place, line in right.items() if line != lines[place]}
 
 
+def with_right_sums(text, lines):
+    """A page whose sentences have the sums of the tables in the lines of PROOF.md."""
+    sums = [sum(row.lines() for row in rows) for rows, _ in tables(lines)]
+    return SUM_OF_ALL.sub(str(sum(sums)), SUM_OF_FIRST.sub(str(sums[0]), text))
+
+
+def wrong_sentences(lines):
+    """What is wrong with the sums in sentences, and with the definitions that are quoted."""
+    for page, least in ((PAGE, 2), (README, 1)):
+        text = page.read_text()
+        if with_right_sums(text, lines) != text or len(SUM_OF_FIRST.findall(text)) + len(SUM_OF_ALL.findall(text)) < least:
+            yield f"{page.name}: the sums in its sentences are missing, or are not those of the tables"
+    sources = "\n\n".join(path.read_text() for path in TOP.glob("crates/*/specs/**/*.antt"))
+    quoted = re.findall(r"^```antt\n(.*?)^```$", PAGE.read_text(), re.M | re.S)
+    for item in "\n".join(quoted).split("\n\n"):
+        if not item.strip() or item.strip("\n") + "\n" not in sources:
+            yield f"quotes a definition that is not in the sources:\n{item or 'none'}"
+
+
 def row_for(file):
     """A row for a file, which says what its first comment says."""
     says = re.match(r"-- (.*)", file.read_text())
@@ -229,7 +253,8 @@ def differences(lines):
         for name in sorted(set(private_types(file))):
             yield f"{name_of(file)} names the private type {name}: what names it is to be apart from what contracts name"
     for place, line in right_lines(lines).items():
-        yield f"line {place + 1} has to be\n{line}"
+        yield f"line {place + 1} must be\n{line}"
+    yield from wrong_sentences(lines)
 
 
 def main():
@@ -237,7 +262,8 @@ def main():
     if sys.argv[1:] == ["--write"]:
         for place, line in right_lines(lines).items():
             lines[place] = line
-        PAGE.write_text("\n".join(lines))
+        PAGE.write_text(with_right_sums("\n".join(lines), lines))
+        README.write_text(with_right_sums(README.read_text(), lines))
     told = list(differences(lines))
     for line in told:
         print(f"docs/PROOF.md: {line}")

@@ -93,7 +93,7 @@ functions() {
     }
     part == "body" {
       lines++
-      if (lines == 1) is_built = /^ *[A-Z][A-Za-z]* [{]( [a-z_, ]* [}])?$/
+      if (lines == 1) is_built = $0 ~ /^ *[A-Z][A-Za-z]* [{]( [a-z_, ]* [}])?$/
       else if (!/^ *([a-z_]+(: (None|Some\([a-z_]+\)|self\.[a-z_]+))?,|[}])$/) is_built = 0
       is_plain = /^ *self\.[a-z_]+( = [a-z_]+;)?$/ || $0 ~ "^ *self\\.[a-z_]+\\." method "\\(\\)$"
     }
@@ -230,6 +230,12 @@ contracts=$(
   contract run_check crates/acpi_cli/src/check.rt
 )
 agree 'the contracts of the headline, as PROOF.md has them (<) and in the code (>)' "$headline" "$contracts"
+within 'files of these contracts that PROOF.md does not name' "$(printf 'crates/%s.rt\n' acpi_check/src/stages acpi_confirm/src/lib acpi_cli/src/laws acpi_cli/src/check)" \
+  "$(sed -n '/^## The headline$/,/^## /p' docs/PROOF.md | grep -o '`crates/[a-z_/.]*`' | tr -d '`')"
+# README's mistakes: each line is that of an example in FAULTS.md.
+found=$(sed -n '/^## What it finds$/,/^## /p' README.md | grep -o '`no [0-9][^`]*`')
+within 'lines of mistakes in README that are in no example of FAULTS.md' "$found" "$(sed -n '/^- Example: /,/\.$/p' docs/FAULTS.md | grep -o '`no [0-9][^`]*`')"
+same 'mistakes that README names' "$(wc -l <<<"$found")" 6
 
 count 'definitions that public contracts rest on' "$(tests/definitions.py 2>&1)"
 for crate in $crates; do
@@ -250,6 +256,7 @@ fi
 minutes=$(tr '\n' ' ' <CONTRIBUTING.md | sed -n 's/.*clean `make run` took \([0-9]*\) minutes.*`make test` after it \([0-9]*\).*/\1 and \2 minutes/p')
 count 'minutes of make run and make test that README does not name' "$(grep -qF "${minutes:-none}" README.md || echo "$minutes")"
 
+count 'commands on images of the repository, and not on those of IMAGES' "$(grep -nE '(<|\$SOURCE/) *tests/images|SOURCE/tests' README.md docs/*.md)"
 count 'links that lead nowhere' "$(tests/links.py 2>&1)"
 count 'lines of README beyond 150' "$(tail -n +151 README.md)"
 paths=$(cat README.md docs/*.md | grep -o '`\(bindings\|crates\|docs\|examples\|tests\|bench\|tools\|man\|scripts\|release\|share/acpiset\)/[A-Za-z0-9_./-]*[A-Za-z0-9_]`' | tr -d '`' | sort -u)
@@ -306,6 +313,7 @@ options=$(sed -n 's/.*option(alloc, "\([a-z-]*\)".*/--\1/p' crates/acpi_argument
 option_names() { grep -o -- '--[a-z-]*[a-z]'; }
 within 'options that the synopsis of man/acpiset.1 does not name' "$options" "$(page SYNOPSIS | option_names)"
 within 'options that man/acpiset.1 does not explain' "$options" "$(terms OPTIONS | option_names)"
+count 'options of man/acpiset.1 that are not those of the help' "$(tests/manual.py 2>&1)"
 commands=$(sed -n 's/.*Command::new(alloc, "\([a-z]*\)").*/\1/p' crates/acpi_arguments/src/command_line.rt | grep -vx acpiset)
 agree 'commands (<) and those in the synopsis of man/acpiset.1 (>)' "$commands" "$(page SYNOPSIS | sed -n 's/^\.B acpiset //p')"
 agree 'commands (<) and those that man/acpiset.1 explains (>)' "$commands" "$(terms DESCRIPTION | sed -n 's/^\.B //p')"
@@ -342,7 +350,12 @@ within 'libraries of the toolchain in crates.txt that release/parts.txt does not
 agree 'libraries in release/parts.txt (<) and those with a notice in release/NOTICES.md (>)' "$(sed -n 's/^\([a-z_]*\) | .*/\1/p' release/parts.txt)" \
   "$(sed -n 's/^## //p' release/NOTICES.md)"
 if command -v rt >/dev/null; then
-  count 'libraries of the toolchain, and what release/parts.txt and release/NOTICES.md say of them' "$(scripts/parts check "$(dirname "$(rt doc)")" 2>&1)"
+  kit=$(dirname "$(rt doc)")
+  count 'libraries of the toolchain, and what release/parts.txt and release/NOTICES.md say of them' "$(scripts/parts check "$kit" 2>&1)"
+  # rounded SIZE UNIT: how many units a number of bytes is.
+  rounded() { echo $((($1 + $2 / 2) / $2)); }
+  same 'how large the toolchain is, by PROOF.md' "$(sed -n '/^## What is trusted$/,$p' docs/PROOF.md | tr '\n' ' ' | sed -n 's/.*`rattle`, \([0-9]*\) MB.* \([0-9]*\) KB of C.*/\1 \2/p')" \
+    "$(rounded "$(stat -c %s "$kit/bin/rattle")" 1000000) $(rounded "$(cat "$kit"/c/lib*_c.a | wc -c)" 1000)"
 fi
 
 # ---- what other programs say about the scripts and the manual pages

@@ -16,7 +16,7 @@ export TMPDIR="$scratch/a tmp"
 copy_tree() {
   local all
   mkdir "$1"
-  mapfile -t all < <(ls -d Makefile ./*.md LICENSE bindings crates crates.txt docs man release scripts share tests/images tools 2>/dev/null)
+  mapfile -t all < <(ls -d Makefile ./*.md LICENSE bindings crates crates.txt docs examples man release scripts share bench/README.md tests/images tools 2>/dev/null)
   tar -cf - --exclude=out --exclude=target "${all[@]}" | tar -xf - -C "$1"
 }
 
@@ -58,10 +58,22 @@ wanted=$({
   for tool in $there; do echo "bin/acpiset-$tool"; done
   for page in man/*.1; do echo "share/man/man1/${page#man/}"; done
   echo share/man/man7/acpiset-faults.7
-  for document in README.md CHANGELOG.md CONTRIBUTING.md NOTICES.md SECURITY.md docs/*.md docs/*.png; do echo "share/doc/acpiset/$document"; done
+  for document in README.md CHANGELOG.md CONTRIBUTING.md NOTICES.md SECURITY.md bench/README.md docs/*.md docs/*.png; do echo "share/doc/acpiset/$document"; done
   [ -z "$licence" ] || echo "$licence"
   find share -name '*.py' 2>/dev/null
+  echo share/acpiset/FAULTS.md
+  for image in tests/images/*; do echo "share/acpiset/images/${image##*/}"; done
 } | sorted)
+
+# open_links FOLDER: the links in its pages that lead nowhere; not in the copy of FAULTS.md that only tools read.
+open_links() {
+  local page link
+  find "$1" -name '*.md' ! -path '*/share/acpiset/FAULTS.md' | while read -r page; do
+    sed '/^```/,/^```$/d' "$page" | grep -o '](\([^)]*\))' | sed 's/^](//; s/)$//; s/#.*//' | grep -v '^$\|^https\{0,1\}:\|^mailto:' | while read -r link; do
+      [ -e "${page%/*}/$link" ] || printf '%s: %s\n' "${page#"$1/"}" "$link"
+    done
+  done
+}
 
 # ---- install and uninstall
 
@@ -71,10 +83,18 @@ with_program install DESTDIR="$scratch/root" PREFIX=/usr
 same 'make install' "$? $(cat "$scratch/log")" '0 '
 usr="$scratch/root/usr"
 same 'files that are installed' "$(files_in "$usr")" "$wanted"
+same 'links in the installed pages that lead nowhere' "$(open_links "$usr")" ''
+same 'an installed image' "$("$usr/bin/acpiset" check <"$usr/share/acpiset/images/example.img.txt")" yes
 rm "$tree"/tools/*[~.]* "$tree"/tools/.[a-z]* "$tree"/man/*~ "$tree"/docs/.[a-z]* "$tree"/docs/*~
 same 'lines of acpiset-faults(7)' "$(wc -l <"$usr/share/man/man7/acpiset-faults.7")" "$(awk -f man/faults.awk docs/FAULTS.md | wc -l)"
 same 'the program' "$("$usr/bin/acpiset" check <tests/images/example.img.txt)" yes
 same 'acpiset-explain' "$(echo yes | "$usr/bin/acpiset-explain" | head -n 1)" yes
+same 'the page that acpiset-explain names' "$("$usr/bin/acpiset-explain" </dev/null 2>&1)" \
+  "acpiset-explain: no line on standard input: acpiset wrote none; what it said on standard error is in $usr/share/doc/acpiset/docs/TROUBLESHOOTING.md"
+mv "$usr/share/doc" "$scratch/doc"
+same 'acpiset-explain without share/doc' "$("$usr/bin/acpiset-explain" overlap | head -n 1)" '45 Overlap'
+same 'acpiset-report without share/doc' "$("$usr/bin/acpiset" check <tests/images/sb-pc-nvdimm-numa.img.txt | "$usr/bin/acpiset-report" --format json | grep -c 'Two enabled memory ranges')" 1
+mv "$scratch/doc" "$usr/share/doc"
 same 'acpiset-acpidump2image' "$("$usr/bin/acpiset-acpidump2image" tests/images/example.acpidump.txt 2>"$scratch/log" | "$usr/bin/acpiset" check)" yes
 ln -s "$usr/bin/acpiset-explain" "$scratch/link"
 same 'acpiset-explain by a link' "$(echo 'no rsdp' | "$scratch/link" | head -n 1)" 'no rsdp'
@@ -223,11 +243,16 @@ same 'make fuzz without a program' "$? $(grep -c '`make build` first' "$scratch/
 
 # ---- a full disk, simulated by a limit on the size of files
 
+printf '#!/bin/sh\n' >"$scratch/small"
 (
   trap '' XFSZ
   ulimit -f 64
   with_program install DESTDIR="$scratch/short" PREFIX=/usr
   same 'make install where no long file can be written' "$? $(grep -c 'File too large' "$scratch/log")" '2 1'
+  # With a program that fits, the first file that does not is a page that awk writes. mawk reports a failed write in two lines.
+  run BINARY="$scratch/small" install DESTDIR="$scratch/short" PREFIX=/usr
+  same 'make install where no long page can be written' \
+    "$? $(grep -c '^scripts/install: .*acpiset-faults.7 could not be written: .*File too large' "$scratch/log") $(grep -c 'File too large' "$scratch/log")" '2 1 1'
   with_program dist
   same 'make dist where no long file can be written' "$? $(find "$tree/dist" -name '*.tar.gz')" '2 '
   printf '%d %d\n' "$passed" "$failed" >"$scratch/counts"
@@ -279,7 +304,7 @@ same 'the archive, made in another folder with another umask' "$(sha256sum <"$sc
 # POSIX defines what substr returns for an index past the end.
 same 'awk --lint on what makes an archive' "$(sed 's/ (FILENAME=.*FNR=[0-9]*)//' "$scratch/awk" | grep -v ' warning: substr: ' | sort | uniq -c)" ''
 same 'modes beside that archive' "$(cd "$scratch/another/dist" && stat -c %a ./*.tar.gz*)" $'644\n644'
-same 'modes in the archive' "$(tar -tvzf "$archive" | cut -c 1-10 | sort -u)" $'-rw-r--r--\n-rwxr-xr-x\ndrwxr-xr-x'
+same 'modes in the archive' "$(tar -tvzf "$archive" | cut -c 1-10 | sort -u)" $'-rw-r--r--\n-rwxr-xr-x\ndrwxr-xr-x\nlrwxrwxrwx'
 same 'owners and times in the archive' "$(tar --numeric-owner --full-time -tvzf "$archive" | awk '{ print $2, $4, $5 }' | sort -u | wc -l)" 1
 same 'the order of the archive' "$(tar -tzf "$archive" | sed 's|/$||' | LC_ALL=C sort -c 2>&1)" ''
 mkdir "$scratch/unpacked"
@@ -290,14 +315,15 @@ unpacked=$scratch/unpacked/$name
 packed() {
   {
     printf '%s\n' README.md PROVED.md acpiset.spdx.json "$@" | grep -vx share/doc/acpiset/LICENSE
-    for image in tests/images/*; do echo "images/${image##*/}"; done
+    echo images
     [ ! -e "$unpacked/lib/acpiset.o" ] || printf '%s\n' lib/acpiset.o licences/LGPL-2.1.txt licences/glibc.txt
   } | sorted
 }
 
 mapfile -t installed <<<"$wanted"
 same 'files in the archive' "$(files_in "$unpacked" | grep -v SHA256SUMS)" "$(packed "${installed[@]}")"
-same 'files that the list of sums has' "$(sed 's/^[0-9a-f]*  //' "$unpacked/SHA256SUMS")" "$(packed "${installed[@]}")"
+same 'files that the list of sums has' "$(sed 's/^[0-9a-f]*  //' "$unpacked/SHA256SUMS")" "$(packed "${installed[@]}" | grep -vx images)"
+same 'links in its pages that lead nowhere' "$(open_links "$unpacked")" ''
 same 'paths of the tree in the archive' "$(grep -rlaF -e "$tree" -e "$PWD" -e "$scratch" "$unpacked")" ''
 same 'places to fill in the pages' "$(grep -n '@[A-Z]*@' "$unpacked/README.md" "$unpacked/PROVED.md")" ''
 same 'the library in its pages' "$(grep -c libacpiset "$unpacked/README.md" "$unpacked/PROVED.md" | grep -v ':0$')" ''
@@ -307,6 +333,8 @@ same 'the licence in its README' "$(grep -c 'has chosen no licence yet' "$unpack
 same 'the sum of the program in PROVED.md' "$(grep -c "$(sha256sum "$unpacked/bin/acpiset" | cut -d ' ' -f 1)" "$unpacked/PROVED.md")" 1
 same 'the version of the program' "$("$unpacked/bin/acpiset" --version 2>&1)" "acpiset: version $version, 18 stages"
 same 'its list of parts' "$(tests/parts_list.py "$unpacked" 2>&1)" ''
+mkdir "$scratch/kept archive"
+cp "$archive" "$archive.sha256" "$scratch/kept archive"
 echo 'a licence' >"$tree/LICENSE"
 archived SOURCE_DATE_EPOCH=1700000000
 same 'times in an archive of a given time' "$(TZ=UTC tar --full-time -tvzf "$archive" | awk '{ print $4, $5 }' | sort -u)" '2023-11-14 22:13:20'
@@ -330,6 +358,17 @@ if [ -n "$blocks" ]; then
   same 'the first use in README' "$(cat "$scratch/printed")" "$(grep -v '^\$ ' <<<"$blocks")"
   same 'commands of the first use' "$([ "$(wc -l <"$scratch/commands")" -ge 5 ] && echo yes)" yes
 fi
+# steps: the commands of a step of a CI system that installs the archive, which is in the folder with its sum.
+steps() {
+  sed -n '/^- name: Install acpiset$/,/^- name: Check/s/^    //p' docs/RECIPES.md
+  echo 'PATH=$(cat "$GITHUB_PATH"):$PATH'
+}
+gitlab_steps() { sed -n '/^acpi-tables:$/,/^  script:/s/^    - //p' docs/RECIPES.md; }
+for kind in steps gitlab_steps; do
+  cp -r "$scratch/kept archive" "$scratch/$kind"
+  { $kind && echo 'cat acpiset-*/images/example.img.txt | acpiset check'; } >"$scratch/$kind/commands"
+  same "an archive in CI, by the $kind" "$(cd "$scratch/$kind" && env -i PATH=/usr/bin:/bin GITHUB_PATH="$scratch/$kind/path" sh -e commands 2>&1)" "$name.tar.gz: OK"$'\nyes'
+done
 # It runs on any x86-64 processor. A program for a later level reads the processor's features as it starts.
 if has nm; then
   same 'functions that read the features of the processor' "$(nm -D "$program" | grep -c cpuid)" 0
@@ -358,7 +397,7 @@ if [ -e "$unpacked/lib/acpiset.o" ]; then
   same 'libraries that its program asks for' "$(readelf -d "$unpacked/bin/acpiset" | grep -c NEEDED)" 0
   same 'its program on the known sets' "$(tests/rows/run.py "$unpacked/bin/acpiset" | grep -c ' 0 failed$')" 1
 else
-  left_out 'the program of the archive with the C library inside' 'it could not be linked here'
+  left_out 'the statically linked program of the archive' 'it could not be linked here'
   same 'the C library in the list of parts' "$(grep -A 1 '"relationshipType": "DYNAMIC_LINK"' "$unpacked/acpiset.spdx.json" | grep -c acpiset)" 1
 fi
 
@@ -416,9 +455,15 @@ archived
 same 'make dist with the library' "$? $(sed 's/-[0-9.]*-/-VERSION-/' "$scratch/log")" '0 dist/acpiset-VERSION-x86_64-linux.tar.gz'
 rm -rf "$unpacked"
 tar -xzf "$archive" -C "$scratch/unpacked"
-mapfile -t installed <<<"$with_library"
+beside=$({
+  printf '%s\n' bindings/rust/Cargo.lock bindings/rust/Cargo.toml bindings/rust/README.md bindings/rust/build.rs bindings/rust/tests/tables_in_memory.rs
+  for file in bindings/rust/src/*.rs examples/*.*; do echo "$file"; done
+  [ ! -d bindings/python ] || find bindings/python -type f | grep -v '/__pycache__/\|/build/\|\.egg-info/\|/lists.py$\|/\.[^/]*$'
+} | sorted)
+mapfile -t installed <<<"$with_library"$'\n'"$beside"
 same 'files in the archive with the library' "$(files_in "$unpacked" | grep -v SHA256SUMS)" "$(packed "${installed[@]}")"
-same 'files that the list of sums has, and no links' "$(sed 's/^[0-9a-f]*  //' "$unpacked/SHA256SUMS")" "$(packed "${installed[@]}" | grep -vx lib/libacpiset.so)"
+same 'files that the list of sums has, and no links' "$(sed 's/^[0-9a-f]*  //' "$unpacked/SHA256SUMS")" "$(packed "${installed[@]}" | grep -vx 'lib/libacpiset.so\|images')"
+same 'links in its pages that lead nowhere, with the library' "$(open_links "$unpacked")" ''
 same 'its sums' "$(cd "$unpacked" && sha256sum --check --quiet SHA256SUMS 2>&1)" ''
 same 'paths of the tree in it' "$(grep -rlaF -e "$tree" -e "$PWD" -e "$scratch" "$unpacked")" ''
 same 'places to fill in its pages' "$(grep -n '@[A-Z]*@' "$unpacked/README.md" "$unpacked/PROVED.md")" ''
@@ -438,15 +483,16 @@ if [ ! -e library/libacpiset.a ]; then
 elif ! has cc; then
   left_out 'programs that are linked with the library' 'no cc'
 else
-  cp examples/unit_test.c "$unpacked"
   cd "$unpacked" || exit
-  cc -I include unit_test.c lib/libacpiset.a -o unit_test && ./unit_test >"$scratch/log" 2>&1
+  cc -I include examples/unit_test.c lib/libacpiset.a -o unit_test && ./unit_test >"$scratch/log" 2>&1
   same 'a program with libacpiset.a' "$? $(tail -n 1 "$scratch/log" | grep -c ' 0 failed$')" '0 1'
   if has pkg-config; then
     eval "flags=($(PKG_CONFIG_PATH=lib/pkgconfig pkg-config --cflags --libs acpiset))"
-    cc unit_test.c "${flags[@]}" -o unit_test &&
+    cc examples/unit_test.c "${flags[@]}" -o unit_test &&
       LD_LIBRARY_PATH=lib ./unit_test >"$scratch/log" 2>&1
     same 'a program with libacpiset.so' "$? $(tail -n 1 "$scratch/log" | grep -c ' 0 failed$')" '0 1'
+    cc examples/unit_test.c "${flags[@]}" -Wl,-rpath,"$PWD/lib" -o unit_test && ./unit_test >"$scratch/log" 2>&1
+    same 'a program with the folder of the library' "$? $(tail -n 1 "$scratch/log" | grep -c ' 0 failed$')" '0 1'
     same 'the library that it asks for' "$(readelf -d unit_test | grep -c 'NEEDED.*\[libacpiset.so.1\]')" 1
   fi
   cd - >"$scratch/log" || exit
@@ -475,9 +521,10 @@ same 'make clean leaves no library' "$? $(find "$tree/library" 2>&1 | grep -c 'N
 
 # The program takes from the C library exactly what docs/PROOF.md names.
 if has nm; then
-  named=$(sed -n '/^- The functions that the built program takes/,/^- What the last line/p' docs/PROOF.md | grep -o '`[A-Za-z0-9_]*`' | tr -d '`' | sort -u)
-  same 'functions that the program takes from the C library' \
-    "$(nm -D --undefined-only "$program" | awk '{ sub(/@.*/, "", $2); print $2 }' | sort -u)" "$named"
+  named=$(sed -n '/^- The functions that the built program takes/,/^- What the last line/p' docs/PROOF.md | grep -o '`[A-Za-z0-9_]*`' | tr -d '`')
+  taken=$(nm -D --undefined-only "$program" | awk '{ sub(/@.*/, "", $2); print $2 }')
+  # The text of an error of `main` is needed or not, as the compiler inlines it.
+  same 'functions that the program takes from the C library' "$(printf '%s\n' "$taken" __xpg_strerror_r | sort -u)" "$(sort -u <<<"$named")"
 fi
 
 # It is linked as SECURITY.md says.

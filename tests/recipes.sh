@@ -9,21 +9,24 @@
 # it is a block of console, whose lines with a '$ ' are the commands, and the others what they print. A word is a command, root,
 # library, kernel, file:PATH, command:NAME for a command of the program, iasl:VERSION, or cargo:VERSION for this or a later one.
 # With 'own' its output depends on the machine: then only its last line is tested. A block after '<!-- file NAME -->' is a file that
-# recipes use. All run in one folder and in one shell, so each finds what those before it left. The folder has ./acpiset, tools
-# and tests, like the top of the repository; acpiset and acpiset-NAME are on the PATH, and IMAGES names the folder of images, as
-# in the archive. The kernel is the one that the variable KERNEL names, or that of /boot.
+# recipes use. All run in one folder and in one shell, so each finds what those before it left. acpiset and acpiset-NAME are on the
+# PATH, IMAGES names the folder of images, and SOURCE one that has what the archive has of the sources, and nothing else. The folder
+# has ./acpiset and bench, for the one recipe that runs in the repository alone. The kernel is the one that the variable KERNEL names, or
+# that of /boot.
 program=$(realpath "${1:?usage: tests/recipes.sh PROGRAM}")
 # shellcheck source=tests/prelude.sh
 . "$(dirname "$0")/prelude.sh"
-SOURCE=$PWD
-# shellcheck disable=SC2034 # a recipe may use it
-IMAGES=$SOURCE/tests/images
+top=$PWD
+SOURCE=$scratch/source
+IMAGES=$scratch/images
 KERNEL=${KERNEL:-$(find /boot -name 'vmlinuz-*' -readable 2>/dev/null | sort -V | tail -n 1)}
-mkdir "$scratch/bin" "$scratch/blocks" "$scratch/work"
+mkdir "$scratch/bin" "$scratch/blocks" "$scratch/work" "$SOURCE"
+cp -r tests/images "$IMAGES"
+ln -s "$top/bindings" "$top/examples" "$SOURCE"
 ln -s "$program" "$scratch/work/acpiset"
-ln -s "$SOURCE/tools" "$SOURCE/tests" "$SOURCE/bench" "$scratch/work"
+ln -s "$top/bench" "$scratch/work"
 ln -s "$program" "$scratch/bin/acpiset"
-for tool in tools/*; do ln -s "$SOURCE/$tool" "$scratch/bin/acpiset-${tool#tools/}"; done
+for tool in tools/*; do ln -s "$top/$tool" "$scratch/bin/acpiset-${tool#tools/}"; done
 PATH="$scratch/bin:$PATH"
 library=$(realpath "${LIBRARY:-library}")
 if [ -r "$library/libacpiset.a" ]; then
@@ -31,7 +34,7 @@ if [ -r "$library/libacpiset.a" ]; then
   ln -s "$library/libacpiset.a" "$scratch/library"
   # shellcheck disable=SC2016 # pkg-config fills in ${libdir}
   printf 'libdir=%s\nName: acpiset\nDescription: acpiset\nVersion: 0\nCflags: -I%s\nLibs: -L${libdir} -lacpiset\n' \
-    "$scratch/library" "$SOURCE/bindings/c" >"$scratch/library/acpiset.pc"
+    "$scratch/library" "$top/bindings/c" >"$scratch/library/acpiset.pc"
   export PKG_CONFIG_PATH="$scratch/library"
   unset ACPISET_LIB_DIR
 fi

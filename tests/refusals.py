@@ -170,21 +170,21 @@ def wordy_runs():
 
 
 def scattered_runs():
-    """Texts of many pieces: in falling order; in no order; and so that the last one is there a second time."""
+    """Texts of many pieces: in falling order; unsorted; and so that the last one is there a second time."""
     falling = range(8000, 0, -2)
     shuffled = [2 + 2 * (1231 * place % 4000) for place in range(4000)]
     yield Run("find in 4,000 pieces", rows_at(falling), ["find"], 1, "rsdp none\n")
-    yield Run(IN_NO_ORDER, rows_at(shuffled), ["find"], 1, "rsdp none\n")
+    yield Run(UNSORTED, rows_at(shuffled), ["find"], 1, "rsdp none\n")
     yield Run(ONE_TWICE, rows_at([*shuffled, 0x1000]), ["find"], 3, "", "acpiset: address 0x1000 twice\n")
 
 
 # The runs with a request, after the input was read, that may be refused without another answer: for the buffer in which pieces are
 # sorted, and for the bytes of a line of data that has no address or passes the last one. An address that is there twice is told without
 # any other request.
-IN_NO_ORDER = "find in 4,000 pieces in no order"
-ONE_TWICE = "find in 4,000 pieces in no order, one twice"
+UNSORTED = "find in 4,000 pieces unsorted"
+ONE_TWICE = "find in 4,000 pieces unsorted, one twice"
 SPARED_AFTER = {
-    (IN_NO_ORDER, "REFUSE_AT"), (ONE_TWICE, "REFUSE_AT"), (ONE_TWICE, "REFUSE_FROM"), ("check, no address", "REFUSE_AT"),
+    (UNSORTED, "REFUSE_AT"), (ONE_TWICE, "REFUSE_AT"), (ONE_TWICE, "REFUSE_FROM"), ("check, no address", "REFUSE_AT"),
     ("check, a row past the end", "REFUSE_AT"),
 }
 
@@ -308,7 +308,7 @@ def shuffled_run():
     tables = [full_fadt(), madt(lapic(0, 0), *entries, override(0, 2))]
     text = text_of(image_of(*tables, others={FACS_AT: facs()}))
     words = ["check", "--rsdp", "e0000", "--default-inputs", "1"]
-    return Run("check, 30 I/O APICs in no order", text, words, 0, "yes\n")
+    return Run("check, 30 unsorted I/O APICs", text, words, 0, "yes\n")
 
 
 def wrong_sweep(sweep, answer, spared, spared_after=0):

@@ -29,7 +29,7 @@ RUNS = 3
 
 
 def image_of_pieces(count):
-    """The example, and this many pieces of 8 bytes that each begin like an RSDP, in no order."""
+    """The example, and this many pieces of 8 bytes that each begin like an RSDP, unsorted."""
     example = Path(IMAGES, "example.img.txt").read_bytes()
     addresses = (0x100000000 + 16 * (place * 77_773 % count) for place in range(count))
     return example + b"".join(b"@%x\n52 53 44 20 50 54 52 20\n" % address for address in addresses)

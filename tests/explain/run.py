@@ -45,8 +45,15 @@ def lines_without_image(tests):
             tests.count(titles[-1], "" if found == 2 * [titles[-1]] else f"the parts {found}")
     tests.count("parts of faults and of rules", "" if len(titles) == len(parts.codes) > 0 else f"{len(titles)}")
     tests.says("\n".join(lines), lines + titles)
+    lower = [part and part.title for part in map(parts.named, (title.partition(" ")[2].lower() for title in titles))]
+    tests.same("names in lower case", lower, titles)
+    for words in ("no 10 Overlap 0x90 0xb8 0x100000000", "10 Overlap 0x90 0xb8 0x100000000"):
+        tests.says(b"", [OVERLAP, "45 Overlap"], None, *words.split())
+    tests.says(b"", ["..its RSDP is at 0xf77e014: acpiset check --rsdp 0xf77e014 < IMAGE"], "ovmf-q35.img.txt", "no", "rsdp")
+    tests.says(b"", ["both cover 0x100000000 to 0x107ffffff"], "sb-pc-nvdimm-numa.img.txt", *OVERLAP.split(), "--rsdp", "f59d0")
+    tests.says(b"", "101 ListedTwice", None, *"advice ListedTwice 0x3 0x2 0x47fc198e".split())
     for word, title in (
-        ("43", "43 SratEntryLength"), ("Overlap", "45 Overlap"), ("128", "128 SratUnread"), ("NoLeaf", "125 NoLeaf"),
+        ("43", "43 SratEntryLength"), ("Overlap", "45 Overlap"), ("overlap", "45 Overlap"), ("128", "128 SratUnread"), ("NoLeaf", "125 NoLeaf"),
         ("184", "184 PpttReserved"), ("NoDsdt", "132 NoDsdt"),
     ):
         tests.says(b"", [title, "..- Example: "], None, word)
@@ -86,16 +93,25 @@ no"""
 
 def refused_lines(tests):
     for line in NO_LINES.split("\n"):
-        tests.refuses(1, "no line that acpiset check, lint or find writes", text=line.encode())
-    tests.refuses(1, "no line that acpiset check, lint or find writes", text=b"yes\nfoo\n")
+        tests.refuses(1, "not a line that acpiset check, lint or find writes", text=line.encode())
+    tests.refuses(1, "not a line that acpiset check, lint or find writes", text=b"yes\nfoo\n")
     tests.refuses(1, "'\\x1b[2J\\xff'", text=b"\x1b[2J\xff\n")
     tests.refuses(1, "no line on standard input")
     tests.refuses(1, "standard input has more than 65,536 bytes", text=b"41 " * 1_000_000)
     tests.refuses(1, "more than 100 lines", tests.file(sets.LEAF), text=b"yes\n" * 101)
     tests.refuses(1, "absent: cannot be read", "absent", text=b"yes\n")
     tests.refuses(1, "\\x1b[2J: cannot be read", "\x1b[2J", text=b"yes\n")
-    tests.refuses(1, "cannot be read: it is a folder", "/", text=b"yes\n")
-    tests.refuses(1, "Overlp: cannot be read", "Overlp")
+    tests.refuses(1, "/: a directory: give the file with the image", "/", text=b"yes\n")
+    tests.refuses(1, "Overlp: cannot be read: No such file or directory (nor is it", "Overlp")
+    tests.refuses(1, "a similar name is Overlap)", "overlp")
+    tests.refuses(1, "a name or a code of acpiset)", "image.bin")
+    with open(os.path.join(IMAGES, "example.img.txt"), "rb") as file:
+        tests.refuses(1, "standard input is image text: give it as IMAGE, and here what acpiset writes", text=file.read())
+    dump = os.path.join(IMAGES, "example.acpidump.txt")
+    tests.refuses(1, "it looks like text of acpidump, of which acpidump2image makes image text", dump, text=b"yes\n")
+    for data, what, tool in ((b"\x7fELF" + bytes(60), "a dump of memory", "memory2image"), (sets.hpet(), "raw tables", "tables2image")):
+        tests.refuses(1, f"it looks like {what}, of which {tool} makes image text", tests.file(data), text=b"yes\n")
+    tests.refuses(1, f"is in {TOP}/docs/TROUBLESHOOTING.md", tool=os.path.join(TOP, "tools", "explain"))
     for words in (["--rsdp", "g"], ["--rsdp", "0X0"], ["--rsdp", "1" * 17], ["one", "two"], ["--help"], ["--nothing"], ["--rsdp"]):
         tests.refuses(2, "usage: ", *words, text=b"yes\n")
     for words in (["43", "44"], ["43", tests.file(b"")], ["yes", "43"], ["1=0"], ["1=257"]):
@@ -168,10 +184,10 @@ def chains(tests):
     tests.says("no 15 CacheCycle 0x24 0x1 0x2", [told, "..  0x54 cache flags 0x0 next 0x3c "], sets.CACHES, without=[MISMATCH])
     inside = ["no structure begins at offset 0x40 (64): it is inside this one", "  0x38 node flags 0x0 parent 0x4c id 0 resources"]
     tests.says("no 13 DanglingParent 0x24 0x40 0x0", inside, sets.DANGLING, without=[MISMATCH])
-    tests.says("no 13 DanglingParent 0x38 0x4c 0x0", "it is of type 1, and has to be a node, type 0", sets.DANGLING, without=[MISMATCH])
+    tests.says("no 13 DanglingParent 0x38 0x4c 0x0", "it is of type 1, and must be a node, type 0", sets.DANGLING, without=[MISMATCH])
     past = "no structure begins at offset 0x1000 (4096): the table's structures are at 36 to 123"
     tests.says("no 13 DanglingCache 0x4c 0x1000 0x0", past, sets.DANGLING, without=[MISMATCH])
-    tests.says("no 13 DanglingResource 0x64 0x0 0x24", "it is of type 0, and has to be of another type", sets.DANGLING, without=[MISMATCH])
+    tests.says("no 13 DanglingResource 0x64 0x0 0x24", "it is of type 0, and must be of another type", sets.DANGLING, without=[MISMATCH])
 
 
 def numbers(tests):
@@ -185,7 +201,7 @@ def numbers(tests):
     texts += ["0xfffffff0 and 24 inputs are 0x100000008, and at most 0x100000000 is allowed"]
     tests.says("no 6 GsiPastEnd 0x2c 0x0 0x0", texts, sets.HIGH_BASE, without=[MISMATCH])
     texts = ["signature HPET, Length 4294967295"]
-    texts += ["of the 4294967295 bytes that have to be in the image the first 56 are; the next one, at 0x11038, is not"]
+    texts += ["of the 4294967295 bytes that must be in the image the first 56 are; the next one, at 0x11038, is not"]
     tests.says("no 3 TableOut 0x1 0x11000 0x0", texts, sets.LONGEST, without=[MISMATCH])
 
 
@@ -195,7 +211,7 @@ def fields(tests):
     tests.says("no 3 TableSum 0x1 0x3000 0x0", "signature HPET, Length 56", sets.SUMS["no 3 TableSum 0x1 0x3000 0x0"][0])
     tests.says("no 3 TableSum 0x0 0x10000 0x0", "..sum to 0: is this the image that the line is of?", sets.LEAF)
     tests.says("no 3 TableOut 0x0 0x10000 0x0", "..all 116 bytes are in the image: is this the image", sets.LEAF)
-    told = "of the 116 bytes that have to be in the image the first 68 are; the next one, at 0x2044, is not"
+    told = "of the 116 bytes that must be in the image the first 68 are; the next one, at 0x2044, is not"
     tests.says("no 3 TableOut 0x0 0x2000 0x0", told, sets.CUT, without=[MISMATCH])
     tests.says("no 3 TableOut 0x1 0x3000 0x0", "  (--: a byte that is not in the image)", "ovmf-q35.img.txt")
     tests.says("no 4 PmEventLength 0x58 0x0 0x0", ["the field at offset 0x58 (88), at 0x10058:", f"..{DOUBT}"], sets.LEAF)
@@ -288,6 +304,11 @@ def unread(tests):
     texts += [f"  type 3 (GICC affinity): 2, the first at offset 0x3e (62): {by_advice}"]
     texts += ["  type 16 (multiprocessor wakeup): 1 at offset 0x53 (83): not looked at"]
     tests.says("yes", texts, sets.UNREAD)
+    head = "structures of this table that neither the stages nor advice look at:"
+    texts = [head, "  type 11 (GICC): 1 at offset 0x2c (44)", "  type 16 (multiprocessor wakeup): 1 at offset 0x53 (83)"]
+    tests.says("advice MadtUnread 0x2c 0xb 0x0", texts, sets.UNREAD)
+    texts = [head, "  type 3 (GICC affinity): 1 at offset 0x30 (48)"]
+    tests.says("advice SratUnread 0x30 0x3 0x0", texts, sets.UNREAD, without=["offset 0x3e"])
     texts = [f"  type {kind} ({name}): 1 at offset {at}: {told}" for kind, name, at, told in (
         (12, "GIC distributor", "0x2c (44)", "not looked at"), (13, "GIC MSI frame", "0x43 (67)", "not looked at"),
         (14, "GIC redistributor", "0x5c (92)", by_advice), (15, "GIC ITS", "0x6c (108)", "not looked at"),
@@ -420,7 +441,11 @@ def places(tests):
     tests.says("no 10 Overlap 0x50 0x78 0x0", f"..{DOUBT}", "example.img.txt", tool=installed)
     os.symlink(installed, os.path.join(tests.scratch, "link"))
     tests.says("yes", "..the image passes every stage", tool=os.path.join(tests.scratch, "link"))
-    os.remove(os.path.join(tests.scratch, "prefix", "share", "doc", "acpiset", "docs", "FAULTS.md"))
+    other_page = os.path.join(tests.scratch, "prefix", "share", "acpiset", "FAULTS.md")
+    os.rename(os.path.join(tests.scratch, "prefix", "share", "doc", "acpiset", "docs", "FAULTS.md"), other_page)
+    tests.says("no 18 LeafUnknown 0x0 0x0 0x0", "59 LeafUnknown", tool=installed, without=["another project"])
+    tests.refuses(1, "on standard error is in TROUBLESHOOTING.md", tool=installed)
+    os.remove(other_page)
     os.remove(os.path.join(tests.scratch, "prefix", "docs", "FAULTS.md"))
     tests.refuses(1, "acpiset's FAULTS.md is at neither", tool=installed, text=b"yes\n")
     left = [name for _, folders, names in os.walk(tests.scratch) for name in folders + names if "pyc" in name]

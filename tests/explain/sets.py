@@ -78,7 +78,7 @@ for line, address, place in (
     ("no 2 RootSum 0x1100 0x0 0x0", XSDT_AT, 9), ("no 3 TableSum 0x1 0x3000 0x0", 0x3000, 9),
 ):
     wrong = changed(CLEAN[address], {place: 0x5A})
-    SUMS[line] = text_of({**CLEAN, address: wrong}), f"now 0x5a, has to be {CLEAN[address][place]:#x}."
+    SUMS[line] = text_of({**CLEAN, address: wrong}), f"now 0x5a, must be {CLEAN[address][place]:#x}."
 CUT = text_of({**CLEAN, 0x2000: FADT[:68]})
 
 

@@ -105,9 +105,9 @@ def worst_for_the_stack(scratch):
     addresses = [0x100000 + 0x40 * place for place in range(5000)]
     tables = {address: hpet() for address in addresses}
     slots = [addresses[place % 5000] for place in shuffled(70_000)]
-    yield written(scratch, "slots in no order", {RSDP_AT: rsdp(), RSDT_AT: rsdt(*slots), **tables})
+    yield written(scratch, "slots unsorted", {RSDP_AT: rsdp(), RSDT_AT: rsdt(*slots), **tables})
     ranges = srat(*(memory(0x1000 * place, 0x1000) for place in shuffled(200_000)))
-    yield written(scratch, "ranges in no order", with_fadt(ranges))
+    yield written(scratch, "ranges unsorted", with_fadt(ranges))
     with_counts = madt(*(io_apic(place, 24 * place) for place in shuffled(MANY_COUNTS)))
     yield written(scratch, "IO APICs with counts", with_fadt(with_counts))
     # 22 MB of nodes; the text has just below 64 MiB.

@@ -1,5 +1,5 @@
 """`check` and `lint` on tables of up to a million entries, clean or all at fault, of each of which they gather a number, and on a set of
-many slots, in no order, that list tables each in its own segment of the image. A rule that gave up on this many would be out of memory by
+many slots, unsorted, that list tables each in its own segment of the image. A rule that gave up on this many would be out of memory by
 its contract, and one that looked through all of them for each one would not end, so only these sets show it."""
 
 import random

@@ -1,5 +1,5 @@
 #!/usr/bin/env python3
-"""Runs the built program on root tables of 100,000 slots that list tables in no order. What is looked for is in slots all over the table,
+"""Runs the built program on root tables of 100,000 slots that list tables unsorted. What is looked for is in slots all over the table,
 and the slot that comes first has the higher address. Other root tables have 65,536 slots, one fewer and one more.
 
 usage: many_slots.py PROGRAM; the last line is 'many slots: N passed, M failed'."""

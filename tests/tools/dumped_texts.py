@@ -17,7 +17,7 @@ def of_texts(cases):
     makes = cases.makes
     makes("RSDP at 0xf59e0: check it with --rsdp f59e0", "yes", "acpidump2image", "whole.txt", image=COMPLETE_IMAGE)
     makes("APIC at 0x7fe3001, 80 bytes", "yes", "acpidump2image", "narrow.txt", image=COMPLETE_IMAGE)
-    makes("APIC at 0x7fe3001 is printed twice: put once", "yes", "acpidump2image", "twice.txt", image=COMPLETE_IMAGE)
+    makes("APIC at 0x7fe3001 is printed twice: written once", "yes", "acpidump2image", "twice.txt", image=COMPLETE_IMAGE)
     makes("HPET: its address is 0, left out", "yes", "acpidump2image", "some.txt", image=COMPLETE_IMAGE)
     makes("RSDP at 0xf59e0", "yes", "acpidump2image", "returns.txt", image=COMPLETE_IMAGE)
     text = dump_of(COMPLETE)
@@ -35,7 +35,7 @@ def of_texts(cases):
 
 def without_addresses(cases):
     """Where addresses are 0, or there is no root, the tables are laid out as tables2image does."""
-    zeros = "all addresses are 0, so the text does not say where the tables lie"
+    zeros = "all addresses are 0, so the text does not say where the tables are"
     valid = [(0, FADT), (0, MADT), (0, facs()), (0, HPET)]
     image = text_of(image_of_files(FADT, MADT, HPET))
     cases.makes(zeros, "yes", "acpidump2image", data=dump_of(valid), image=image)
@@ -43,14 +43,14 @@ def without_addresses(cases):
     cases.makes(zeros, "no 5 FacsHeaderOut 0x7000 0x0 0x0", "acpidump2image", "zeros.txt")
     places = dict(TABLES)
     image = text_of({0xE0000: extended_rsdp(0x100000, 0), 0x100000: xsdt(*places), **places, FACS_AT: facs()})
-    cases.makes("the text has neither an RSDP nor a root: both are made", "yes", "acpidump2image", "rootless.txt", image=image)
+    cases.makes("the text has neither an RSDP nor a root table: both are made", "yes", "acpidump2image", "rootless.txt", image=image)
     cases.write("log.txt", b"ACPI: HPET 0x0000000000005000 000038 (v01 AAAAAA AAAAAAAA 00000001 AAAA 00000001)\n")
     made = {0x101000: fadt(_40=number(0x102000, 4)), 0x102000: EMPTY_DSDT}
     image = text_of({0xE0000: extended_rsdp(0x100000, 0), 0x100000: xsdt(0x5000, 0x101000), 0x5000: HPET, **made})
     cases.makes(zeros, "yes", "acpidump2image", "--dmesg", "log.txt", data=dump_of([(0, HPET)]), image=image)
     # A log of another machine, with a text that has addresses, an RSDP and a root.
     cases.write("foreign.log", b"ACPI: FACP 0x00000000BFFE1234 0000F4 (v03 ..)\n")
-    cases.makes("left out: the image has a root of its own", "yes", "acpidump2image", "--dmesg", "foreign.log", data=dump_of(COMPLETE))
+    cases.makes("left out: the image has a root table of its own", "yes", "acpidump2image", "--dmesg", "foreign.log", data=dump_of(COMPLETE))
     shutil.copy(os.path.join(TOP, "tools", "acpidump2image"), cases.path("alone"))
     run = subprocess.run([cases.path("alone"), "whole.txt"], capture_output=True, cwd=cases.folder, timeout=60)
     told = b"alone: tables2image is not beside this tool: copy both\n"
@@ -61,12 +61,16 @@ def refused(cases):
     refuses = cases.refuses
     refuses("APIC at 0x7fe3001 is printed twice, with different bytes", "acpidump2image", "changed.txt")
     refuses("HPET at 0x7fe3010 overlaps APIC at 0x7fe3001", "acpidump2image", "overlap.txt")
-    refuses("line 3: a row at 20 where one at 10 is due: is a row lost or cut?", "acpidump2image", "lost.txt")
-    refuses("this is no text of acpidump, but of 16 bits a character", "acpidump2image", "utf16.txt")
-    refuses("this is no text of acpidump", "acpidump2image", "facp.dat")
-    refuses("this is no text of acpidump", "acpidump2image")
+    refuses("line 3: a row at 20 where one at 10 is expected: is a row missing or truncated?", "acpidump2image", "lost.txt")
+    refuses("not acpidump output: text of 16 bits a character: make it plain with iconv", "acpidump2image", "utf16.txt")
+    refuses("not acpidump output: one raw table, FACP: use tables2image", "acpidump2image", "facp.dat")
+    refuses("not acpidump output: image text: acpiset reads it itself, as in acpiset check < IMAGE", "acpidump2image", "old.image")
+    refuses("not acpidump output: an ELF file: if it is a dump of memory, use memory2image", "acpidump2image", data=b"\x7fELF" + bytes(60))
+    refuses("not acpidump output: lines of acpiset: use explain", "acpidump2image", data=b"yes\n")
+    refuses("not acpidump output: no line such as 'APIC @ 0x00000000BFFE1234'", "acpidump2image", data=b"APIC\n")
+    refuses("not acpidump output: empty", "acpidump2image")
     refuses("absent.txt: cannot be read", "acpidump2image", "absent.txt")
-    refuses("folder: cannot be read", "acpidump2image", "folder")
+    refuses("folder: a directory: give acpidump's text as a file", "acpidump2image", "folder")
     for words in (["whole.txt", "zeros.txt"], ["--help"], ["--rsdp", "e0000"]):
         refuses("usage: acpidump2image [FILE]", "acpidump2image", *words, status=2)
     for told, text in (
@@ -75,10 +79,10 @@ def refused(cases):
         ("line 1: an address of more than 16 digits", b"SSDT @ 0x10000000000000000\n    0000: 41\n"),
         ("line 2: an offset of more than 16 digits", b"SSDT @ 0x1000\n    " + b"0" * 17 + b": 41\n"),
         ("line 2: a row without bytes", b"SSDT @ 0x1000\n    0000: xy\n"),
-        ("line 3: a row after one of fewer than 16 bytes: is a row cut?", b"SSDT @ 0x1000\n    0000: 41\n    0001: 41\n"),
+        ("line 3: a row after one of fewer than 16 bytes: is a row truncated?", b"SSDT @ 0x1000\n    0000: 41\n    0001: 41\n"),
         ("line 1: bytes before the first line with a table's signature and address", b"    0000: 41\nSSDT @ 0x1000\n"),
-        ("the RSDT lies at 0x100000000, and an RSDP names one below 2^32 only", dump_of([(2**32, rsdt())])),
-        ("SSDT of line 1: 1 bytes, and a table has 36 at least", b"SSDT @ 0x0\n    0000: 41\n"),
+        ("the RSDT is at 0x100000000, and an RSDP names one below 2^32 only", dump_of([(2**32, rsdt())])),
+        ("SSDT of line 1: 1 bytes, and a table has at least 36", b"SSDT @ 0x0\n    0000: 41\n"),
         ("SSDT at 0x1000: no bytes", b"SSDT @ 0x1000\n"),
         ("a text of more than 4000000 lines", b"\n" * 4_000_001),
         ("a text of more than 134217728 bytes", b"#" * 134_217_729),

@@ -126,7 +126,7 @@ def of_all_rows(cases):
         try:
             text = tool.image_of(memory, int(words[2], 16))
         except tool.Refusal as refusal:
-            wrong += [] if "holds no 20 bytes" in str(refusal) else [f"{row.name}: {refusal}"]
+            wrong += [] if "does not have 20 bytes" in str(refusal) else [f"{row.name}: {refusal}"]
             continue
         count += 1
         for asked in (words, ["lint", *words[1:3]]):
@@ -167,10 +167,12 @@ def of_the_search(cases):
     halves = {**tables, 0x700000: bytes(16) + new[:5], 0x700015: new[5:]}
     cases.write("halves", core_of(halves))
     cases.makes("RSDP at 0x700010", "yes", "memory2image", "halves")
-    cases.refuses("no RSDP is found; 2 places have its signature", "memory2image", raw_dump(cases, "ram.bin", {0x20: wrong, 0x60: broken}))
-    cases.refuses("no RSDP is found; 0 places have its signature", "memory2image", raw_dump(cases, "ram.bin", tables))
+    told = "no RSDP found: its signature is at 2 places, none with a valid checksum"
+    cases.refuses(told, "memory2image", raw_dump(cases, "ram.bin", {0x20: wrong, 0x60: broken}))
+    cases.refuses("no RSDP found: its signature is at 0 places", "memory2image", raw_dump(cases, "ram.bin", tables))
     many = cases.write("signatures", b"RSD PTR " * 1_000_100)
-    cases.refuses("more than 1000000 places have the signature of an RSDP: those from 0x7a1200 on are not looked at", "memory2image", "--base", "0", many)
+    told = "more than 1000000 places have the signature of an RSDP: those from 0x7a1200 on are skipped"
+    cases.refuses(told, "memory2image", "--base", "0", many)
 
 
 # ---- what is wrong with dumps
@@ -183,7 +185,7 @@ def of_lengths(cases):
         return raw_dump(cases, name, {**read, **{int(at[1:], 16): data for at, data in more.items()}}, 64 << 20)
 
     long = hpet()[:4] + number(0x3000000, 4) + hpet()[8:]
-    told = "slot 0: HPET at 0x2100, 50331648 bytes, more than an image holds: only 36 are put, and check will say TableOut"
+    told = "slot 0: HPET at 0x2100, 50331648 bytes, more than an image holds: only 36 are written, and check will say TableOut"
     cases.makes(told, "no 3 TableOut 0x0 0x2100 0x0", "memory2image", dump("long.bin", _2100=long))
     longer = hpet()[:4] + b"\xff" * 4 + hpet()[8:]
     held = (64 << 20) - 0x2100
@@ -195,7 +197,7 @@ def of_lengths(cases):
     told = "slot 2:  at 0x8000000000000000: the dump holds 0 of the header's 36 bytes: check will say TableHeaderOut"
     cases.makes(told, "no 3 TableHeaderOut 0x1 0xffffffffffffffdc 0x0", "memory2image", dump("outside.bin", _100000=outside))
     cases.makes("has another signature: check will say RootSignature", "no 2 RootSignature 0x100000 0x0 0x0", "memory2image", dump("root.bin", _100000=hpet()))
-    cases.makes("the RSDP names no root: check will say NoRoot", "no 2 NoRoot 0xf0010 0x0 0x0", "memory2image", dump("none.bin", _F0010=extended_rsdp(0, 0)))
+    cases.makes("the RSDP names no root table: check will say NoRoot", "no 2 NoRoot 0xf0010 0x0 0x0", "memory2image", dump("none.bin", _F0010=extended_rsdp(0, 0)))
 
 
 def refused(cases):
@@ -204,13 +206,17 @@ def refused(cases):
     for words in ([], ["--help"], ["--base", "0"], ["ram.bin", "--base", "0"], [""]):
         refuses("usage: memory2image [--rsdp HEX] [--base HEX] FILE", "memory2image", *words, status=2)
     for word in ("", "g", "0x", "1" * 17, "-1", "1_0", " 1"):
-        refuses("no address of 1 to 16 hex digits", "memory2image", "--rsdp", word, "ram.bin", status=2)
+        refuses("expected 1 to 16 hex digits", "memory2image", "--rsdp", word, "ram.bin", status=2)
     refuses("absent.bin: cannot be read: No such file or directory", "memory2image", "absent.bin")
-    refuses("folder: not a regular file", "memory2image", "folder")
+    refuses("folder: a directory: give the dump's file", "memory2image", "folder")
+    refuses("old.image: image text: acpiset reads it itself, as in acpiset check < IMAGE", "memory2image", "old.image")
+    refuses("whole.txt: text of acpidump: use acpidump2image", "memory2image", "whole.txt")
+    refuses("apic.dat: one raw table, APIC: use tables2image; or give --base, if it is a raw dump", "memory2image", "apic.dat")
+    refuses("no RSDP found", "memory2image", "--base", "0", "apic.dat")
     refuses("/dev/zero: not a regular file: copy it first, as with dd", "memory2image", "/dev/zero")
     refuses("empty.bin: empty", "memory2image", write("empty.bin", b""))
-    refuses("the dump holds no 20 bytes at 0xffffffffffffffff", "memory2image", "--rsdp", "f" * 16, "ram.bin")
-    refuses("the dump holds no 20 bytes at 0xfffff0", "memory2image", "--rsdp", "fffff0", "ram.bin")
+    refuses("the dump does not have 20 bytes at 0xffffffffffffffff", "memory2image", "--rsdp", "f" * 16, "ram.bin")
+    refuses("the dump does not have 20 bytes at 0xfffff0", "memory2image", "--rsdp", "fffff0", "ram.bin")
     for name, begin, told in (
         ("packed", b"\x1f\x8b\x08", "gzip data: unpack it with gunzip"),
         ("kdump", b"KDUMP   ", "a compressed dump of kdump: dump without -z, -l and -s"),
@@ -218,16 +224,16 @@ def refused(cases):
     ):
         refuses(told, "memory2image", write(name, begin + bytes(5000)))
     core = core_of(whole)
-    refuses("an ELF file, but no core", "memory2image", write("program", core_of(whole, kind=2)))
+    refuses("an ELF file, but not a core", "memory2image", write("program", core_of(whole, kind=2)))
     for size in (16, 40, 63):
         refuses("an ELF file without a complete header", "memory2image", write("cut", core[:size]))
-    refuses("an ELF core without complete program headers: is it cut?", "memory2image", write("cut", core[:200]))
-    refuses("an ELF core that holds no memory: is it cut?", "memory2image", write("cut", core[: len(core) - sum(map(len, whole.values()))]))
-    refuses("an ELF core whose parts all lie at 0: is it of a process?", "memory2image", write("process", process()))
+    refuses("an ELF core without complete program headers: is it truncated?", "memory2image", write("cut", core[:200]))
+    refuses("an ELF core that holds no memory: is it truncated?", "memory2image", write("cut", core[: len(core) - sum(map(len, whole.values()))]))
+    refuses("an ELF core whose parts are all at 0: is it of a process?", "memory2image", write("process", process()))
     refuses("an ELF core of more than 1000000 parts", "memory2image", write("parts", parts_of_none()))
     cases.makes("fewer bytes than the program headers say, the first time from 0x30", "yes", "memory2image", write("cut", core[:-20]))
     paged = core_of(whole, memory_sizes=[(0, 0x1000)])
-    cases.makes("is it cut, or dumped with -p?", "yes", "memory2image", write("paged", paged))
+    cases.makes("is it truncated, or dumped with -p?", "yes", "memory2image", write("paged", paged))
 
 
 def process():

@@ -1,10 +1,14 @@
 """Cases of tools/tables2image."""
 
 import os
+import shutil
+import subprocess
+import sys
 
 from acpi_images.tables import *
 from acpi_images.text import text_of
 from files import DSDT, FADT, HPET, MADT, image_of_files, image_of_one, wide_fadt
+from tool_cases import TOP
 
 RESERVED_INTI = madt(lapic(0, 0), io_apic(0xFEC00000, 0), override(0, 2, flags=2))
 OVERLAPPING = srat(memory(0, 0x1000), memory(0x800, 0x1000))
@@ -18,9 +22,14 @@ VALID = {
     "HPET": HPET,
     "SSDT": table(b"SSDT", b"\x5b\x80"),
 }
-OWN = "the RSDP and the root, an XSDT, are made by this tool: they are not the machine's own"
+OWN = "the RSDP and the root table, an XSDT, are made by this tool: they are not the machine's own"
 MADE_FADT = "no file has a FADT: one of reduced hardware is made by this tool, and is not the machine's own"
 MADE_DSDT = "DSDT at 0x103000, where the FADT says, made by this tool: it is empty"
+# Tools, each with another tool's file, and what names that tool by its installed name.
+CALLED = (
+    ("tables2image", "whole.txt", "use acpiset-acpidump2image"), ("memory2image", "apic.dat", "use acpiset-tables2image"),
+    ("explain", "whole.txt", "of which acpiset-acpidump2image makes image text"), ("acpidump2image", "apic.dat", "use acpiset-tables2image"),
+)
 USAGE = "usage: tables2image FILE.., as tables2image /sys/firmware/acpi/tables/*"
 
 
@@ -32,21 +41,21 @@ def of_files(cases):
     files = "facp.dat", "apic.dat", "hpet.dat", "facs.dat"
     makes(OWN, "yes", "tables2image", *files, image=old)
     makes("slot 0: HPET at 0x101000, from hpet.dat", "yes", "tables2image", "facs.dat", "hpet.dat", "apic.dat", "facp.dat", image=order)
-    makes("folder: a folder, passed over", "yes", "tables2image", "folder", *files, image=old)
+    makes("folder: a directory, skipped", "yes", "tables2image", "folder", *files, image=old)
     makes("rsdp.dat: an RSDP, left out: the image has one of its own", "yes", "tables2image", "rsdp.dat", "xsdt.dat", *files, image=old)
-    makes("xsdt.dat: an XSDT, left out: the image has a root of its own", "yes", "tables2image", "xsdt.dat", *files, image=old)
+    makes("xsdt.dat: an XSDT, left out: the image has a root table of its own", "yes", "tables2image", "xsdt.dat", *files, image=old)
     makes("dsdt.dat: the DSDT, left out", "yes", "tables2image", "dsdt.dat", *files, image=old)
     makes("FACS at 0x123456789abc0, where the FADT says", "yes", "tables2image", "wide.dat", "facs.dat", image=wide)
     makes("FACS at 0xffffffffffffffc0", "yes", "tables2image", "last.dat", "facs.dat")
     makes("FACS at 0xe0000", "yes", "tables2image", "first.dat", "facs.dat", "hpet.dat")
     makes("FACS at 0x101000", "yes", "tables2image", "second.dat", "facs.dat", "hpet.dat")
     makes("slot 0: FACP at 0x101000", "yes", "tables2image", "reduced.dat", image=text_of(image_of_files(fadt(), facs_at=None)))
-    makes("has 83 bytes, and its Length says 80: put as it is", "yes", "tables2image", "facp.dat", "longer.dat", "facs.dat")
+    makes("has 83 bytes, and its Length says 80: written as it is", "yes", "tables2image", "facp.dat", "longer.dat", "facs.dat")
     makes("has 79 bytes, and its Length says 80", "no 3 TableOut 0x1 0x102000 0x0", "tables2image", "facp.dat", "cut.dat", "hpet.dat", "facs.dat")
     makes("has 36 bytes, and its Length says 4294967295", "no 3 TableOut 0x1 0x102000 0x0", "tables2image", "reduced.dat", "huge.dat")
     makes("no file has it: check will say FacsHeaderOut", "no 5 FacsHeaderOut 0x7000 0x0 0x0", "tables2image", "facp.dat")
     makes("names no FACS: check will say NoFacs", "no 5 NoFacs 0x0 0x0 0x0", "tables2image", "named.dat")
-    told = "second.srat: a second SRAT: only first.srat is read, and of this one header, length and sum"
+    told = "second.srat: a second SRAT: only first.srat is read, and of this one the header, the Length and the checksum"
     cases.write("first.srat", VALID["SRAT"])
     cases.write("second.srat", OVERLAPPING)
     makes(told, "yes", "tables2image", "reduced.dat", "first.srat", "second.srat")
@@ -147,11 +156,18 @@ def refused(cases):
     refuses("absent.dat: no such file", "tables2image", "facp.dat", "absent.dat")
     refuses("/dev/null: not a regular file", "tables2image", "/dev/null")
     refuses("empty.dat: empty", "tables2image", "facp.dat", "empty.dat")
-    refuses("short.dat: 35 bytes, and a table has 36 at least", "tables2image", "facp.dat", "short.dat")
-    refuses("zeros.dat: begins with no signature of a table", "tables2image", "zeros.dat")
+    refuses("short.dat: 35 bytes, and a table has at least 36", "tables2image", "facp.dat", "short.dat")
+    refuses("zeros.dat: does not begin with the signature of a table: not a raw table", "tables2image", "zeros.dat")
     refuses("packed.dat: gzip data", "tables2image", "packed.dat")
     refuses("whole.txt: text of acpidump", "tables2image", "whole.txt")
-    refuses("old.image: begins with no signature of a table", "tables2image", "old.image")
+    refuses("old.image: image text: acpiset reads it itself, as in acpiset check < IMAGE", "tables2image", "old.image")
+    refuses("old.image: image text", "tables2image", "facp.dat", "old.image")
+    cases.write("core.dat", b"\x7fELF" + bytes(60))
+    refuses("core.dat: an ELF file: if it is a dump of memory, use memory2image", "tables2image", "core.dat")
+    refuses("wide.txt: text of 16 bits a character", "tables2image", cases.write("wide.txt", "@1000\n41\n".encode("utf-16")))
+    for line in (b"yes\n", b"no 10 Overlap 0x30 0x58 0x800\n", b"advice SameUid 0x2c 0x34 0x0\n", b"no rsdp\n", b"rsdp 0xf59e0\n"):
+        refuses("lines.txt: lines of acpiset: use explain", "tables2image", cases.write("lines.txt", line))
+    refuses("folder: a directory: give the files in it, as folder/*", "tables2image", "folder/")
     refuses("facs2.dat: a second FACS", "tables2image", "facp.dat", "facs.dat", "facs2.dat")
     refuses("facs.dat: a FACS, and named.dat names no address for it", "tables2image", "facs.dat", "named.dat")
     refuses("facs.dat: from 0xffffffffffffffe0 on the FACS goes past the last address", "tables2image", "facs.dat", "past.dat")
@@ -161,13 +177,27 @@ def refused(cases):
             file.write(b"SSDT" + number(size, 4))
             file.truncate(size)
     refuses("larger.dat: larger than any table", "tables2image", "larger.dat")
-    refuses("the image would have 120000348 bytes of text, and acpiset reads 67108864 at most", "tables2image", "large.dat", "large.dat")
+    refuses("the image would have 120000348 bytes of text, and acpiset reads at most 67108864", "tables2image", "large.dat", "large.dat")
     if os.getuid() != 0:
         os.chmod(cases.path("hpet.dat"), 0)
-        refuses("hpet.dat: may not be read", "tables2image", "hpet.dat")
+        refuses("hpet.dat: permission denied", "tables2image", "hpet.dat")
         os.chmod(cases.path("hpet.dat"), 0o644)
 
 
+def installed(cases):
+    """A tool that is called by its installed name calls the others so."""
+    folder = cases.path("prefix/bin")
+    os.makedirs(folder)
+    for tool, _, _ in CALLED:
+        shutil.copy(os.path.join(TOP, "tools", tool), os.path.join(folder, f"acpiset-{tool}"))
+    shutil.copytree(os.path.join(TOP, "share"), cases.path("prefix/share"))
+    shutil.copy(os.path.join(TOP, "docs", "FAULTS.md"), cases.path("prefix/share/acpiset"))
+    for tool, data, told in CALLED:
+        words = [sys.executable, cases.path(f"prefix/bin/acpiset-{tool}"), data]
+        run = subprocess.run(words, input=b"yes\n", capture_output=True, cwd=cases.folder, timeout=60)
+        cases.count(f"acpiset-{tool} {data}", run.returncode != 1 and f"{run}", told.encode() not in run.stderr and f"{run}")
+
+
 def all_cases(cases):
-    for part in (of_files, of_one_table, of_a_log, refused):
+    for part in (of_files, of_one_table, of_a_log, refused, installed):
         part(cases)

@@ -195,7 +195,7 @@ def refused(cases):
         "rsdp 0xf59e0 revision 0", "rsdp 0xf59e0 revision 0\nroot", "rsdp 0xf59e0 revision 0\nslot 0 x", "rsdp 0xf59e0 revision 0\n0x2c lapic uid 0",
         "rsdp 0xf59e0 revision 0\nrow 0 10", "rsdp 0xf59e0 revision 0\nblock GPE0 gas 1", "rsdp 0xf59e0 revision 0\nmadt 0x1 lapic 0x0 flags",
     ):
-        told = "no line"
+        told = "standard input is image text" if lines.startswith("@") else ": not a line "
         cases.refuses(told, "report", "--format", "json", data=lines.encode() + b"\n", status=3)
     show = b"rsdp 0xf59e0 revision 0\nroot 0x1000 RSDT length 36 slots 0\n"
     for form in FORMATS[1:]:

@@ -16,6 +16,7 @@ import memory_dumps
 import pages
 import raw_tables
 import reports
+import told_addresses
 from acpi_images.program import finish
 from tool_cases import ToolCases
 
@@ -25,8 +26,9 @@ def main():
     # A folder whose name has blanks, as a user's may.
     with tempfile.TemporaryDirectory(prefix="acpiset tools ") as folder:
         cases = ToolCases(os.path.abspath(program), folder)
+        cases.put_on_path()
         files.write_into(folder)
-        for part in (raw_tables, dumped_texts, memory_dumps, reports, pages):
+        for part in (raw_tables, dumped_texts, memory_dumps, told_addresses, reports, pages):
             part.all_cases(cases)
     finish("tools", cases)
 

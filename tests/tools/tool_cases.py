@@ -21,6 +21,13 @@ class ToolCases(Cases):
         super().__init__(program, seconds=300)
         self.folder = folder
 
+    def put_on_path(self):
+        """Has the tools find the program that is tested."""
+        folder = self.path("path")
+        os.mkdir(folder)
+        os.symlink(self.program, os.path.join(folder, "acpiset"))
+        os.environ["PATH"] = f"{folder}:{os.environ['PATH']}"
+
     def path(self, name):
         return os.path.join(self.folder, name)
 
@@ -58,6 +65,7 @@ class ToolCases(Cases):
             run.returncode and f"status {run.returncode}",
             told not in run.stderr.decode() and f"standard error {run.stderr.decode()}",
             not found and "no address is told",
+            found and not run.stdout.startswith(f"# rsdp 0x{found[1]}\n".encode()) and f"its first line: {run.stdout[:80].decode()}",
             image is not None and bare != image and f"another image: {bare.decode()}",
             line != verdict and f"{' '.join(words)}: {line}, not {verdict}",
             status > 1 and f"status {status} of the program",

@@ -2,10 +2,12 @@
 
 import os
 import re
+from difflib import get_close_matches
 
 from .refusal import BAD_INPUT, Refusal
 
 FIRST_RULE = 101
+MOST_WORDS = 6  # of a line
 HEX = r"(0x(?:0|[1-9a-f][0-9a-f]{0,15}))"
 FAULT = re.compile(rf"(?:no )?([1-9][0-9]?) ([A-Z][A-Za-z0-9]*) {HEX} {HEX} {HEX}")
 ADVICE = re.compile(rf"advice ([A-Z][A-Za-z0-9]*) {HEX} {HEX} {HEX}")
@@ -54,19 +56,34 @@ class Document:
         self.codes = {str(part.code): part for part in self.parts.values() if part.code}
 
     def named(self, text):
-        """The part of a name or a code, or None."""
-        return self.codes.get(text) or next((part for part in self.codes.values() if part.name == text), None)
+        """The part of a name, in upper or lower case, or of a code, or None."""
+        return self.codes.get(text) or next((part for part in self.codes.values() if part.name.lower() == text.lower()), None)
+
+    def similar(self, text):
+        """A name that is nearly this text, or None."""
+        names = {part.name.lower(): part.name for part in self.codes.values()}
+        return next((names[name] for name in get_close_matches(text.lower(), names, 1)), None)
+
+    def joined(self, words):
+        """The words, those of a line that was given without quotes joined to one."""
+        words, joined = list(words), []
+        while words:
+            counts = (count for count in range(min(MOST_WORDS, len(words)), 1, -1) if self.line(" ".join(words[:count])))
+            count = next(counts, 1)
+            joined.append(" ".join(words[:count]))
+            del words[:count]
+        return joined
 
     def line(self, text):
         """The line that a text is, a fault also without its `no`; None if acpiset writes no such line."""
         fault, advice = FAULT.fullmatch(text), ADVICE.fullmatch(text)
         if fault:
             part = self.named(fault[2])
-            is_right = part and part.stage == fault[1]
+            is_right = part and (part.stage, part.name) == (fault[1], fault[2])
             return Line("no " + text.removeprefix("no "), part, fault.groups()[2:]) if is_right else None
         if advice:
             part = self.named(advice[1])
-            return Line(text, part, advice.groups()[1:]) if part and part.code >= FIRST_RULE else None
+            return Line(text, part, advice.groups()[1:]) if part and part.name == advice[1] and part.code >= FIRST_RULE else None
         name = "rsdp 0x" if FOUND.fullmatch(text) else text
         part = self.parts.get(name)
         return Line(text, part) if part and part.code == 0 and (name == text) == (name != "rsdp 0x") else None

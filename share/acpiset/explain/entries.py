@@ -141,6 +141,8 @@ def madt(report, code, at, other, point):
         io_apics(report, table)
     elif code == 119:
         affinities(report, found)
+    elif code == 127:
+        count_unread(report, table)
     elif code in (114, 125):
         looked_for(report, code)
     elif code in (152, 154):
@@ -205,6 +207,8 @@ def srat(report, code, at, other, point):
         report.say(f"the SRAT's Revision is {known(table.number(8, 1))}")
     elif code == 177:
         looked_for(report, code)
+    elif code == 128:
+        count_unread(report, table)
     elif code == 120 and (slit := report.table("SLIT")):
         report.field(slit, "the number of localities", 36, 8)
         report.say(f"the SLIT has {known(slit.number(36, 8))} localities, numbered from 0")
@@ -266,7 +270,7 @@ def reference(report, table, at, due):
     before = table.before(at)
     if table.begins(at):
         found = report.structure(table, "what is named", at)
-        report.say(f"it is of type {found.type}, and has to be {due}")
+        report.say(f"it is of type {found.type}, and must be {due}")
     elif before and at < before.offset + before.size:
         report.say(f"no structure begins at offset {both(at)}: it is inside this one")
         report.structure(table, "the structure", before.offset)
@@ -382,25 +386,43 @@ def is_advised(signature, kind, size):
     return size >= {11: 40, 24: 20}.get(kind, 256) or size == {12: 24, 13: 24, 14: 16, 15: 20, 17: 15}.get(kind)
 
 
-def unread(report, signature):
-    """Which structures of a table the stages do not look at, by type."""
-    table = report.tables.first(signature)
-    staged = (0, 1, 2) if signature == "SRAT" else (0, 1, 2, 3, 4, 5, 9, 10)
+def unread_kinds(table):
+    """Types at which the stages do not look, each with whether advice does: how many structures a table has of them, and the first one."""
+    staged = (0, 1, 2) if table.signature == "SRAT" else (0, 1, 2, 3, 4, 5, 9, 10)
     alike, kinds = {}, {}
-    for at in table.places() if table else ():
+    for at in table.places():
         key = table.data[at : at + 2]
         if key not in alike:
             alike[key] = [0, at]
         alike[key][0] += 1
     for (kind, size), (count, at) in alike.items():
         if kind not in staged:
-            found = kinds.setdefault((kind, is_advised(signature, kind, size)), [0, at])
+            found = kinds.setdefault((kind, is_advised(table.signature, kind, size)), [0, at])
             found[0] += count
+    return kinds
+
+
+def told_kind(signature, kind, count, at):
+    """A type, how many structures have it, and where the first one is."""
+    name = f" ({UNREAD[signature, kind]})" if (signature, kind) in UNREAD else ""
+    return f"  type {kind}{name}: {count}{', the first' if count > 1 else ''} at offset {both(at)}"
+
+
+def unread(report, signature):
+    """Which structures of a table the stages do not look at, by type."""
+    table = report.tables.first(signature)
+    kinds = unread_kinds(table) if table else {}
     if kinds:
         if not report.lines:
             report.say("`yes` does not cover these structures:")
         report.say(table.told)
-    for (kind, is_read), (count, at) in kinds.items():
-        name = f" ({UNREAD[signature, kind]})" if (signature, kind) in UNREAD else ""
-        first = f"{count}{', the first' if count > 1 else ''} at offset {both(at)}"
-        report.say(f"  type {kind}{name}: {first}: {'looked at by the advice of lint only' if is_read else 'not looked at'}")
+    for (kind, is_read), found in kinds.items():
+        report.say(f"{told_kind(signature, kind, *found)}: {'looked at by the advice of lint only' if is_read else 'not looked at'}")
+
+
+def count_unread(report, table):
+    """How many structures lint does not read, by type: it reports the first one alone."""
+    report.say("structures of this table that neither the stages nor advice look at:")
+    for (kind, is_read), found in unread_kinds(table).items():
+        if not is_read:
+            report.say(told_kind(table.signature, kind, *found))

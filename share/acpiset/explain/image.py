@@ -5,7 +5,7 @@ import re
 from array import array
 from bisect import bisect_right
 from functools import partial
-from itertools import accumulate, compress, repeat
+from itertools import accumulate, compress, repeat, takewhile
 from operator import add, sub
 
 from .refusal import BAD_INPUT, Refusal
@@ -19,6 +19,11 @@ ADDRESS_LINE = re.compile("@([0-9A-Fa-f]{1,16})[ \\t]*\\r?\\n")
 INSIDE_LINE = re.compile("[^ \\t\\n][ \\t]*@")
 RSDP_SIZE = 20
 RSDP = re.compile(rb"RSD PTR (?=.{12})", re.DOTALL)
+# The head of a text is its comments and empty lines before the first line with an address or bytes, as far as it is looked at.
+MOST_OF_HEAD = 4096
+HEAD_LINE = re.compile(rb"[ \t]*(?:#[^\n]*|\r)?")
+# The comment with the address of the RSDP, which the tools that make image text write.
+RSDP_LINE = re.compile(rb"[ \t]*#[ \t]*rsdp[ \t]+0x([0-9A-Fa-f]{1,16})[ \t]*\r?")
 LINE = re.compile(rb"[ \t]*(?:@[0-9A-Fa-f]{1,16}[ \t]*|(?:[0-9A-Fa-f]{2}[ \t]*)*)(?:#[^\n]*|\r)?\n?")
 
 
@@ -47,6 +52,12 @@ class Image:
         part = self.part(address, size)
         return int.from_bytes(part, "little") if len(part) == size else None
 
+    def told_rsdp(self):
+        """The address of the RSDP that the head of the text tells, or None. It counts only if the image has the byte there: the text may
+        have been changed since a tool wrote it."""
+        address = rsdp_in_head(self.text)
+        return address if address is not None and self.has(address, 1) else None
+
     def rsdps(self):
         """The addresses of 20 bytes that begin as an RSDP does and have a right checksum, in order."""
         runs = zip(self.starts, self.offsets, self.offsets[1:])
@@ -55,6 +66,13 @@ class Image:
                 at = found.start()
                 if sum(self.store[at : at + RSDP_SIZE]) % 256 == 0:
                     yield start + at - begin
+
+
+def rsdp_in_head(text):
+    """The address of the RSDP by a comment before the first line with an address or bytes; None if there is none, or several differ."""
+    head = takewhile(HEAD_LINE.fullmatch, text[:MOST_OF_HEAD].split(b"\n"))
+    told = {int(found[1], 16) for found in map(RSDP_LINE.fullmatch, head) if found}
+    return told.pop() if len(told) == 1 else None
 
 
 def read(text):

@@ -31,12 +31,12 @@ class Report:
             self.say("  (--: a byte that is not in the image)")
 
     def gap(self, address, size):
-        """Which of the bytes that have to be in the image is the first that is not."""
+        """Which of the bytes that must be in the image is the first that is not."""
         held = len(self.image.part(address, size))
         if held == size:
             self.say(f"all {size} bytes are in the image: {MISMATCH}")
         else:
-            self.say(f"of the {size} bytes that have to be in the image the first {held} are; the next one, at {address + held:#x}, is not")
+            self.say(f"of the {size} bytes that must be in the image the first {held} are; the next one, at {address + held:#x}, is not")
 
     def checksum(self, what, address, size, place):
         """The value with which the byte at `place` makes the bytes sum to 0."""
@@ -48,7 +48,7 @@ class Report:
             self.say(f"{what}: the {size} bytes sum to 0: {MISMATCH}")
         else:
             now, due = data[place], (data[place] - over) % 256
-            self.say(f"{what}: the {size} bytes sum to {over:#x}, not 0. The byte at {place}, now {now:#x}, has to be {due:#x}.")
+            self.say(f"{what}: the {size} bytes sum to {over:#x}, not 0. The byte at {place}, now {now:#x}, must be {due:#x}.")
 
     def has_root(self):
         if self.tables.rsdp is None:

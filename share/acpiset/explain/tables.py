@@ -209,11 +209,14 @@ class Tables:
             self.read_root()
 
     def found(self):
-        """The RSDP that `find` finds, else the first one. Where the image has others, a note says so."""
+        """The RSDP that the head of the image text tells, else the one that `find` finds, else the first one. Where the image has others,
+        a note says so."""
         addresses = list(self.image.rsdps())
+        told = self.image.told_rsdp()
         searched = [address for address in addresses if 0xE0000 <= address <= 0xFFFF0 and address % 16 == 0]
-        first = (searched or addresses or [None])[0]
-        if len(addresses) > 1:
+        first = told if told is not None else (searched or addresses or [None])[0]
+        if {*addresses} - {first}:
+            addresses = {*addresses, first}
             self.note = f"(the image has {len(addresses)} RSDPs; this is by the one at {first:#x}, and --rsdp HEX takes another)"
         return first
 

@@ -7,15 +7,10 @@ import sys
 from typing import NamedTuple, Optional
 
 from explain import image as image_text
+from explain.forms import LOOKED_AT, WHAT, is_image_text, tool_for
 from explain.refusal import BAD_INPUT, FAILED, Refusal, printable
 
-LOOKED_AT = 1 << 16
-LARGEST_TABLE = 20_000_000
-TITLE_OF_DUMP = re.compile(rb"^[A-Z0-9_!]{3,4}(?: PTR)? @ 0[xX][0-9A-Fa-f]+\s*$", re.M)
-SIGNATURE = re.compile(rb"RSD PTR |[A-Z0-9_!]{4}")
-NO_TEXT = re.compile(rb"[^\t\n\r -~\x80-\xff]")
 RSDP_TOLD = re.compile(r"check it with --rsdp ([0-9a-f]+)$", re.M)
-WHAT = {"tables2image": "raw tables", "acpidump2image": "text of acpidump", "memory2image": "a dump of memory"}
 
 
 class Text(NamedTuple):
@@ -26,22 +21,6 @@ class Text(NamedTuple):
     notes: tuple = ()
 
 
-def tool_for(head: bytes, size: int) -> Optional[str]:
-    """The tool that makes image text of a file that begins like this; None if it is image text."""
-    if head[:4] == b"\x7fELF":
-        return "memory2image"
-    if not NO_TEXT.search(head):
-        return "acpidump2image" if TITLE_OF_DUMP.search(head) else None
-    is_table = SIGNATURE.match(head) and size <= LARGEST_TABLE and (head[:8] == b"RSD PTR " or is_length(head, size))
-    return "tables2image" if is_table else "memory2image"
-
-
-def is_length(head: bytes, size: int) -> bool:
-    """Whether a file is as long as a table that it begins with, or nearly: tables2image says so of one that is not."""
-    length = int.from_bytes(head[4:8], "little")
-    return 36 <= length and abs(length - size) <= 4096
-
-
 def of_files(paths, rsdp, folder: str) -> Text:
     """The image text of files, or of standard input for `-`."""
     if paths == ["-"]:
@@ -49,20 +28,33 @@ def of_files(paths, rsdp, folder: str) -> Text:
         if tool_for(text[:LOOKED_AT], len(text)) is not None:
             raise Refusal(BAD_INPUT, "standard input is no image text: give the file instead of -")
         return Text(text)
-    tool = "tables2image"
-    if len(paths) == 1:
-        with opened(paths[0]) as file:
-            head = file.read(LOOKED_AT)
-            tool = tool_for(head, os.fstat(file.fileno()).st_size)
-            if tool is None:
-                file.seek(0)
-                return Text(read_all(file.fileno(), printable(paths[0])))
+    if len(paths) > 1:
+        refuse_several(paths)
+        return made_by("tables2image", paths, rsdp, folder)
+    with opened(paths[0]) as file:
+        tool = tool_for(file.read(LOOKED_AT), os.fstat(file.fileno()).st_size)
+        if tool is None:
+            file.seek(0)
+            return Text(read_all(file.fileno(), printable(paths[0])))
     return made_by(tool, paths, rsdp, folder)
+
+
+def refuse_several(paths):
+    """Refuses several files if one of them is a text; tables2image says what is wrong with one that cannot be read."""
+    for path in (path for path in paths if os.path.isfile(path) and os.access(path, os.R_OK)):
+        with opened(path) as file:
+            head = file.read(LOOKED_AT)
+        is_dumped = tool_for(head, len(head)) == "acpidump2image"
+        if is_dumped or is_image_text(head):
+            what = WHAT["acpidump2image"] if is_dumped else "image text"
+            raise Refusal(BAD_INPUT, f"{printable(path)}: {what}: give one such file at a time")
 
 
 def opened(path):
     try:
         return open(path, "rb")
+    except IsADirectoryError:
+        raise Refusal(BAD_INPUT, f"{printable(path)}: a directory: give the files in it, as {printable(path)}/*") from None
     except (OSError, ValueError) as error:
         raise Refusal(BAD_INPUT, f"{printable(path)}: cannot be read: {getattr(error, 'strerror', error)}") from None
 

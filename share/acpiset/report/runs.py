@@ -78,11 +78,22 @@ def through(lines, last_stage: int) -> tuple:
     return tuple(kept if has_fault or "yes" in kept else ["yes", *kept])
 
 
+def rsdp_of(given: Optional[int], text: images.Text) -> tuple:
+    """The address of the RSDP that acpiset is given, if any, and a sentence on where it is from, if that is the head of the image text."""
+    if given is not None or text.rsdp is not None:
+        return (text.rsdp if given is None else given), ""
+    try:
+        told = image_text.read(text.data).told_rsdp() if image_text.rsdp_in_head(text.data) is not None else None
+    except Refusal:
+        told = None  # acpiset refuses the text too, and says why
+    return told, "" if told is None else " The head of the image text has the address of the RSDP."
+
+
 def of_files(paths, words, folder: str, is_installed: bool) -> Run:
     """The run on the image that these files are, or are made into."""
     options, settings = read_words(words)
     text = images.of_files(paths, options.rsdp, folder)
-    rsdp = options.rsdp if options.rsdp is not None else text.rsdp
+    rsdp, origin = rsdp_of(options.rsdp, text)
     beside = os.path.join(folder, *([] if is_installed else [".."]), "acpiset")
     program = Program([beside], text.data, settings)
     if not program.path:
@@ -96,6 +107,6 @@ def of_files(paths, words, folder: str, is_installed: bool) -> Run:
     tables = Tables(image_text.read(text.data), rsdp)
     verdict = through(linted.lines, options.through) if linted.is_given else tuple(checked.lines)
     given = " ".join([*at, *last, *settings.words()])
-    how = f"Checked by acpiset {version_of(program)}, {f'with {given}' if given else 'without options'}."
+    how = f"Checked by acpiset {version_of(program)}, {f'with {given}' if given else 'without options'}.{origin}"
     line = " ".join(checked.lines)
     return Run(checked.status, "", line, verdict, shown_by(program, at), settings, options.through, tables, text.notes, how)

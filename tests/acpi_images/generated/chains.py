@@ -107,7 +107,7 @@ def long_chains():
     yield "falling nodes in 600 KB", ring(falling(30_000)), PARENT, (FIRST + 20 * 29_999, 0, 30_000)
     yield "falling nodes in 500 KB", ring(falling(25_000)), PARENT, (FIRST + 20 * 24_999, 0, 25_000)
     order = shuffled(30_000)
-    yield "nodes in no order", ring(order), PARENT, (FIRST + 20 * order[0], 0, 30_000)
+    yield "nodes unsorted", ring(order), PARENT, (FIRST + 20 * order[0], 0, 30_000)
     yield "falling caches", ring(falling(25_000), 24, entry=cache), NEXT_LEVEL, (FIRST + 24 * 24_999, 0, 25_000)
     short = FILLER * 100_000
     body = short + ring(falling(10), first=FIRST + len(short))
