@@ -16,22 +16,35 @@ unset PYTHONHOME PYTHONSTARTUP PYTHONOPTIMIZE
 # is_new PYTHON: whether it is there, and 3.9 or later.
 is_new() { "$1" -c 'import sys; sys.exit(sys.version_info < (3, 9))' 2>/dev/null; }
 
-# tests TITLE COMMAND..: counts the tests of a command that says how many passed: of unittest, of pytest, or of a script here.
+# counts LOG: how many tests ran and how many failed, by what unittest, pytest or a script here prints.
+counts() {
+  awk '
+    /^Ran [0-9]+ tests? in / { ran += $2 }
+    /^FAILED \(/ {
+      count = split($0, parts, /[(), ]+/)
+      for (i = 1; i <= count; i++) if (sub(/^(failures|errors)=/, "", parts[i])) wrong += parts[i]
+    }
+    / (passed|failed|error|errors)(,.*)? in [0-9.]+s/ {
+      for (i = 2; i <= NF; i++) if ($i ~ /^(passed|failed|errors?),?$/) { ran += $(i - 1); if ($i !~ /^passed/) wrong += $(i - 1) }
+    }
+    /: [0-9]+ passed, [0-9]+ failed$/ { ran += $(NF - 3) + $(NF - 1); wrong += $(NF - 1) }
+    END { print ran + 0, wrong + 0 }
+  ' "$1"
+}
+
+# tests TITLE COMMAND..: counts the tests of a command.
 tests() {
+  local status ran wrong
   "${@:2}" >"$scratch/log" 2>&1
-  local status=$? ran wrong
-  read -r ran wrong < <(awk '
-    /^Ran [0-9]+ tests? in / { ran = $2 }
-    /^FAILED \(/ { gsub(/[^0-9=,]/, ""); count = split($0, parts, /[=,]/); for (i = 1; i <= count; i++) wrong += parts[i] }
-    / passed in | failed(,.*)? in / { for (i = 2; i <= NF; i++) { if ($i ~ /^passed/) ran += $(i - 1); if ($i ~ /^failed/) { ran += $(i - 1); wrong += $(i - 1) } } }
-    /: [0-9]+ passed, [0-9]+ failed$/ { ran = $(NF - 3) + $(NF - 1); wrong = $(NF - 1) }
-    END { print ran + 0, wrong + 0 }' "$scratch/log")
-  if [ "$status" != 0 ] && [ "$wrong" = 0 ]; then wrong=1 ran=$((ran + 1)); fi
-  if [ "$ran" = 0 ]; then wrong=1 ran=1; fi
+  status=$?
+  read -r ran wrong < <(counts "$scratch/log")
+  # A command that fails, or that runs nothing, is at least one failed test.
+  if [ "$wrong" = 0 ] && { [ "$status" != 0 ] || [ "$ran" = 0 ]; }; then wrong=1 ran=$((ran + 1)); fi
   passed=$((passed + ran - wrong))
   failed=$((failed + wrong))
   [ "$wrong" = 0 ] || printf '%s:\n%s\n' "$1" "$(cat "$scratch/log")"
-  printf '%s: %d tests\n' "$1" "$ran"
+  printf '%s: %d\n' "$1" "$ran"
+  sed -n 's/^OK (skipped=\(.*\))$/left out: \1 of these/p' "$scratch/log"
 }
 
 # ran WHAT COMMAND..: counts a command that has to end well.
