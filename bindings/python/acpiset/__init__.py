@@ -19,7 +19,8 @@ True
 image. `find`: where a BIOS put the RSDP. A call without a verdict raises a `Refusal`; a fault of the tables is never one. Arguments of
 another type than the hints say raise `TypeError` or `ValueError`.
 
-Calls share no state, so any thread can make one at any time. Python's global lock is released while the library works.
+Calls share no state, so any thread that has 100 KiB of stack can make one at any time. Python's global lock is released while the
+library works.
 
 The library is the file that the environment variable ``ACPISET_LIBRARY`` names, or that of the folder that it names; without it the
 ``libacpiset.so.1`` that the dynamic loader finds, or the library that `ctypes.util.find_library` finds. It is loaded at the first call.

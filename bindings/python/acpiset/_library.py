@@ -30,8 +30,7 @@ ABI = 1
 SONAME = f"libacpiset.so.{ABI}"
 VARIABLE = "ACPISET_LIBRARY"
 
-LAST_ADDRESS = 2**64 - 1
-LAST_IO_APIC_ADDRESS = 2**32 - 1
+LAST_64_BITS = 2**64 - 1
 LAST_32_BITS = 2**32 - 1
 
 
@@ -99,9 +98,9 @@ def within(what: str, number: int, most: int) -> int:
 
 
 def as_32_bits(number: int) -> int:
-    """The number, or 0 in place of one that has no place in 32 bits: the library refuses both alike."""
+    """The number, or 2^32 - 1 instead of one that does not fit into 32 bits: the library refuses that as each other one out of range."""
     number = index(number)
-    return number if 0 <= number <= LAST_32_BITS else 0
+    return number if 0 <= number <= LAST_32_BITS else LAST_32_BITS
 
 
 def bytes_of(data: ReadableBuffer) -> bytes:
@@ -114,7 +113,7 @@ class PieceArray:
 
     def __init__(self, pieces: Pieces) -> None:
         self.kept = [
-            (within(f"the address of pieces[{place}]", address, LAST_ADDRESS), bytes_of(data))
+            (within(f"the address of pieces[{place}]", address, LAST_64_BITS), bytes_of(data))
             for place, (address, data) in enumerate(pieces)
         ]
         self.array = (RawPiece * len(self.kept))(*(RawPiece(address, data, len(data)) for address, data in self.kept))
@@ -128,16 +127,16 @@ class SettingsOfCall:
 
     def __init__(self, settings: Settings) -> None:
         rows = [
-            RawInputs(within(f"the address of settings.inputs[{place}]", address, LAST_IO_APIC_ADDRESS), as_32_bits(count))
+            RawInputs(within(f"the address of settings.inputs[{place}]", address, LAST_32_BITS), as_32_bits(count))
             for place, (address, count) in enumerate(settings.inputs)
         ]
         self.inputs = (RawInputs * len(rows))(*rows)
         self.settings = RawSettings(
             size=sizeof(RawSettings),
-            rsdp=within("settings.rsdp", settings.rsdp, LAST_ADDRESS),
+            rsdp=within("settings.rsdp", settings.rsdp, LAST_64_BITS),
             default_inputs=as_32_bits(settings.default_inputs),
-            hotplug=choice(settings.hotplug),
-            processors=choice(settings.processors),
+            hotplug=as_32_bits(settings.hotplug),
+            processors=as_32_bits(settings.processors),
             through=as_32_bits(settings.through),
         )
 
@@ -145,14 +144,8 @@ class SettingsOfCall:
         return self.inputs, len(self.inputs), byref(self.settings)
 
 
-def choice(number: int) -> int:
-    """The number of a choice, or one that is none in place of one that has no place in 32 bits."""
-    number = index(number)
-    return number if 0 <= number <= LAST_32_BITS else LAST_32_BITS
-
-
 def raw_finding(finding: Finding) -> RawFinding:
-    numbers = [within(f"finding.{name}", getattr(finding, name), LAST_ADDRESS) for name in ("at", "other", "point")]
+    numbers = [within(f"finding.{name}", getattr(finding, name), LAST_64_BITS) for name in ("at", "other", "point")]
     return RawFinding(as_32_bits(finding.number), *numbers)
 
 

@@ -5,7 +5,7 @@ from __future__ import annotations
 from typing import List, Tuple, Union
 
 from ._calls import check_text, text_bytes
-from ._library import LAST_ADDRESS, Pieces, ReadableBuffer, bytes_of, within
+from ._library import LAST_64_BITS, Pieces, ReadableBuffer, bytes_of, within
 from ._settings import Settings
 
 BYTES_IN_A_ROW = 16
@@ -50,7 +50,7 @@ def image_text(pieces: Pieces) -> str:
     lines = []
     for place, (address, buffer) in enumerate(pieces):
         data = bytes_of(buffer)
-        lines.append(f"@{within(f'the address of pieces[{place}]', address, LAST_ADDRESS):x}\n")
+        lines.append(f"@{within(f'the address of pieces[{place}]', address, LAST_64_BITS):x}\n")
         for at in range(0, len(data), BYTES_IN_A_ROW):
             lines.append(data[at : at + BYTES_IN_A_ROW].hex(" ") + "\n")
     return "".join(lines)

@@ -26,7 +26,7 @@ class Numbers(unittest.TestCase):
     def test_advice_has_the_severities_of_its_rules(self):
         self.assertEqual({Advice(rule).stage for rule in Rule}, {None})
         for rule, severity in (
-            (Rule.MadtUnread, Severity.NOT_LOOKED_AT), (Rule.SratUnread, Severity.NOT_LOOKED_AT), (Rule.CacheShape, Severity.LOOK_AT_IT),
+            (Rule.MadtUnread, Severity.NOT_LOOKED_AT), (Rule.SratUnread, Severity.NOT_LOOKED_AT), (Rule.HeaderText, Severity.LOOK_AT_IT),
             (Rule.NullSlot, Severity.LOOK_AT_IT), (Rule.ListedTwice, Severity.LIKELY_WRONG), (Rule.NoDsdt, Severity.LIKELY_WRONG),
         ):
             self.assertEqual(Advice(rule).severity, severity, rule)
