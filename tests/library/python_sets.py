@@ -8,7 +8,6 @@ failed'"""
 
 import re
 import sys
-from concurrent.futures import ThreadPoolExecutor
 from pathlib import Path
 
 HERE = Path(__file__).resolve().parent
@@ -17,7 +16,7 @@ sys.path[:0] = [str(HERE), str(HERE.parent), str(HERE.parent / "rows")]
 import acpiset
 from acpi_images.known.judged import JUDGED
 from acpi_images.program import FIRMWARE, Cases, finish
-from acpi_images.text import read, text_of
+from acpi_images.text import read
 from examples import ADVICE, EXAMPLE, FIRST_RULE, PART, TOP, changed
 from jobs import all_findings, confirmations, firmware, rows
 
@@ -104,8 +103,7 @@ def broken_promises(text, pieces, settings):
 
 
 def of_rows(cases):
-    """The rows, each as pieces, as many calls at a time as there are processors."""
-    # A text that is refused is one of the rows on texts alone.
+    """The rows, from several threads at the same time."""
     jobs = [*rows(), *confirmations(), *all_findings()]
 
     def wrong(job):
@@ -115,7 +113,7 @@ def of_rows(cases):
         yield job.name, "" if told == job.lines.rstrip("\n") else f"{' '.join(job.words)}: {told}, not {job.lines}"
         if job.words[0] in ("check", "lint") and "rsdp" in settings:
             settings = acpiset.Settings(**{**settings, "through": 18})
-            yield from ((job.name, f"{' '.join(job.words)}: {it}") for it in broken_promises(job.text, pieces, settings))
+            yield f"{job.name}, {' '.join(job.words)}", "; ".join(broken_promises(job.text, pieces, settings))
 
     cases.in_parallel(wrong, jobs)
 
