@@ -7,6 +7,7 @@ from concurrent.futures import ThreadPoolExecutor
 
 import acpiset
 from acpiset import Code, Fault, HotPlug, Processors, Rule, Settings, check, check_text, confirm, find, lint
+from acpiset._library import PieceArray
 from images import FIRMWARE, MADT, RSDP, SLIT, SRAT, Image, example, mistakes, text
 
 SETTINGS = Settings(RSDP)
@@ -139,6 +140,14 @@ class Images(unittest.TestCase):
                 return 1 << 40
 
         self.assertEqual(find([(RSDP, Longer(example().parts[RSDP]))]), RSDP)
+
+    def test_what_can_change_is_copied_before_a_call(self):
+        fixed, changing = b"fixed", bytearray(b"first")
+        made = PieceArray([(0, fixed), (0x1000, changing), (2**64 - 1, b"")])
+        changing[:] = b"other"
+        self.assertIs(made.kept[0][1], fixed)
+        told = [(piece.address, piece.bytes, piece.length) for piece in made.array]
+        self.assertEqual(told, [(0, b"fixed", 5), (0x1000, b"first", 5), (2**64 - 1, b"", 0)])
 
     def test_buffers_are_free_after_a_call(self):
         data = bytearray(example().parts[RSDP])

@@ -17,11 +17,11 @@ LATER = BINDINGS / "rust" / "tests" / "later_library.c"
 COMPILER = shutil.which("cc") or shutil.which("gcc") or shutil.which("clang")
 
 
-def told_by(program, **environment):
-    """What a program in Python prints with these variables, and what it says on standard error."""
+def told_by(program, arguments=(), **environment):
+    """What a program in Python prints with these arguments and variables, and what it says on standard error."""
     path = os.pathsep.join([str(HERE.parent), str(HERE)])
     variables = {**{name: value for name, value in os.environ.items() if name != "ACPISET_LIBRARY"}, "PYTHONPATH": path, **environment}
-    ended = subprocess.run([sys.executable, "-c", program], capture_output=True, text=True, timeout=60, env=variables)
+    ended = subprocess.run([sys.executable, "-c", program, *arguments], capture_output=True, text=True, timeout=60, env=variables)
     return ended.stdout, ended.stderr
 
 
@@ -96,9 +96,9 @@ for _ in range(2):
     try:
         print(acpiset.abi())
     except acpiset.LibraryNotFound:
-        os.environ["ACPISET_LIBRARY"] = sys.prefix and FOLDER
+        os.environ["ACPISET_LIBRARY"] = sys.argv[1]
 """
-        self.assertEqual(told_by(program.replace("sys.prefix and FOLDER", repr(str(self.folder / "1")))), ("1\n", ""))
+        self.assertEqual(told_by(program, [str(self.folder / "1")]), ("1\n", ""))
 
 
 class Loading(unittest.TestCase):
@@ -129,6 +129,9 @@ class Loading(unittest.TestCase):
         self.assertEqual(self.opened("/a/b", ["/a/b", "libacpiset.so.1"], "x"), ("/a/b", ["/a/b"]))
         # What the variable names is not replaced.
         self.assertEqual(self.opened("/a/b", ["libacpiset.so.1", "x"], "x"), (None, ["/a/b"]))
+
+    def test_nothing_is_loaded_before_the_first_call(self):
+        self.assertEqual(told_by("import acpiset; print(acpiset.Fault(19))", ACPISET_LIBRARY="/none"), ("4 NoFadt 0x0 0x0 0x0\n", ""))
 
     def test_what_is_no_library_is_told(self):
         with tempfile.TemporaryDirectory() as name:
