@@ -140,7 +140,7 @@ def lists():
 # ---- what is written by hand
 
 
-SIZES = {"uint64_t": 8, "uint32_t": 4, "size_t": 8}
+# The types of functions as ctypes calls them.
 TYPES = {
     "size_t": "c_ulong",
     "uint32_t": "c_uint",
@@ -161,7 +161,7 @@ def declared_in_c():
     text = re.sub(r"/\*.*?\*/", "", HEADER, flags=re.S)
     for result, name, parameters in re.findall(r"^(\w[\w ]*?) (acpiset_\w+)\(([^)]*)\);", text, re.M):
         told = [] if parameters == "void" else re.findall(r"((?:const )?(?:struct )?\w+ ?\*?) ?\w+(?:,|$)", parameters)
-        yield name, [TYPES[kind.strip()] for kind in (result, *told)]
+        yield name, [TYPES.get(kind.strip(), kind) for kind in (result, *told)]
     known = names("acpiset_kind_name")
     for enumerator, (number, _) in enumerators("kind").items():
         yield f"kind {number}", known[enumerator]

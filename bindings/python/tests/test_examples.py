@@ -24,8 +24,8 @@ class Examples(unittest.TestCase):
         self.assertGreater(tried, 20)
 
     def test_each_call_has_an_example(self):
-        for call in (acpiset.check, acpiset.check_text, acpiset.confirm, acpiset.lint, acpiset.find, acpiset.pieces_of_text, acpiset.image_text):
-            self.assertIn(">>>", call.__doc__, call)
+        for name in ("check", "check_text", "confirm", "lint", "find", "pieces_of_text", "image_text"):
+            self.assertIn(">>>", getattr(acpiset, name).__doc__, name)
 
     def test_all_that_is_exported_is_documented(self):
         for name in acpiset.__all__:

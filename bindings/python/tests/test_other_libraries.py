@@ -150,9 +150,9 @@ class Loading(unittest.TestCase):
         self.assert_not_found(_ctypes.__file__, "has no function acpiset_abi")
 
     def assert_not_found(self, path, told):
-        with mock.patch.dict(os.environ, {"ACPISET_LIBRARY": str(path)}):
-            with self.assertRaisesRegex(LibraryNotFound, f"^libacpiset cannot be loaded: .*{told}.*set the environment variable ACPISET_LIBRARY"):
-                _library.library.__wrapped__()
+        message = f"^libacpiset cannot be loaded: .*{told}.*set the environment variable ACPISET_LIBRARY"
+        with mock.patch.dict(os.environ, {"ACPISET_LIBRARY": str(path)}), self.assertRaisesRegex(LibraryNotFound, message):
+            _library.library.__wrapped__()
 
 
 if __name__ == "__main__":
