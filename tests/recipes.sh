@@ -7,7 +7,8 @@
 #
 # A recipe is a block of sh after a line '<!-- recipe NAME needs: WORDS -->', and the block of text after it is what it prints; or
 # it is a block of console, whose lines with a '$ ' are the commands, and the others what they print. A word is a command, root,
-# library, kernel, venv, file:PATH, command:NAME for a command of the program, iasl:VERSION, or cargo:VERSION for this or a later one.
+# library, kernel, venv for that of Python 3.9 or later, file:PATH, command:NAME for a command of the program, iasl:VERSION, or
+# cargo:VERSION for this or a later one.
 # With 'own' its output depends on the machine: then only its last line is tested. A block after '<!-- file NAME -->' is a file that
 # recipes use. All run in one folder and in one shell, so each finds what those before it left. The folder has ./acpiset, tools
 # and tests, like the top of the repository; acpiset and acpiset-NAME are on the PATH, and IMAGES names the folder of images, as
@@ -63,7 +64,7 @@ lacks() {
       root) [ "$(id -u)" = 0 ] || printf ' %s' "$word" ;;
       file:*) [ -r "${word#file:}" ] || printf ' %s' "$word" ;;
       command:*) "$program" --help 2>&1 | grep -q "acpiset ${word#command:}" || printf ' %s' "$word" ;;
-      venv) python3 -c 'import ensurepip, venv' 2>"$scratch/found" || printf ' %s' "$word" ;;
+      venv) python3 -c 'import ensurepip, sys, venv; sys.exit(sys.version_info < (3, 9))' 2>"$scratch/found" || printf ' %s' "$word" ;;
       kernel) [ -r "$KERNEL" ] || printf ' %s' "$word" ;;
       library) pkg-config --exists acpiset 2>"$scratch/found" || printf ' %s' "$word" ;;
       cargo:*) printf '%s\n' "${word#cargo:}" "$(cargo --version 2>"$scratch/found" | cut -d ' ' -f 2)" | sort -V -C || printf ' %s' "$word" ;;
