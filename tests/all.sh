@@ -52,14 +52,14 @@ ran() {
 scripts=(refusals.py lint/run.py rows/many_slots.py recipes.sh fuzz/run.py show/run.py rows/texts.py lint/second.py program.sh valgrind.sh explain/run.py tools/run.py install.sh package.sh refused_calls.py rebuild/run.py rows/confirm.py documents.sh rows/run.py rows/words.py rows/examples.py scripts.sh)
 timed=(times.py limits.py)
 # The library is tested if `make library` has left it.
-[ ! -e library/libacpiset.a ] || scripts=(library/run.py library/rust.sh "${scripts[@]}")
+[ ! -e library/libacpiset.a ] || scripts=(library/run.py library/rust.sh library/python.sh "${scripts[@]}")
 [ -z "${TESTS_ONLY-}" ] || { read -ra scripts <<<"$TESTS_ONLY" && timed=(); }
 for script in "${scripts[@]}"; do
   while [ "$(jobs -rp | wc -l)" -ge "$(nproc)" ]; do wait -n; done
   case $script in
     documents.sh | lint/second.py | scripts.sh) ran "$script" & ;;
     library/run.py) ran "$script" "$program" library & ;;
-    library/rust.sh) ran "$script" library & ;;
+    library/rust.sh | library/python.sh) ran "$script" library & ;;
     refused_calls.py) ran "$script" "${tests[@]}" & ;;
     *) ran "$script" "$program" & ;;
   esac

@@ -337,6 +337,7 @@ within 'fields that the synopsis of man/acpiset.3 does not name' "$(for own in p
 within 'settings that LIBRARY.md does not explain' "$(members acpiset_settings | grep -vx size)" "$(sed -n '/^## Settings$/,/^## /s/^| `\([a-z_]*\)`.*/\1/p' docs/LIBRARY.md)"
 
 count 'the Rust crate, and what its lists are written from' "$(bindings/rust/lists.py --check 2>&1)"
+count 'the Python package, and what its lists are written from' "$(bindings/python/lists.py --check 2>&1)"
 
 # ---- a release: what is installed, and what the program and the library have inside
 

@@ -9,7 +9,7 @@ from collections import Counter
 from pathlib import Path
 
 TOP = Path(__file__).resolve().parent.parent
-PAGES = [page for folder in (".", "docs", "bench", "bindings/rust", "release") for page in sorted((TOP / folder).glob("*.md"))]
+PAGES = [page for folder in (".", "docs", "bench", "bindings/python", "bindings/rust", "release") for page in sorted((TOP / folder).glob("*.md"))]
 
 
 def prose(page):

@@ -7,7 +7,8 @@
 #
 # A recipe is a block of sh after a line '<!-- recipe NAME needs: WORDS -->', and the block of text after it is what it prints; or
 # it is a block of console, whose lines with a '$ ' are the commands, and the others what they print. A word is a command, root,
-# library, kernel, file:PATH, command:NAME for a command of the program, iasl:VERSION, or cargo:VERSION for this or a later one.
+# library, kernel, venv for that of Python 3.9 or later, file:PATH, command:NAME for a command of the program, iasl:VERSION, or
+# cargo:VERSION for this or a later one.
 # With 'own' its output depends on the machine: then only its last line is tested. A block after '<!-- file NAME -->' is a file that
 # recipes use. All run in one folder and in one shell, so each finds what those before it left. acpiset and acpiset-NAME are on the
 # PATH, IMAGES names the folder of images, and SOURCE one that has what the archive has of the sources, and nothing else. The folder
@@ -31,12 +32,12 @@ PATH="$scratch/bin:$PATH"
 library=$(realpath "${LIBRARY:-library}")
 if [ -r "$library/libacpiset.a" ]; then
   mkdir "$scratch/library"
-  ln -s "$library/libacpiset.a" "$scratch/library"
+  ln -s "$library/libacpiset.a" "$library/libacpiset.so.1" "$scratch/library"
   # shellcheck disable=SC2016 # pkg-config fills in ${libdir}
   printf 'libdir=%s\nName: acpiset\nDescription: acpiset\nVersion: 0\nCflags: -I%s\nLibs: -L${libdir} -lacpiset\n' \
     "$scratch/library" "$top/bindings/c" >"$scratch/library/acpiset.pc"
   export PKG_CONFIG_PATH="$scratch/library"
-  unset ACPISET_LIB_DIR
+  unset ACPISET_LIB_DIR ACPISET_LIBRARY
 fi
 left=0
 
@@ -66,6 +67,7 @@ lacks() {
       root) [ "$(id -u)" = 0 ] || printf ' %s' "$word" ;;
       file:*) [ -r "${word#file:}" ] || printf ' %s' "$word" ;;
       command:*) "$program" --help 2>&1 | grep -q "acpiset ${word#command:}" || printf ' %s' "$word" ;;
+      venv) python3 -c 'import ensurepip, sys, venv; sys.exit(sys.version_info < (3, 9))' 2>"$scratch/found" || printf ' %s' "$word" ;;
       kernel) [ -r "$KERNEL" ] || printf ' %s' "$word" ;;
       library) pkg-config --exists acpiset 2>"$scratch/found" || printf ' %s' "$word" ;;
       cargo:*) printf '%s\n' "${word#cargo:}" "$(cargo --version 2>"$scratch/found" | cut -d ' ' -f 2)" | sort -V -C || printf ' %s' "$word" ;;

@@ -1,0 +1,1044 @@
+"""The codes of faults and the rules of advice."""
+
+# Written by lists.py from acpiset.h and docs/FAULTS.md: change those, and run it again.
+
+from enum import IntEnum
+from typing import Dict
+
+
+class Code(IntEnum):
+    """The codes of faults. A number never changes its meaning; a later version may have more."""
+
+    RsdpOut = 1  # the 20 bytes at the RSDP's address are not all in the image
+    RsdpSignature = 2  # the RSDP does not begin with "RSD PTR "
+    RsdpSum = 3  # the checksum of the RSDP's first 20 bytes is wrong
+    RsdpTailOut = 4  # the RSDP has Revision 2 or more, and its 36 bytes are not all in the image
+    RsdpLength = 5  # the RSDP's Length is below 36
+    RsdpLongOut = 6  # the RSDP's Length bytes are not all in the image
+    RsdpExtendedSum = 7  # the RSDP's extended checksum is wrong
+    NoRoot = 8  # the RSDP gives the address of neither an XSDT nor an RSDT
+    RootHeaderOut = 9  # the header of the XSDT or RSDT is not all in the image
+    RootSignature = 10  # the XSDT or RSDT has another signature
+    RootLength = 11  # the Length of the XSDT or RSDT is below 36
+    RootOut = 12  # the XSDT or RSDT is not all in the image
+    RootRagged = 13  # the XSDT or RSDT ends inside an entry
+    RootSum = 14  # the checksum of the XSDT or RSDT is wrong
+    TableHeaderOut = 15  # the header of a listed table is not all in the image
+    TableLength = 16  # the Length of a listed table is below 36
+    TableOut = 17  # a listed table is not all in the image
+    TableSum = 18  # the checksum of a listed table is wrong
+    NoFadt = 19  # no FADT is listed
+    FadtShort = 20  # the FADT's Length is below 116
+    PmEventLength = 21  # PM1_EVT_LEN is below 4
+    PmControlLength = 22  # PM1_CNT_LEN is below 2
+    PmTimerLength = 23  # PM_TMR_LEN is neither 0 nor 4
+    GpeLength = 24  # the length of a GPE block is odd
+    ResetRegister = 25  # RESET_REG is not one that ACPI 6.5, 4.8.3.6 allows
+    NoFacs = 26  # the hardware is not reduced, and the FADT gives no address of a FACS
+    FacsAlign = 27  # the FACS's address is no multiple of 64
+    FacsHeaderOut = 28  # the FACS's first 8 bytes are not all in the image
+    FacsSignature = 29  # the FACS does not begin with "FACS"
+    FacsLength = 30  # the FACS's Length is below 64
+    FacsOut = 31  # the FACS is not all in the image
+    MadtShort = 32  # the MADT's Length is below 44
+    MadtEntryCut = 33  # a structure of the MADT is cut off, or its length is below 2
+    MadtEntryLength = 34  # a structure of the MADT does not have the length of its type
+    OverrideBus = 35  # an Interrupt Source Override has a Bus other than 0
+    ReservedInti = 36  # MPS INTI Flags have a reserved polarity or trigger mode
+    SecondAddressOverride = 37  # there is a second Local APIC Address Override
+    GsiPastEnd = 38  # an interrupt number of an I/O APIC is above 2^32 - 1
+    GsiClash = 39  # two I/O APICs serve one interrupt number
+    OverrideClash = 40  # two overrides give one source two interrupt numbers
+    SratShort = 41  # the SRAT's Length is below 48
+    SratEntryCut = 42  # a structure of the SRAT is cut off, or its length is below 2
+    SratEntryLength = 43  # a structure of the SRAT does not have the length of its type
+    RangePastEnd = 44  # an enabled memory range passes 2^64 - 1
+    Overlap = 45  # two enabled memory ranges overlap
+    SlitShort = 46  # the SLIT's Length is below 44
+    SlitSize = 47  # the SLIT's Length does not fit its number of localities
+    SlitDiagonal = 48  # the distance of a locality to itself is not 10
+    SlitLow = 49  # a distance is below 10
+    PpttEntryCut = 50  # a structure of the PPTT is cut off, or its length is below 2
+    PpttEntryLength = 51  # a structure of the PPTT does not have the length of its type
+    DanglingParent = 52  # a node's Parent is neither 0 nor the offset of a node
+    DanglingResource = 53  # a node's private resource is no offset of a structure, or that of a node
+    DanglingCache = 54  # a cache's Next Level of Cache is neither 0 nor the offset of a cache
+    ParentCycle = 55  # the Parents of nodes form a cycle
+    CacheCycle = 56  # the next levels of caches form a cycle
+    TwoDomains = 57  # an enabled processor is in two proximity domains
+    GsiNowhere = 58  # an override or NMI source has an interrupt number that no I/O APIC serves
+    LeafUnknown = 59  # a leaf's ACPI Processor ID is no processor's UID in the MADT
+
+
+class Rule(IntEnum):
+    """The rules of advice. A set of tables may have a reason to break one, so no rule is a fault."""
+
+    ListedTwice = 101  # an address is listed twice
+    SecondTable = 102  # a second table of a kind is listed, of which only the first is read
+    ListedApart = 103  # a DSDT or FACS is listed, which only the FADT should name
+    FadtOfRevision = 104  # the FADT is too short for its Revision
+    FacsDiffers = 105  # FIRMWARE_CTRL and X_FIRMWARE_CTRL differ
+    DsdtDiffers = 106  # DSDT and X_DSDT differ
+    BlockDiffers = 107  # the two fields of a register block give different I/O ports
+    SciNowhere = 108  # no I/O APIC serves the interrupt number of SCI_INT
+    SameUid = 109  # two usable processors have the same UID
+    SameApicId = 110  # two usable processors have the same APIC ID, x2APIC ID or core ID
+    IoApicAtZero = 111  # an I/O APIC has the address 0
+    SameIoApicId = 112  # two I/O APICs have the same ID
+    SameIoApicAddress = 113  # two I/O APICs have the same address
+    NmiNowhere = 114  # a Local APIC NMI names a UID that no processor has
+    SecondGicd = 115  # there is a second GIC Distributor
+    NoProcessor = 116  # no processor is usable
+    TwoUidDomains = 117  # two affinities put the processor of one UID in two proximity domains
+    AffinityNowhere = 118  # the SRAT has a processor that the MADT does not have
+    NoDomain = 119  # a usable processor is not in the SRAT, and others are
+    DomainPastSlit = 120  # a proximity domain of the SRAT is no locality of the SLIT
+    SlitDiffers = 121  # the distance between two localities depends on the direction
+    SameLeaf = 122  # two leaves of the PPTT have the same ACPI Processor ID
+    CacheShape = 123  # a cache has no sets, or a line size that is no power of two
+    SameCacheId = 124  # two caches have the same Cache ID
+    NoLeaf = 125  # a usable processor has no leaf in the PPTT, which has nodes
+    LeafNowhere = 126  # a leaf's ACPI Processor ID is no UID, and not all processors are of x86
+    MadtUnread = 127  # a structure of the MADT of a type or length that is not read
+    SratUnread = 128  # a structure of the SRAT of a type or length that is not read
+    NullSlot = 129  # a slot of the root table is 0
+    RsdtDiffers = 130  # the RSDT and the XSDT list different numbers of tables with a signature
+    TablesOverlap = 131  # two tables share bytes of memory
+    NoDsdt = 132  # the FADT names no DSDT
+    DsdtWrong = 133  # the DSDT has another signature, a wrong Length or a wrong checksum
+    NoPm1Block = 134  # PM1a_EVT_BLK or PM1a_CNT_BLK is missing
+    BlockWidth = 135  # the length of a register block is not the width of its X_ structure
+    HalfBlock = 136  # a register block has an address and no length, or a length and no address
+    PortsOverlap = 137  # two register blocks share an I/O port
+    PortPastEnd = 138  # a register is at an I/O port above FFFFh
+    GpeOverlap = 139  # GPE1_BASE is an event number of the GPE0 block
+    SmiHalf = 140  # SMI_CMD cannot switch between legacy mode and ACPI mode, or is 0 and its values are not
+    SciZero = 141  # SCI_INT is 0
+    ResetNowhere = 142  # the reset register is supported and has the address 0
+    FadtForArch = 143  # the MADT is of Arm or RISC-V, and the FADT is not of reduced hardware or is too old
+    SleepRegister = 144  # a sleep register has no address, or another width or offset than 8 bits at 0
+    FadtReserved = 145  # a field of the FADT has a reserved value
+    FacsReserved = 146  # a field of the FACS has a reserved value
+    RsdpReserved = 147  # a field of the RSDP has a reserved value
+    HeaderText = 148  # a text of a table's header has a byte that is not printable
+    SecondOther = 149  # a second table of a kind is listed that should be listed once
+    X2ApicBelow255 = 150  # a usable local x2APIC has an ID below 255, beside usable local APICs
+    BroadcastId = 151  # a usable processor has the ID of a broadcast
+    CapableTooEarly = 152  # a processor is Online Capable, which the FADT's version does not have
+    EnabledAndCapable = 153  # a processor is both Enabled and Online Capable
+    OverridePastIsa = 154  # an override is for an interrupt above 15 that is not SCI_INT
+    TimerLevel = 155  # the override of ISA interrupt 0, the timer, is level-triggered
+    TwoSourcesOneGsi = 156  # two ISA interrupts are overridden with one interrupt number
+    LintNotOne = 157  # an NMI is connected to another input than LINT1
+    NoIoApic = 158  # overrides or NMI sources are there, and no I/O APIC
+    NoDistributor = 159  # there are GIC CPU interfaces, and no GIC Distributor
+    NoRedistributor = 160  # the GIC has version 3 or 4, and no redistributor
+    GicrTooSmall = 161  # the ranges of redistributors are too small for the usable processors
+    GiccBaseDiffers = 162  # two GIC CPU interfaces of a GIC of version 1 or 2 have different base addresses
+    SameMpidr = 163  # two usable processors have the same MPIDR
+    MpidrReserved = 164  # a usable processor's MPIDR has a reserved bit set
+    GicrEmpty = 165  # a range of redistributors has the length 0
+    SameIts = 166  # two ITS have the same ID
+    SameMsiFrame = 167  # two GIC MSI frames have the same ID
+    GicOverlap = 168  # two structures of the GIC share an address
+    RedistributorTwice = 169  # a processor names a redistributor, and ranges of redistributors are there
+    NoBootMethod = 170  # there are several processors and neither PSCI nor a parking protocol
+    SameHart = 171  # two usable harts have the same ID
+    MadtReserved = 172  # a field of the MADT has a reserved value
+    NoMemoryRange = 173  # the SRAT has affinities of processors and no memory
+    EmptyRange = 174  # a range of memory has the length 0
+    InitiatorOff = 175  # a Generic Initiator is not enabled
+    DomainPastRevision = 176  # a domain above 255 is in an SRAT of Revision 1
+    ItsNowhere = 177  # the SRAT has an ITS that the MADT does not have
+    SratReserved = 178  # a field of the SRAT has a reserved value
+    RemoteAsLocal = 179  # the distance of a locality from another one is 10, that from itself
+    LeafUnflagged = 180  # a processor that no node names as Parent is not flagged as a leaf
+    LeafAsParent = 181  # a leaf is the Parent of a node
+    NoPackage = 182  # no node from a leaf to its root is a package
+    CacheNumbers = 183  # a cache's size is 0 or not the product of its sets, ways and line size
+    PpttReserved = 184  # a field of the PPTT has a reserved value
+
+
+# The stage of each code.
+STAGE_OF: Dict[int, int] = {
+    1: 1, 2: 1, 3: 1, 4: 1, 5: 1, 6: 1, 7: 1, 8: 2, 9: 2, 10: 2, 11: 2, 12: 2,
+    13: 2, 14: 2, 15: 3, 16: 3, 17: 3, 18: 3, 19: 4, 20: 4, 21: 4, 22: 4, 23: 4, 24: 4,
+    25: 4, 26: 5, 27: 5, 28: 5, 29: 5, 30: 5, 31: 5, 32: 6, 33: 6, 34: 6, 35: 6, 36: 6,
+    37: 6, 38: 6, 39: 7, 40: 8, 41: 9, 42: 9, 43: 9, 44: 9, 45: 10, 46: 11, 47: 11, 48: 11,
+    49: 11, 50: 12, 51: 12, 52: 13, 53: 13, 54: 13, 55: 14, 56: 15, 57: 16, 58: 17, 59: 18,
+}
+
+# The severity of each rule.
+SEVERITY_OF: Dict[int, int] = {
+    101: 3, 102: 3, 103: 3, 104: 3, 105: 3, 106: 3, 107: 3, 108: 3, 109: 3, 110: 3, 111: 3, 112: 3,
+    113: 3, 114: 3, 115: 3, 116: 3, 117: 3, 118: 3, 119: 3, 120: 3, 121: 3, 122: 3, 123: 2, 124: 3,
+    125: 3, 126: 3, 127: 1, 128: 1, 129: 2, 130: 3, 131: 3, 132: 3, 133: 3, 134: 3, 135: 3, 136: 3,
+    137: 3, 138: 3, 139: 3, 140: 3, 141: 3, 142: 3, 143: 3, 144: 3, 145: 2, 146: 2, 147: 2, 148: 2,
+    149: 2, 150: 3, 151: 3, 152: 3, 153: 2, 154: 3, 155: 3, 156: 3, 157: 2, 158: 2, 159: 3, 160: 3,
+    161: 3, 162: 3, 163: 3, 164: 3, 165: 3, 166: 3, 167: 3, 168: 3, 169: 3, 170: 3, 171: 3, 172: 2,
+    173: 3, 174: 3, 175: 3, 176: 3, 177: 3, 178: 2, 179: 3, 180: 3, 181: 2, 182: 3, 183: 2, 184: 2,
+}
+
+# What each means and what to fix: lines of text, with an LF between any two.
+TEXT_OF: Dict[int, str] = {
+    1: (
+        "The 20 bytes at the RSDP's address are not all in the image.\n"
+        "Numbers: `at` is the RSDP's address.\n"
+        "Fix: first make sure that the image is complete and the address right. Then check that the firmware writes an RSDP "
+        "there."
+    ),
+    2: (
+        "The first 8 bytes are not `RSD PTR ` (the last character is a space).\n"
+        "Numbers: `at` is the RSDP's address.\n"
+        "Fix: check the address; then write the signature."
+    ),
+    3: (
+        "The first 20 bytes do not sum to 0 modulo 256.\n"
+        "Numbers: `at` is the RSDP's address.\n"
+        "Fix: set Checksum at 8 after all other fields of the first 20 bytes, and before Extended Checksum."
+    ),
+    4: (
+        "Revision is 2 or more, but the 36 bytes are not all in the image.\n"
+        "Numbers: `at` is the RSDP's address.\n"
+        "Fix: first make sure that the image is complete. Then reserve and write all 36 bytes, or set Revision to 0 and provide "
+        "an RSDT."
+    ),
+    5: (
+        "Revision is 2 or more, and Length at 20 is below 36.\n"
+        "Numbers: `at` is the RSDP's address.\n"
+        "Fix: set Length to 36, then set Extended Checksum. Checksum at 8 does not cover Length."
+    ),
+    6: (
+        "Revision is 2 or more and Length is at least 36, but not all Length bytes are in the image.\n"
+        "Numbers: `at` is the RSDP's address.\n"
+        "Fix: first make sure that the image is complete. Then set Length to 36, and Extended Checksum after it."
+    ),
+    7: (
+        "Revision is 2 or more, Length is at least 36, the image holds the Length bytes, and they do not sum to 0 modulo 256.\n"
+        "Numbers: `at` is the RSDP's address.\n"
+        "Fix: set Extended Checksum at 32 after all other fields, Checksum at 8 included."
+    ),
+    8: (
+        "The RSDP names neither an RSDT nor an XSDT. With a Revision below 2 only RsdtAddress counts.\n"
+        "Numbers: `at` is the RSDP's address.\n"
+        "Fix: write the address of the XSDT or RSDT. An XSDT needs an RSDP of Revision 2."
+    ),
+    9: (
+        "The 36-byte header of the XSDT or RSDT is not all in the image.\n"
+        "Numbers: `at` is the address of the XSDT or RSDT.\n"
+        "Fix: first make sure that the image is complete: does it contain the memory at this address? Then check the address in "
+        "the RSDP."
+    ),
+    10: (
+        "The table at XsdtAddress does not begin with `XSDT`, or the one at RsdtAddress, if that is used, not with `RSDT`.\n"
+        "Numbers: `at` is the address of the XSDT or RSDT.\n"
+        "Fix: write each address into its own field: the RSDT's at 16, the XSDT's at 24."
+    ),
+    11: (
+        "Length of the XSDT or RSDT is below 36, the size of its header.\n"
+        "Numbers: `at` is the address of the XSDT or RSDT.\n"
+        "Fix: set Length to 36 plus the number of slots times their width, then set Checksum."
+    ),
+    12: (
+        "Length of the XSDT or RSDT is at least 36, but not all Length bytes are in the image.\n"
+        "Numbers: `at` is the address of the XSDT or RSDT.\n"
+        "Fix: first make sure that the image is complete. Then as for RootLength."
+    ),
+    13: (
+        "Length is at least 36, but Length - 36 is not a multiple of the width of a slot (4 in an RSDT, 8 in an XSDT).\n"
+        "Numbers: `at` is the address of the XSDT or RSDT.\n"
+        "Fix: as for RootLength. An XSDT that was filled with an odd number of 4-byte slots has this fault too."
+    ),
+    14: (
+        "Length is at least 36, the image holds the Length bytes of the XSDT or RSDT, and they do not sum to 0 modulo 256.\n"
+        "Numbers: `at` is the address of the XSDT or RSDT.\n"
+        "Fix: set Checksum at 9 after the last slot is written. Adding a slot changes the checksum."
+    ),
+    15: (
+        "The table's 36-byte header is not all in the image.\n"
+        "Numbers: `at` is the slot's number, `other` the table's address.\n"
+        "Fix: first make sure that the image is complete: does it contain this table's memory? Then remove the slot, or write the "
+        "table before the slot."
+    ),
+    16: (
+        "The table's Length is below 36, the size of its header.\n"
+        "Numbers: `at` is the slot's number, `other` the table's address.\n"
+        "Fix: set Length to the size of the table, header included, then set Checksum."
+    ),
+    17: (
+        "Length is at least 36, but not all Length bytes are in the image.\n"
+        "Numbers: `at` is the slot's number, `other` the table's address.\n"
+        "Fix: first make sure that the image is complete. Then correct Length."
+    ),
+    18: (
+        "The table's Length is at least 36, the image holds its Length bytes, and they do not sum to 0 modulo 256.\n"
+        "Numbers: `at` is the slot's number, `other` the table's address.\n"
+        "Fix: set Checksum at 9 after every other byte, and again after each change at run time. If Length was changed by "
+        "mistake, correct Length instead."
+    ),
+    19: (
+        "No slot lists a table with the signature `FACP`.\n"
+        "Numbers: all 0.\n"
+        "Fix: list the FADT. Its signature is `FACP`, not `FADT`."
+    ),
+    20: (
+        "The FADT's Length is below 116, so the table ends before the end of Flags at 112.\n"
+        "Numbers: all 0.\n"
+        "Fix: write the FADT at least up to and including Flags, and set Length. The FADT of ACPI 6.5 has 276 bytes."
+    ),
+    21: (
+        "The hardware is not reduced, and PM1_EVT_LEN is below 4.\n"
+        "Numbers: `at` is 0x58 (88), the field's offset.\n"
+        "Fix: set PM1_EVT_LEN to 4, or set HW_REDUCED_ACPI if the machine has no such registers."
+    ),
+    22: (
+        "The hardware is not reduced, and PM1_CNT_LEN is below 2.\n"
+        "Numbers: `at` is 0x59 (89), the field's offset.\n"
+        "Fix: set PM1_CNT_LEN to 2, or set HW_REDUCED_ACPI if the machine has no such registers."
+    ),
+    23: (
+        "The hardware is not reduced, and PM_TMR_LEN is neither 0 nor 4.\n"
+        "Numbers: `at` is 0x5b (91), the field's offset.\n"
+        "Fix: set PM_TMR_LEN to 4 if there is a timer, else to 0."
+    ),
+    24: (
+        "The hardware is not reduced, and the length of a GPE block is odd.\n"
+        "Numbers: `at` is the field's offset: 0x5c (92) for GPE0_BLK_LEN, 0x5d (93) for GPE1_BLK_LEN. If both are odd, 0x5c is "
+        "reported.\n"
+        "Fix: set the length to twice the number of status bytes."
+    ),
+    25: (
+        "RESET_REG_SUP is set and Length is at least 129, but RESET_REG has an address space above 2, a bit width other than 8, "
+        "or a bit offset other than 0.\n"
+        "Numbers: `at` is 0x74 (116), the field's offset.\n"
+        "Fix: describe an 8-bit register in system memory, system I/O or PCI configuration space, or clear RESET_REG_SUP."
+    ),
+    26: (
+        "The hardware is not reduced, and the FADT names no FACS: both FIRMWARE_CTRL and, if the table has it, X_FIRMWARE_CTRL "
+        "are 0.\n"
+        "Numbers: all 0.\n"
+        "Fix: write the FACS's address into one of the two fields, or set HW_REDUCED_ACPI if the hardware is reduced."
+    ),
+    27: (
+        "The FACS's address is not a multiple of 64.\n"
+        "Numbers: `at` is the FACS's address.\n"
+        "Fix: allocate the FACS at a multiple of 64."
+    ),
+    28: (
+        "The first 8 bytes at the FACS's address are not all in the image.\n"
+        "Numbers: `at` is the FACS's address.\n"
+        "Fix: first make sure that the image is complete: the FACS is usually in other memory than the tables. Then check the "
+        "address in the FADT: X_FIRMWARE_CTRL is used if the table has it and it is not 0, else FIRMWARE_CTRL."
+    ),
+    29: (
+        "The first 4 bytes at the FACS's address are not `FACS`.\n"
+        "Numbers: `at` is the FACS's address.\n"
+        "Fix: as for FacsHeaderOut."
+    ),
+    30: (
+        "The FACS's Length is below 64.\n"
+        "Numbers: `at` is the FACS's address.\n"
+        "Fix: set Length to 64. The FACS has no checksum."
+    ),
+    31: (
+        "Length is at least 64, but not all Length bytes are in the image.\n"
+        "Numbers: `at` is the FACS's address.\n"
+        "Fix: first make sure that the image is complete. Then correct Length."
+    ),
+    32: (
+        "The MADT's Length is below 44, so it ends within its fixed fields.\n"
+        "Numbers: all 0.\n"
+        "Fix: write all of the fixed part, 44 bytes, and set Length to its size and that of all structures."
+    ),
+    33: (
+        "After the last structure there are bytes that are not a structure: a single byte, a length of 0 or 1, or a length that "
+        "goes past the end of the table.\n"
+        "Numbers: `at` is the offset of these bytes.\n"
+        "Fix: correct the structure's length byte, or the table's Length. Often the structure before it is the wrong one: if its "
+        "length byte is too small or too large, the walk continues in the wrong place."
+    ),
+    34: (
+        "A structure of type 0 to 5, 9 or 10 does not have the length of its type (8, 12, 10, 8, 6, 12, 16, 12).\n"
+        "Numbers: `at` is the structure's offset.\n"
+        "Fix: set byte 1 to the length of the type, and give the structure that many bytes. If the type looks wrong too, the "
+        "length byte of the structure before it may be the wrong one."
+    ),
+    35: (
+        "Bus of an interrupt source override is not 0. 0 is the ISA bus, the only one that is defined (5.2.12.5).\n"
+        "Numbers: `at` is the structure's offset.\n"
+        "Fix: set Bus, byte 2 of the structure, to 0. Source is byte 3."
+    ),
+    36: (
+        "The flags of an interrupt have the reserved value 10b as polarity, bits 1:0, or as trigger mode, bits 3:2. The structure "
+        "is an interrupt source override, an NMI source, or an NMI of a local APIC or x2APIC.\n"
+        "Numbers: `at` is the structure's offset.\n"
+        "Fix: 00b means as the bus specifies; 01b is active high or edge-triggered, 11b active low or level-triggered."
+    ),
+    37: (
+        "There is a second structure that overrides the address of the local APICs. One whose Length is not 12 is another fault, "
+        "and does not count here.\n"
+        "Numbers: `at` is its offset, `other` that of the first such structure.\n"
+        "Fix: keep one."
+    ),
+    38: (
+        "Global System Interrupt Base of an I/O APIC plus its number of inputs is more than 0x100000000, 2^32.\n"
+        "Numbers: `at` is the structure's offset.\n"
+        "Fix: correct the base. No ACPI table says how many inputs an I/O APIC has, and `acpiset` assumes 24. If the base is "
+        "right, give it the real number, as `ADDRESS=COUNT` or with `--default-inputs`."
+    ),
+    39: (
+        "Two I/O APICs serve the same interrupt number.\n"
+        "Numbers: `at` and `other` are the offsets of their structures, `point` is the interrupt number. It is the lowest one "
+        "that two serve. The structures are the first two that serve it, by base, then by offset.\n"
+        "Fix: correct a Global System Interrupt Base: each I/O APIC begins where the one before it ends. If both are right, give "
+        "`acpiset` the real numbers of inputs, as `ADDRESS=COUNT` or with `--default-inputs`."
+    ),
+    40: (
+        "Two interrupt source overrides give different interrupt numbers for the same Source.\n"
+        "Numbers: `at` is the offset of the later override, `other` that of the earlier one, `point` is the Source, an ISA "
+        "interrupt.\n"
+        "Fix: keep one override for each Source."
+    ),
+    41: (
+        "The SRAT's Length is below 48, so it ends within its reserved bytes.\n"
+        "Numbers: all 0.\n"
+        "Fix: write the header and the 12 reserved bytes, 48 bytes in all, and set Length to their size and that of all "
+        "structures."
+    ),
+    42: (
+        "After the last structure there are bytes that are not a structure: a single byte, a length of 0 or 1, or a length that "
+        "goes past the end of the table.\n"
+        "Numbers: `at` is the offset of these bytes.\n"
+        "Fix: correct the structure's length byte, or the table's Length. Often the structure before it is the wrong one: if its "
+        "length byte is too small or too large, the walk continues in the wrong place."
+    ),
+    43: (
+        "A structure of type 0, 1 or 2 does not have the length of its type (16, 40, 24).\n"
+        "Numbers: `at` is the structure's offset.\n"
+        "Fix: set byte 1 to the length of the type, and give the structure that many bytes, including the reserved ones at its "
+        "end. If the type looks wrong too, the length byte of the structure before it may be the wrong one."
+    ),
+    44: (
+        "An enabled memory range goes past the end of the address space: Base Address plus Length is more than 2^64.\n"
+        "Numbers: `at` is the structure's offset.\n"
+        "Fix: correct Base Address or Length. Length is a size in bytes, not the last address. In a structure that is not in use "
+        "clear Enabled, bit 0 of its flags."
+    ),
+    45: (
+        "Two enabled memory ranges overlap.\n"
+        "Numbers: `at` and `other` are the offsets of their structures, `point` is an address in both ranges: the lowest address "
+        "that two ranges cover. The structures are the first two that cover it, by base, then by offset.\n"
+        "Fix: make each range begin where the one before it ends, and list no memory twice."
+    ),
+    46: (
+        "The SLIT's Length is below 44, so it ends before the end of N.\n"
+        "Numbers: all 0.\n"
+        "Fix: write N and the N * N distances that follow it, and set Length to include them all."
+    ),
+    47: (
+        "Length is not 44 + N * N.\n"
+        "Numbers: `at` is 0x24 (36), the offset of N.\n"
+        "Fix: correct N, or write all N rows of N bytes; then set Length. N has 8 bytes: check that the upper four are 0."
+    ),
+    48: (
+        "The distance from a locality to itself is not 10.\n"
+        "Numbers: `at` is the offset of the distance.\n"
+        "Fix: write 10 (0x0a) at 44 + N * i + i for each i. If many are wrong, check that each row has N bytes."
+    ),
+    49: (
+        "A distance is below 10. The values 0 to 9 are reserved.\n"
+        "Numbers: `at` is the offset of the distance. A distance below 10 on the diagonal is a SlitDiagonal too, and that is "
+        "reported.\n"
+        "Fix: scale the distances so that 10 is local memory; 255 means that there is no connection."
+    ),
+    50: (
+        "After the last structure there are bytes that are not a structure: a single byte, a length of 0 or 1, or a length that "
+        "goes past the end of the table.\n"
+        "Numbers: `at` is the offset of these bytes.\n"
+        "Fix: correct the structure's length byte, or the table's Length. Often the structure before it is the wrong one: if its "
+        "length byte is too small or too large, the walk continues in the wrong place."
+    ),
+    51: (
+        "The length of a node, type 0, is not 20 plus 4 for each private resource, whose number is at 16; or that of a cache, "
+        "type 1, is neither 24 nor 28.\n"
+        "Numbers: `at` is the structure's offset.\n"
+        "Fix: set byte 1 to the length. It is at most 255, so a node has at most 58 private resources. If the type looks wrong "
+        "too, the length byte of the structure before it may be the wrong one."
+    ),
+    52: (
+        "Parent of a node is not 0, and no node begins at it. A structure of type 0 with another Length than a node's is not a "
+        "node.\n"
+        "Numbers: `at` is the node's offset, `other` is the Parent.\n"
+        "Fix: write the offset of the parent's structure from the table's start, or 0 in a top node. If a structure is added or "
+        "removed, all offsets after it change."
+    ),
+    53: (
+        "No structure begins at a private resource of a node, or a node does. 0 is not a valid offset either: a node without "
+        "private resources has 0 as their number.\n"
+        "Numbers: `at` is the node's offset, `other` the index of the private resource, from 0, `point` its value, an offset.\n"
+        "Fix: write the offset of the cache's structure, or reduce the number of private resources and the structure's length."
+    ),
+    54: (
+        "Next Level of Cache of a cache is not 0, and no cache begins at it. A structure of type 1 whose Length is not that of a "
+        "cache is no cache.\n"
+        "Numbers: `at` is the cache's offset, `other` is the Next Level of Cache.\n"
+        "Fix: write the offset of the next level's structure from the table's start, or 0 in the last level."
+    ),
+    55: (
+        "The Parents of a node, followed from one node to the next, form a cycle instead of ending at a top node.\n"
+        "Numbers: `at` is the node's offset. The cycle is reached after `other` steps, and has `point` nodes. Of all nodes whose "
+        "chain does not end, the one with the lowest offset is reported, with the smallest numbers of steps.\n"
+        "Fix: follow the Parents from the node at `at`, and set that of the top node to 0. A node that names itself is a cycle of "
+        "1."
+    ),
+    56: (
+        "The Next Levels of a cache, followed from one cache to the next, form a cycle instead of ending.\n"
+        "Numbers: as for ParentCycle, of caches.\n"
+        "Fix: set Next Level of Cache to 0 in the last cache, the one nearest to memory."
+    ),
+    57: (
+        "Two enabled structures of the SRAT assign one processor to different proximity domains, and this processor is enabled in "
+        "the MADT.\n"
+        "Numbers: `at` and `other` are the offsets of the structures in the SRAT, `other` the lower one; `point` is the "
+        "processor's APIC ID or X2APIC ID.\n"
+        "Fix: keep one structure for each processor. Types 0 and 2 describe the same processors: an APIC ID below 255 and the "
+        "same X2APIC ID are one processor. Bits 31:8 of the domain in a structure of type 0 are at 9."
+    ),
+    58: (
+        "An interrupt source override or an NMI source of the MADT uses an interrupt number that no I/O APIC serves, although the "
+        "MADT has an I/O APIC.\n"
+        "Numbers: `at` is the structure's offset in the MADT, `point` is the interrupt number.\n"
+        "Fix: correct the number in the structure, or the I/O APIC's Global System Interrupt Base. If both are right, give "
+        "`acpiset` the I/O APIC's number of inputs, as `ADDRESS=COUNT` or with `--default-inputs`."
+    ),
+    59: (
+        "A node of the PPTT is a leaf with a valid ACPI Processor ID (bits 3 and 1 of its flags), and no processor of the MADT, "
+        "enabled or not, has this UID.\n"
+        "Numbers: `at` is the node's offset in the PPTT, `point` is the ACPI Processor ID.\n"
+        "Fix: write the ACPI Processor UID of the processor's MADT structure into the node, not its APIC ID. Clear bit 3 in a "
+        "node that is not a leaf."
+    ),
+    101: (
+        "A slot holds the same address as an earlier slot. Slots that hold 0 are not compared.\n"
+        "Numbers: `at` is the slot's number, from 0, `other` that of the first slot with this address, `point` is the address.\n"
+        "Fix: remove the slot, and reduce Length by its width. Look for firmware code that installs its table each time it runs."
+    ),
+    102: (
+        "A slot lists a FADT, MADT, SRAT, SLIT or PPTT, and an earlier slot lists a table with the same signature at another "
+        "address (5.2). A table counts if its header, 36 bytes, is in the image.\n"
+        "Numbers: `at` is the slot's number, `other` that of the first slot with this signature, `point` is the address in slot "
+        "`at`.\n"
+        "Fix: list one table of each kind. Code that replaces a table has to replace its slot instead of adding one."
+    ),
+    103: (
+        "A slot lists a DSDT or a FACS. These two are not listed in the XSDT or RSDT: the FADT holds their addresses (5.2.9).\n"
+        "Numbers: `at` is the slot's number, `point` is the address in it.\n"
+        "Fix: remove the slot. If the FADT does not have the table's address, write it there."
+    ),
+    104: (
+        "The FADT is shorter than the fields of its Revision: fewer than 244 bytes at Revision 3 or 4, 268 at 5, 276 from 6 on.\n"
+        "Numbers: `at` is 0x4, the offset of Length, `other` is Length, `point` is the length that the Revision needs.\n"
+        "Fix: write all fields of the Revision, with 0 in those that are not used, and set Length; or set the Revision to that of "
+        "the fields."
+    ),
+    105: (
+        "FIRMWARE_CTRL and X_FIRMWARE_CTRL exist, neither is 0, and they differ.\n"
+        "Numbers: `at` is 0x24 (36), the offset of FIRMWARE_CTRL, `other` is FIRMWARE_CTRL, `point` is X_FIRMWARE_CTRL.\n"
+        "Fix: write the address of the one FACS to both fields, or 0 to one of them. Only X_FIRMWARE_CTRL can hold an address of "
+        "0x100000000 or above."
+    ),
+    106: (
+        "DSDT and X_DSDT exist, neither is 0, and they differ.\n"
+        "Numbers: `at` is 0x28 (40), the offset of DSDT, `other` is DSDT, `point` is X_DSDT.\n"
+        "Fix: write the same address to both fields, or 0 to one of them. Code that moves or patches the DSDT has to update both."
+    ),
+    107: (
+        "The hardware is not reduced, and a register block's 4-byte address and the address in its X_ structure both exist, "
+        "neither is 0, and they differ. The X_ structure's address space is 1, system I/O.\n"
+        "Numbers: `at` is the offset of the 4-byte address, `other` is this address, `point` is the address in the X_ structure, "
+        "which is at 148 + 3 * (`at` - 56).\n"
+        "Fix: write the same port to both, or 0 to one of them. The block's length byte, from 88 on, and the structure's bit "
+        "width should agree too."
+    ),
+    108: (
+        "The hardware is not reduced, the MADT has I/O APICs, and none of them serves the interrupt number of the SCI. That "
+        "number is given by the first interrupt source override of bus 0 with SCI_INT as its Source (5.2.12.5); without one it is "
+        "SCI_INT itself. Applies only if the MADT is well-formed.\n"
+        "Numbers: `at` is 0x2e (46), the offset of SCI_INT in the FADT, `point` is the interrupt number.\n"
+        "Fix: correct SCI_INT, the override, or an I/O APIC's Global System Interrupt Base. If all are right, give `acpiset` the "
+        "I/O APIC's number of inputs, as `ADDRESS=COUNT` or with `--default-inputs`."
+    ),
+    109: (
+        "A usable processor has the ACPI Processor UID of an earlier usable one.\n"
+        "Numbers: `at` is the structure's offset, `other` that of the first usable one with this UID, `point` is the UID.\n"
+        "Fix: give each processor a UID of its own, the one that `_UID` of its object returns."
+    ),
+    110: (
+        "A usable processor has the APIC ID, X2APIC ID or core ID of an earlier usable one.\n"
+        "Numbers: `at` is the structure's offset, `other` that of the first usable one with this ID, `point` is the ID.\n"
+        "Fix: write the ID that the processor has. List each processor once, as a local APIC or as a local x2APIC, but not as "
+        "both."
+    ),
+    111: (
+        "The I/O APIC Address of an I/O APIC is 0 (5.2.12.3).\n"
+        "Numbers: `at` is the structure's offset.\n"
+        "Fix: write the address, or remove the structure if the machine does not have this I/O APIC."
+    ),
+    112: (
+        "An I/O APIC has the I/O APIC ID of an earlier one (5.2.12.3).\n"
+        "Numbers: `at` is the structure's offset, `other` that of the first I/O APIC with this ID, `point` is the ID.\n"
+        "Fix: give each I/O APIC an ID of its own, and use it in the MADT, in the I/O APIC's ID register, and in DMAR or IVRS."
+    ),
+    113: (
+        "An I/O APIC has the I/O APIC Address of an earlier one, other than 0 (5.2.12.3).\n"
+        "Numbers: `at` is the structure's offset, `other` that of the first I/O APIC with this address, `point` is the address.\n"
+        "Fix: write the second one's own address, or remove its structure."
+    ),
+    114: (
+        "A Local APIC NMI (5.2.12.7) or Local x2APIC NMI (5.2.12.13) names a UID that no processor has, usable or not. 0xff in "
+        "the first kind and 0xffffffff in the second mean all processors. Applies only if all processors are read and the MADT is "
+        "well-formed.\n"
+        "Numbers: `at` is the structure's offset, `point` is the UID.\n"
+        "Fix: write the processor's UID, not its APIC ID, or the value for all processors. In type 10 that value has 4 bytes: "
+        "0xff there is the UID 255."
+    ),
+    115: (
+        "The MADT has a second GIC Distributor structure (5.2.12.15), type 12, of any length.\n"
+        "Numbers: `at` is the structure's offset, `other` that of the first one.\n"
+        "Fix: keep the structure of the distributor that the machine has. GIC MSI frames, redistributors and ITSs have types of "
+        "their own: 13, 14 and 15."
+    ),
+    116: (
+        "The MADT has no usable processor. Applies only if all processors are read and the MADT is well-formed.\n"
+        "Numbers: all 0.\n"
+        "Fix: write a structure for each processor, and set Enabled in its flags."
+    ),
+    117: (
+        "Two affinities of types 3 and 7 assign the same ACPI Processor UID to different proximity domains (5.2.16.4). For "
+        "processors with an APIC ID this is the fault TwoDomains.\n"
+        "Numbers: `at` is the offset of the first affinity with this UID, `other` that of the one with another domain, `point` is "
+        "the UID.\n"
+        "Fix: keep one affinity for each UID."
+    ),
+    118: (
+        "No processor of the MADT, usable or not, has the APIC ID or X2APIC ID that an affinity names, or the UID that an "
+        "affinity of type 3 or 7 names. Applies only if all processors are read and the MADT is well-formed.\n"
+        "Numbers: `at` is the affinity's offset, `point` is its APIC ID, X2APIC ID or UID.\n"
+        "Fix: write the number that the processor has in the MADT: the APIC ID, X2APIC ID or core ID, not the UID; in an affinity "
+        "of a GICC or an RINTC the UID, not the MPIDR or the hart ID. In an affinity for a processor that does not exist, clear "
+        "Enabled."
+    ),
+    119: (
+        "A usable processor of the MADT is named by no affinity, although the SRAT has affinities: neither by its APIC ID, X2APIC "
+        "ID or core ID, nor, if it has none of these, by its UID. Applies only if all processors are read and the SRAT is "
+        "well-formed.\n"
+        "Numbers: `at` is the processor's offset in the MADT, `point` is its APIC ID, X2APIC ID or core ID, of a GICC or an RINTC "
+        "its UID.\n"
+        "Fix: write an affinity for each processor of the MADT, and set Enabled in it."
+    ),
+    120: (
+        "The proximity domain of an affinity, of an ITS (type 4), of an enabled initiator or port (types 5 and 6), or of an "
+        "enabled memory range of any length, is N or above, where N is the SLIT's number of localities (5.2.17).\n"
+        "Numbers: `at` is the offset in the SRAT, `other` is N, `point` is the domain.\n"
+        "Fix: number the domains from 0 without gaps, and give each a row and a column in the SLIT. Bits 31:8 of the domain in a "
+        "structure of type 0 are at 9."
+    ),
+    121: (
+        "The distance from locality i to locality j is not the distance from j to i.\n"
+        "Numbers: `at` is the offset of the distance from i to j, with i below j, `other` that of the distance from j to i.\n"
+        "Fix: write the same value to both cells, unless the two directions really differ. If many cells differ, check that each "
+        "row has N bytes."
+    ),
+    122: (
+        "A leaf has the ACPI Processor ID of an earlier leaf (5.2.30.1).\n"
+        "Numbers: `at` is the leaf's offset, `other` that of the first leaf with this ID, `point` is the ID.\n"
+        "Fix: write to each leaf the ACPI Processor UID of its own processor in the MADT."
+    ),
+    123: (
+        "A cache's flags say that its Number of Sets is valid, bit 1, and it is 0; or that its Line Size is valid, bit 6, and it "
+        "is not a power of two (5.2.30.2).\n"
+        "Numbers: `at` is the cache's offset.\n"
+        "Fix: write the number of sets and the line size in bytes, or clear the bit that says that the field is valid. Do not "
+        "copy the fields of Arm's CCSIDR_EL1: they hold the number of sets minus 1, and the line size as a logarithm."
+    ),
+    124: (
+        "The PPTT's Revision is 3 or more, and a cache with a valid Cache ID, bit 7 of its flags, has that of an earlier one "
+        "(5.2.30.2).\n"
+        "Numbers: `at` is the cache's offset, `other` that of the first cache with this Cache ID, `point` is the Cache ID.\n"
+        "Fix: give each cache of the table a Cache ID of its own, across all levels. Nodes that share a cache have to refer to "
+        "the same structure."
+    ),
+    125: (
+        "A usable processor of the MADT has a UID that no leaf of the PPTT has, although the PPTT has nodes. Applies only if all "
+        "processors are read and the PPTT is well-formed.\n"
+        "Numbers: `at` is the processor's offset in the MADT, `point` is its UID.\n"
+        "Fix: write a leaf for each processor of the MADT, with its ACPI Processor UID, and set bits 1 and 3 of the leaf's flags."
+    ),
+    126: (
+        "The MADT has a processor of type 11, 17 or 24, and no processor, usable or not, has the ACPI Processor ID of a leaf as "
+        "its UID. Applies only if all processors are read and the MADT is well-formed. For a MADT with types 0 to 5, 9 and 10 "
+        "only, this is the fault LeafUnknown.\n"
+        "Numbers: `at` is the leaf's offset, `point` is its ACPI Processor ID.\n"
+        "Fix: write the ACPI Processor UID: of a GICC at 8, not its CPU Interface Number at 4 or its MPIDR at 68; of an RINTC at "
+        "16, not its hart ID at 8; of a CORE PIC at 3, not its core ID at 7."
+    ),
+    127: (
+        "The MADT has a structure that no stage and no rule looks at: one of a type other than 0 to 5, 9 to 15, 17 and 24, a GICC "
+        "(11) shorter than 40 bytes, a GICD (12) or an MSI frame (13) of other than 24, a GICR (14) of other than 16, an ITS (15) "
+        "of other than 20, a CORE PIC (17) of other than 15, or an RINTC (24) shorter than 20. `acpiset` uses only its type and "
+        "length.\n"
+        "Numbers: `at` is the offset of the first one, `other` its type.\n"
+        "Fix: nothing is known to be wrong. Check these structures by other means, such as `iasl -d`. `show` prints the offset, "
+        "type and length of each, and `acpiset-explain` counts them for a `yes`."
+    ),
+    128: (
+        "The SRAT has a structure that no stage and no rule looks at: one of type 8 or above, of type 3 of other than 18 bytes, 4 "
+        "of other than 12, 5 or 6 of other than 32, or 7 of other than 20. `acpiset` uses only its type and length.\n"
+        "Numbers: `at` is the offset of the first one, `other` its type.\n"
+        "Fix: as for MadtUnread."
+    ),
+    129: (
+        "A slot of the XSDT or RSDT holds 0.\n"
+        "Numbers: `at` is the slot's number, from 0.\n"
+        "Fix: remove the slot, and reduce Length by its width. If a table is missing, look for the code that should write its "
+        "address."
+    ),
+    130: (
+        "The XSDT and the RSDT do not list the same number of tables of each signature. The XSDT is complete, the RSDP also names "
+        "an RSDT, and that one is complete. Slots of 0 do not count, nor slots with an address at which fewer than 4 bytes are in "
+        "the image, nor slots of the XSDT with an address of 0x100000000 or above, which no RSDT can list.\n"
+        "Numbers: `at` is 0x10 (16), the offset of RsdtAddress in the RSDP, `point` is the signature as a little-endian number: "
+        "0x54545050 is `PPTT`. If several signatures differ, it is the lowest of these numbers.\n"
+        "Fix: list the same tables in both, or write 0 to RsdtAddress. Code that adds or replaces a table has to change both."
+    ),
+    131: (
+        "Two tables share bytes of memory. The RSDP, the XSDT or RSDT, the FACS, the DSDT and the listed tables are compared, "
+        "each with all its bytes, if they are in the image. Tables that begin at the same address count as one.\n"
+        "Numbers: `at` and `other` are the addresses at which two such tables begin, the lower one first, `point` is the lowest "
+        "address at which two tables overlap.\n"
+        "Fix: give each table memory of its own. Code that makes a table longer in place has to check where the next one begins."
+    ),
+    132: (
+        "The FADT names no DSDT: DSDT is 0, and X_DSDT does not exist or is 0.\n"
+        "Numbers: `at` is 0x28 (40), the offset of DSDT.\n"
+        "Fix: write the DSDT's address to X_DSDT, and also to DSDT if it is below 0x100000000. A machine without AML needs a DSDT "
+        "too, of 36 bytes: the header alone."
+    ),
+    133: (
+        "The FADT names a DSDT, and what is there has another signature, a Length below 36, or a wrong checksum (5.2.11.1). Its "
+        "header, 36 bytes, is in the image; for the checksum all Length bytes are.\n"
+        "Numbers: `at` is 0x28 (40), the offset of DSDT in the FADT, `point` is the DSDT's address.\n"
+        "Fix: if the address is right, set the checksum after all changes to the AML. Otherwise correct the address."
+    ),
+    134: (
+        "The hardware is not reduced, and PM1a_EVT_BLK or PM1a_CNT_BLK has no address, neither in its 4-byte field nor in its X_ "
+        "structure.\n"
+        "Numbers: `at` is the offset of the 4-byte field, 0x38 (56) or 0x40 (64).\n"
+        "Fix: write the ports of the block. If the hardware does not have these registers, set HW_REDUCED_ACPI."
+    ),
+    135: (
+        "The hardware is not reduced, and the length byte of a register block is not the bit width of its X_ structure. Neither "
+        "address is 0, neither the width nor the length is 0, and the length is at most 31, since a width is one byte.\n"
+        "Numbers: `at` is the offset of the 4-byte address, `other` is 8 times the length byte, `point` is the bit width.\n"
+        "Fix: write 8 times the length to the bit width."
+    ),
+    136: (
+        "The hardware is not reduced, and one of the register blocks PM2_CNT, PM_TMR, GPE0 and GPE1 has a length and no address, "
+        "or an address and no length.\n"
+        "Numbers: `at` is the offset of the 4-byte field, `other` is the length byte, `point` is the address, or 0 if there is "
+        "none.\n"
+        "Fix: write both, or 0 to both."
+    ),
+    137: (
+        "The hardware is not reduced, and two register blocks in system I/O share a port. A block is at the address of its X_ "
+        "structure or, if that is 0, at its 4-byte address. It has as many ports as its length byte says. If that is 0, one with "
+        "an X_ structure has as many as its bit width needs.\n"
+        "Numbers: `at` and `other` are the offsets of the 4-byte fields of two such blocks, first the one at the lower port, "
+        "`point` is the lowest port at which two blocks overlap.\n"
+        "Fix: correct the addresses and lengths by the hardware's manual."
+    ),
+    138: (
+        "A register in system I/O is at a port above 0xffff. This is the last port of a register block, or SMI_CMD, if the "
+        "hardware is not reduced; and RESET_REG, if RESET_REG_SUP is set and Length is at least 129.\n"
+        "Numbers: `at` is the offset of the block's 4-byte field, of SMI_CMD, 0x30 (48), or of RESET_REG, 0x74 (116), `other` is "
+        "the number of bytes, `point` is the address.\n"
+        "Fix: correct the address. A register in memory has the address space 0 in its X_ structure, and its 4-byte field is 0."
+    ),
+    139: (
+        "The hardware is not reduced, there are two GPE blocks, and GPE1_BASE is below 4 * GPE0_BLK_LEN, the number of events of "
+        "GPE0.\n"
+        "Numbers: `at` is 0x5e (94), the offset of GPE1_BASE, `other` is 4 * GPE0_BLK_LEN, `point` is GPE1_BASE.\n"
+        "Fix: write the number of GPE1's first event to GPE1_BASE, the one by which its `_Lxx` and `_Exx` methods are named."
+    ),
+    140: (
+        "The hardware is not reduced, and SMI_CMD does not fit its commands. Either SMI_CMD is not 0, and ACPI_ENABLE and "
+        "ACPI_DISABLE are the same; or SMI_CMD is 0, and a command is not.\n"
+        "Numbers: `at` is 0x30 (48), the offset of SMI_CMD, `other` is the offset of ACPI_ENABLE, 0x34 (52), or of the first "
+        "command that is not 0, `point` is SMI_CMD.\n"
+        "Fix: write the port and the commands of the firmware's SMI handler. If there is none, write 0 to all six fields."
+    ),
+    141: (
+        "The hardware is not reduced, and SCI_INT is 0.\n"
+        "Numbers: `at` is 0x2e (46), the offset of SCI_INT.\n"
+        "Fix: write the interrupt number of the SCI, which is 9 on most PCs. Hardware without an SCI has HW_REDUCED_ACPI set."
+    ),
+    142: (
+        "RESET_REG_SUP is set, Length is at least 129, and the address in RESET_REG is 0.\n"
+        "Numbers: `at` is 0x74 (116), the offset of RESET_REG.\n"
+        "Fix: write the register's address, or clear RESET_REG_SUP."
+    ),
+    143: (
+        "The MADT is of a machine of Arm or RISC-V, and the FADT does not fit it. With a structure of type 11 (GICC) or 24 "
+        "(RINTC), of any length, HW_REDUCED_ACPI must be set; with one of type 11 the FADT must not be older than 5.1.\n"
+        "Numbers: for HW_REDUCED_ACPI `at` is 0x70 (112), the offset of Flags. For the version `at` is 0x8, the offset of "
+        "Revision, `other` is Revision, `point` is the minor version.\n"
+        "Fix: set HW_REDUCED_ACPI, and write all fields of Revision 6 with its minor version."
+    ),
+    144: (
+        "The hardware is reduced, and its sleep registers cannot be used. One of them has an address and a bit width other than 8 "
+        "or a bit offset other than 0; or both exist, and only one has an address.\n"
+        "Numbers: `at` is the register's offset, 0xf4 (244) or 0x100 (256). For a width or an offset `other` is the bit width, "
+        "`point` is the bit offset; for a register without an address both are 0.\n"
+        "Fix: write both registers with the bit width 8 and the bit offset 0. If the hardware has none, write 0 to all their "
+        "fields."
+    ),
+    145: (
+        "A field of the FADT has a reserved value. Byte 44 is above 1, Preferred_PM_Profile is above 8, byte 111 is not 0, a bit "
+        "of Flags above bit 23 is set, or bits 22 and 23 both are.\n"
+        "Numbers: `at` is the field's offset, `point` is its value.\n"
+        "Fix: write 0 to reserved bytes and bits. If several fields look wrong, check that the fields are laid out without gaps."
+    ),
+    146: (
+        "A field of the FACS has a reserved value. Version is above 2, a byte from 33 to 35 or from 40 to 63 is not 0, a bit of "
+        "Flags above bit 1 is set, or a bit of OSPM Flags above bit 0. Applies only to a FACS without the faults 27 to 31.\n"
+        "Numbers: `at` is the field's offset in the FACS, `point` is its value.\n"
+        "Fix: clear the whole FACS before its fields are written, but not when the machine wakes: its waking vector is still "
+        "needed."
+    ),
+    147: (
+        "A field of the RSDP has a reserved value. Revision is neither 0 nor 2; or Revision is 2 or above, and Length is above 36 "
+        "or a byte from 33 to 35 is not 0. Length is looked at if all its bytes are in the image.\n"
+        "Numbers: `at` is the field's offset in the RSDP, `point` is its value.\n"
+        "Fix: write Revision 2, Length 36 and zeros to the reserved bytes; or Revision 0, for an RSDP of 20 bytes."
+    ),
+    148: (
+        "A text in the header of a listed table has a byte that is not printable ASCII, 0x20 to 0x7e. Zeros at the end of a text "
+        "are allowed. A table counts if its header, 36 bytes, is in the image.\n"
+        "Numbers: `at` is the slot's number, `other` the offset of the text, `point` is the table's address.\n"
+        "Fix: write the whole text, with blanks or zeros after its last letter. Other bytes there are often those of memory that "
+        "was not cleared."
+    ),
+    149: (
+        "A slot lists a table of a kind of which a set has one, and an earlier slot lists one with the same signature at another "
+        "address. The kinds are BERT, BGRT, CCEL, CPEP, DBG2, DMAR, ECDT, EINJ, ERST, FPDT, GTDT, HEST, HMAT, IORT, IVRS, MCFG, "
+        "MPST, MSCT, NFIT, PCCT, PDTT, PHAT, PMTT, PRMT, RASF, RAS2, SBST, SDEI, SDEV, SPCR, SVKL, TPM2, VIOT, WAET and WSMT. A "
+        "table counts if its header, 36 bytes, is in the image.\n"
+        "Numbers: `at` is the slot's number, `other` that of the first slot with this signature, `point` is the address in slot "
+        "`at`.\n"
+        "Fix: list one table of each kind, with all structures of both."
+    ),
+    150: (
+        "A usable local x2APIC has an X2APIC ID below 255, beside a usable local APIC with another APIC ID than 255 (5.2.12.12).\n"
+        "Numbers: `at` is the offset of the local x2APIC, `point` is its X2APIC ID.\n"
+        "Fix: list processors with an ID below 255 as local APICs and only the others as local x2APICs; or list all as local "
+        "x2APICs."
+    ),
+    151: (
+        "A usable local APIC has the APIC ID 255, or a usable local x2APIC the X2APIC ID 0xffffffff (5.2.12.2, 5.2.12.12).\n"
+        "Numbers: `at` is the structure's offset, `point` is the ID.\n"
+        "Fix: write the processor's ID. In a structure for a processor that does not exist, clear Enabled and Online Capable."
+    ),
+    152: (
+        "A processor is Online Capable and not Enabled, and the FADT's version does not have this flag: it is older than 6.3 for "
+        "a local APIC or x2APIC, or older than 6.5 for a GICC (5.2.12.2, 5.2.12.12, 5.2.12.14).\n"
+        "Numbers: `at` is the structure's offset, `other` is the FADT's Revision, `point` is its minor version.\n"
+        "Fix: write the FADT of version 6.5, with all its fields; or clear Online Capable."
+    ),
+    153: (
+        "A processor is both Enabled and Online Capable (5.2.12.2, 5.2.12.12, 5.2.12.14).\n"
+        "Numbers: `at` is the structure's offset, `point` is its Flags.\n"
+        "Fix: clear Online Capable where Enabled is set."
+    ),
+    154: (
+        "An interrupt source override has a Source above 15 that is not SCI_INT (5.2.12.5). Applies if there is a FADT.\n"
+        "Numbers: `at` is the override's offset, `other` is its Source, `point` is its Global System Interrupt.\n"
+        "Fix: correct Source. The interrupts of other devices are described in AML, those of PCI devices in `_PRT`."
+    ),
+    155: (
+        "The override of Source 0, the timer of the ISA bus, says that the interrupt is level-triggered (5.2.12.5).\n"
+        "Numbers: `at` is the override's offset, `point` is its Flags.\n"
+        "Fix: write 01b, edge-triggered, or 00b, as the bus has it."
+    ),
+    156: (
+        "An override has the Global System Interrupt of an earlier one with another Source (5.2.12.5).\n"
+        "Numbers: `at` is the override's offset, `other` that of the first one with this number and another Source, `point` is "
+        "the number.\n"
+        "Fix: write to each override the number of the input to which its interrupt is wired."
+    ),
+    157: (
+        "The NMI of a local APIC or local x2APIC is wired to another input than LINT1 (5.2.12.7, 5.2.12.13).\n"
+        "Numbers: `at` is the structure's offset, `point` is the LINT number.\n"
+        "Fix: write 1, unless the hardware's manual says otherwise. On PCs LINT0 is the input for the interrupts of the 8259."
+    ),
+    158: (
+        "A local APIC or local x2APIC is usable, the MADT has overrides or NMI sources, and it has no I/O APIC (5.2.12.3). There "
+        "is no I/O SAPIC (type 6) either. Applies only if the MADT is well-formed.\n"
+        "Numbers: all 0.\n"
+        "Fix: write a structure for each I/O APIC. If the machine has none, remove the overrides and NMI sources."
+    ),
+    159: (
+        "The MADT has a GICC (type 11) and no GIC Distributor (type 12), of any length (5.2.12.15). Applies only if the MADT is "
+        "well-formed.\n"
+        "Numbers: all 0.\n"
+        "Fix: write a GICD with the distributor's address and the GIC's version."
+    ),
+    160: (
+        "The GIC has version 3 or 4, and no redistributor is described (5.2.12.17). There is no structure of type 14, and no "
+        "usable GICC has a GICR Base Address other than 0. Applies only if the MADT is well-formed.\n"
+        "Numbers: `at` is the GICD's offset, `other` is its version.\n"
+        "Fix: write a GICR for each range of redistributors, or each redistributor's address to the processor's GICC."
+    ),
+    161: (
+        "The GIC has version 3 or 4, and the GICRs have room for fewer redistributors than there are usable GICCs (5.2.12.17). "
+        "Each redistributor takes 0x20000 bytes of one range. Applies only if the MADT is well-formed and all its structures of "
+        "type 14 have 16 bytes.\n"
+        "Numbers: `at` is the offset of the first GICR, `other` is the number of redistributors for which there is room, `point` "
+        "that of usable GICCs.\n"
+        "Fix: write the size of the range: 0x20000 bytes for each redistributor, or 0x40000 for each one of a GIC with direct "
+        "injection of virtual LPIs (version 4)."
+    ),
+    162: (
+        "The GIC has version 1 or 2, and a GICC has another Physical Base Address than the first GICC (5.2.12.14).\n"
+        "Numbers: `at` is the offset of the GICC, `other` that of the first GICC, `point` is the address of the one at `at`.\n"
+        "Fix: write the same address to all GICCs."
+    ),
+    163: (
+        "A usable GICC has the MPIDR of an earlier usable one (5.2.12.14).\n"
+        "Numbers: `at` is the structure's offset, `other` that of the first usable one with this MPIDR, `point` is the MPIDR.\n"
+        "Fix: write to each GICC the MPIDR of its own processor."
+    ),
+    164: (
+        "The MPIDR of a usable GICC has a bit set outside of 0xff00ffffff, its four affinity fields (5.2.12.14).\n"
+        "Numbers: `at` is the structure's offset, `point` is the MPIDR.\n"
+        "Fix: write the affinity fields alone: Aff3 in bits 39:32, Aff2 to Aff0 in bits 23:0. The register MPIDR_EL1 has further "
+        "bits, such as bit 31, which is always 1."
+    ),
+    165: (
+        "A GICR has a Discovery Range Length of 0 (5.2.12.17).\n"
+        "Numbers: `at` is the structure's offset, `point` is the base address.\n"
+        "Fix: write the size of the range, or remove the structure."
+    ),
+    166: (
+        "An ITS has the GIC ITS ID of an earlier one (5.2.12.18).\n"
+        "Numbers: `at` is the structure's offset, `other` that of the first one with this ID, `point` is the ID.\n"
+        "Fix: give each ITS an ID of its own, and use it in the IORT and in the SRAT."
+    ),
+    167: (
+        "An MSI frame has the GIC MSI Frame ID of an earlier one (5.2.12.16).\n"
+        "Numbers: `at` is the structure's offset, `other` that of the first one with this ID, `point` is the ID.\n"
+        "Fix: give each frame an ID of its own. If the two structures describe the same frame, remove one."
+    ),
+    168: (
+        "Two structures of the GIC share an address (5.2.12.15). A GICR has as many bytes as its Discovery Range Length says, an "
+        "ITS 0x20000, an MSI frame 0x1000, and a GICD 0x10000 if its version is 3 or 4 and 0x1000 otherwise.\n"
+        "Numbers: `at` and `other` are the offsets of two such structures, first the one with the lower address, `point` is the "
+        "lowest address at which two overlap.\n"
+        "Fix: correct the addresses, and the length of the GICR, by the hardware's manual."
+    ),
+    169: (
+        "There is a GICR, and a usable GICC also has a GICR Base Address other than 0 (5.2.12.14, 5.2.12.17).\n"
+        "Numbers: `at` is the offset of the GICC, `other` that of the first GICR, `point` is the GICR Base Address.\n"
+        "Fix: write 0 to GICR Base Address of all GICCs; or remove the GICRs, if each usable GICC has its address."
+    ),
+    170: (
+        "More than one GICC is usable, and nothing says how the other processors are started (5.2.12.14). ARM_BOOT_ARCH exists, "
+        "its bit 0, PSCI_COMPLIANT, is clear, and the Parking Protocol Version is 0 in all usable GICCs. Applies only if the MADT "
+        "is well-formed.\n"
+        "Numbers: `at` is 0x81 (129), the offset of ARM_BOOT_ARCH in the FADT, `point` is ARM_BOOT_ARCH.\n"
+        "Fix: set PSCI_COMPLIANT, and bit 1 if PSCI is called by HVC; or write the version and the address of the parking "
+        "protocol to each GICC."
+    ),
+    171: (
+        "A usable RINTC has the Hart ID of an earlier usable one. RINTC comes after ACPI 6.5.\n"
+        "Numbers: `at` is the structure's offset, `other` that of the first usable one with this ID, `point` is the ID.\n"
+        "Fix: write to each RINTC the ID of its own hart."
+    ),
+    172: (
+        "A field of the MADT has a reserved value. It is a bit of the MADT's Flags above bit 0; a reserved byte or a reserved bit "
+        "of the flags in a structure of types 0 to 5, 9 and 10; or, in a GICD, a byte from 16 to 19 that is not 0, or a version "
+        "above 4.\n"
+        "Numbers: for the MADT's Flags `at` is 0x28 (40), `point` is Flags. Otherwise `at` is the structure's offset, `other` the "
+        "offset in it of the first field or byte that is wrong.\n"
+        "Fix: write 0 to reserved bytes and bits."
+    ),
+    173: (
+        "The SRAT has an affinity, and no enabled memory range with a Length above 0 (5.2.16.2). Applies only if the SRAT is "
+        "well-formed.\n"
+        "Numbers: all 0.\n"
+        "Fix: write a memory range for each range of memory, and set Enabled in it."
+    ),
+    174: (
+        "An enabled memory range has a Length of 0 (5.2.16.2).\n"
+        "Numbers: `at` is the structure's offset, `point` is the Base Address.\n"
+        "Fix: write the Length in bytes. In a structure that is not used, clear Enabled."
+    ),
+    175: (
+        "A generic initiator (type 5, 32 bytes) is not enabled (5.2.16.6).\n"
+        "Numbers: `at` is the structure's offset, `point` is its domain.\n"
+        "Fix: remove the structure, or put it after all other structures of the SRAT."
+    ),
+    176: (
+        "The SRAT's Revision is below 2, and an enabled structure of type 0 or 1 has a domain above 255 (5.2.16).\n"
+        "Numbers: `at` is the structure's offset, `other` is the Revision, `point` is the domain.\n"
+        "Fix: set Revision to 3; or clear the upper bytes, if they are not part of the domain."
+    ),
+    177: (
+        "An ITS affinity of the SRAT names an ITS that the MADT does not have (5.2.16.5). Applies only if the MADT is well-formed "
+        "and all its structures of type 15 have 20 bytes.\n"
+        "Numbers: `at` is the structure's offset in the SRAT, `point` is its ITS ID.\n"
+        "Fix: write the ID that the ITS has in the MADT."
+    ),
+    178: (
+        "A field of the SRAT has a reserved value. The 4 bytes at 36 are not the number 1, or a structure of types 0 to 2 has a "
+        "reserved byte that is not 0 or a reserved bit of its flags set.\n"
+        "Numbers: for the number `at` is 0x24 (36), `point` is the number. Otherwise `at` is the structure's offset, `other` the "
+        "offset in it of the first field or byte that is wrong.\n"
+        "Fix: write 1 at 36, and 0 to reserved bytes and bits."
+    ),
+    179: (
+        "The distance from one locality to another one is 10, that of a locality from itself (5.2.17).\n"
+        "Numbers: `at` is the offset of the distance in the SLIT, `other` is i, `point` is j: it is the distance from i to j.\n"
+        "Fix: write distances above 10 between different localities. If there is no distance between two localities, make them "
+        "one proximity domain."
+    ),
+    180: (
+        "The PPTT's Revision is 2 or above, and a node with a valid ACPI Processor ID is no node's Parent and is not flagged as a "
+        "leaf (5.2.30.1). Applies only if the PPTT is well-formed.\n"
+        "Numbers: `at` is the node's offset, `point` is its ACPI Processor ID.\n"
+        "Fix: set bit 3 in the flags of each node that is a processor."
+    ),
+    181: (
+        "The PPTT's Revision is 2 or above, and a node that is flagged as a leaf is the Parent of a node (5.2.30.1).\n"
+        "Numbers: `at` is the leaf's offset, `other` that of the first node that names it as its Parent.\n"
+        "Fix: clear bit 3 in a node that groups others, or correct Parent."
+    ),
+    182: (
+        "Neither a leaf nor any node to which its Parents lead is flagged as a physical package (5.2.30.1).\n"
+        "Numbers: `at` is the leaf's offset, `point` is its ACPI Processor ID.\n"
+        "Fix: set bit 0 in the node of each package."
+    ),
+    183: (
+        "The valid numbers of a cache contradict each other (5.2.30.2). Its Associativity is valid and 0, or its Size is valid "
+        "and 0; or Size, Number of Sets, Associativity and Line Size are all valid, and Size is not the product of the others.\n"
+        "Numbers: `at` is the cache's offset, `other` is its Size, `point` is Number of Sets * Associativity * Line Size, as "
+        "these fields are.\n"
+        "Fix: write the size in bytes, the number of sets and ways, and the line size in bytes; or clear the bit of a number that "
+        "is not known."
+    ),
+    184: (
+        "A field of a node or a cache has a reserved value. A reserved byte, 2 or 3, is not 0; or a reserved bit is set: above "
+        "bit 4 in the flags of a node, above bit 7 in those of a cache, above bit 4 in the attributes of a cache.\n"
+        "Numbers: `at` is the structure's offset, `other` the offset in it of the first field or byte that is wrong.\n"
+        "Fix: write 0 to reserved bytes and bits."
+    ),
+}

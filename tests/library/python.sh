@@ -1,0 +1,117 @@
+#!/usr/bin/env bash
+# Runs the tests of the Python package of bindings/python with the built library: with each Python from 3.9 on that is here its unit tests,
+# which have the examples of its docstrings and the wheel; with the one named python3 also the sets of the other tests, and pytest and mypy
+# if it has them.
+# usage: tests/library/python.sh LIBRARY_FOLDER, the folder of libacpiset.so.1; the last line is 'python package: N passed, M failed', or
+# 'left out: ..' if there is no Python that is new enough. Nothing is downloaded, and nothing is written into the tree.
+library=$(realpath "${1:?usage: tests/library/python.sh LIBRARY_FOLDER}")
+[ -r "$library/libacpiset.so.1" ] || { printf '%s: no libacpiset.so.1\n' "$library" >&2; exit 1; }
+# shellcheck source=tests/prelude.sh
+. "$(dirname "$0")/../prelude.sh"
+SOURCE=$PWD
+package=$SOURCE/bindings/python
+export ACPISET_LIBRARY="$library" PYTHONPATH="$package" PYTHONDONTWRITEBYTECODE=1
+unset PYTHONHOME PYTHONSTARTUP PYTHONOPTIMIZE
+
+# is_new PYTHON: whether it is there, and 3.9 or later.
+is_new() { "$1" -c 'import sys; sys.exit(sys.version_info < (3, 9))' 2>/dev/null; }
+
+# counts LOG: how many tests ran and how many failed, by what unittest, pytest or a script here prints.
+counts() {
+  awk '
+    /^Ran [0-9]+ tests? in / { ran += $2 }
+    /^FAILED \(/ {
+      count = split($0, parts, /[(), ]+/)
+      for (i = 1; i <= count; i++) if (sub(/^(failures|errors)=/, "", parts[i])) wrong += parts[i]
+    }
+    / (passed|failed|error|errors)(,.*)? in [0-9.]+s/ {
+      for (i = 2; i <= NF; i++) if ($i ~ /^(passed|failed|errors?),?$/) { ran += $(i - 1); if ($i !~ /^passed/) wrong += $(i - 1) }
+    }
+    /: [0-9]+ passed, [0-9]+ failed$/ { ran += $(NF - 3) + $(NF - 1); wrong += $(NF - 1) }
+    END { print ran + 0, wrong + 0 }
+  ' "$1"
+}
+
+# tests TITLE COMMAND..: counts the tests of a command.
+tests() {
+  local status ran wrong
+  "${@:2}" >"$scratch/log" 2>&1
+  status=$?
+  read -r ran wrong < <(counts "$scratch/log")
+  # A command that fails, or that runs nothing, is at least one failed test.
+  if [ "$wrong" = 0 ] && { [ "$status" != 0 ] || [ "$ran" = 0 ]; }; then wrong=1 ran=$((ran + 1)); fi
+  passed=$((passed + ran - wrong))
+  failed=$((failed + wrong))
+  [ "$wrong" = 0 ] || printf '%s:\n%s\n' "$1" "$(cat "$scratch/log")"
+  printf '%s: %d\n' "$1" "$ran"
+  sed -n 's/^OK (skipped=\(.*\))$/left out: \1 of these/p' "$scratch/log"
+}
+
+# ran WHAT COMMAND..: counts a command that has to end well.
+ran() { count "$1" "$("${@:2}" >"$scratch/log" 2>&1 || { echo "status $?"; cat "$scratch/log"; })"; }
+
+is_new python3 || { echo 'left out: no Python 3.9 or later'; exit 0; }
+cd "$scratch" || exit
+tests 'python3: unit tests' python3 -m unittest discover -s "$package/tests"
+versions=" $(python3 -c 'import sys; print(*sys.version_info[:2], sep=".")') "
+for minor in 9 10 11 12 13 14 15; do
+  if [[ $versions != *" 3.$minor "* ]] && is_new "python3.$minor"; then
+    tests "python3.$minor: unit tests" "python3.$minor" -m unittest discover -s "$package/tests"
+    versions+="3.$minor "
+  fi
+done
+tests 'sets of the other tests' python3 "$SOURCE/tests/library/python_sets.py"
+
+# The example is for pytest; its tests are functions without arguments.
+cat >functions.py <<'PROGRAM'
+import runpy, sys
+functions = [it for name, it in runpy.run_path(sys.argv[1]).items() if name.startswith("test_")]
+for function in functions:
+    function()
+print(f"example: {len(functions)} passed, 0 failed")
+PROGRAM
+tests 'examples/test_guest_tables.py' python3 functions.py "$SOURCE/examples/test_guest_tables.py"
+if python3 -c 'import pytest' 2>/dev/null; then
+  tests 'pytest' python3 -m pytest -q -p no:cacheprovider "$package/tests" "$SOURCE/examples/test_guest_tables.py"
+  tests 'pytest, docstrings' python3 -m pytest -q -p no:cacheprovider --doctest-modules "$package/acpiset"
+else
+  left_out 'the tests under pytest' 'it is not installed'
+fi
+if python3 -c 'import mypy' 2>/dev/null; then
+  ran 'types' python3 -m mypy --strict --cache-dir "$scratch/types" "$package/acpiset"
+  ran 'types of the example' env MYPYPATH="$package" python3 -m mypy --cache-dir "$scratch/types" "$SOURCE/examples/test_guest_tables.py"
+else
+  left_out 'the types' 'mypy is not installed'
+fi
+# ---- what lists.py sees: each change of the header and of docs/FAULTS.md, in a copy of the tree
+
+# sees TEXT FILE EDIT: a change of a file by an edit of sed, of which lists.py has to say this.
+sees() {
+  rm -rf "$scratch/tree"
+  mkdir -p "$scratch/tree/bindings" "$scratch/tree/docs"
+  cp -r "$SOURCE/bindings/c" "$package" "$scratch/tree/bindings"
+  cp "$SOURCE/docs/FAULTS.md" "$scratch/tree/docs"
+  sed -i "$3" "$scratch/tree/$2"
+  cmp -s "$scratch/tree/$2" "$SOURCE/$2" && count "the edit $3" 'it changes nothing'
+  ! "$scratch/tree/bindings/python/lists.py" --check >"$scratch/log" 2>&1 && grep -qF -- "$1" "$scratch/log"
+  count "lists.py after the edit $3, which has to say \"$1\"" "$([ $? = 0 ] || { echo 'it says:'; cat "$scratch/log"; })"
+}
+header=bindings/c/acpiset.h
+ran 'lists.py' "$package/lists.py" --check
+sees 'acpiset/_lists.py is not what' docs/FAULTS.md 's/^- Fix: list the FADT\./- Fix: add the FADT./'
+ran 'lists.py, which writes the change' "$scratch/tree/bindings/python/lists.py"
+ran 'lists.py after that' "$scratch/tree/bindings/python/lists.py" --check
+sees 'acpiset/_lists.py is not what' $header 's/ACPISET_NO_FADT = 19,/ACPISET_NO_FADT = 20,/'
+sees 'acpiset/_lists.py is not what' $header 's/return "NoFadt"/return "NoFACP"/'
+sees 'kind 9: None in acpiset.h, BadCode in the package' $header 's/ACPISET_BAD_CODE = 9,/ACPISET_BAD_CODE = 17,/'
+sees 'kind 9: BadNumber in acpiset.h, BadCode in the package' $header 's/return "BadCode"/return "BadNumber"/'
+sees 'ABI: 2 in acpiset.h, 1 in the package' $header 's/^#define ACPISET_ABI 1/#define ACPISET_ABI 2/'
+sees 'answer.at: (12, 8) in acpiset.h, (16, 8) in the package' $header 's/(acpiset_answer, at, 16, 8)/(acpiset_answer, at, 12, 8)/'
+sees 'settings: 40 in acpiset.h, 32 in the package' $header 's/(acpiset_settings, 32)/(acpiset_settings, 40)/'
+sees 'acpiset_find: ' $header 's/^struct acpiset_answer acpiset_find(/&const char *text, /'
+sees 'severity 4: ERROR in acpiset.h' $header 's/ACPISET_FAULT = 4/ACPISET_ERROR = 4/'
+sees 'hotplug 1: ALONE in acpiset.h' $header 's/ACPISET_HOTPLUG_APART = 1/ACPISET_HOTPLUG_ALONE = 1/'
+
+count 'files that were written into the tree' "$(find "$package" "$SOURCE/examples" -newer "$scratch/functions.py" ! -type d)"
+
+finish 'python package: '
