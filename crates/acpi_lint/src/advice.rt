@@ -4,7 +4,7 @@
 ghost use Rattle.std.specs.Prelude.{◌≡◌, IfOk};
 ghost use Rattle.acpi_lint.specs.CompleteTables.{AreCompleteTables};
 ghost use Rattle.acpi_lint.specs.Places.{FindsLeast};
-ghost use Rattle.acpi_lint.specs.RuleGroups.{in_fadt, in_fadt_memory, in_fadt_madt, in_madt, on_madt_entry, unique_number, in_madt_bytes, in_madt_srat, in_madt_pptt, in_srat, on_srat_entry, in_srat_bytes, on_srat_slit_entry, in_slit, in_pptt, on_pptt_entry, in_pptt_bytes, group_of, Finds, FindsBy, FindsIn};
+ghost use Rattle.acpi_lint.specs.RuleGroups.{in_fadt, in_fadt_memory, in_fadt_madt, in_madt, in_madt_bytes, in_madt_srat, in_madt_pptt, in_srat, on_srat_entry, in_srat_bytes, on_srat_slit_entry, in_slit, in_pptt, on_pptt_entry, in_pptt_bytes, group_of, Finds, FindsBy, FindsIn};
 ghost use Rattle.acpi_lint.specs.Rules.Broken as broken;
 ghost use Rattle.acpi_lint.specs.Rules.Broken.{condition, IsBroken};
 ghost use Rattle.acpi_lint.specs.Rules.Findings.{AreFirstAdvice};
@@ -15,10 +15,10 @@ use crate::fadt_advice::fadt_place;
 use crate::fadt_memory::fadt_memory_place;
 use crate::nowhere::{madt_place, madt_pptt_place, madt_srat_place};
 use crate::own::{
-    first_own_place, madt_entry_place, pptt_entry_place, srat_entry_place, srat_slit_entry_place,
+    first_own_place, madt_entries_place, pptt_entry_place, srat_entry_place, srat_slit_entry_place,
 };
 use crate::place::Place;
-use crate::repeated::{pptt_place, repeated, srat_place, unique_number_at};
+use crate::repeated::{madt_numbers_place, pptt_place, srat_place};
 use crate::reserved::{madt_bytes_place, pptt_bytes_place, srat_bytes_place};
 use crate::rule::{Advice, Rule};
 use crate::sci::fadt_madt_place;
@@ -339,15 +339,8 @@ fn first_place(
         RuleGroup::FadtMemory => Ok(listed_fadt_memory_place(image, tables, rule)),
         RuleGroup::FadtMadt => Ok(listed_fadt_madt_place(policy, tables, rule)),
         RuleGroup::Madt => listed_madt_place(alloc, policy, tables, rule),
-        RuleGroup::MadtEntries => Ok(first_own_place(
-            tables.madt_entries(),
-            |at| madt_entry_place(rule, at),
-        )),
-        RuleGroup::MadtNumbers => repeated(
-            alloc,
-            tables.madt_entries(),
-            |at| unique_number_at(rule, at),
-        ),
+        RuleGroup::MadtEntries => Ok(madt_entries_place(tables, rule)),
+        RuleGroup::MadtNumbers => madt_numbers_place(alloc, tables, rule),
         RuleGroup::MadtBytes => Ok(listed_madt_bytes_place(tables, rule)),
         RuleGroup::MadtSrat => listed_madt_srat_place(alloc, policy, tables, rule),
         RuleGroup::MadtPptt => listed_madt_pptt_place(alloc, policy, tables, rule),

@@ -14,6 +14,7 @@ const CAPABLE: u32 = 1;
 // ---- local APICs and harts
 
 /// The ID of a local APIC or a local x2APIC that is on: Enabled or Online Capable.
+#[inline(always)]
 pub fn local_id_on(entry: &MadtEntry<'_>) -> Option<u64>
     ensures { result ≡ local_id_on (madt_value entry.now) }
 {
@@ -25,6 +26,7 @@ pub fn local_id_on(entry: &MadtEntry<'_>) -> Option<u64>
 }
 
 /// The ID of a local APIC that is on, if it is not 255, which means all.
+#[inline(always)]
 pub fn plain_apic_id(entry: &MadtEntry<'_>) -> Option<u64>
     ensures { result ≡ plain_apic_id (madt_value entry.now) }
 {
@@ -37,6 +39,7 @@ pub fn plain_apic_id(entry: &MadtEntry<'_>) -> Option<u64>
 }
 
 /// The ID of a local x2APIC that is on, if a local APIC could have it: it is below 255.
+#[inline(always)]
 pub fn low_x2apic_id(entry: &MadtEntry<'_>) -> Option<u64>
     ensures { result ≡ low_x2apic_id (madt_value entry.now) }
 {
@@ -49,6 +52,7 @@ pub fn low_x2apic_id(entry: &MadtEntry<'_>) -> Option<u64>
 }
 
 /// The ID of a local APIC or a local x2APIC that is on, if it is the one that means all.
+#[inline(always)]
 pub fn broadcast_id(entry: &MadtEntry<'_>) -> Option<u64>
     ensures { result ≡ broadcast_id (madt_value entry.now) }
 {
@@ -64,6 +68,7 @@ pub fn broadcast_id(entry: &MadtEntry<'_>) -> Option<u64>
 }
 
 /// These flags, if Enabled, bit 0, and Online Capable, the bit `capable`, are both set.
+#[inline(always)]
 fn both_set(flags: u32, capable: u32) -> Option<u64>
     requires { capable < 32 }
     ensures { result ≡ both_set flags capable }
@@ -72,6 +77,7 @@ fn both_set(flags: u32, capable: u32) -> Option<u64>
 }
 
 /// The flags of a processor, if it is Enabled and Online Capable.
+#[inline(always)]
 pub fn both_flags(entry: &MadtEntry<'_>) -> Option<u64>
     ensures { result ≡ both_flags (madt_value entry.now) }
 {
@@ -85,6 +91,7 @@ pub fn both_flags(entry: &MadtEntry<'_>) -> Option<u64>
 }
 
 /// The ID of a hart that is on.
+#[inline(always)]
 pub fn hart_id_on(entry: &MadtEntry<'_>) -> Option<u64>
     ensures { result ≡ hart_id_on (madt_value entry.now) }
 {
@@ -99,6 +106,7 @@ pub fn hart_id_on(entry: &MadtEntry<'_>) -> Option<u64>
 // ---- interrupts
 
 /// The flags of an override of the timer's interrupt, 0, if they make it level-triggered.
+#[inline(always)]
 pub fn level_timer(entry: &MadtEntry<'_>) -> Option<u64>
     ensures { result ≡ level_timer (madt_value entry.now) }
 {
@@ -112,6 +120,7 @@ pub fn level_timer(entry: &MadtEntry<'_>) -> Option<u64>
 }
 
 /// The Local APIC LINT# of an NMI of local APICs, if it is not 1.
+#[inline(always)]
 pub fn other_lint(entry: &MadtEntry<'_>) -> Option<u64>
     ensures { result ≡ other_lint (madt_value entry.now) }
 {

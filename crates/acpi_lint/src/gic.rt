@@ -31,6 +31,7 @@ pub const ITS_LEN: usize = 20;
 // ---- the parts
 
 /// Whether the bytes are a GIC CPU interface that is on: Enabled or Online Capable.
+#[inline(always)]
 pub fn is_gicc_on(bytes: &[u8]) -> bool
     ensures value { result ≡ is_gicc_on bytes.now }
     ensures size { IsTrue result → 40 ≤ length bytes.now }
@@ -39,6 +40,7 @@ pub fn is_gicc_on(bytes: &[u8]) -> bool
 }
 
 /// Whether they are one that is on and has an MPIDR.
+#[inline(always)]
 fn has_mpidr(bytes: &[u8]) -> bool
     ensures value { result ≡ has_mpidr bytes.now }
     ensures size { IsTrue result → 76 ≤ length bytes.now }
@@ -47,6 +49,7 @@ fn has_mpidr(bytes: &[u8]) -> bool
 }
 
 /// Whether they are one that is on and names a redistributor of its own.
+#[inline(always)]
 fn names_redistributor(bytes: &[u8]) -> bool
     ensures value { result ≡ names_redistributor bytes.now }
     ensures size { IsTrue result → 68 ≤ length bytes.now }
@@ -55,6 +58,7 @@ fn names_redistributor(bytes: &[u8]) -> bool
 }
 
 /// Whether they are a distributor.
+#[inline(always)]
 pub fn is_gicd(bytes: &[u8]) -> bool
     ensures value { result ≡ is_gicd bytes.now }
     ensures size { IsTrue result → length bytes.now ≡ 24 }
@@ -63,6 +67,7 @@ pub fn is_gicd(bytes: &[u8]) -> bool
 }
 
 /// Whether they are an MSI frame.
+#[inline(always)]
 fn is_msi_frame(bytes: &[u8]) -> bool
     ensures value { result ≡ is_msi_frame bytes.now }
     ensures size { IsTrue result → length bytes.now ≡ 24 }
@@ -71,6 +76,7 @@ fn is_msi_frame(bytes: &[u8]) -> bool
 }
 
 /// Whether they are a range of redistributors.
+#[inline(always)]
 fn is_gicr(bytes: &[u8]) -> bool
     ensures value { result ≡ is_gicr bytes.now }
     ensures size { IsTrue result → length bytes.now ≡ 16 }
@@ -79,6 +85,7 @@ fn is_gicr(bytes: &[u8]) -> bool
 }
 
 /// Whether they are an interrupt translation service.
+#[inline(always)]
 fn is_its(bytes: &[u8]) -> bool
     ensures value { result ≡ is_its bytes.now }
     ensures size { IsTrue result → length bytes.now ≡ 20 }
@@ -89,6 +96,7 @@ fn is_its(bytes: &[u8]) -> bool
 // ---- their fields
 
 /// The address of a CPU interface.
+#[inline(always)]
 pub fn gicc_base(entry: &MadtEntry<'_>) -> Option<u64>
     ensures { result ≡ gicc_base (madt_value entry.now) }
 {
@@ -99,6 +107,7 @@ pub fn gicc_base(entry: &MadtEntry<'_>) -> Option<u64>
 }
 
 /// The UID of a CPU interface that is on.
+#[inline(always)]
 pub fn gicc_uid_on(entry: &MadtEntry<'_>) -> Option<u64>
     ensures { result ≡ gicc_uid_on (madt_value entry.now) }
 {
@@ -109,6 +118,7 @@ pub fn gicc_uid_on(entry: &MadtEntry<'_>) -> Option<u64>
 }
 
 /// The version of the parking protocol of a CPU interface that is on.
+#[inline(always)]
 pub fn parking_version_on(entry: &MadtEntry<'_>) -> Option<u64>
     ensures { result ≡ parking_version_on (madt_value entry.now) }
 {
@@ -119,6 +129,7 @@ pub fn parking_version_on(entry: &MadtEntry<'_>) -> Option<u64>
 }
 
 /// The MPIDR of a CPU interface that is on.
+#[inline(always)]
 pub fn mpidr_on(entry: &MadtEntry<'_>) -> Option<u64>
     ensures { result ≡ mpidr_on (madt_value entry.now) }
 {
@@ -129,6 +140,7 @@ pub fn mpidr_on(entry: &MadtEntry<'_>) -> Option<u64>
 }
 
 /// The address of the redistributor that a CPU interface that is on names as its own.
+#[inline(always)]
 pub fn own_redistributor(entry: &MadtEntry<'_>) -> Option<u64>
     ensures { result ≡ own_redistributor (madt_value entry.now) }
 {
@@ -139,6 +151,7 @@ pub fn own_redistributor(entry: &MadtEntry<'_>) -> Option<u64>
 }
 
 /// The address of a distributor.
+#[inline(always)]
 pub fn gicd_base(entry: &MadtEntry<'_>) -> Option<u64>
     ensures { result ≡ gicd_base (madt_value entry.now) }
 {
@@ -149,6 +162,7 @@ pub fn gicd_base(entry: &MadtEntry<'_>) -> Option<u64>
 }
 
 /// The version of a distributor.
+#[inline(always)]
 pub fn gicd_version(entry: &MadtEntry<'_>) -> Option<u64>
     ensures { result ≡ gicd_version (madt_value entry.now) }
 {
@@ -159,6 +173,7 @@ pub fn gicd_version(entry: &MadtEntry<'_>) -> Option<u64>
 }
 
 /// The ID of an MSI frame.
+#[inline(always)]
 pub fn msi_frame_id(entry: &MadtEntry<'_>) -> Option<u64>
     ensures { result ≡ msi_frame_id (madt_value entry.now) }
 {
@@ -169,6 +184,7 @@ pub fn msi_frame_id(entry: &MadtEntry<'_>) -> Option<u64>
 }
 
 /// The address of an MSI frame.
+#[inline(always)]
 pub fn msi_frame_base(entry: &MadtEntry<'_>) -> Option<u64>
     ensures { result ≡ msi_frame_base (madt_value entry.now) }
 {
@@ -179,6 +195,7 @@ pub fn msi_frame_base(entry: &MadtEntry<'_>) -> Option<u64>
 }
 
 /// The address of a range of redistributors.
+#[inline(always)]
 pub fn gicr_base(entry: &MadtEntry<'_>) -> Option<u64>
     ensures { result ≡ gicr_base (madt_value entry.now) }
 {
@@ -189,6 +206,7 @@ pub fn gicr_base(entry: &MadtEntry<'_>) -> Option<u64>
 }
 
 /// The length of a range of redistributors.
+#[inline(always)]
 pub fn gicr_length(entry: &MadtEntry<'_>) -> Option<u64>
     ensures { result ≡ gicr_length (madt_value entry.now) }
 {
@@ -199,6 +217,7 @@ pub fn gicr_length(entry: &MadtEntry<'_>) -> Option<u64>
 }
 
 /// The ID of an interrupt translation service.
+#[inline(always)]
 pub fn its_id(entry: &MadtEntry<'_>) -> Option<u64>
     ensures { result ≡ its_id (madt_value entry.now) }
 {
@@ -209,6 +228,7 @@ pub fn its_id(entry: &MadtEntry<'_>) -> Option<u64>
 }
 
 /// The address of an interrupt translation service.
+#[inline(always)]
 pub fn its_base(entry: &MadtEntry<'_>) -> Option<u64>
     ensures { result ≡ its_base (madt_value entry.now) }
 {
@@ -221,6 +241,7 @@ pub fn its_base(entry: &MadtEntry<'_>) -> Option<u64>
 // ---- fields that are wrong, or of another length
 
 /// Whether a bit of an MPIDR is set that is none of an affinity: bits 23:0 and 39:32 are.
+#[inline(always)]
 fn is_reserved_mpidr(mpidr: u64) -> bool
     ensures { result ≡ is_reserved_mpidr mpidr }
 {
@@ -228,6 +249,7 @@ fn is_reserved_mpidr(mpidr: u64) -> bool
 }
 
 /// The MPIDR of a CPU interface that is on, if such a bit is set.
+#[inline(always)]
 pub fn reserved_mpidr(entry: &MadtEntry<'_>) -> Option<u64>
     ensures { result ≡ reserved_mpidr (madt_value entry.now) }
 {
@@ -236,6 +258,7 @@ pub fn reserved_mpidr(entry: &MadtEntry<'_>) -> Option<u64>
 }
 
 /// The address of a range of redistributors of no bytes.
+#[inline(always)]
 pub fn empty_gicr(entry: &MadtEntry<'_>) -> Option<u64>
     ensures { result ≡ empty_gicr (madt_value entry.now) }
 {
@@ -248,6 +271,7 @@ pub fn empty_gicr(entry: &MadtEntry<'_>) -> Option<u64>
 }
 
 /// The length of an entry of the type of a range of redistributors, if it is another one.
+#[inline(always)]
 pub fn other_gicr(entry: &MadtEntry<'_>) -> Option<u64>
     ensures { result ≡ other_gicr (madt_value entry.now) }
 {
@@ -260,6 +284,7 @@ pub fn other_gicr(entry: &MadtEntry<'_>) -> Option<u64>
 }
 
 /// The address of a CPU interface, if it is not this one.
+#[inline(always)]
 pub fn other_gicc_base(base: u64, entry: &MadtEntry<'_>) -> Option<u64>
     ensures { result ≡ other_gicc_base base (madt_value entry.now) }
 {

@@ -68,6 +68,7 @@ impl MadtNumber {
     ghost use Rattle.acpi_lint.specs.MadtNumbers.{number_of};
 
     /// The number of an entry. None if it has none.
+    #[inline(always)]
     pub fn of(self, entry: &MadtEntry<'_>) -> Option<u64>
         ensures { result ≡ number_of self (madt_value entry.now) }
     {
@@ -94,6 +95,7 @@ impl MadtNumber {
 }
 
 /// The place of an entry that has a number, which is `point`, with this `other`.
+#[inline(always)]
 pub fn number_place(number: MadtNumber, other: u64, at: &EntryAt<MadtEntry<'_>>) -> Option<Place>
     ensures { FindsOwn (HasNumberWith (number_of number) other) (entry_at_value madt_value at.now)
         result }
@@ -107,6 +109,7 @@ pub fn number_place(number: MadtNumber, other: u64, at: &EntryAt<MadtEntry<'_>>)
 }
 
 /// The place of the first entry of a MADT that has a number, which is `point`, with this `other`.
+#[inline(always)]
 pub fn first_number(madt: &Table<'_>, number: MadtNumber, other: u64) -> Option<Place>
     ensures { FindsLeast
         (NamesWith (number_of number) other (madt_contents madt.now).entries) result }
@@ -118,6 +121,7 @@ pub fn first_number(madt: &Table<'_>, number: MadtNumber, other: u64) -> Option<
 }
 
 /// Whether an entry of a MADT has a number.
+#[inline(always)]
 pub fn has_number(madt: &Table<'_>, number: MadtNumber) -> bool
     ensures { IsTrue result ↔ IsAnyNamed (number_of number) (madt_contents madt.now).entries }
 {
@@ -125,6 +129,7 @@ pub fn has_number(madt: &Table<'_>, number: MadtNumber) -> bool
 }
 
 /// The numbers of all entries of a MADT that have one. Allocates for each.
+#[inline(always)]
 pub fn all_numbers(
     alloc: Global,
     madt: &Table<'_>,
@@ -143,6 +148,7 @@ pub fn all_numbers(
 // ---- types of entries
 
 /// The type of an entry.
+#[inline(always)]
 fn type_of(entry: &MadtEntry<'_>) -> u8
     ensures { result ≡ type_of (madt_value entry.now) }
 {
@@ -163,6 +169,7 @@ fn type_of(entry: &MadtEntry<'_>) -> u8
 }
 
 /// Whether a MADT has an entry of this type, of any length.
+#[inline(always)]
 pub fn has_type(madt: &Table<'_>, wanted: u8) -> bool
     ensures { IsTrue result ↔ HasType (madt_contents madt.now) wanted }
 {

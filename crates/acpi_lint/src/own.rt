@@ -18,9 +18,11 @@ ghost use Rattle.acpi_read.specs.Srats.{srat_value};
 ghost use Rattle.acpi_read.specs.Entries.{entry_at_value};
 ghost use Rattle.acpi_check.specs.CollectedValues.{Picks};
 ghost use Rattle.acpi_lint.specs.Places.{PicksFirst, FindsOwn};
-ghost use Rattle.acpi_lint.specs.RuleGroups.{on_madt_entry, on_srat_entry, on_srat_slit_entry, on_pptt_entry};
+ghost use Rattle.acpi_lint.specs.RuleGroups.{Finds, on_madt_entry, on_srat_entry, on_srat_slit_entry, on_pptt_entry};
+ghost use Rattle.acpi_lint.specs.Rules.Broken as broken;
 ghost use Rattle.acpi_lint.specs.Rules.Broken.{condition};
 
+use crate::complete_tables::CompleteTables;
 use crate::domains::{empty_range, initiator_off};
 use crate::gic::{GICD_LEN, GICR, GICR_LEN, ITS, ITS_LEN, MSI_FRAME, MSI_FRAME_LEN};
 use crate::madt_numbers::{MadtNumber, number_place};
@@ -53,6 +55,7 @@ pub fn first_own_place<'a, E: TableEntry<'a> + Copy, F: Fn(&EntryAt<E>) -> Optio
 // ---- the MADT
 
 /// The place of an I/O APIC whose address is 0.
+#[inline(always)]
 fn io_apic_at_zero(at: &EntryAt<MadtEntry<'_>>) -> Option<Place>
     ensures { FindsOwn (λ at. IsIoApicAtZero) (entry_at_value madt_value at.now) result }
 {
@@ -62,6 +65,7 @@ fn io_apic_at_zero(at: &EntryAt<MadtEntry<'_>>) -> Option<Place>
 
 /// Whether the stages or these rules read an entry with these bytes. An opaque entry of a type that the stages read has
 /// another length than its type, which is a separate fault.
+#[inline(always)]
 fn is_madt_read(bytes: &[u8]) -> bool
     requires { 2 ≤ length bytes.now }
     ensures { IsTrue result
@@ -82,6 +86,7 @@ fn is_madt_read(bytes: &[u8]) -> bool
 }
 
 /// The place of an entry of a MADT that neither the stages nor these rules read; `other` is its type.
+#[inline(always)]
 fn madt_unread(at: &EntryAt<MadtEntry<'_>>) -> Option<Place>
     requires { madts.IsCompleteEntry at.now.entry }
     ensures { FindsOwn (λ at. IsMadtUnread) (entry_at_value madt_value at.now) result }
@@ -96,21 +101,39 @@ fn madt_unread(at: &EntryAt<MadtEntry<'_>>) -> Option<Place>
     }
 }
 
-/// The place of an entry of a MADT that breaks a rule by itself. None for another rule.
-pub fn madt_entry_place(rule: Rule, at: &EntryAt<MadtEntry<'_>>) -> Option<Place>
-    requires { madts.IsCompleteEntry at.now.entry }
-    ensures { FindsOwn (λ at. on_madt_entry (condition rule)) (entry_at_value madt_value at.now)
-        result }
+/// The place of the first entry of a set's MADT that breaks a rule by itself. None for another rule. The rule is told
+/// apart before the entries are gone over, so that each pass reads only what its rule needs.
+pub fn madt_entries_place(tables: &CompleteTables<'_>, rule: Rule) -> Option<Place>
+    ensures { Finds (broken.MadtEntries (on_madt_entry (condition rule))) tables.now result }
 {
+    let entries = tables.madt_entries();
     match rule {
-        Rule::IoApicAtZero => io_apic_at_zero(at),
-        Rule::MadtUnread => madt_unread(at),
-        Rule::BroadcastId => number_place(MadtNumber::BroadcastId, 0, at),
-        Rule::EnabledAndCapable => number_place(MadtNumber::BothFlags, 0, at),
-        Rule::TimerLevel => number_place(MadtNumber::LevelTimer, 0, at),
-        Rule::LintNotOne => number_place(MadtNumber::OtherLint, 0, at),
-        Rule::MpidrReserved => number_place(MadtNumber::ReservedMpidr, 0, at),
-        Rule::GicrEmpty => number_place(MadtNumber::EmptyGicr, 0, at),
+        Rule::IoApicAtZero => first_own_place(entries, io_apic_at_zero),
+        Rule::MadtUnread => first_own_place(entries, madt_unread),
+        Rule::BroadcastId => first_own_place(
+            entries,
+            |at| number_place(MadtNumber::BroadcastId, 0, at),
+        ),
+        Rule::EnabledAndCapable => first_own_place(
+            entries,
+            |at| number_place(MadtNumber::BothFlags, 0, at),
+        ),
+        Rule::TimerLevel => first_own_place(
+            entries,
+            |at| number_place(MadtNumber::LevelTimer, 0, at),
+        ),
+        Rule::LintNotOne => first_own_place(
+            entries,
+            |at| number_place(MadtNumber::OtherLint, 0, at),
+        ),
+        Rule::MpidrReserved => first_own_place(
+            entries,
+            |at| number_place(MadtNumber::ReservedMpidr, 0, at),
+        ),
+        Rule::GicrEmpty => first_own_place(
+            entries,
+            |at| number_place(MadtNumber::EmptyGicr, 0, at),
+        ),
         _ => None,
     }
 }

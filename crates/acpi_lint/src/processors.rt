@@ -57,6 +57,7 @@ pub const RINTC_AFFINITY_LEN: usize = 20;
 
 /// Whether a bit of flags is set.
 #[tactic(auto, unfolding(acpi_base::specs::Number::has_bit))]
+#[inline(always)]
 pub fn is_set(flags: u32, bit: u32) -> bool
     requires { bit < 32 }
     ensures { result ≡ has_bit flags bit }
@@ -65,6 +66,7 @@ pub fn is_set(flags: u32, bit: u32) -> bool
 }
 
 /// Whether Enabled, bit 0, or Online Capable, the bit `capable`, is set in a processor's flags.
+#[inline(always)]
 pub fn is_on(flags: u32, capable: u32) -> bool
     requires { capable < 32 }
     ensures { result ≡ has_bit flags 0 || has_bit flags capable }
@@ -75,6 +77,7 @@ pub fn is_on(flags: u32, capable: u32) -> bool
 // ---- the MADT
 
 /// Whether the bytes are a GIC CPU interface of at least `GICC_LEN` bytes.
+#[inline(always)]
 pub fn is_gicc(bytes: &[u8]) -> bool
     ensures value { result ≡ is_gicc bytes.now }
     ensures size { IsTrue result → 40 ≤ length bytes.now }
@@ -83,6 +86,7 @@ pub fn is_gicc(bytes: &[u8]) -> bool
 }
 
 /// Whether they are a hart's interrupt controller of at least `RINTC_LEN` bytes.
+#[inline(always)]
 pub fn is_rintc(bytes: &[u8]) -> bool
     ensures value { result ≡ is_rintc bytes.now }
     ensures size { IsTrue result → 20 ≤ length bytes.now }
@@ -91,6 +95,7 @@ pub fn is_rintc(bytes: &[u8]) -> bool
 }
 
 /// Whether they are the interrupt controller of a LoongArch core.
+#[inline(always)]
 fn is_core_pic(bytes: &[u8]) -> bool
     ensures value { result ≡ is_core_pic bytes.now }
     ensures size { IsTrue result → length bytes.now ≡ 15 }
@@ -99,6 +104,7 @@ fn is_core_pic(bytes: &[u8]) -> bool
 }
 
 /// The processor that the bytes of one of these describe. None for others.
+#[inline(always)]
 pub fn opaque_processor(bytes: &[u8]) -> Option<Processor>
     ensures { option_map processor_value result ≡ opaque_processor bytes.now }
 {
@@ -127,6 +133,7 @@ pub fn opaque_processor(bytes: &[u8]) -> Option<Processor>
 }
 
 /// The processor that an entry describes. None for another entry.
+#[inline(always)]
 fn processor_of(entry: &MadtEntry<'_>) -> Option<Processor>
     ensures { option_map processor_value result ≡ processor_of (madt_value entry.now) }
 {
@@ -147,6 +154,7 @@ fn processor_of(entry: &MadtEntry<'_>) -> Option<Processor>
 }
 
 /// The UID of a processor.
+#[inline(always)]
 pub fn uid_of(entry: &MadtEntry<'_>) -> Option<u32>
     ensures { result ≡ uid_of (madt_value entry.now) }
 {
@@ -155,6 +163,7 @@ pub fn uid_of(entry: &MadtEntry<'_>) -> Option<u32>
 }
 
 /// The UID of a usable processor.
+#[inline(always)]
 pub fn uid_on(entry: &MadtEntry<'_>) -> Option<u32>
     ensures { result ≡ uid_on (madt_value entry.now) }
 {
@@ -163,6 +172,7 @@ pub fn uid_on(entry: &MadtEntry<'_>) -> Option<u32>
 }
 
 /// The APIC ID, x2APIC ID or core's ID of a processor that has one.
+#[inline(always)]
 pub fn apic_id_of(entry: &MadtEntry<'_>) -> Option<u32>
     ensures { result ≡ apic_id_of (madt_value entry.now) }
 {
@@ -170,6 +180,7 @@ pub fn apic_id_of(entry: &MadtEntry<'_>) -> Option<u32>
 }
 
 /// The same for a usable processor.
+#[inline(always)]
 pub fn apic_id_on(entry: &MadtEntry<'_>) -> Option<u32>
     ensures { result ≡ apic_id_on (madt_value entry.now) }
 {
@@ -182,6 +193,7 @@ pub fn apic_id_on(entry: &MadtEntry<'_>) -> Option<u32>
 }
 
 /// The UID of a usable processor that has no APIC ID.
+#[inline(always)]
 pub fn uid_on_without_id(entry: &MadtEntry<'_>) -> Option<u32>
     ensures { result ≡ uid_on_without_id (madt_value entry.now) }
 {
@@ -190,6 +202,7 @@ pub fn uid_on_without_id(entry: &MadtEntry<'_>) -> Option<u32>
 }
 
 /// The UID to which a local APIC NMI or local x2APIC NMI applies. None if it applies to all processors.
+#[inline(always)]
 pub fn nmi_uid(entry: &MadtEntry<'_>) -> Option<u32>
     ensures { result ≡ nmi_uid (madt_value entry.now) }
 {
@@ -201,6 +214,7 @@ pub fn nmi_uid(entry: &MadtEntry<'_>) -> Option<u32>
 }
 
 /// The ID of an I/O APIC.
+#[inline(always)]
 pub fn io_apic_id(entry: &MadtEntry<'_>) -> Option<u32>
     ensures { result ≡ io_apic_id (madt_value entry.now) }
 {
@@ -211,6 +225,7 @@ pub fn io_apic_id(entry: &MadtEntry<'_>) -> Option<u32>
 }
 
 /// The address of an I/O APIC.
+#[inline(always)]
 pub fn io_apic_address(entry: &MadtEntry<'_>) -> Option<u32>
     ensures { result ≡ io_apic_address (madt_value entry.now) }
 {
@@ -221,6 +236,7 @@ pub fn io_apic_address(entry: &MadtEntry<'_>) -> Option<u32>
 }
 
 /// The address of an I/O APIC, if it is not 0.
+#[inline(always)]
 pub fn nonzero_io_apic_address(entry: &MadtEntry<'_>) -> Option<u32>
     ensures { result ≡ nonzero_io_apic_address (madt_value entry.now) }
 {
@@ -229,6 +245,7 @@ pub fn nonzero_io_apic_address(entry: &MadtEntry<'_>) -> Option<u32>
 }
 
 /// The number 0 of a GIC distributor, the same for all, since there is only one.
+#[inline(always)]
 pub fn gicd(entry: &MadtEntry<'_>) -> Option<u32>
     ensures { result ≡ gicd (madt_value entry.now) }
 {
@@ -241,6 +258,7 @@ pub fn gicd(entry: &MadtEntry<'_>) -> Option<u32>
 // ---- the SRAT
 
 /// Whether the bytes are a GICC affinity that is enabled.
+#[inline(always)]
 fn is_gicc_affinity(bytes: &[u8]) -> bool
     ensures value { result ≡ is_gicc_affinity bytes.now }
     ensures size { IsTrue result → length bytes.now ≡ 18 }
@@ -249,6 +267,7 @@ fn is_gicc_affinity(bytes: &[u8]) -> bool
 }
 
 /// Whether the bytes are the affinity of a hart that is enabled.
+#[inline(always)]
 fn is_rintc_affinity(bytes: &[u8]) -> bool
     ensures value { result ≡ is_rintc_affinity bytes.now }
     ensures size { IsTrue result → length bytes.now ≡ 20 }
@@ -257,6 +276,7 @@ fn is_rintc_affinity(bytes: &[u8]) -> bool
 }
 
 /// Whether the bytes are the affinity of an ITS.
+#[inline(always)]
 pub fn is_its_affinity(bytes: &[u8]) -> bool
     ensures value { result ≡ is_its_affinity bytes.now }
     ensures size { IsTrue result → length bytes.now ≡ 12 }
@@ -265,6 +285,7 @@ pub fn is_its_affinity(bytes: &[u8]) -> bool
 }
 
 /// Whether the bytes are the affinity of an initiator or a port that is enabled.
+#[inline(always)]
 fn is_generic_affinity(bytes: &[u8]) -> bool
     ensures value { result ≡ is_generic_affinity bytes.now }
     ensures size { IsTrue result → length bytes.now ≡ 32 }
@@ -275,6 +296,7 @@ fn is_generic_affinity(bytes: &[u8]) -> bool
 }
 
 /// The APIC ID or x2APIC ID that an enabled affinity places.
+#[inline(always)]
 pub fn placed_apic_id(entry: &SratEntry<'_>) -> Option<u32>
     ensures { result ≡ placed_apic_id (srat_value entry.now) }
 {
@@ -286,6 +308,7 @@ pub fn placed_apic_id(entry: &SratEntry<'_>) -> Option<u32>
 }
 
 /// The UID that an enabled affinity of a GIC CPU interface or of a hart places.
+#[inline(always)]
 pub fn placed_uid(entry: &SratEntry<'_>) -> Option<u32>
     ensures { result ≡ placed_uid (srat_value entry.now) }
 {
@@ -297,6 +320,7 @@ pub fn placed_uid(entry: &SratEntry<'_>) -> Option<u32>
 }
 
 /// The domain into which an enabled affinity puts its processor.
+#[inline(always)]
 pub fn processor_domain(entry: &SratEntry<'_>) -> Option<u32>
     ensures { result ≡ processor_domain (srat_value entry.now) }
 {
@@ -310,6 +334,7 @@ pub fn processor_domain(entry: &SratEntry<'_>) -> Option<u32>
 }
 
 /// The same, or the domain of an ITS, of an enabled initiator or port, or of an enabled range of memory.
+#[inline(always)]
 pub fn any_domain(entry: &SratEntry<'_>) -> Option<u32>
     ensures { result ≡ any_domain (srat_value entry.now) }
 {
@@ -324,6 +349,7 @@ pub fn any_domain(entry: &SratEntry<'_>) -> Option<u32>
 // ---- the PPTT
 
 /// The Cache ID of a cache that has a valid one, by bit 7 of its flags.
+#[inline(always)]
 pub fn cache_id(entry: &PpttEntry<'_>) -> Option<u32>
     ensures { result ≡ cache_id (pptt_value entry.now) }
 {

@@ -7,17 +7,18 @@ ghost use Rattle.acpi_lint.specs.Rules.PpttAdvice.{cache_id, IsSameCacheId, IsSa
 ghost use Rattle.acpi_lint.specs.Rules.SratAdvice.{IsTwoUidDomains};
 ghost use Rattle.acpi_base.specs.Pptt.{pptt_contents};
 ghost use Rattle.acpi_base.specs.Srat.{srat_contents};
-ghost use Rattle.acpi_read.specs.Madts.{madt_value};
 ghost use Rattle.acpi_read.specs.Pptts.{pptt_value};
 ghost use Rattle.acpi_read.specs.Srats.{srat_value};
 ghost use Rattle.acpi_check.specs.CollectedValues.{Picks};
-ghost use Rattle.acpi_lint.specs.RuleGroups.{unique_number, in_pptt, in_srat};
+ghost use Rattle.acpi_lint.specs.RuleGroups.{Finds, unique_number, in_pptt, in_srat};
+ghost use Rattle.acpi_lint.specs.Rules.Broken as broken;
 ghost use Rattle.acpi_lint.specs.Rules.Broken.{condition};
 ghost use Rattle.acpi_lint.specs.EntryNumbers.{domain_of_uid, FindsRepeated};
 ghost use Rattle.acpi_lint.specs.Numbered.{at_place};
 ghost use Rattle.acpi_lint.specs.Places.{FindsLeast};
 
 use crate::apic::hart_id_on;
+use crate::complete_tables::CompleteTables;
 use crate::domains::no_memory_range;
 use crate::gic::{its_id, mpidr_on, msi_frame_id};
 use crate::hierarchy::{leaf_as_parent, leaf_unflagged};
@@ -56,35 +57,54 @@ pub fn repeated<'a, E: TableEntry<'a> + Copy, F: Fn(&EntryAt<E>) -> Option<Numbe
 
 // ---- the MADT
 
-/// The number of an entry of a MADT that a rule wants to be unique. None for another rule.
-fn unique_number(rule: Rule, entry: &MadtEntry<'_>) -> Option<u64>
-    ensures { result ≡ unique_number (condition rule) (madt_value entry.now) }
+/// The number of an entry of a MADT at the entry's place.
+#[inline(always)]
+fn number_at(at: &EntryAt<MadtEntry<'_>>, number: Option<u64>) -> Option<Numbered>
+    ensures { result ≡ option_map (at_place at.now.offset) number }
 {
-    match rule {
-        Rule::SameUid => uid_on(entry).map(u64::from),
-        Rule::SameApicId => apic_id_on(entry).map(u64::from),
-        Rule::SameIoApicId => io_apic_id(entry).map(u64::from),
-        Rule::SameIoApicAddress => nonzero_io_apic_address(entry).map(u64::from),
-        Rule::SecondGicd => gicd(entry).map(u64::from),
-        Rule::SameMpidr => mpidr_on(entry),
-        Rule::SameIts => its_id(entry),
-        Rule::SameMsiFrame => msi_frame_id(entry),
-        Rule::SameHart => hart_id_on(entry),
-        _ => None,
-    }
-}
-
-/// The same at the entry's place.
-pub fn unique_number_at(rule: Rule, at: &EntryAt<MadtEntry<'_>>) -> Option<Numbered>
-    ensures { result
-        ≡ option_map (at_place at.now.offset) (unique_number (condition rule) (madt_value at.now.entry)) }
-{
-    let number = unique_number(rule, &at.entry)?;
+    let number = number?;
     Some(Numbered {
         number,
         at: at.offset,
         value: at.offset,
     })
+}
+
+/// The first entry of a set's MADT that has the number of an earlier one, where a rule wants it to be unique. None for
+/// another rule. The rule is told apart before the entries are gone over, so that each pass reads only what its rule
+/// needs. Allocates for each number.
+pub fn madt_numbers_place(
+    alloc: Global,
+    tables: &CompleteTables<'_>,
+    rule: Rule,
+) -> Result<Option<Place>, AllocError>
+    ensures { IfOk result (Finds (broken.MadtNumbers (unique_number (condition rule))) tables.now) }
+{
+    let entries = tables.madt_entries();
+    match rule {
+        Rule::SameUid => repeated(alloc, entries, |at| at_place(at.offset, uid_on(&at.entry))),
+        Rule::SameApicId => repeated(
+            alloc,
+            entries,
+            |at| at_place(at.offset, apic_id_on(&at.entry)),
+        ),
+        Rule::SameIoApicId => repeated(
+            alloc,
+            entries,
+            |at| at_place(at.offset, io_apic_id(&at.entry)),
+        ),
+        Rule::SameIoApicAddress => repeated(
+            alloc,
+            entries,
+            |at| at_place(at.offset, nonzero_io_apic_address(&at.entry)),
+        ),
+        Rule::SecondGicd => repeated(alloc, entries, |at| at_place(at.offset, gicd(&at.entry))),
+        Rule::SameMpidr => repeated(alloc, entries, |at| number_at(at, mpidr_on(&at.entry))),
+        Rule::SameIts => repeated(alloc, entries, |at| number_at(at, its_id(&at.entry))),
+        Rule::SameMsiFrame => repeated(alloc, entries, |at| number_at(at, msi_frame_id(&at.entry))),
+        Rule::SameHart => repeated(alloc, entries, |at| number_at(at, hart_id_on(&at.entry))),
+        _ => Ok(None),
+    }
 }
 
 // ---- the PPTT

@@ -1,10 +1,9 @@
-use Rattle.acpi_read.specs.Madts.{madt_value}
 use Rattle.acpi_read.specs.Pptts.{pptt_value}
 use Rattle.acpi_read.specs.Srats.{srat_value}
 use Rattle.std.proofs.Common.{rules}
-use Rattle.acpi_lint.specs.RuleGroups.{in_set, on_madt_entry, unique_number, on_srat_entry, on_pptt_entry}
+use Rattle.acpi_lint.specs.RuleGroups.{in_set, on_srat_entry, on_pptt_entry}
 use Rattle.acpi_lint.specs.Rules.Broken.{condition}
-use Rattle.acpi_lint.proofs.OfTables.{each_memory, own_madt, own_srat, own_pptt, repeated_madt, is_of_group, as_rule, each_rule, each_set}
+use Rattle.acpi_lint.proofs.OfTables.{each_memory, own_srat, own_pptt, is_of_group, as_rule, each_rule, each_set}
 use Rattle.acpi_lint.proofs.advice.first_place.Goals as goal
 
 pub returns-in-Slots : goal.returns-in-Slots
@@ -69,19 +68,17 @@ returns-in-FadtMadt c =
 
 pub returns-in-MadtEntries : goal.returns-in-MadtEntries
 returns-in-MadtEntries c =
-    as_rule c.args.image.now c.args.policy.now c.first_own_place.result
+    as_rule c.args.image.now c.args.policy.now c.madt_entries_place.result
     (is_of_group (condition c.args.rule) c.group.ensures c.in-MadtEntries.is)
-    (own_madt c.args.image.now c.args.policy.now madt_value (on_madt_entry (condition c.args.rule))
-    c.first_own_place.result _ c.madt_entries.result c.requires c.madt_entries.ensures c.first_own_place.ensures
-    (λ at picked answers. search rules))
+    (c.madt_entries_place.ensures c.args.image.now c.args.policy.now c.requires)
 
 pub returns-in-SratEntries : goal.returns-in-SratEntries
 returns-in-SratEntries c =
-    as_rule c.args.image.now c.args.policy.now c.first_own_place-in-SratEntries.result
+    as_rule c.args.image.now c.args.policy.now c.first_own_place.result
     (is_of_group (condition c.args.rule) c.group.ensures c.in-SratEntries.is)
     (own_srat c.args.image.now c.args.policy.now srat_value (on_srat_entry (condition c.args.rule))
-    c.first_own_place-in-SratEntries.result _
-    c.srat_entries.result c.requires c.srat_entries.ensures c.first_own_place-in-SratEntries.ensures
+    c.first_own_place.result _
+    c.srat_entries.result c.requires c.srat_entries.ensures c.first_own_place.ensures
     (λ at picked answers. search rules))
 
 pub returns-in-PpttEntries : goal.returns-in-PpttEntries
@@ -95,12 +92,9 @@ returns-in-PpttEntries c =
 
 pub returns-in-MadtNumbers : goal.returns-in-MadtNumbers
 returns-in-MadtNumbers c =
-    each_rule c.args.image.now c.args.policy.now c.repeated.result
-    (is_of_group (condition c.args.rule) c.group.ensures c.in-MadtNumbers.is)
-    (repeated_madt c.args.image.now c.args.policy.now madt_value (unique_number (condition c.args.rule))
-    c.repeated.result _
-    c.madt_entries-in-MadtNumbers.result c.requires c.madt_entries-in-MadtNumbers.ensures c.repeated.ensures
-    (λ at picked answers. search rules))
+    each_set c.args.image.now c.args.policy.now c.madt_numbers_place.result
+    (is_of_group (condition c.args.rule) c.group.ensures c.in-MadtNumbers.is) c.requires
+    c.madt_numbers_place.ensures
 
 pub returns-in-Set : goal.returns-in-Set
 returns-in-Set c =
