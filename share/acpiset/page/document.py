@@ -48,8 +48,8 @@ def marked(report) -> tuple:
     return marks, places
 
 
-def section(name: str, *parts) -> str:
-    return element("section", element("h2", escaped(name)), *parts)
+def section(name: str, *parts, **attributes) -> str:
+    return element("section", element("h2", escaped(name)), *parts, **attributes)
 
 
 def pictures(contents, marks, last_stage: int) -> list:
@@ -100,8 +100,8 @@ def lines_of(source) -> list:
     if not source.lines:
         return []
     summary = element("summary", escaped(f"{counted(len(source.lines), 'line')} of acpiset show"))
-    folded = element("details", summary, element("pre", "\n".join(map(escaped, source.lines))), class_="lines")
-    return [section("All lines", folded)]
+    folded = element("details", summary, element("pre", "\n".join(map(escaped, source.lines))))
+    return [section("All lines", folded, class_="lines")]
 
 
 def page(report, documents) -> str:

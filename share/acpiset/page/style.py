@@ -120,9 +120,9 @@ rect.cache {{ fill: var(--soft); stroke: var(--c7); }}
 .arrow {{ fill: var(--bad); }}
 @media print {{
   body {{ max-width: none; padding: 0; }}
-  h2 {{ break-after: avoid; }}
+  h2, .legend {{ break-after: avoid; }}
   .card, svg {{ break-inside: avoid; }}
   .tag, .tag.advice {{ color: var(--text); background: none; border: 1px solid; }}
-  details.lines {{ display: none; }}
+  section.lines {{ display: none; }}
 }}
 """
