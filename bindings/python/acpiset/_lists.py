@@ -103,7 +103,7 @@ class Rule(IntEnum):
     SratUnread = 128  # a structure of the SRAT of a type or length that is not read
     NullSlot = 129  # a slot of the root table is 0
     RsdtDiffers = 130  # the RSDT and the XSDT list different numbers of tables with a signature
-    TablesOverlap = 131  # two tables share bytes of memory
+    TablesOverlap = 131  # two structures, the RSDP or tables, share bytes of memory
     NoDsdt = 132  # the FADT names no DSDT
     DsdtWrong = 133  # the DSDT has another signature, a wrong Length or a wrong checksum
     NoPm1Block = 134  # PM1a_EVT_BLK or PM1a_CNT_BLK is missing
@@ -116,13 +116,13 @@ class Rule(IntEnum):
     SciZero = 141  # SCI_INT is 0
     ResetNowhere = 142  # the reset register is supported and has the address 0
     FadtForArch = 143  # the MADT is of Arm or RISC-V, and the FADT is not of reduced hardware or is too old
-    SleepRegister = 144  # a sleep register has no address, or another width or offset than 8 bits at 0
+    SleepRegister = 144  # a sleep register of reduced hardware has no address, or not 8 bits from bit 0 on
     FadtReserved = 145  # a field of the FADT has a reserved value
     FacsReserved = 146  # a field of the FACS has a reserved value
     RsdpReserved = 147  # a field of the RSDP has a reserved value
     HeaderText = 148  # a text of a table's header has a byte that is not printable
     SecondOther = 149  # a second table of a kind is listed that should be listed once
-    X2ApicBelow255 = 150  # a usable local x2APIC has an ID below 255, beside usable local APICs
+    X2ApicBelow255 = 150  # a usable local x2APIC and a usable local APIC both have an ID below 255
     BroadcastId = 151  # a usable processor has the ID of a broadcast
     CapableTooEarly = 152  # a processor is Online Capable, which the FADT's version does not have
     EnabledAndCapable = 153  # a processor is both Enabled and Online Capable
@@ -145,17 +145,17 @@ class Rule(IntEnum):
     NoBootMethod = 170  # there are several processors and neither PSCI nor a parking protocol
     SameHart = 171  # two usable harts have the same ID
     MadtReserved = 172  # a field of the MADT has a reserved value
-    NoMemoryRange = 173  # the SRAT has affinities of processors and no memory
-    EmptyRange = 174  # a range of memory has the length 0
+    NoMemoryRange = 173  # an SRAT with affinities has no enabled memory range of a length above 0
+    EmptyRange = 174  # an enabled memory range has the length 0
     InitiatorOff = 175  # a Generic Initiator is not enabled
-    DomainPastRevision = 176  # a domain above 255 is in an SRAT of Revision 1
+    DomainPastRevision = 176  # a domain above 255 is in an SRAT of a Revision below 2
     ItsNowhere = 177  # the SRAT has an ITS that the MADT does not have
     SratReserved = 178  # a field of the SRAT has a reserved value
     RemoteAsLocal = 179  # the distance of a locality from another one is 10, that from itself
-    LeafUnflagged = 180  # a processor that no node names as Parent is not flagged as a leaf
+    LeafUnflagged = 180  # a processor that no node names as Parent is not marked as a leaf
     LeafAsParent = 181  # a leaf is the Parent of a node
     NoPackage = 182  # no node from a leaf to its root is a package
-    CacheNumbers = 183  # a cache's size is 0 or not the product of its sets, ways and line size
+    CacheNumbers = 183  # a cache's size or associativity is 0, or its size is not sets * ways * line size
     PpttReserved = 184  # a field of the PPTT has a reserved value
 
 
@@ -712,10 +712,12 @@ TEXT_OF: Dict[int, str] = {
         "Fix: list the same tables in both, or write 0 to RsdtAddress. Code that adds or replaces a table has to change both."
     ),
     131: (
-        "Two tables share bytes of memory. The RSDP, the XSDT or RSDT, the FACS, the DSDT and the listed tables are compared, "
-        "each with all its bytes, if they are in the image. Tables that begin at the same address count as one.\n"
-        "Numbers: `at` and `other` are the addresses at which two such tables begin, the lower one first, `point` is the lowest "
-        "address at which two tables overlap.\n"
+        "Two structures share bytes of memory. Compared are the RSDP; the XSDT or RSDT; the FACS, if it has none of the faults 27 "
+        "to 31; the DSDT, if its signature is `DSDT`; and the listed tables, by slot. Each counts with all its bytes, if they are "
+        "in the image; a table with a Length below 36 does not count. Of those that begin at the same address only the first in "
+        "this order counts, with its length.\n"
+        "Numbers: `at` and `other` are the addresses at which two such structures begin, the lower one first, `point` is the "
+        "lowest address at which two of them overlap.\n"
         "Fix: give each table memory of its own. Code that makes a table longer in place has to check where the next one begins."
     ),
     132: (
@@ -751,15 +753,16 @@ TEXT_OF: Dict[int, str] = {
     ),
     137: (
         "The hardware is not reduced, and two register blocks in system I/O share a port. A block is at the address of its X_ "
-        "structure or, if that is 0, at its 4-byte address. It has as many ports as its length byte says. If that is 0, one with "
-        "an X_ structure has as many as its bit width needs.\n"
+        "structure or, if that is missing or 0, at its 4-byte address. It has as many ports as its length byte says. If the "
+        "length byte is 0, a block at its X_ address has its bit width / 8 ports, rounded up, and one at its 4-byte address has "
+        "none.\n"
         "Numbers: `at` and `other` are the offsets of the 4-byte fields of two such blocks, first the one at the lower port, "
         "`point` is the lowest port at which two blocks overlap.\n"
         "Fix: correct the addresses and lengths by the hardware's manual."
     ),
     138: (
-        "A register in system I/O is at a port above 0xffff. This is the last port of a register block, or SMI_CMD, if the "
-        "hardware is not reduced; and RESET_REG, if RESET_REG_SUP is set and Length is at least 129.\n"
+        "A register in system I/O is at a port above 0xffff. Checked are the last port of each register block and SMI_CMD, unless "
+        "the hardware is reduced, and RESET_REG in system I/O, if RESET_REG_SUP is set and Length is at least 129.\n"
         "Numbers: `at` is the offset of the block's 4-byte field, of SMI_CMD, 0x30 (48), or of RESET_REG, 0x74 (116), `other` is "
         "the number of bytes, `point` is the address.\n"
         "Fix: correct the address. A register in memory has the address space 0 in its X_ structure, and its 4-byte field is 0."
@@ -817,7 +820,7 @@ TEXT_OF: Dict[int, str] = {
     ),
     147: (
         "A field of the RSDP has a reserved value. Revision is neither 0 nor 2; or Revision is 2 or above, and Length is above 36 "
-        "or a byte from 33 to 35 is not 0. Length is looked at if all its bytes are in the image.\n"
+        "or a byte from 33 to 35 is not 0. Length is looked at if as many bytes as it says are in the image.\n"
         "Numbers: `at` is the field's offset in the RSDP, `point` is its value.\n"
         "Fix: write Revision 2, Length 36 and zeros to the reserved bytes; or Revision 0, for an RSDP of 20 bytes."
     ),
@@ -829,10 +832,10 @@ TEXT_OF: Dict[int, str] = {
         "was not cleared."
     ),
     149: (
-        "A slot lists a table of a kind of which a set has one, and an earlier slot lists one with the same signature at another "
-        "address. The kinds are BERT, BGRT, CCEL, CPEP, DBG2, DMAR, ECDT, EINJ, ERST, FPDT, GTDT, HEST, HMAT, IORT, IVRS, MCFG, "
-        "MPST, MSCT, NFIT, PCCT, PDTT, PHAT, PMTT, PRMT, RASF, RAS2, SBST, SDEI, SDEV, SPCR, SVKL, TPM2, VIOT, WAET and WSMT. A "
-        "table counts if its header, 36 bytes, is in the image.\n"
+        "A slot lists a table of a kind of which a set has at most one, and an earlier slot lists one with the same signature at "
+        "another address. The kinds are BERT, BGRT, CCEL, CPEP, DBG2, DMAR, ECDT, EINJ, ERST, FPDT, GTDT, HEST, HMAT, IORT, IVRS, "
+        "MCFG, MPST, MSCT, NFIT, PCCT, PDTT, PHAT, PMTT, PRMT, RASF, RAS2, SBST, SDEI, SDEV, SPCR, SVKL, TPM2, VIOT, WAET and "
+        "WSMT. A table counts if its header, 36 bytes, is in the image.\n"
         "Numbers: `at` is the slot's number, `other` that of the first slot with this signature, `point` is the address in slot "
         "`at`.\n"
         "Fix: list one table of each kind, with all structures of both."
@@ -877,7 +880,7 @@ TEXT_OF: Dict[int, str] = {
     ),
     157: (
         "The NMI of a local APIC or local x2APIC is wired to another input than LINT1 (5.2.12.7, 5.2.12.13).\n"
-        "Numbers: `at` is the structure's offset, `point` is the LINT number.\n"
+        "Numbers: `at` is the structure's offset, `point` is the LINT#.\n"
         "Fix: write 1, unless the hardware's manual says otherwise. On PCs LINT0 is the input for the interrupts of the 8259."
     ),
     158: (
@@ -1006,24 +1009,25 @@ TEXT_OF: Dict[int, str] = {
         "Fix: write 1 at 36, and 0 to reserved bytes and bits."
     ),
     179: (
-        "The distance from one locality to another one is 10, that of a locality from itself (5.2.17).\n"
+        "The distance from one locality to another one is 10, which means the same locality (5.2.17).\n"
         "Numbers: `at` is the offset of the distance in the SLIT, `other` is i, `point` is j: it is the distance from i to j.\n"
         "Fix: write distances above 10 between different localities. If there is no distance between two localities, make them "
         "one proximity domain."
     ),
     180: (
-        "The PPTT's Revision is 2 or above, and a node with a valid ACPI Processor ID is no node's Parent and is not flagged as a "
+        "The PPTT's Revision is 2 or above, and a node with a valid ACPI Processor ID is no node's Parent and is not marked as a "
         "leaf (5.2.30.1). Applies only if the PPTT is well-formed.\n"
         "Numbers: `at` is the node's offset, `point` is its ACPI Processor ID.\n"
         "Fix: set bit 3 in the flags of each node that is a processor."
     ),
     181: (
-        "The PPTT's Revision is 2 or above, and a node that is flagged as a leaf is the Parent of a node (5.2.30.1).\n"
+        "The PPTT's Revision is 2 or above, and a node that is marked as a leaf is the Parent of a node (5.2.30.1).\n"
         "Numbers: `at` is the leaf's offset, `other` that of the first node that names it as its Parent.\n"
         "Fix: clear bit 3 in a node that groups others, or correct Parent."
     ),
     182: (
-        "Neither a leaf nor any node to which its Parents lead is flagged as a physical package (5.2.30.1).\n"
+        "The Parents of a leaf lead to a node whose Parent is 0, and neither the leaf nor any of these nodes is marked as a "
+        "physical package (5.2.30.1). Parents that lead to no node (52) or in a circle (55) keep the rule.\n"
         "Numbers: `at` is the leaf's offset, `point` is its ACPI Processor ID.\n"
         "Fix: set bit 0 in the node of each package."
     ),

@@ -19,7 +19,20 @@ use Rattle.acpi_lint.proofs.RisingLists.{rise_more}
 
 -- a slot to read lists with
 abbrev pub no_slot : Slot
-no_slot = record { number = 0; table = record { address = 0; length = 0; signature = 0; odd_text = None; fault = None; kind = None; is_apart = false } }
+no_slot =
+    record {
+      number = 0;
+      table =
+          record {
+            address = 0;
+            length = 0;
+            signature = 0;
+            odd_text = None;
+            fault = None;
+            kind = None;
+            is_apart = false;
+          };
+    }
 
 -- ---- slot by slot
 
