@@ -103,6 +103,7 @@ def clean_runs(name, text, address, found, lines, anew):
         Run(f"rebuild, {name}", text, ["rebuild", *rsdp, "--base", f"{BASE:x}"], 0, anew),
         Run(f"find, {name}", text, ["find"], int(found == "none"), f"rsdp {found}\n"),
         Run(f"show, {name}", text, ["show", *rsdp], 0, lines),
+        Run(f"show anyway, {name}", text, ["show", *rsdp, "--anyway"], 0, "yes\n" + lines),
     ]
 
 

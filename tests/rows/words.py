@@ -152,7 +152,8 @@ def lint_cases():
 REFUSED_WORDS = {
     "acpiset": (
         "--help | -h | help | judge --rsdp e0000 | Check --rsdp e0000 | chec --rsdp e0000 | --rsdp e0000 | fec00000=24 | Lint | "
-        "--strict lint | confirm --strict | show --strict | --allow SameUid lint | find --allow SameUid | show --allow SameUid"
+        "--strict lint | confirm --strict | show --strict | --allow SameUid lint | find --allow SameUid | show --allow SameUid | "
+        "--anyway show | check --anyway | find --anyway | lint --anyway"
     ),
     "acpiset check": (
         "--help | --rsdp | --rsdp 0x | --rsdp g | --rsdp 0Xe0000 | --rsdp 0x0x1 | --rsdp +1 | --rsdp -1 | --rsdp e_0000 | "
@@ -176,6 +177,7 @@ REFUSED_WORDS = {
         "--allow , | --allow sameuid | --allow SAMEUID | --allow SameUI | --allow SameUids | --allow SameUid,Overlap | --allow Overlap | "
         "--allow 109 | --allow=SameUid,109 | --allow SameUid;SameLeaf | --allow= | -allow SameUid"
     ),
+    "acpiset show": "--anyway --anyway | --anyway=true | --anyway true | -anyway | --anywa | --anyway --rsdp | --anyway --strict | fec00000=24",
     "acpiset rebuild": "--rsdp e0000 | --base | --base 10000000000000000 | --base e0000 --base e0000 | --base e0000 --through 3",
 }
 REFUSED = ["acpiset", *(f"{command} {words}" for command, lines in REFUSED_WORDS.items() for words in lines.split(" | "))]
