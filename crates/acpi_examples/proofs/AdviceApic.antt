@@ -56,7 +56,7 @@ two_sources = record {
   third = record {
     source = 7;
     here = (_, (2, omega arith, refl), refl);
-    its_source = 9;
+    earlier_source = 9;
     earlier = (_, (0, omega arith, refl), refl);
     differ = λ is. omega (arith, is);
     before = omega arith;
@@ -64,9 +64,9 @@ two_sources = record {
         (omega arith, (omega arith, (omega arith, tt))) p named.0 named.1;
   };
   one = λ at other point it.
-      it.differ (nine other point it.its_source it.earlier ∙ sym (nine at point it.source it.here));
+      it.differ (nine other point it.earlier_source it.earlier ∙ sym (nine at point it.source it.here));
   apart = λ at other point it.
-      elim (own other point it.its_source it.earlier) [
+      elim (own other point it.earlier_source it.earlier) [
         | inl (first, nine_too) ↦
             elim (own at point it.source it.here) [
               | inl (same, _) ↦ omega (arith, first, same, it.before)

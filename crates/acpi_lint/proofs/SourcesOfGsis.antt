@@ -95,7 +95,7 @@ two_from c at other point ones (g, f, unlike, is) =
     (record {
       source = g.value;
       here = here;
-      its_source = f.value;
+      earlier_source = f.value;
       earlier = earlier;
       differ = λ same. unlike.differ (sym same);
       before = before (unlike.first.least g unlike.listed unlike.same);
@@ -143,13 +143,13 @@ two_upto c at other point ones rises two =
       | inl same ↦ (
         other,
         o,
-        unlike_first c ones point o source other two.its_source first two.earlier
+        unlike_first c ones point o source other two.earlier_source first two.earlier
             (λ is. two.differ (is ∙ same)),
         inl two.before,
       )
       | inr differs ↦
           let upto : other ≤ o = two.first o source first.0 differs in
-          let behind : o ≤ other = first.1 other two.its_source two.earlier in
+          let behind : o ≤ other = first.1 other two.earlier_source two.earlier in
           let place : other ≡ o = omega arith in (
             at,
             o,

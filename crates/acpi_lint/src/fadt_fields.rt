@@ -3,9 +3,10 @@
 ghost use Rattle.std.specs.Prelude.{◌≤◌, ◌+◌, length};
 ghost use Rattle.acpi_lint.specs.Places.{FindsLeast};
 ghost use Rattle.acpi_lint.specs.FadtPlaces.{IsStrayCommand, IsRegisterAt};
-ghost use Rattle.acpi_lint.specs.Rules.FadtFields.{IsNoDsdt, IsSciZero, IsResetNowhere, IsSmiHalf, AreSleepRegisters, IsSleepRegister, IsByteAbove, AreFlagsReserved, IsFadtReserved};
+ghost use Rattle.acpi_lint.specs.Rules.FadtFields.{IsNoDsdt, IsSciZero, IsResetNowhere, IsSmiHalf, AreSleepRegisters, IsSleepRegister, AreFlagsReserved, IsFadtReserved};
 
 use crate::fadt_blocks::has_reset_register;
+use crate::limits::above;
 use crate::place::Place;
 use acpi_base::field::{u8_at, u16_at, u32_at, u64_at};
 use acpi_read::{Fadt, has_flag};
@@ -131,19 +132,6 @@ pub fn sleep_register(fadt: &Fadt<'_>) -> Option<Place>
 
 // ---- values that are reserved
 
-/// The place of a byte that is more than this.
-fn byte_above(bytes: &[u8], offset: usize, most: u8) -> Option<Place>
-    requires { offset + 1 ≤ length bytes.now }
-    ensures { FindsLeast (IsByteAbove bytes.now offset most) result }
-{
-    let byte = u8_at(bytes, offset);
-    (byte > most).then_some(Place {
-        at: offset as u64,
-        other: 0,
-        point: u64::from(byte),
-    })
-}
-
 /// Flags, at 112, if a bit above bit 23 is set, or bits 22 and 23 both are.
 fn flags_reserved(bytes: &[u8]) -> Option<Place>
     requires { 116 ≤ length bytes.now }
@@ -165,15 +153,15 @@ pub fn fadt_reserved(fadt: &Fadt<'_>) -> Option<Place>
     ensures { FindsLeast (IsFadtReserved fadt.now) result }
 {
     let bytes = fadt.bytes();
-    let model = byte_above(bytes, 44, 1);
+    let model = above(bytes, 44, 1, 1);
     if model.is_some() {
         return model;
     }
-    let profile = byte_above(bytes, 45, 8);
+    let profile = above(bytes, 45, 1, 8);
     if profile.is_some() {
         return profile;
     }
-    let reserved = byte_above(bytes, 111, 0);
+    let reserved = above(bytes, 111, 1, 0);
     if reserved.is_some() {
         return reserved;
     }

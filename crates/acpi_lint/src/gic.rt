@@ -1,7 +1,7 @@
 //! The parts of a GIC, as entries of a MADT describe them, and their fields (ACPI 6.5, 5.2.12.14 to 5.2.12.18).
 
 ghost use Rattle.std.specs.Prelude.{◌≡◌, ◌≤◌, length, IsTrue};
-ghost use Rattle.acpi_lint.specs.Rules.Gic.{is_gicc_on, has_mpidr, names_redistributor, is_gicd, is_msi_frame, is_gicr, is_its, gicc_base, gicc_uid_on, parking_version_on, mpidr_on, own_redistributor, gicd_base, gicd_version, msi_frame_id, msi_frame_base, gicr_base, gicr_length, its_id, its_base};
+ghost use Rattle.acpi_lint.specs.Rules.Gic.{is_gicc_on, has_mpidr, names_redistributor, is_gicd, is_msi_frame, is_gicr, is_its, gicc_base, gicc_uid_on, mpidr_on, own_redistributor, gicd_base, gicd_version, msi_frame_id, msi_frame_base, gicr_base, gicr_length, its_id, its_base};
 ghost use Rattle.acpi_lint.specs.Rules.GicAdvice.{is_reserved_mpidr, reserved_mpidr, empty_gicr, other_gicr};
 ghost use Rattle.acpi_lint.specs.MadtNumbers.{other_gicc_base};
 ghost use Rattle.acpi_read.specs.Madts.{madt_value};
@@ -113,17 +113,6 @@ pub fn gicc_uid_on(entry: &MadtEntry<'_>) -> Option<u64>
 {
     match entry {
         MadtEntry::Opaque(bytes) if is_gicc_on(bytes) => Some(u64::from(u32_at(bytes, 8))),
-        _ => None,
-    }
-}
-
-/// The version of the parking protocol of a CPU interface that is on.
-#[inline(always)]
-pub fn parking_version_on(entry: &MadtEntry<'_>) -> Option<u64>
-    ensures { result ≡ parking_version_on (madt_value entry.now) }
-{
-    match entry {
-        MadtEntry::Opaque(bytes) if is_gicc_on(bytes) => Some(u64::from(u32_at(bytes, 16))),
         _ => None,
     }
 }

@@ -42,7 +42,7 @@ fn long_rsdp(image: &Image, rsdp: u64, bytes: &[u8]) -> Option<Place>
     ensures { FindsLeast (IsLongRsdp image.now rsdp bytes.now) result }
 {
     let length = u64::from(u32_at(bytes, 20));
-    if length <= 36 {
+    if length <= Rsdp::EXTENDED_LENGTH {
         return None;
     }
     image.window(rsdp, length)?;

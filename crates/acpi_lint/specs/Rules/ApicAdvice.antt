@@ -84,9 +84,9 @@ source_for gsi _ = None
 pub record IsTwoSourcesOneGsi (c : MadtContents) (at other point : ℕ) : Type 0 where
   pub source : ℕ
   pub here : NamesAt (source_for point) c.entries at source
-  pub its_source : ℕ
-  pub earlier : NamesAt (source_for point) c.entries other its_source
-  pub differ : its_source ≢ source
+  pub earlier_source : ℕ
+  pub earlier : NamesAt (source_for point) c.entries other earlier_source
+  pub differ : earlier_source ≢ source
   pub before : other < at
   pub first : (p s : ℕ) → NamesAt (source_for point) c.entries p s → s ≢ source → other ≤ p
 

@@ -4,6 +4,7 @@ use Rattle.acpi_base.specs.Entries.{AreUnused}
 use Rattle.acpi_base.specs.Number.{field}
 use Rattle.acpi_base.specs.Fadt.{is_reduced, has_flag, gas_at, dsdt_address}
 use Rattle.acpi_lint.specs.Rules.FadtBlocks.{HasResetRegister}
+use Rattle.acpi_lint.specs.Rules.FixedFields.{IsAbove}
 
 -- neither DSDT, at 40, nor X_DSDT has an address
 abbrev pub IsNoDsdt : List ℕ → ℕ → ℕ → ℕ → Type 0
@@ -66,11 +67,6 @@ IsSleepRegister whole at other point =
 
 -- ---- values that are reserved
 
--- more than this is in the byte at `offset`
-abbrev pub IsByteAbove : List ℕ → ℕ → ℕ → ℕ → ℕ → ℕ → Type 0
-IsByteAbove whole offset most at other point =
-    (at ≡ offset) × (other ≡ 0) × (point ≡ field whole offset 1) × (most < point)
-
 -- a bit of Flags, at 112, above bit 23 is set, or bits 22 and 23, of what caches keep, both are
 abbrev pub AreFlagsReserved : List ℕ → ℕ → ℕ → ℕ → Type 0
 AreFlagsReserved whole at other point =
@@ -80,6 +76,6 @@ AreFlagsReserved whole at other point =
 -- byte 44 is above 1, Preferred_PM_Profile, at 45, above 8, byte 111 not 0, or Flags has a reserved value
 abbrev pub IsFadtReserved : List ℕ → ℕ → ℕ → ℕ → Type 0
 IsFadtReserved whole at other point =
-    IsByteAbove whole 44 1 at other point
-    ⊎ (IsByteAbove whole 45 8 at other point
-    ⊎ (IsByteAbove whole 111 0 at other point ⊎ AreFlagsReserved whole at other point))
+    IsAbove whole 44 1 1 at other point
+    ⊎ (IsAbove whole 45 1 8 at other point
+    ⊎ (IsAbove whole 111 1 0 at other point ⊎ AreFlagsReserved whole at other point))

@@ -46,12 +46,9 @@ field_where is at width _ = None
 abbrev pub gicc_base : MadtEntry → Option ℕ
 gicc_base e = field_where is_gicc 32 8 e
 
--- the UID, and the version of the parking protocol, of one that is on
+-- the UID of one that is on
 abbrev pub gicc_uid_on : MadtEntry → Option ℕ
 gicc_uid_on e = field_where is_gicc_on 8 4 e
-
-abbrev pub parking_version_on : MadtEntry → Option ℕ
-parking_version_on e = field_where is_gicc_on 16 4 e
 
 -- the MPIDR of one that is on, and the address of a redistributor of its own, if it names one
 abbrev pub mpidr_on : MadtEntry → Option ℕ
