@@ -11,10 +11,10 @@ use Rattle.acpi_check.proofs.EntryPasses.Kept.{AreRising}
 use Rattle.acpi_check.proofs.EntryPasses.Passes.{none_passed, left_behind}
 use Rattle.acpi_lint.specs.EntryNumbers.{IsAnyNamed}
 use Rattle.acpi_lint.specs.MadtNumbers.{HasNumberWith, NamesWith}
-use Rattle.acpi_lint.specs.Places.{IsLeast, FindsLeast}
+use Rattle.acpi_lint.specs.Places.{IsLeast, PicksFirst, FindsOwn, FindsLeast}
 use Rattle.acpi_lint.specs.Rules.Numbered.{NamesAt, IsFirstNamed}
 use Rattle.acpi_lint.specs.declared.place.Place.{Place}
-use Rattle.acpi_lint.proofs.FirstEntries.{IsFaultAt}
+use Rattle.acpi_lint.proofs.FirstEntries.{IsFaultAt, least_picked}
 use Rattle.acpi_lint.proofs.LeastPlaces.{least_as, place_upto}
 
 -- ---- what is found first
@@ -24,6 +24,15 @@ pub least_named : (read : MadtEntry → Option ℕ) (k : ℕ) (entries : List (P
 least_named read k entries found least =
     least_as found (λ at other point (e, stands, (is, same)). ((e, stands, is), same))
     (λ at other point ((e, stands, is), same). (e, stands, (is, same))) least
+
+-- the place of the first entry that has a number is the lowest of those that have it
+pub first_of_picked : (read : MadtEntry → Option ℕ) (k : ℕ) (entries : List (PlacedEntry MadtEntry))
+    → AreRising 44 entries → (found : Option Place) → PicksFirst (FindsOwn (HasNumberWith read k)) entries found
+    → FindsLeast (NamesWith read k entries) found
+first_of_picked read k entries rises found picks =
+    least_named read k entries found
+    (least_picked (HasNumberWith read k) 44 entries rises (FindsOwn (HasNumberWith read k))
+    (λ s picked here finds. finds) found picks)
 
 pub first_named : (read : MadtEntry → Option ℕ) (k : ℕ) (entries : List (PlacedEntry MadtEntry)) (p : Place)
     → IsLeast (NamesWith read k entries) p → IsFirstNamed read entries p.at p.point

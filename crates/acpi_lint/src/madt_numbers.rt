@@ -17,7 +17,6 @@ use crate::gic::{
     empty_gicr, gicc_base, gicc_uid_on, gicd_version, gicr_base, gicr_length, other_gicc_base,
     other_gicr, own_redistributor, reserved_mpidr,
 };
-use crate::passes::first_picked;
 use crate::place::Place;
 use acpi_check::collected;
 use acpi_read::{EntryAt, MadtEntry, Table};
@@ -114,10 +113,12 @@ pub fn first_number(madt: &Table<'_>, number: MadtNumber, other: u64) -> Option<
     ensures { FindsLeast
         (NamesWith (number_of number) other (madt_contents madt.now).entries) result }
 {
-    first_picked(
-        madt.entries::<MadtEntry<'_>>(),
-        |at| number_place(number, other, at),
-    )
+    for at in madt.entries::<MadtEntry<'_>>() {
+        if let Some(place) = number_place(number, other, &at) {
+            return Some(place);
+        }
+    }
+    None
 }
 
 /// Whether an entry of a MADT has a number.
@@ -173,9 +174,10 @@ fn type_of(entry: &MadtEntry<'_>) -> u8
 pub fn has_type(madt: &Table<'_>, wanted: u8) -> bool
     ensures { IsTrue result ↔ HasType (madt_contents madt.now) wanted }
 {
-    first_picked(
-        madt.entries::<MadtEntry<'_>>(),
-        |at| (type_of(&at.entry) == wanted).then_some(()),
-    )
-    .is_some()
+    for at in madt.entries::<MadtEntry<'_>>() {
+        if type_of(&at.entry) == wanted {
+            return true;
+        }
+    }
+    false
 }
