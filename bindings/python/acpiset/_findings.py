@@ -62,7 +62,7 @@ class Finding:
     def _severity(self) -> Optional[Severity]:
         return Severity.FAULT
 
-    def _numbers(self) -> str:
+    def __str__(self) -> str:
         return f"{self.name} {self.at:#x} {self.other:#x} {self.point:#x}"
 
     def __repr__(self) -> str:
@@ -85,7 +85,7 @@ class Fault(Finding):
     """
 
     def __str__(self) -> str:
-        return f"{self.stage or '?'} {self._numbers()}"
+        return f"{self.stage or '?'} {super().__str__()}"
 
 
 @dataclass(frozen=True, repr=False)
@@ -106,9 +106,6 @@ class Advice(Finding):
     def _severity(self) -> Optional[Severity]:
         severity = SEVERITY_OF.get(self.number)
         return None if severity is None else Severity(severity)
-
-    def __str__(self) -> str:
-        return self._numbers()
 
 
 @dataclass(frozen=True)

@@ -6,7 +6,7 @@ import json
 import pickle
 import unittest
 
-from acpiset import Advice, Code, Fault, Findings, Rule, Severity
+from acpiset import Advice, Code, Fault, Finding, Findings, Rule, Severity
 
 
 class Numbers(unittest.TestCase):
@@ -90,6 +90,7 @@ class Values(unittest.TestCase):
     def test_findings_are_shown_as_the_program_has_them(self):
         fault, advice = Fault(Code.TableSum, 3, 0x7FFE249C), Advice(Rule.SlitDiffers, 0x2D, 0x30)
         self.assertEqual((repr(fault), repr(advice)), ("<Fault 3 TableSum 0x3 0x7ffe249c 0x0>", "<Advice SlitDiffers 0x2d 0x30 0x0>"))
+        self.assertEqual(repr(Finding(Code.TableSum, 3)), "<Finding TableSum 0x3 0x0 0x0>")
         self.assertEqual(str(Findings((fault,), (advice,))), "no 3 TableSum 0x3 0x7ffe249c 0x0\nadvice SlitDiffers 0x2d 0x30 0x0")
         self.assertEqual(str(Findings((), (advice,))), "yes\nadvice SlitDiffers 0x2d 0x30 0x0")
 
