@@ -27,6 +27,7 @@ mod OnceTables
 mod OneAdvice
 mod OneCodes
 mod OpaqueBytes
+mod OpaqueEntries
 mod OtherBases
 mod OuterChains
 mod OuterNodes

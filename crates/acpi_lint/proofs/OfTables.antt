@@ -1,6 +1,6 @@
 -- From what is found in a table to what is found in the set that lists it, and for the rules that look at it.
 use Rattle.std.proofs.Common.{◌≡◌, ℕ, ◌≤◌, List, length, Option, Some, None, Result, Ok, Err, refl, ap, arith, ◌<◌, sym, ◌∙◌, subst}
-use Rattle.std.specs.Prelude.{◌↔◌, IfOk, MatchOption, option_map}
+use Rattle.std.specs.Prelude.{◌↔◌, IfOk, IsTrue, MatchOption, option_map}
 use Rattle.std.proofs.lemmas.Option.{same_Some}
 use denote.Ref.{Bor}
 use Rattle.acpi_base.specs.Contents.{HasPptt}
@@ -23,7 +23,7 @@ use Rattle.acpi_check.proofs.EntryPasses.Kept.{AreRising, madt_rising, srat_risi
 use Rattle.acpi_lint.specs.EntryNumbers.{FindsRepeated}
 use Rattle.acpi_lint.specs.Places.{PicksFirst, FindsOwn, FindsLeast}
 use Rattle.acpi_lint.specs.Numbered.{at_place}
-use Rattle.acpi_lint.specs.CompleteTables.{IsFound, IsLong, AreEntries, AreCompleteTables, table_of}
+use Rattle.acpi_lint.specs.CompleteTables.{IsFound, IsLong, IsAnyOpaque, AreEntries, AreCompleteTables, table_of}
 use Rattle.acpi_lint.specs.declared.numbered.Numbered.{Numbered}
 use Rattle.acpi_lint.specs.declared.place.Place.{Place}
 use Rattle.acpi_lint.specs.declared.complete_tables.CompleteTables.{CompleteTables}
@@ -84,9 +84,10 @@ pub are_whole : {m : Memory} {p : ℕ} (tables : CompleteTables)
     → IsRootOf m p tables.root → AreSlots m (IsSlot m p) tables.slots.items → AreFirstSlots m p tables.firsts
     → IsFound m p fadt_signature tables.fadt → IsFound m p madt_signature tables.madt
     → IsFound m p srat_signature tables.srat → IsFound m p slit_signature tables.slit
-    → IsFound m p pptt_signature tables.pptt → AreCompleteTables m p tables
-are_whole {m} {p} tables root slots firsts fadt madt srat slit pptt =
-    record { root = root; slots = slots; firsts = firsts; listed = listed }
+    → IsFound m p pptt_signature tables.pptt → IsTrue tables.has_opaque ↔ IsAnyOpaque tables.madt
+    → AreCompleteTables m p tables
+are_whole {m} {p} tables root slots firsts fadt madt srat slit pptt opaque =
+    record { root = root; slots = slots; firsts = firsts; listed = listed; opaque = opaque }
   where
     listed : (k : TableKind) → IsFound m p (signature_of k) (table_of tables k)
     listed kind.Fadt = fadt

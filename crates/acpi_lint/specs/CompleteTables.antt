@@ -1,5 +1,7 @@
 -- The complete tables of a set.
-use Rattle.std.specs.Prelude.{◌≡◌, ℕ, ◌<◌, ◌≤◌, List, length, Option, Some, None, MatchOption, option_map}
+use Rattle.std.specs.Prelude.{◌≡◌, ◌↔◌, ℕ, IsTrue, ◌<◌, ◌≤◌, List, length, Option, Some, None, MatchOption, option_map}
+use Rattle.acpi_base.specs.Entries.{StandsWith}
+use Rattle.acpi_base.specs.Madt.{MadtEntry, Opaque, MadtContents, madt_contents}
 use Rattle.acpi_base.specs.Memory.{Memory}
 use Rattle.acpi_base.specs.Listed.{IsListedTable}
 use Rattle.acpi_base.specs.Root.{IsSlot}
@@ -22,12 +24,26 @@ table_of tables kind.Srat = tables.srat
 table_of tables kind.Slit = tables.slit
 table_of tables kind.Pptt = tables.pptt
 
+-- the entry is one that the stages do not read
+abbrev pub IsOpaque : MadtEntry → Type 0
+IsOpaque (Opaque bytes) = Unit {0}
+IsOpaque _ = ⊥
+
+-- a MADT has such an entry
+abbrev pub HasOpaque : MadtContents → Type 0
+HasOpaque madt = (o : ℕ) × StandsWith madt.entries o IsOpaque
+
+-- the same of the MADT that was found, if one was
+abbrev pub IsAnyOpaque : Option (List ℕ) → Type 0
+IsAnyOpaque found = MatchOption found ⊥ (λ whole. HasOpaque (madt_contents whole))
+
 -- these are the root table and the tables of the set that the RSDP at p leads to
 pub record AreCompleteTables (m : Memory) (p : ℕ) (tables : CompleteTables) : Type 0 where
   pub root : IsRootOf m p tables.root
   pub slots : AreSlots m (IsSlot m p) tables.slots.items
   pub firsts : AreFirstSlots m p tables.firsts
   pub listed : (kind : TableKind) → IsFound m p (signature_of kind) (table_of tables kind)
+  pub opaque : IsTrue tables.has_opaque ↔ IsAnyOpaque tables.madt
 
 -- this is the table that was found, of at least this many bytes; or none was found, or it is shorter
 abbrev pub IsLong : ℕ → Option (List ℕ) → Option (List ℕ) → Type 0

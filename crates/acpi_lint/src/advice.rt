@@ -1,10 +1,10 @@
 //! The first finding of each rule of advice. A rule on a table finds nothing if the set lists no complete one with all
 //! its fields.
 
-ghost use Rattle.std.specs.Prelude.{◌≡◌, IfOk};
+ghost use Rattle.std.specs.Prelude.{◌≡◌, IfOk, IsTrue};
 ghost use Rattle.acpi_lint.specs.CompleteTables.{AreCompleteTables};
 ghost use Rattle.acpi_lint.specs.Places.{FindsLeast};
-ghost use Rattle.acpi_lint.specs.RuleGroups.{in_fadt, in_fadt_memory, in_fadt_madt, in_madt, in_madt_bytes, in_madt_srat, in_madt_pptt, in_srat, on_srat_entry, in_srat_bytes, on_srat_slit_entry, in_slit, in_pptt, on_pptt_entry, in_pptt_bytes, group_of, Finds, FindsBy, FindsIn};
+ghost use Rattle.acpi_lint.specs.RuleGroups.{in_fadt, in_fadt_memory, in_fadt_madt, in_madt, in_madt_bytes, in_madt_srat, in_madt_pptt, in_srat, on_srat_entry, in_srat_bytes, on_srat_slit_entry, in_slit, in_pptt, on_pptt_entry, in_pptt_bytes, group_of, NeedsOpaque, Finds, FindsBy, FindsIn};
 ghost use Rattle.acpi_lint.specs.Rules.Broken as broken;
 ghost use Rattle.acpi_lint.specs.Rules.Broken.{condition, IsBroken};
 ghost use Rattle.acpi_lint.specs.Rules.Findings.{AreFirstAdvice};
@@ -162,6 +162,33 @@ fn group(rule: Rule) -> RuleGroup
         Rule::NoPackage => RuleGroup::Pptt,
         Rule::CacheNumbers => RuleGroup::PpttEntries,
         Rule::PpttReserved => RuleGroup::PpttBytes,
+    }
+}
+
+/// Whether a rule can be broken only beside an entry of the MADT that the stages do not read. A MADT without one is not
+/// gone over for it.
+fn needs_opaque(rule: Rule) -> bool
+    ensures { IsTrue result → NeedsOpaque (condition rule) }
+{
+    match rule {
+        Rule::SecondGicd => true,
+        Rule::LeafNowhere => true,
+        Rule::MadtUnread => true,
+        Rule::FadtForArch => true,
+        Rule::NoDistributor => true,
+        Rule::NoRedistributor => true,
+        Rule::GicrTooSmall => true,
+        Rule::GiccBaseDiffers => true,
+        Rule::SameMpidr => true,
+        Rule::MpidrReserved => true,
+        Rule::GicrEmpty => true,
+        Rule::SameIts => true,
+        Rule::SameMsiFrame => true,
+        Rule::GicOverlap => true,
+        Rule::RedistributorTwice => true,
+        Rule::NoBootMethod => true,
+        Rule::SameHart => true,
+        _ => false,
     }
 }
 
@@ -372,6 +399,9 @@ fn first_finding(
     requires { AreCompleteTables image.now policy.now.rsdp tables.now }
     ensures { IfOk result (FindsFirstAdvice rule image.now policy.now) }
 {
+    if needs_opaque(rule) && !tables.has_opaque {
+        return Ok(None);
+    }
     let Some(Place { at, other, point }) = first_place(alloc, image, tables, policy, rule)? else {
         return Ok(None);
     };

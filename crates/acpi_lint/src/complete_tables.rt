@@ -1,16 +1,17 @@
 //! The tables of a set that the finders read.
 
-ghost use Rattle.std.specs.Prelude.{◌≡◌, ℕ, IfOk, option_map};
+ghost use Rattle.std.specs.Prelude.{◌≡◌, ◌↔◌, ℕ, IfOk, IsTrue, option_map};
 ghost use Rattle.acpi_base.specs.Entries.{entries_read_by};
 ghost use Rattle.acpi_base.specs.Madt.{madt_contents, madt_entry};
 ghost use Rattle.acpi_base.specs.Pptt.{pptt_contents, pptt_entry};
 ghost use Rattle.acpi_base.specs.Srat.{srat_contents, srat_entry};
 ghost use Rattle.acpi_base.specs.TableKinds.{signature_of};
 ghost use Rattle.acpi_lint.specs.Slots.{AreFirstSlots};
-ghost use Rattle.acpi_lint.specs.CompleteTables.{IsFound, IsLong, AreEntries, table_of, AreCompleteTables};
+ghost use Rattle.acpi_lint.specs.CompleteTables.{IsFound, IsLong, IsAnyOpaque, AreEntries, table_of, AreCompleteTables};
 
 use crate::first_slots::FirstSlots;
 use crate::listed_slots::{Slot, listed_slots};
+use crate::madt_numbers::has_opaque;
 use acpi_base::{Image, TableKind};
 use acpi_read::{Fadt, MadtEntry, PpttEntry, Root, SratEntry, Table, TableEntry, TypedEntries};
 use std::alloc::{AllocError, Global};
@@ -35,6 +36,8 @@ pub struct CompleteTables<'a> {
     pub slit: Option<Table<'a>>,
     /// The PPTT.
     pub pptt: Option<Table<'a>>,
+    /// Whether an entry of the MADT is one that the stages do not read.
+    pub has_opaque: bool,
 }
 
 /// The first listed table of a kind in a set with these first slots.
@@ -46,6 +49,16 @@ fn found<'a>(image: &'a Image, firsts: &FirstSlots, kind: TableKind) -> Option<T
     Table::complete(image, slot.table.address)
 }
 
+/// Whether an entry of the MADT that was found is one that the stages do not read. Not if none was found.
+fn is_any_opaque(madt: &Option<Table<'_>>) -> bool
+    ensures { IsTrue result ↔ IsAnyOpaque madt.now }
+{
+    match madt {
+        Some(madt) => has_opaque(madt),
+        None => false,
+    }
+}
+
 impl<'a> CompleteTables<'a> {
     /// The tables of the set that the RSDP at an address leads to. Allocates for each address that is listed.
     pub fn of(alloc: Global, image: &'a Image, rsdp: u64) -> Result<CompleteTables<'a>, AllocError>
@@ -54,9 +67,11 @@ impl<'a> CompleteTables<'a> {
         let root = Root::complete(image, rsdp);
         let slots = listed_slots(alloc, image, &root)?;
         let firsts = FirstSlots::of(&slots);
+        let madt = found(image, &firsts, TableKind::Madt);
         Ok(CompleteTables {
             fadt: found(image, &firsts, TableKind::Fadt),
-            madt: found(image, &firsts, TableKind::Madt),
+            has_opaque: is_any_opaque(&madt),
+            madt,
             srat: found(image, &firsts, TableKind::Srat),
             slit: found(image, &firsts, TableKind::Slit),
             pptt: found(image, &firsts, TableKind::Pptt),

@@ -4,6 +4,7 @@ ghost use Rattle.std.specs.Prelude.{◌≡◌, ◌↔◌, IfOk, IsTrue};
 ghost use Rattle.acpi_base.specs.Madt.{madt_contents};
 ghost use Rattle.acpi_read.specs.Madts.{madt_value};
 ghost use Rattle.acpi_read.specs.Entries.{entry_at_value};
+ghost use Rattle.acpi_lint.specs.CompleteTables.{IsOpaque, HasOpaque};
 ghost use Rattle.acpi_lint.specs.EntryNumbers.{IsAnyNamed};
 ghost use Rattle.acpi_lint.specs.MadtNumbers.{number_of, HasNumberWith, NamesWith};
 ghost use Rattle.acpi_lint.specs.Places.{FindsOwn, FindsLeast};
@@ -176,6 +177,29 @@ pub fn has_type(madt: &Table<'_>, wanted: u8) -> bool
 {
     for at in madt.entries::<MadtEntry<'_>>() {
         if type_of(&at.entry) == wanted {
+            return true;
+        }
+    }
+    false
+}
+
+/// Whether an entry is one that the stages do not read.
+#[inline(always)]
+fn is_opaque(entry: &MadtEntry<'_>) -> bool
+    ensures { IsTrue result ↔ IsOpaque (madt_value entry.now) }
+{
+    match entry {
+        MadtEntry::Opaque(_) => true,
+        _ => false,
+    }
+}
+
+/// Whether a MADT has such an entry.
+pub fn has_opaque(madt: &Table<'_>) -> bool
+    ensures { IsTrue result ↔ HasOpaque (madt_contents madt.now) }
+{
+    for at in madt.entries::<MadtEntry<'_>>() {
+        if is_opaque(&at.entry) {
             return true;
         }
     }
