@@ -186,7 +186,8 @@ overlap_opaque madt at other point first =
 
 pub no_distributor_opaque : (madt : MadtContents) (at other point : ℕ) → IsNoDistributor madt at other point
     → HasOpaque madt
-no_distributor_opaque madt at other point (lacks, place, unused) = typed_opaque madt 11 (omega arith) lacks.has_interface
+no_distributor_opaque madt at other point (lacks, place, unused) =
+    typed_opaque madt 11 (omega arith) lacks.has_interface
 
 pub no_redistributor_opaque : (madt : MadtContents) (at other point : ℕ) → IsNoRedistributor madt at other point
     → HasOpaque madt

@@ -19,30 +19,36 @@ returns-in-MadtUnread c = λ m q are. rw c.in-MadtUnread.is
 
 pub returns-in-BroadcastId : goal.returns-in-BroadcastId
 returns-in-BroadcastId c = λ m q are. rw c.in-BroadcastId.is
-    (own_madt m q madt_value (HasNumber broadcast_id) c.first_own_place-in-BroadcastId.result _ c.madt_entries-entries.result are
+    (own_madt m q madt_value (HasNumber broadcast_id) c.first_own_place-in-BroadcastId.result _
+    c.madt_entries-entries.result are
     c.madt_entries-entries.ensures c.first_own_place-in-BroadcastId.ensures (λ at picked answers. search rules))
 
 pub returns-in-EnabledAndCapable : goal.returns-in-EnabledAndCapable
 returns-in-EnabledAndCapable c = λ m q are. rw c.in-EnabledAndCapable.is
-    (own_madt m q madt_value (HasNumber both_flags) c.first_own_place-in-EnabledAndCapable.result _ c.madt_entries-entries.result are
+    (own_madt m q madt_value (HasNumber both_flags) c.first_own_place-in-EnabledAndCapable.result _
+    c.madt_entries-entries.result are
     c.madt_entries-entries.ensures c.first_own_place-in-EnabledAndCapable.ensures (λ at picked answers. search rules))
 
 pub returns-in-TimerLevel : goal.returns-in-TimerLevel
 returns-in-TimerLevel c = λ m q are. rw c.in-TimerLevel.is
-    (own_madt m q madt_value (HasNumber level_timer) c.first_own_place-in-TimerLevel.result _ c.madt_entries-entries.result are
+    (own_madt m q madt_value (HasNumber level_timer) c.first_own_place-in-TimerLevel.result _
+    c.madt_entries-entries.result are
     c.madt_entries-entries.ensures c.first_own_place-in-TimerLevel.ensures (λ at picked answers. search rules))
 
 pub returns-in-LintNotOne : goal.returns-in-LintNotOne
 returns-in-LintNotOne c = λ m q are. rw c.in-LintNotOne.is
-    (own_madt m q madt_value (HasNumber other_lint) c.first_own_place-in-LintNotOne.result _ c.madt_entries-entries.result are
+    (own_madt m q madt_value (HasNumber other_lint) c.first_own_place-in-LintNotOne.result _
+    c.madt_entries-entries.result are
     c.madt_entries-entries.ensures c.first_own_place-in-LintNotOne.ensures (λ at picked answers. search rules))
 
 pub returns-in-MpidrReserved : goal.returns-in-MpidrReserved
 returns-in-MpidrReserved c = λ m q are. rw c.in-MpidrReserved.is
-    (own_madt m q madt_value (HasNumber reserved_mpidr) c.first_own_place-in-MpidrReserved.result _ c.madt_entries-entries.result are
+    (own_madt m q madt_value (HasNumber reserved_mpidr) c.first_own_place-in-MpidrReserved.result _
+    c.madt_entries-entries.result are
     c.madt_entries-entries.ensures c.first_own_place-in-MpidrReserved.ensures (λ at picked answers. search rules))
 
 pub returns-in-GicrEmpty : goal.returns-in-GicrEmpty
 returns-in-GicrEmpty c = λ m q are. rw c.in-GicrEmpty.is
-    (own_madt m q madt_value (HasNumber empty_gicr) c.first_own_place-in-GicrEmpty.result _ c.madt_entries-entries.result are
+    (own_madt m q madt_value (HasNumber empty_gicr) c.first_own_place-in-GicrEmpty.result _
+    c.madt_entries-entries.result are
     c.madt_entries-entries.ensures c.first_own_place-in-GicrEmpty.ensures (λ at picked answers. search rules))

@@ -17,19 +17,22 @@ returns-in-SameUid c = rw c.in-SameUid.is
 pub returns-in-SameApicId : goal.returns-in-SameApicId
 returns-in-SameApicId c = rw c.in-SameApicId.is
     (each_found (MadtNumbers apic_id_on) c.repeated-in-SameApicId.result
-    (λ m q are. repeated_madt m q madt_value apic_id_on c.repeated-in-SameApicId.result _ c.madt_entries-entries.result are
+    (λ m q are. repeated_madt m q madt_value apic_id_on c.repeated-in-SameApicId.result _
+    c.madt_entries-entries.result are
     c.madt_entries-entries.ensures c.repeated-in-SameApicId.ensures (λ at picked answers. search rules)))
 
 pub returns-in-SameIoApicId : goal.returns-in-SameIoApicId
 returns-in-SameIoApicId c = rw c.in-SameIoApicId.is
     (each_found (MadtNumbers io_apic_id) c.repeated-in-SameIoApicId.result
-    (λ m q are. repeated_madt m q madt_value io_apic_id c.repeated-in-SameIoApicId.result _ c.madt_entries-entries.result are
+    (λ m q are. repeated_madt m q madt_value io_apic_id c.repeated-in-SameIoApicId.result _
+    c.madt_entries-entries.result are
     c.madt_entries-entries.ensures c.repeated-in-SameIoApicId.ensures (λ at picked answers. search rules)))
 
 pub returns-in-SameIoApicAddress : goal.returns-in-SameIoApicAddress
 returns-in-SameIoApicAddress c = rw c.in-SameIoApicAddress.is
     (each_found (MadtNumbers nonzero_io_apic_address) c.repeated-in-SameIoApicAddress.result
-    (λ m q are. repeated_madt m q madt_value nonzero_io_apic_address c.repeated-in-SameIoApicAddress.result _ c.madt_entries-entries.result are
+    (λ m q are. repeated_madt m q madt_value nonzero_io_apic_address c.repeated-in-SameIoApicAddress.result _
+    c.madt_entries-entries.result are
     c.madt_entries-entries.ensures c.repeated-in-SameIoApicAddress.ensures (λ at picked answers. search rules)))
 
 pub returns-in-SecondGicd : goal.returns-in-SecondGicd
@@ -53,11 +56,13 @@ returns-in-SameIts c = rw c.in-SameIts.is
 pub returns-in-SameMsiFrame : goal.returns-in-SameMsiFrame
 returns-in-SameMsiFrame c = rw c.in-SameMsiFrame.is
     (each_found (MadtNumbers msi_frame_id) c.repeated-in-SameMsiFrame.result
-    (λ m q are. repeated_madt m q madt_value msi_frame_id c.repeated-in-SameMsiFrame.result _ c.madt_entries-entries.result are
+    (λ m q are. repeated_madt m q madt_value msi_frame_id c.repeated-in-SameMsiFrame.result _
+    c.madt_entries-entries.result are
     c.madt_entries-entries.ensures c.repeated-in-SameMsiFrame.ensures (λ at picked answers. search rules)))
 
 pub returns-in-SameHart : goal.returns-in-SameHart
 returns-in-SameHart c = rw c.in-SameHart.is
     (each_found (MadtNumbers hart_id_on) c.repeated-in-SameHart.result
-    (λ m q are. repeated_madt m q madt_value hart_id_on c.repeated-in-SameHart.result _ c.madt_entries-entries.result are
+    (λ m q are. repeated_madt m q madt_value hart_id_on c.repeated-in-SameHart.result _ c.madt_entries-entries.result
+    are
     c.madt_entries-entries.ensures c.repeated-in-SameHart.ensures (λ at picked answers. search rules)))
