@@ -131,7 +131,6 @@ pub fn has_number(madt: &Table<'_>, number: MadtNumber) -> bool
 }
 
 /// The numbers of all entries of a MADT that have one. Allocates for each.
-#[inline(always)]
 pub fn all_numbers(
     alloc: Global,
     madt: &Table<'_>,

@@ -20,8 +20,6 @@ use acpi_base::{Code, Policy, TableKind};
 use acpi_read::{EntryAt, Subject, Table, TableEntry, TypedEntries};
 
 /// The result of `pick` for the first entry for which it returns one.
-// It is part of its caller, so that a number that the caller looks for is known in the pass.
-#[inline(always)]
 pub fn first_picked<'a, E: TableEntry<'a> + Copy, T: Drop, F: Fn(&EntryAt<E>) -> Option<T>>(
     entries: TypedEntries<'a, E>,
     pick: F,
