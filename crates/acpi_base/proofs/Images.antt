@@ -6,6 +6,8 @@ pub mod Drafts
 pub mod FirstTwice
 pub mod Holders
 pub mod Inserts
+pub mod Lent
+pub mod LentRuns
 pub mod PresentBytes
 pub mod Rests
 pub mod RunBytes

@@ -19,6 +19,7 @@ pub mod Policies
 pub mod Pptt
 pub mod Root
 pub mod Rsdp
+pub mod RsdpSearch
 pub mod Slit
 pub mod Srat
 pub mod Tables

@@ -12,4 +12,6 @@ pub mod LineBuffers
 pub mod LineParsing
 pub mod LineSplitting
 pub mod PlacedData
+pub mod RowLanes
+pub mod Rows
 pub mod Written

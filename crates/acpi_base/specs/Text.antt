@@ -2,6 +2,7 @@
 pub mod ImageText
 pub mod LineBuffers
 pub mod Lines
+pub mod Rows
 pub mod StateCode
 pub mod TextLaws
 pub mod TextMachine

@@ -7,14 +7,17 @@ ghost use Rattle.acpi_base.specs.Memory.{IsImage, least_defined, byte_of, bytes_
 ghost use Rattle.acpi_base.specs.Image.Adding.{add_refusal};
 ghost use Rattle.acpi_base.specs.Number.{byte_sum};
 ghost use Rattle.acpi_base.specs.Image.Runs.{lookup};
-ghost use Rattle.acpi_base.specs.Image.Segments.{IsValid, runs_of};
+ghost use Rattle.acpi_base.specs.Image.Lent.{AreParts, runs_of_parts};
 
 pub(crate) mod draft;
+mod lent;
+mod parts;
 mod prefix_sums;
 mod runs;
 mod segments;
 mod span;
 
+use parts::Parts;
 use segments::Segments;
 use std::alloc::{AllocError, Global};
 use std::marker::Model;
@@ -46,11 +49,11 @@ impl From<AllocError> for ImageFault {
 
 /// Why `count` bytes cannot be added from an address on.
 #[tactic(auto, using(crate::proofs::Images::RunMemory::no_refusal))]
-fn refusal(segments: &Segments, base: u64, count: u64) -> Option<ImageFault>
-    requires { IsValid segments.now }
+fn refusal(parts: &Parts<'_>, base: u64, count: u64) -> Option<ImageFault>
+    requires { AreParts parts.now }
     ensures { result ≡ (if nat_lt (2 ^ 64) (base + count) then Some ImageFault.PastEnd
         else option_map (λ address. ImageFault.Twice address)
-        (least_defined (lookup (runs_of segments.now)) base count)) }
+        (least_defined (lookup (runs_of_parts parts.now)) base count)) }
 {
     if count == 0 {
         return None;
@@ -59,21 +62,25 @@ fn refusal(segments: &Segments, base: u64, count: u64) -> Option<ImageFault>
     if count - 1 > u64::MAX - base {
         return Some(ImageFault::PastEnd);
     }
-    segments
+    parts
         .first_present(base, count)
         .map(|address| ImageFault::Twice { address })
 }
 
-/// A memory image: bytes at 64-bit addresses, in pieces at any addresses.
+/// A memory image: bytes at 64-bit addresses, in pieces at any addresses, of which some may be lent: they are not copied,
+/// and whoever owns them cannot change or drop them while the image is there.
 ///
 /// Pieces that touch are joined into one. A search takes time that grows with the logarithm of their number.
 #[derive(Debug, Drop)]
-pub struct Image {
-    segments: Segments,
+pub struct LentImage<'a> {
+    parts: Parts<'a>,
     alloc: Global,
 }
 
-impl Model for Image {
+/// An image that owns all of its bytes, or was lent such as are never dropped.
+pub type Image = LentImage<'static>;
+
+impl<'a> Model for LentImage<'a> {
     ghost use Rattle.std.specs.Coded.{coded_ℕ};
     ghost use Rattle.std.specs.FinMap.{code};
     ghost use Rattle.acpi_base.specs.Memory.{Memory};
@@ -82,21 +89,21 @@ impl Model for Image {
 
     ghost coded = { code coded_ℕ coded_ℕ };
 
-    ghost use Rattle.acpi_base.specs.Image.Segments.{IsValid, memory_in};
+    ghost use Rattle.acpi_base.specs.Image.Lent.{AreParts, memory_of_parts};
 
-    ghost view = { λ image. memory_in image.segments };
+    ghost view = { λ image. memory_of_parts image.parts };
 
-    ghost invariant = { λ image. IsValid image.segments };
+    ghost invariant = { λ image. AreParts image.parts };
 }
 
-impl Image {
+impl<'a> LentImage<'a> {
     /// An image without bytes. Takes no memory.
-    pub fn new(alloc: Global) -> Image
+    pub fn new(alloc: Global) -> LentImage<'a>
         ensures nothing { result ≡ empty }
         ensures image { IsImage result }
     {
-        Image {
-            segments: Segments::new(alloc),
+        LentImage {
+            parts: Parts::of(alloc, Segments::new(alloc)),
             alloc,
         }
     }
@@ -108,8 +115,9 @@ impl Image {
     /// `Twice`, if an address has a byte already, with the lowest such address;
     /// `Memory`, if the allocator is out of memory. Adding no bytes always returns `Ok`, and takes no memory.
     ///
-    /// Bytes after all those of the image are appended. Otherwise all bytes of the image are copied once.
-    #[tactic(auto, using(crate::proofs::Images::RunMemory::adding))]
+    /// Bytes after all those of the image are appended. Otherwise all bytes of the image are copied once, and none is
+    /// lent any more.
+    #[tactic(auto, using(crate::proofs::Images::Lent::adding))]
     pub fn add(&mut self, base: u64, bytes: &[u8]) -> Result<(), ImageFault>
         ensures refused { MatchOption (add_refusal self.old base bytes.now)
             (IsOkUnless result ImageFault.Memory) (λ fault. result ≡ Err fault) }
@@ -120,14 +128,44 @@ impl Image {
     {
         // The refusal comes first, also for no bytes: once the fields are read, the proof has the invariant at each
         // exit.
-        if let Some(fault) = refusal(&self.segments, base, bytes.len() as u64) {
+        if let Some(fault) = refusal(&self.parts, base, bytes.len() as u64) {
             return Err(fault);
         }
         if bytes.is_empty() {
             return Ok(());
         }
-        self.segments.put(self.alloc, base, bytes)?;
+        self.parts.put(self.alloc, base, bytes)?;
         Ok(())
+    }
+
+    /// Adds the bytes, which take the addresses from `base` on, without a copy of them if they come after all those of the
+    /// image and touch none. Otherwise it is `add`. Refuses as `add` does, and then leaves the image as it was.
+    #[tactic(auto, using(crate::proofs::Images::Lent::adding))]
+    pub fn lend(&mut self, base: u64, bytes: &'a [u8]) -> Result<(), ImageFault>
+        ensures refused { MatchOption (add_refusal self.old base bytes.now)
+            (IsOkUnless result ImageFault.Memory) (λ fault. result ≡ Err fault) }
+        ensures ok { OnOk result (self.new ≡ with_bytes self.old base bytes.now) }
+        ensures image { OnOk result (IsImage self.new) }
+        ensures err { OnErr result (self.new ≡ self.old) }
+        ensures nothing { length bytes.now ≡ 0 → IsOk result }
+    {
+        // As in `add`, the refusal comes first.
+        if let Some(fault) = refusal(&self.parts, base, bytes.len() as u64) {
+            return Err(fault);
+        }
+        if bytes.is_empty() {
+            return Ok(());
+        }
+        self.parts.lend(self.alloc, base, bytes)?;
+        Ok(())
+    }
+
+    /// Makes the running sums of the lent bytes, with which `window_sum` takes constant time: one byte of memory for each
+    /// 128 bytes that are lent, which are read once. Worth it for whoever asks for the sums of more bytes than are lent.
+    pub fn add_sums(&mut self) -> Result<(), AllocError>
+        ensures same { self.new ≡ self.old }
+    {
+        self.parts.add_sums(self.alloc)
     }
 
     /// States that each address of the image is below 2^64 and each of its bytes below 256. A caller with a reference
@@ -137,34 +175,35 @@ impl Image {
         ensures fit { IsImage self.now }
     {
         // Reading a field opens the image's invariant to the proof.
-        let _segments = &self.segments;
+        let _parts = &self.parts;
     }
 
     /// Returns the byte at an address, or `None` if there is none. Takes no memory.
-    #[tactic(auto, using(crate::proofs::Images::RunMemory::byte_of_present_by))]
+    #[tactic(auto, using(crate::proofs::Images::RunBytes::byte_of_memory_of))]
     pub fn byte_at(&self, address: u64) -> Option<u8>
         ensures { result ≡ byte_of self.now address }
     {
-        self.segments.byte_at(address)
+        self.parts.byte_at(address)
     }
 
     /// Returns the `count` bytes from an address on, or `None` if one of these addresses has no byte. The bytes may
     /// have been added in several calls. For a count of 0 it returns no bytes, at any address. Takes no memory.
-    #[tactic(auto, using(crate::proofs::Images::RunMemory::bytes_at_present_by))]
+    #[tactic(auto, using(crate::proofs::Images::RunMemory::bytes_at_present))]
     pub fn window(&self, address: u64, count: u64) -> Option<&[u8]>
         ensures bytes { option_map (λ bytes. bytes.now) result ≡ bytes_at self.now address count }
         ensures count { IfSome result (λ bytes. length bytes.now ≡ count) }
     {
-        self.segments.window(address, count)
+        self.parts.window(address, count)
     }
 
     /// Returns the sum modulo 256 of the `count` bytes from an address on, or `None` if one of these addresses has no
-    /// byte. It is 0 if a checksum is right, and for a count of 0, at any address. However many bytes there are, fewer
-    /// than 256 of them are read. Takes no memory.
-    #[tactic(auto, using(crate::proofs::Images::RunMemory::bytes_at_present_by))]
+    /// byte. It is 0 if a checksum is right, and for a count of 0, at any address. Of bytes that were copied, and of lent
+    /// ones after `add_sums`, fewer than 256 are read, however many there are; of other lent ones each is read. Takes no
+    /// memory.
+    #[tactic(auto, using(crate::proofs::Images::RunMemory::bytes_at_present))]
     pub fn window_sum(&self, address: u64, count: u64) -> Option<u8>
         ensures { result ≡ option_map byte_sum (bytes_at self.now address count) }
     {
-        self.segments.window_sum(address, count)
+        self.parts.window_sum(address, count)
     }
 }

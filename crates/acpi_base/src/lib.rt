@@ -43,7 +43,7 @@ pub use code::Code;
 pub use find::find_rsdp;
 pub use frame::{Frame, Question};
 pub use image::draft::DraftImage;
-pub use image::{Image, ImageFault};
+pub use image::{Image, ImageFault, LentImage};
 pub use policy::{HotPlug, Policy, PolicyFault, Processors};
 pub use stage::Stage;
 pub use table_kind::TableKind;

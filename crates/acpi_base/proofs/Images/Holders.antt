@@ -57,7 +57,7 @@ pub holder_count-push : (ps : List Piece) (p : Piece) (x : ℕ)
 holder_count-push [] p x = omega arith
 holder_count-push (q ∷ ps) p x = omega (arith, holder_count-push ps p x)
 
-pub all_push : (P : Piece → Type 0) (ps : List Piece) (q : Piece) → AllByRecursion P ps → P q
+pub all_push : {T : Type 0} (P : T → Type 0) (ps : List T) (q : T) → AllByRecursion P ps → P q
     → AllByRecursion P (ps ++ q ∷ [])
 all_push P [] q all here = (here, tt)
 all_push P (p ∷ ps) q all here = (all.0, all_push P ps q all.1 here)

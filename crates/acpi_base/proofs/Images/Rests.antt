@@ -1,13 +1,13 @@
 -- The bytes from an address on, up to the first one that is not present, and the first run from there on.
-use Rattle.std.proofs.Common.{◌≡◌, ℕ, ◌+◌, ◌-◌, ◌<◌, ◌≤◌, inl, inr, cond, List, [], ◌∷◌, length, get_or, take, drop, Some, None, IsSome, is_some, refl, sym, ap, ◌∙◌, arith, length-drop, slice_get}
-use Rattle.std.specs.Prelude.{nat_lt, min}
+use Rattle.std.proofs.Common.{◌≡◌, ℕ, ◌+◌, ◌-◌, ◌<◌, ◌≤◌, inl, inr, cond, List, [], ◌∷◌, length, get_or, take, drop, Some, None, IsSome, is_some, refl, sym, ap, ◌∙◌, arith, length-drop, slice_get, Option, MatchOption}
+use Rattle.std.specs.Prelude.{nat_lt, min, IfSome}
 use Rattle.std.proofs.lemmas.Bool.{cases_lt}
 use Rattle.std.proofs.lemmas.Bool.Decides.{nat_tests}
 use Rattle.std.proofs.lemmas.List.{get_or-drop, drop_all, drop-drop, drop-take, length-take-le, take-take}
 use Rattle.acpi_base.specs.Image.Segments.{IsGap, IsRest, IsRunAt}
 use Rattle.acpi_base.specs.Memory.{run_of}
 use Rattle.acpi_base.specs.Image.Runs.{Run, end_of, lookup, memory_of}
-use Rattle.acpi_base.specs.Text.WrittenText.{IsNextRun}
+use Rattle.acpi_base.specs.Text.WrittenText.{IsEmptyFrom, IsFirstFrom, IsNextRun}
 use Rattle.acpi_base.proofs.Images.RunBytes.{present_none, present_at, byte_of_memory_of}
 use Rattle.acpi_base.proofs.Images.ByteRuns.{run_of-from_each, run_of-split, run_of-take, run_of_none}
 
@@ -88,14 +88,26 @@ module _ (rs : List Run) (a : ℕ) (store : List ℕ) (start len : ℕ) (fits : 
 
 -- ---- the run that begins there
 
+-- what has the first address with a byte, from an address on
+first_at : (rs : List Run) (a base : ℕ) → (a ≤ base) × IsSome (lookup rs base) × IsGap rs a base
+    → IsFirstFrom (memory_of rs) a base
+first_at rs a base first = record {
+  from_there = first.0;
+  none_before = λ x l m. byte_of_memory_of rs x ∙ first.2 x l m;
+  present = ap is_some (byte_of_memory_of rs base) ∙ first.1;
+}
+
+pub first_of : (rs : List Run) (a : ℕ) (found : Option ℕ)
+    → (found ≡ None → (x : ℕ) → a ≤ x → lookup rs x ≡ None)
+    → IfSome found (λ base. (a ≤ base) × IsSome (lookup rs base) × IsGap rs a base)
+    → MatchOption found (IsEmptyFrom (memory_of rs) a) (IsFirstFrom (memory_of rs) a)
+first_of rs a None none some = λ x from. byte_of_memory_of rs x ∙ none refl x from
+first_of rs a (Some base) none some = first_at rs a base some
+
 pub next_of : (rs : List Run) (a base : ℕ) (bytes : List ℕ) → (a ≤ base) × IsSome (lookup rs base) × IsGap rs a base
     → IsRest rs base bytes → IsNextRun (memory_of rs) a base bytes
 next_of rs a base bytes first rest = record {
-  first = record {
-    from_there = first.0;
-    none_before = λ x l m. byte_of_memory_of rs x ∙ first.2 x l m;
-    present = ap is_some (byte_of_memory_of rs base) ∙ first.1;
-  };
+  first = first_at rs a base first;
   present = (λ i. run_of (λ x. byte_of_memory_of rs x i) base (length bytes)) ∙ rest.present;
   none_behind = byte_of_memory_of rs (base + length bytes) ∙ rest.none_behind;
 }

@@ -9,7 +9,6 @@ use Rattle.std.proofs.lemmas.Bool.{le-ltb}
 use Rattle.acpi_base.specs.Memory.{Memory, byte_of, least_defined, run_of, bytes_at, first_present, with_bytes, IsImage}
 use Rattle.acpi_base.specs.declared.image.ImageFault.TheVariants.{PastEnd, Twice}
 use Rattle.acpi_base.specs.Image.Runs.{Run, lookup, run_at, memory_of, IsComplete}
-use Rattle.acpi_base.specs.Image.Pieces.{Piece, all_runs, memory_in_store}
 use Rattle.acpi_base.proofs.Images.RunBytes.{present_inside, present_from, present_at, byte_of_memory_of, byte_of-with_bytes}
 use Rattle.acpi_base.proofs.Images.Searches.{nothing_present}
 use Rattle.std.proofs.lemmas.Bool.Decides.{nat_tests}
@@ -34,18 +33,11 @@ lookup_byte (r ∷ rs) a b w e =
 pub image_of : (rs : List Run) → AllByRecursion IsComplete rs → IsImage (memory_of rs)
 image_of rs t = grind (arith, lookup_byte, byte_of_memory_of)
 
-pub byte_of_present_by : (store : List ℕ) (ps : List Piece) (base begin x : ℕ)
-    → byte_of (memory_in_store store ps base begin) x ≡ lookup (all_runs store ps base begin) x
-byte_of_present_by store ps base begin x = byte_of_memory_of (all_runs store ps base begin) x
+pub bytes_at_present : (rs : List Run) (a n : ℕ) → bytes_at (memory_of rs) a n ≡ run_of (lookup rs) a n
+bytes_at_present rs a n = λ i. run_of (λ x. byte_of_memory_of rs x i) a n
 
-pub bytes_at_present_by : (store : List ℕ) (ps : List Piece) (base begin a n : ℕ)
-    → bytes_at (memory_in_store store ps base begin) a n ≡ run_of (lookup (all_runs store ps base begin)) a n
-bytes_at_present_by store ps base begin a n = λ i. run_of (λ x. byte_of_present_by store ps base begin x i) a n
-
-pub first_present_by : (store : List ℕ) (ps : List Piece) (base begin a n : ℕ)
-    → first_present (memory_in_store store ps base begin) a n ≡ least_defined (lookup (all_runs store ps base begin)) a
-    n
-first_present_by store ps base begin a n = λ i. least_defined (λ x. byte_of_present_by store ps base begin x i) a n
+pub first_present_in : (rs : List Run) (a n : ℕ) → first_present (memory_of rs) a n ≡ least_defined (lookup rs) a n
+first_present_in rs a n = λ i. least_defined (λ x. byte_of_memory_of rs x i) a n
 
 pub image_with : (m : Memory) (a : ℕ) (bs : List ℕ) → IsImage m → a + length bs ≤ 2 ^ 64
     → ((k : ℕ) → get_or bs k 0 < 256) → IsImage (with_bytes m a bs)
@@ -79,6 +71,3 @@ no_bytes m a (b ∷ bs) e = absurd (omega arith)
 pub fits_unless : (t : Bool) (o : Option ℕ) → cond t (Some PastEnd) (option_map (λ x. Twice x) o) ≡ None
     → (t ≡ false) × (o ≡ None)
 fits_unless t o e = grind arith
-
--- for adding bytes to an image
-pub ruleset adding = (first_present_by, fits_unless, nothing_present, nat_tests, no_refusal, no_bytes)

@@ -6,20 +6,20 @@ use Rattle.acpi_base.specs.Image.Runs.{end_of, lookup}
 use Rattle.acpi_base.specs.Image.Pieces.{Piece, end_at, LiesBefore, run_in, runs_in}
 use Rattle.acpi_base.proofs.Images.RunBytes.{present_none, present_some}
 
--- ---- all pieces of a list
+-- ---- all elements of a list
 
-pub all_from : (P : Piece → Type 0) (ps : List Piece) → ((k : ℕ) (d : Piece) → k < length ps → P (get_or ps k d))
+pub all_from : {T : Type 0} (P : T → Type 0) (ps : List T) → ((k : ℕ) (d : T) → k < length ps → P (get_or ps k d))
     → AllByRecursion P ps
 all_from P [] h = tt
 all_from P (p ∷ ps) h = (h 0 p (omega arith), all_from P ps (λ k d l. h (suc k) d (omega arith)))
 
-pub of_all : (P : Piece → Type 0) (ps : List Piece) (k : ℕ) (d : Piece) → AllByRecursion P ps → k < length ps
+pub of_all : {T : Type 0} (P : T → Type 0) (ps : List T) (k : ℕ) (d : T) → AllByRecursion P ps → k < length ps
     → P (get_or ps k d)
 of_all P [] k d all h = absurd (omega arith)
 of_all P (p ∷ ps) zero d all h = all.0
 of_all P (p ∷ ps) (suc k) d all h = of_all P ps k d all.1 (omega arith)
 
-pub all_weaker : (P Q : Piece → Type 0) (ps : List Piece) → ((p : Piece) → P p → Q p) → AllByRecursion P ps
+pub all_weaker : {T : Type 0} (P Q : T → Type 0) (ps : List T) → ((p : T) → P p → Q p) → AllByRecursion P ps
     → AllByRecursion Q ps
 all_weaker P Q [] weaker all = tt
 all_weaker P Q (p ∷ ps) weaker all = (weaker p all.0, all_weaker P Q ps weaker all.1)

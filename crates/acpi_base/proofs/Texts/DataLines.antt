@@ -84,7 +84,7 @@ rest_of b rest bytes (Some h) all e =
       | None ↦ λ f. absurd (cc)
     ] e
 
-absent : (c : ℕ) → digit_of c ≡ None → is_blank c ≡ false → (line bytes : List ℕ) (high : Option ℕ) (all : List ℕ)
+pub absent : (c : ℕ) → digit_of c ≡ None → is_blank c ≡ false → (line bytes : List ℕ) (high : Option ℕ) (all : List ℕ)
     → data_from bytes high line ≡ Data all
     → (k : ℕ) → k < length line → get_or line k 0 ≢ c
 absent c none full [] bytes high all e k within = absurd (omega arith)

@@ -1,13 +1,13 @@
 -- The table of the hex digits' values.
 use Rattle.std.proofs.Common.{◌≡◌, ℕ, zero, suc, ◌+◌, ◌<◌, ◌≤◌, Bool, true, ◌&&◌, List, [], ◌∷◌, length, get_or, Option, Some, None, refl, ap, ◌∙◌, arith}
-use Rattle.std.specs.Prelude.{◌==◌, nat_lt}
+use Rattle.std.specs.Prelude.{◌==◌, nat_le, nat_lt}
 use Rattle.std.proofs.lemmas.Bool.{and_parts}
 use Rattle.std.proofs.lemmas.Bool.Decides.{nat_tests}
 use Rattle.acpi_base.specs.Text.ImageText.{digit_of}
 
--- an entry is a digit's value, or 255 for no digit
-says : ℕ → Option ℕ → Bool
-says x None = x == 255
+-- a number is a digit's value, or 16 or more for no digit
+abbrev pub says : ℕ → Option ℕ → Bool
+says x None = nat_le 16 x
 says x (Some d) = (x == d) && nat_lt d 16
 
 -- the entries from k on are right for the bytes from k on
@@ -15,13 +15,11 @@ agrees : ℕ → List ℕ → Bool
 agrees k [] = true
 agrees k (x ∷ xs) = says x (digit_of k) && agrees (suc k) xs
 
-small : (x : ℕ) (digit : Option ℕ) → says x digit ≡ true → x < 16 → Some x ≡ digit
-unfolding says
+pub small : (x : ℕ) (digit : Option ℕ) → says x digit ≡ true → x < 16 → Some x ≡ digit
 small x None e l = absurd (grind (arith, nat_tests))
 small x (Some d) e l = grind (arith, nat_tests, and_parts (x == d) (nat_lt d 16) e)
 
 large : (x : ℕ) (digit : Option ℕ) → says x digit ≡ true → 16 ≤ x → None ≡ digit
-unfolding says
 large x None e l = refl
 large x (Some d) e l = absurd (grind (arith, nat_tests, and_parts (x == d) (nat_lt d 16) e))
 
@@ -53,7 +51,7 @@ table = 255 ∷ 255 ∷ 255 ∷ 255 ∷ 255 ∷ 255 ∷ 255 ∷ 255 ∷ 255 ∷ 
     ∷ 255 ∷ 255 ∷ 255 ∷ []
 
 table_agrees : agrees 0 table ≡ true
-unfolding agrees says digit_of
+unfolding agrees digit_of
 table_agrees = refl
 
 pub is_digit : (byte : ℕ) → byte < 256 → get_or table byte 0 < 16 → Some (get_or table byte 0) ≡ digit_of byte

@@ -111,13 +111,13 @@ line_too_long r line part ending far = grind (arith, nat_tests, length-append li
 
 -- ---- lines that end
 
-standing : (p : LineParser) (line : List ℕ) → is_too_long (length line) (p.through + length line) ≡ false
+pub standing : (p : LineParser) (line : List ℕ) → is_too_long (length line) (p.through + length line) ≡ false
     → (d : Result Memory ℕ) → state_with (judged_by p d) line ≡ after (judged_by p d) line
 standing p line short (Ok m) = going (reading_with p m) line short
 standing p line short (Err address) = refl
 
 -- what comes up to an LF ends the line, unless the machine has stopped
-run_past_end : (x : Result Reading TextFault) (line text : List ℕ) (n : ℕ) → n < length text
+pub run_past_end : (x : Result Reading TextFault) (line text : List ℕ) (n : ℕ) → n < length text
     → ((k : ℕ) → k < n → get_or text k 0 ≢ 10) → get_or text n 0 ≡ 10
     → run (after x line) text ≡ run (after (on_ok x (λ r. read_line r (line ++ take n text) 1)) []) (drop (suc n) text)
 run_past_end (Ok r) line text n l before at = run_to_end r line text n l before at

@@ -52,15 +52,7 @@ pub placed_result : {A : Type 0} (p : LineParser) (d e : Result Memory ℕ) (lin
 placed_result p d e line ending (Ok x) short same has = tt
 placed_result p d e line ending (Err fault) short same has = placed_line p d e line ending fault short same has
 
--- a row is data
-pub row_has : {A : Type 0} (next : Option ℕ) (line bytes : List ℕ) (result : Result A TextFault)
-    → line_of line ≡ Data bytes → IfErr result (λ fault. fault ≡ refusal.Memory → HasRoom next (length bytes))
-    → IfErr result (λ fault. fault ≡ refusal.Memory → HasRoomFor next line)
-row_has next line bytes (Ok x) spells has = tt
-row_has next line bytes (Err fault) spells has = λ memory.
-    record { bytes = bytes; spells = spells; room = has memory }
-
--- the same for a line whose form was found
+-- a line whose form was found
 pub form_has : {A : Type 0} (next : Option ℕ) (line bytes : List ℕ) (found : Form) (result : Result A TextFault)
     → line_with found bytes ≡ line_of line
     → IfErr result (λ fault. fault ≡ refusal.Memory → (found ≡ form.Data) × HasRoom next (length bytes))

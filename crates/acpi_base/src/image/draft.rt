@@ -14,9 +14,10 @@ ghost use Rattle.acpi_base.specs.Image.Pieces.{runs_in};
 ghost use Rattle.acpi_base.specs.Image.Segments.{AreSegmentsApart, IsValid, memory_in};
 ghost use Rattle.acpi_base.specs.Text.ImageText.{on_ok};
 
+use super::parts::Parts;
 use super::segments::Segments;
 use super::span::Span;
-use super::{Image, ImageFault};
+use super::{Image, ImageFault, LentImage};
 use std::alloc::{AllocError, Global};
 use std::marker::Model;
 
@@ -323,6 +324,9 @@ impl DraftImage {
         } else {
             lay_out(alloc, &store, pieces)?
         };
-        Ok(Image { segments, alloc })
+        Ok(LentImage {
+            parts: Parts::of(alloc, segments),
+            alloc,
+        })
     }
 }

@@ -24,7 +24,7 @@ fn sum_of_blocks(sums: &[u8], count: usize) -> u8
 
 /// Appends the running sums that are missing.
 #[tactic(auto, using(crate::proofs::Images::Sums::sum_next, crate::proofs::Images::Sums::sums_pushed))]
-fn add_sums(sums: &mut Vec<u8>, bytes: &[u8]) -> Result<(), AllocError>
+pub fn add_sums(sums: &mut Vec<u8>, bytes: &[u8]) -> Result<(), AllocError>
     requires each { AreSums sums.old.items bytes.now }
     requires within { length sums.old.items ≤ length bytes.now / 128 }
     ensures each { AreSums sums.new.items bytes.now }
@@ -50,6 +50,17 @@ fn sum_before(bytes: &[u8], sums: &[u8], end: usize) -> u8
 {
     let blocks = end / DISTANCE;
     sum_of_blocks(sums, blocks).wrapping_add(sum(&bytes[blocks * DISTANCE..end]))
+}
+
+/// The sum of a span's bytes, modulo 256. However many there are, fewer than 256 are read.
+#[tactic(auto, using(crate::proofs::Images::Sums::sum_between))]
+pub fn sum_of_span(bytes: &[u8], sums: &[u8], span: Span) -> u8
+    requires sums { HasAllSums sums.now bytes.now }
+    requires within { span.start + span.len ≤ length bytes.now }
+    ensures { result ≡ byte_sum (take span.len (drop span.start bytes.now)) }
+{
+    let behind = sum_before(bytes, sums, span.start + span.len);
+    behind.wrapping_sub(sum_before(bytes, sums, span.start))
 }
 
 /// Bytes to which more are appended. Contracts see the bytes.
@@ -132,14 +143,10 @@ impl PrefixSums {
     }
 
     /// The sum of a span's bytes, modulo 256. However many there are, fewer than 256 are read.
-    #[tactic(auto, using(crate::proofs::Images::Sums::sum_between))]
     pub fn sum(&self, span: Span) -> u8
         requires { span.start + span.len ≤ length self.now }
         ensures { result ≡ byte_sum (take span.len (drop span.start self.now)) }
     {
-        let bytes = self.bytes.as_slice();
-        let sums = self.sums.as_slice();
-        let behind = sum_before(bytes, sums, span.start + span.len);
-        behind.wrapping_sub(sum_before(bytes, sums, span.start))
+        sum_of_span(&self.bytes, &self.sums, span)
     }
 }

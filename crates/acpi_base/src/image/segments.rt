@@ -31,6 +31,7 @@ impl Segments {
     pub fn new(alloc: Global) -> Segments
         ensures valid { IsValid result }
         ensures nothing { memory_in result ≡ empty }
+        ensures end { end_in result ≡ 0 }
     {
         Segments {
             store: PrefixSums::new(alloc),
@@ -141,14 +142,6 @@ impl Segments {
         self.span_from(address).bytes(self.store.bytes())
     }
 
-    /// The byte at an address.
-    pub fn byte_at(&self, address: u64) -> Option<u8>
-        requires { IsValid self.now }
-        ensures { result ≡ lookup (runs_of self.now) address }
-    {
-        self.rest_from(address).first().copied()
-    }
-
     /// The span of the bytes at this many addresses, if one segment has them all.
     fn window_span(&self, address: u64, count: u64) -> Option<Span>
         requires { IsValid self.now }
@@ -165,17 +158,6 @@ impl Segments {
             start: span.start,
             len: count as usize,
         })
-    }
-
-    /// The bytes at this many addresses, if one segment has them all.
-    pub fn window(&self, address: u64, count: u64) -> Option<&[u8]>
-        requires { IsValid self.now }
-        ensures bytes { option_map (λ bytes. bytes.now) result ≡ run_of (lookup (runs_of self.now))
-            address count }
-        ensures count { IfSome result (λ bytes. length bytes.now ≡ count) }
-    {
-        let span = self.window_span(address, count)?;
-        Some(span.bytes(self.store.bytes()))
     }
 
     /// The sum of the bytes at this many addresses, if one segment has them all.
@@ -214,25 +196,10 @@ impl Segments {
             (λ first. (address ≤ first) × IsSome (lookup (runs_of self.now) first)
             × IsGap (runs_of self.now) address first) }
     {
-        if self.byte_at(address).is_some() {
+        if !self.rest_from(address).is_empty() {
             return Some(address);
         }
         self.next_base(address)
-    }
-
-    /// The lowest of this many addresses that has a byte.
-    #[tactic(auto, using(crate::proofs::Images::Searches::first_in_gap))]
-    pub fn first_present(&self, base: u64, count: u64) -> Option<u64>
-        requires valid { IsValid self.now }
-        requires some { 0 < count }
-        ensures { result ≡ least_defined (lookup (runs_of self.now)) base count }
-    {
-        let first = self.first_from(base)?;
-        if first - base < count {
-            Some(first)
-        } else {
-            None
-        }
     }
 
     /// Ends the open segment, unless bytes from `base` on follow it.

@@ -3,7 +3,7 @@
 ghost use Rattle.std.specs.Prelude.{◌≡◌, ◌+◌, ◌<◌, ◌≤◌, ◌++◌, ◌∷◌, length, take, IfOk, OnOk};
 ghost use Rattle.acpi_base.specs.Text.WrittenText.{pair, row, rows, row_count, line_with_lf, text_of, address_line, run_lines, IsWritten};
 
-use crate::image::Image;
+use crate::image::LentImage;
 use std::alloc::{AllocError, Global};
 
 /// How many bytes a line has at most.
@@ -70,7 +70,7 @@ fn write_run(
 /// An image has one such text. `read_image` reads it as the image if it has at most 67,108,864 bytes, and refuses a
 /// longer one with `TooLong`.
 #[tactic(auto, using(crate::proofs::Texts::Written::WrittenRuns::written_runs))]
-pub fn image_text(alloc: Global, image: &Image) -> Result<Vec<u8>, AllocError>
+pub fn image_text(alloc: Global, image: &LentImage<'_>) -> Result<Vec<u8>, AllocError>
     ensures { IfOk result (λ text. IsWritten text.items image.now) }
 {
     // Opens the invariant of `Image` to the proof, and does nothing when it runs.

@@ -1,10 +1,11 @@
 //! Reading a text that comes in pieces. Of the text only the incomplete last line is kept.
 
-ghost use Rattle.std.specs.Prelude.{◌≡◌, ◌+◌, ◌<◌, ◌≢◌, ◌⊎◌, ◌++◌, ℕ, [], length, slice_index, Ok, OnOk, IfOk, IfErr};
+ghost use Rattle.std.specs.Prelude.{◌≡◌, ◌+◌, ◌<◌, ◌≢◌, ◌⊎◌, ◌++◌, ℕ, [], length, slice_index, Ok, Err, OnOk, IfOk, IfErr};
 ghost use Rattle.acpi_base.specs.Memory.{IsImage};
 ghost use Rattle.acpi_base.specs.Text.ImageText.{Reading, on_ok, start, read_line, read_lines, ended_lines, last_line};
 ghost use Rattle.acpi_base.specs.Text.TextMachine.{run, EndsAs, IsGoing, Stopped, initial_state, text_result};
 ghost use Rattle.acpi_base.specs.Text.Lines.{Refuses, judged, told};
+ghost use Rattle.acpi_base.specs.Text.Rows.{HasReadRows, IsPlacedRow};
 ghost use Rattle.acpi_base.specs.Text.TextMemory.{IsPlacedData, HasPlacedData};
 ghost use Rattle.acpi_base.specs.Text.LineBuffers.{IsLineBuffer, buffer_state, byte_count};
 
@@ -90,6 +91,28 @@ impl LineBuffer {
         Ok(())
     }
 
+    /// Reads rows that the text begins with, unless a part of a line was kept, and returns how many bytes they are.
+    fn end_rows(&mut self, text: &[u8]) -> Result<usize, TextFault>
+        requires { IsLineBuffer self.old }
+        ensures valid { OnOk result (IsLineBuffer self.new) }
+        ensures ok { IfOk result
+            (HasReadRows (judged self.old.parser) (judged self.new.parser) text.now) }
+        ensures whole { IfOk result (λ taken. 0 < taken → self.old.line.items ≡ []) }
+        ensures line { self.new.line ≡ self.old.line }
+        ensures none { result ≡ Ok 0 → self.new ≡ self.old }
+        ensures count { IfOk result
+            (λ taken. self.new.parser.through ≡ self.old.parser.through + taken) }
+        ensures err { IfErr result (λ fault. (told self.new.parser.image fault ≡ TextFault.Memory)
+            ⊎ (judged self.old.parser ≡ Err (told self.new.parser.image fault))) }
+        ensures memory { IfErr result (λ fault. told self.new.parser.image fault ≡ TextFault.Memory
+            → IsPlacedRow (judged self.old.parser) text.now) }
+    {
+        if !self.line.is_empty() {
+            return Ok(0);
+        }
+        self.parser.read_rows(text)
+    }
+
     /// Reads the lines that end in the piece, and returns what comes after its last LF. If no part of a line was kept
     /// before, memory is needed for data alone.
     pub fn end_lines<'a>(&mut self, piece: &'a [u8]) -> Result<&'a [u8], TextFault>
@@ -114,6 +137,14 @@ impl LineBuffer {
     {
         let mut rest = piece;
         'lines: loop {
+            let taken = match self.end_rows(rest) {
+                Ok(taken) => taken,
+                Err(fault) => return Err(fault),
+            };
+            if taken > 0 {
+                rest = &rest[taken..];
+                continue;
+            }
             let (line, after) = rest.split_at(first_index(rest, b'\n'));
             if after.is_empty() {
                 return Ok(rest);

@@ -4,11 +4,12 @@ ghost use Rattle.std.specs.Prelude.{◌≡◌, ◌≤◌, ◌<◌, ◌+◌, ◌�
 ghost use Rattle.acpi_base.specs.Memory.{IsImage};
 ghost use Rattle.acpi_base.specs.Text.ImageText.{Reading, on_ok, start, max_text, data_fault, put_data, take_line, read_line};
 ghost use Rattle.acpi_base.specs.Text.Lines.{Refuses, line_with, reading_with, judged, told};
+ghost use Rattle.acpi_base.specs.Text.Rows.{HasReadRows, IsPlacedRow};
 ghost use Rattle.acpi_base.specs.Text.TextMemory.{HasRoom, IsPlacedData};
 
 use super::MAX_TEXT;
 use super::line::{Form, parse_line};
-use super::row::parse_row;
+use super::row::{ROW, parse_rows};
 use crate::image::draft::DraftImage;
 use crate::image::{Image, ImageFault};
 use crate::text::TextFault;
@@ -16,6 +17,9 @@ use std::alloc::Global;
 
 /// The most bytes of a line, with its CR and without its LF.
 pub const MAX_LINE: usize = 65_536;
+
+/// How many rows are read at once.
+const ROWS: usize = 32;
 
 /// The address after the last one.
 const END: u128 = 1 << 64;
@@ -168,13 +172,48 @@ impl LineParser {
         }
         self.lines += 1;
         self.through = through;
-        // A row as most texts write it is read at once, and its bytes are copied once.
-        if let Some(row) = parse_row(line) {
-            return self.put_data(&row);
-        }
         match parse_line(line, bytes) {
             Ok(form) => self.take_line(form, bytes),
             Err(error) => Err(self.memory_fault(error.count)),
+        }
+    }
+
+    /// Reads rows that the text begins with, adds their bytes at once, and returns how many bytes of the text they are; 0
+    /// if it begins with something else, or if one of them may have a fault other than `Twice`.
+    pub fn read_rows(&mut self, text: &[u8]) -> Result<usize, TextFault>
+        requires lines { self.old.lines ≤ self.old.through }
+        requires through { self.old.through ≤ max_text }
+        ensures ok { IfOk result (HasReadRows (judged self.old) (judged self.new) text.now) }
+        ensures none { result ≡ Ok 0 → self.new ≡ self.old }
+        ensures lines { OnOk result (self.new.lines ≤ self.new.through) }
+        ensures through { IfOk result (λ count. self.new.through ≡ self.old.through + count) }
+        ensures short { OnOk result (self.new.through ≤ max_text) }
+        ensures err { IfErr result (λ fault. (told self.new.image fault ≡ TextFault.Memory)
+            ⊎ (judged self.old ≡ Err (told self.new.image fault))) }
+        ensures memory { IfErr result (λ fault. told self.new.image fault ≡ TextFault.Memory
+            → IsPlacedRow (judged self.old) text.now) }
+    {
+        let Some(next) = self.next else {
+            return Ok(0);
+        };
+        // Two bytes show it of nearly all other lines.
+        if text.len() < ROW || text[ROW / 2 - 1] != b' ' || text[ROW - 1] != b'\n' {
+            return Ok(0);
+        }
+        let mut bytes = [0; 16 * ROWS];
+        let count = parse_rows(text, &mut bytes);
+        let through = self.through + (ROW * count) as u64;
+        if count == 0 || through > MAX_TEXT as u64 || next > END - 16 * count as u128 {
+            return Ok(0);
+        }
+        match self.image.add(next as u64, &bytes[..16 * count]) {
+            Ok(()) => {
+                self.lines += count as u64;
+                self.through = through;
+                self.next = Some(next + 16 * count as u128);
+                Ok(ROW * count)
+            }
+            Err(_) => Err(TextFault::Memory),
         }
     }
 

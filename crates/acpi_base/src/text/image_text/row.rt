@@ -1,36 +1,83 @@
-//! Rows of 16 bytes as most texts write them: pairs of hex digits, separated by single blanks.
+//! Rows of 16 bytes as most texts write them: pairs of hex digits, separated by single blanks, and an LF. They are read
+//! in vectors of 16 bytes.
 
-ghost use Rattle.std.specs.Prelude.{◌≡◌, ◌++◌, ◌∷◌, ℕ, List, [], None, IfSome};
-ghost use Rattle.acpi_base.specs.Text.ImageText.{Data, data_from, line_of};
+ghost use Rattle.std.specs.Prelude.{◌≡◌, ◌+◌, ◌*◌, ◌%◌, ◌≤◌, ◌<◌, ℕ, length, slice_index, take, IfSome};
+ghost use Rattle.acpi_base.specs.Text.Rows.{AreDigitValues, AreRows, IsRowAt};
 
-use super::digit::digit_value;
+use std::simd::prelude::*;
 
-/// How many bytes such a row has.
-const ROW: usize = 47;
+/// How many bytes of text a row has, with its LF.
+pub const ROW: usize = 48;
 
-/// The byte that a pair of hex digits spells.
-#[tactic(auto, unfolding(crate::specs::Text::ImageText::data_from))]
-fn pair_value(high: u8, low: u8) -> Option<u8>
-    ensures { IfSome result (λ byte. (bytes rest : List ℕ)
-        → data_from bytes None (high ∷ low ∷ rest) ≡ data_from (bytes ++ byte ∷ []) None rest) }
+/// How many bytes of text are loaded for a row.
+const LOADED: usize = 66;
+
+/// The bit of the lane that has what comes after the last pair.
+const LAST: u64 = 1 << 13;
+
+/// The first of each three bytes of the text from `at` on: number `k` is in lane `3 * k % 16`. In this order the vector
+/// is made of three loads without a shuffle.
+#[inline(always)]
+fn firsts_of_three(text: &[u8], at: usize) -> u8x16
+    requires { at + 64 ≤ length text.now }
+    ensures len { length result ≡ 16 }
+    ensures order { (k : ℕ) → k < 16
+        → slice_index result (3 * k % 16) ≡ slice_index text.now (at + 3 * k) }
 {
-    Some(16 * digit_value(high)? + digit_value(low)?)
+    u8x64::from_slice(&text[at..]).swizzle([
+        0, 33, 18, 3, 36, 21, 6, 39, 24, 9, 42, 27, 12, 45, 30, 15,
+    ])
 }
 
-/// The bytes of such a row; `None` for any other line.
-pub fn parse_row(line: &[u8]) -> Option<[u8; 16]>
-    ensures { IfSome result (λ row. line_of line.now ≡ Data row) }
+/// The value of each hex digit, in either case; 16 or more for any other byte.
+#[inline(always)]
+fn digit_values(bytes: u8x16) -> u8x16
+    ensures { AreDigitValues bytes result }
 {
-    if line.len() != ROW {
+    let decimal = bytes - u8x16::splat(b'0');
+    let letter = (bytes | u8x16::splat(0x20)) - u8x16::splat(b'a');
+    decimal.simd_lt(u8x16::splat(10)).select(
+        decimal,
+        letter.simd_min(u8x16::splat(6)) + u8x16::splat(10),
+    )
+}
+
+/// The bytes of the row from `at` on; `None` if there is no row.
+#[inline(always)]
+fn row_at(text: &[u8], at: usize) -> Option<[u8; 16]>
+    requires { at + 66 ≤ length text.now }
+    ensures { IfSome result (IsRowAt text.now at) }
+{
+    let high = digit_values(firsts_of_three(text, at));
+    let low = digit_values(firsts_of_three(text, at + 1));
+    let behind = firsts_of_three(text, at + 2);
+    let others = (high | low).simd_ge(u8x16::splat(16)).to_bitmask();
+    let unspaced = behind.simd_ne(u8x16::splat(b' ')).to_bitmask();
+    if others != 0 || unspaced != LAST || text[at + 47] != b'\n' {
         return None;
     }
-    let mut row = [0; 16];
-    for k in 0..15 {
-        row[k] = pair_value(line[3 * k], line[3 * k + 1])?;
-        if line[3 * k + 2] != b' ' {
-            return None;
-        }
+    let bytes = high * u8x16::splat(16) + low;
+    Some(
+        bytes
+            .swizzle([0, 3, 6, 9, 12, 15, 2, 5, 8, 11, 14, 1, 4, 7, 10, 13])
+            .to_array(),
+    )
+}
+
+/// Reads the rows that the text begins with, as many as the buffer has room for, and returns how many there are. It may
+/// stop before a row that is among the last 65 bytes of the text.
+pub fn parse_rows(text: &[u8], bytes: &mut [u8]) -> usize
+    ensures rows { AreRows text.now result (take (16 * result) bytes.new) }
+    ensures len { length bytes.new ≡ length bytes.old }
+    ensures room { 16 * result ≤ length bytes.old }
+{
+    let mut count = 0;
+    while 16 * count + 16 <= bytes.len() && ROW * count + LOADED <= text.len() {
+        let Some(row) = row_at(text, ROW * count) else {
+            break;
+        };
+        bytes[16 * count..16 * count + 16].copy_from_slice(&row);
+        count += 1;
     }
-    row[15] = pair_value(line[45], line[46])?;
-    Some(row)
+    count
 }

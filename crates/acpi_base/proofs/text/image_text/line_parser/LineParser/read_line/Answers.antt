@@ -2,19 +2,8 @@ use Rattle.std.proofs.Common.{◌≡◌, ◌+◌, length, ap, refl, ◌∙◌, a
 use Rattle.std.proofs.lemmas.Bool.Decides.{nat_tests}
 use Rattle.acpi_base.specs.Text.ImageText.{is_too_long}
 use Rattle.acpi_base.specs.Text.Lines.{line_with}
-use Rattle.acpi_base.proofs.Texts.PlacedData.{placed_line, placed_result, row_has, form_has, data_has}
+use Rattle.acpi_base.proofs.Texts.PlacedData.{placed_line, placed_result, form_has, data_has}
 use Rattle.acpi_base.proofs.text.image_text.line_parser.LineParser.read_line.Goals as goal
-
-pub returns-in-Some-clause-memory : goal.returns-in-Some-clause-memory
-returns-in-Some-clause-memory c =
-    let p = c.args.self.now in
-    let line = c.args.line.now in
-    let line_fits = c.if-line-gt-MAX_LINE.false in
-    let text_fits = c.if-through.false in
-    let short : is_too_long (length line) (p.through + length line + c.args.ending) ≡ false =
-    grind (arith, nat_tests) in
-    placed_result p p.image c.put_data.new.self.image line c.args.ending c.put_data.result short c.put_data.ensures.same
-    (row_has p.next line c.in-Some.row c.put_data.result c.in-Some.ensures c.put_data.ensures.memory)
 
 pub returns-in-Ok-clause-memory : goal.returns-in-Ok-clause-memory
 returns-in-Ok-clause-memory c =
