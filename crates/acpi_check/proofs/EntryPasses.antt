@@ -1,5 +1,6 @@
 -- Passes over the entries of a table.
 pub mod Collecting
+pub mod DifferentKeys
 pub mod Filled
 pub mod Kept
 pub mod OverridesPass

@@ -95,7 +95,7 @@ fn first_unknown(uids: &[u64], pptt: &Table<'_>) -> Option<Witness>
 }
 
 /// The lowest Revision of the PPTT that has the flag of a leaf.
-const HAS_LEAVES: u8 = 2;
+pub const HAS_LEAVES: u8 = 2;
 
 /// Whether the ID of each leaf of a PPTT is the UID of a processor of a MADT, enabled or not (ACPI 6.5, 5.2.30.1;
 /// 5.2.12.2 and 5.2.12.12), or the PPTT's Revision is below 2, or the MADT may have further processors: it ends before

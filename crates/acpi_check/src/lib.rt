@@ -53,7 +53,7 @@ pub use chains::{first_cycle, named_offset};
 pub use collecting::collected;
 pub use domains::check_domains;
 pub use interrupts::check_interrupts;
-pub use leaves::check_leaves;
+pub use leaves::{HAS_LEAVES, check_leaves};
 pub use nodes::Chain;
 pub use offset_set::OffsetSet;
 pub use overrides::check_overrides;

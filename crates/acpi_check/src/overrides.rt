@@ -4,11 +4,11 @@ ghost use Rattle.std.specs.Prelude.{◌≢◌, ◌<◌, IfErr, IfSome, IsTrue};
 ghost use Rattle.acpi_base.specs.Madt.{madt_contents, Overrides, DoOverridesAgree, OverrideFault};
 ghost use Rattle.acpi_base.specs.declared.stage.Stage.{Stage};
 ghost use Rattle.acpi_read.specs.Madts.{madt_value};
-ghost use Rattle.acpi_check.specs.FirstSeen.{IsGiven};
+ghost use Rattle.acpi_check.specs.FirstSeen.{FindsOther, IsGiven};
 ghost use Rattle.acpi_check.specs.TableResults.{FindsFirst};
 ghost use Rattle.acpi_check.specs.declared.refusal.Refusal.{Refusal};
 
-use crate::first_seen::{Given, pass_given};
+use crate::first_seen::{Given, OtherValue, pass_given};
 use crate::refusal::Refusal;
 use acpi_base::{Code, Witness};
 use acpi_read::{MadtEntry, Table};
@@ -30,22 +30,37 @@ fn number_given(entry: &MadtEntry<'_>) -> Option<Given>
     }
 }
 
-/// Whether each override of a MADT is of a greater Source than those before it, as in most machines. Then none is given
-/// two numbers.
-fn do_sources_rise(madt: &Table<'_>) -> bool
+/// Whether no two overrides of a MADT are of one Source, as in most machines. Then none is given two numbers.
+fn do_sources_differ(madt: &Table<'_>) -> bool
     ensures { IsTrue result → DoOverridesAgree (madt_contents madt.now) }
 {
     let mut entries = madt.entries::<MadtEntry<'_>>();
-    let mut least = 0;
+    let mut seen = [false; SOURCES];
     while let Some(at) = entries.next() {
         if let Some(Given { key: source, .. }) = number_given(&at.entry) {
-            if source < least {
+            if seen[source] {
                 return false;
             }
-            least = source + 1;
+            seen[source] = true;
         }
     }
     true
+}
+
+/// The first override of a MADT that gives its Source another number than an earlier one.
+// Each call clears a table of 6 KiB. As a part of its caller it would clear that for each check.
+#[inline(never)]
+fn first_other_number(madt: &Table<'_>) -> Option<OtherValue>
+    ensures { FindsOther Overrides (madt_contents madt.now).entries result }
+{
+    let mut entries = madt.entries::<MadtEntry<'_>>();
+    let mut firsts = [None; SOURCES];
+    while let Some(at) = entries.next() {
+        if let Some(found) = pass_given(&mut firsts, at.offset, number_given(&at.entry)) {
+            return Some(found);
+        }
+    }
+    None
 }
 
 /// Whether a MADT's overrides give each Source one interrupt number (ACPI 6.5, 5.2.12.5), whatever their bus. The
@@ -59,21 +74,16 @@ pub fn check_overrides(madt: &Table<'_>) -> Result<(), Refusal>
         (OverrideFault (madt_contents madt.now)) result }
     ensures memory { IfErr result (λ refusal. refusal ≢ Refusal.OutOfMemory) }
 {
-    // Clearing the table below takes some 6,000 instructions, about half of a check of firmware.
-    if do_sources_rise(madt) {
+    if do_sources_differ(madt) {
         return Ok(());
     }
-    let mut entries = madt.entries::<MadtEntry<'_>>();
-    let mut firsts = [None; SOURCES];
-    while let Some(at) = entries.next() {
-        if let Some(found) = pass_given(&mut firsts, at.offset, number_given(&at.entry)) {
-            return Err(Refusal::Fault(Witness {
-                code: Code::OverrideClash,
-                at: found.at,
-                other: found.other,
-                point: found.key as u64,
-            }));
-        }
+    match first_other_number(madt) {
+        Some(found) => Err(Refusal::Fault(Witness {
+            code: Code::OverrideClash,
+            at: found.at,
+            other: found.other,
+            point: found.key as u64,
+        })),
+        None => Ok(()),
     }
-    Ok(())
 }

@@ -10,12 +10,12 @@ ghost use Rattle.acpi_base.specs.declared.code.Code.{Code};
 ghost use Rattle.acpi_check.specs.StageResults.{Reads};
 ghost use Rattle.acpi_check.specs.TableResults.{IsRootOf};
 
-use acpi_base::{Code, Image, Witness};
+use acpi_base::{Code, LentImage, Witness};
 use acpi_read::{Root, Rsdp};
 
 /// The root table that the RSDP names; its faults are at the RSDP's address if it names none, otherwise at the root
 /// table's.
-pub fn check_root<'a>(image: &'a Image, rsdp: &Rsdp) -> Result<Root<'a>, Witness>
+pub fn check_root<'a>(image: &'a LentImage<'_>, rsdp: &Rsdp) -> Result<Root<'a>, Witness>
     ensures { (q : PolicyValue) → CleanBefore Stage.Root image.now q
         → IsRsdp image.now q.rsdp rsdp.now
         → Reads Stage.Root image.now q (IsRootOf image.now q.rsdp) result }

@@ -5,7 +5,7 @@ ghost use Rattle.acpi_base.specs.Number.{field};
 ghost use Rattle.acpi_read.specs.Roots.{slots_of};
 ghost use Rattle.acpi_check.specs.StageSets.{IsListedSet, IsListedIn};
 
-use acpi_base::{Image, Policy};
+use acpi_base::{LentImage, Policy};
 use acpi_read::{Facs, Fadt, FirstTables, Listed, Root, Rsdp, Table};
 
 /// A set whose RSDP, root table and listed tables are valid: what stages 1 to 3 pass on. Each table was read and
@@ -13,7 +13,7 @@ use acpi_read::{Facs, Fadt, FirstTables, Listed, Root, Rsdp, Table};
 #[derive(Drop)]
 pub struct ListedSet<'a> {
     /// The image that has the set.
-    pub image: &'a Image,
+    pub image: &'a LentImage<'a>,
     /// The RSDP.
     pub rsdp: Rsdp,
     /// The root table that it names.

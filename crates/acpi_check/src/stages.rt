@@ -20,14 +20,14 @@ use crate::root::check_root;
 use crate::rsdp::check_rsdp;
 use crate::set::{CleanSet, ListedSet, Set};
 use crate::tables::check_tables;
-use acpi_base::{Image, Policy, Stage, Verdict, Witness};
+use acpi_base::{LentImage, Policy, Stage, Verdict, Witness};
 use std::alloc::{AllocError, Global};
 
 /// The verdict on the image's tables: `Yes` exactly when all eighteen statements hold for the image and the policy,
 /// otherwise `No` with the first fault, which is of the first stage that fails.
 ///
 /// Out of memory only if stages 1 to 6 hold.
-pub fn check(alloc: Global, image: &Image, policy: &Policy) -> Result<Verdict, AllocError>
+pub fn check(alloc: Global, image: &LentImage<'_>, policy: &Policy) -> Result<Verdict, AllocError>
     ensures yes { IfOk result (λ verdict. (verdict ≡ Verdict.Yes) ↔ IsClean image.now policy.now) }
     ensures no { IfOk result (IfNo (IsFirstFault image.now policy.now)) }
     ensures memory { OnErr result (CleanTo Stage.Madt image.now policy.now) }
@@ -41,7 +41,7 @@ pub fn check(alloc: Global, image: &Image, policy: &Policy) -> Result<Verdict, A
 /// Out of memory only if stages 1 to 6 hold. For `last` up to 6 always `Ok`: those stages allocate nothing.
 pub fn check_to(
     alloc: Global,
-    image: &Image,
+    image: &LentImage<'_>,
     policy: &Policy,
     last: Stage,
 ) -> Result<Verdict, AllocError>
@@ -58,7 +58,12 @@ pub fn check_to(
 
 /// Runs the stages up to `last` in their order. Those up to the FACS allocate nothing and are always run: if the
 /// first fault is one of a stage after `last`, the stages up to `last` hold.
-fn stages_to(alloc: Global, image: &Image, policy: &Policy, last: Stage) -> Result<(), Refusal>
+fn stages_to(
+    alloc: Global,
+    image: &LentImage<'_>,
+    policy: &Policy,
+    last: Stage,
+) -> Result<(), Refusal>
     ensures { IsResultTo last image.now policy.now (λ _. CleanTo last image.now policy.now) result }
 {
     match valid_set(image, policy) {
@@ -71,7 +76,7 @@ fn stages_to(alloc: Global, image: &Image, policy: &Policy, last: Stage) -> Resu
 /// The set that the RSDP at an address leads to, if its RSDP, its root table and the tables that it lists are valid;
 /// otherwise its first fault, which is one of stages 1 to 3. These stages use nothing of a policy but the RSDP's
 /// address.
-pub fn read_set<'a>(image: &'a Image, rsdp: u64) -> Result<ListedSet<'a>, Witness>
+pub fn read_set<'a>(image: &'a LentImage<'_>, rsdp: u64) -> Result<ListedSet<'a>, Witness>
     ensures { (q : PolicyValue) → q.rsdp ≡ rsdp
         → ReadsTo Stage.Tables image.now q (IsListedSetOf image.now q.rsdp) result }
 {
@@ -87,7 +92,7 @@ pub fn read_set<'a>(image: &'a Image, rsdp: u64) -> Result<ListedSet<'a>, Witnes
 }
 
 /// The set for which the stages up to the FACS hold, or its first fault, which is one of theirs.
-fn valid_set<'a, 'p>(image: &'a Image, policy: &'p Policy) -> Result<Set<'a, 'p>, Witness>
+fn valid_set<'a, 'p>(image: &'a LentImage<'_>, policy: &'p Policy) -> Result<Set<'a, 'p>, Witness>
     ensures { ReadsTo Stage.Facs image.now policy.now (IsSetOf image.now policy.now) result }
 {
     let listed = read_set(image, policy.rsdp())?;
@@ -119,7 +124,7 @@ fn later_stages(alloc: Global, set: &Set<'_, '_>, last: Stage) -> Result<(), Ref
 /// `OutOfMemory`, which is returned only if stages 1 to 6 hold.
 pub fn check_set<'a>(
     alloc: Global,
-    image: &'a Image,
+    image: &'a LentImage<'_>,
     policy: &Policy,
 ) -> Result<CleanSet<'a>, Refusal>
     ensures { IsResultTo Stage.Leaves image.now policy.now (IsCleanSetOf image.now policy.now)

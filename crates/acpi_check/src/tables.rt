@@ -7,13 +7,16 @@ ghost use Rattle.acpi_base.specs.declared.stage.Stage.{Stage};
 ghost use Rattle.acpi_check.specs.StageResults.{Reads};
 ghost use Rattle.acpi_check.specs.TableResults.{AreFirstTables, IsRootOf};
 
-use acpi_base::{Code, Image, Witness};
+use acpi_base::{Code, LentImage, Witness};
 use acpi_read::{FirstTables, Listed, Root, Table};
 
 /// Whether every table that the root table lists is valid; and the first table of each kind, found in the same pass.
 /// A fault is at the first slot, from 0, that lists a table with a fault, and `other` is the table's address. A slot
 /// that is 0 lists nothing.
-pub fn check_tables<'a>(image: &'a Image, root: &Root<'a>) -> Result<FirstTables<'a>, Witness>
+pub fn check_tables<'a>(
+    image: &'a LentImage<'_>,
+    root: &Root<'a>,
+) -> Result<FirstTables<'a>, Witness>
     ensures { (q : PolicyValue) → CleanBefore Stage.Tables image.now q
         → IsRootOf image.now q.rsdp root.now
         → Reads Stage.Tables image.now q (AreFirstTables image.now q.rsdp) result }

@@ -10,11 +10,11 @@ ghost use Rattle.acpi_base.specs.declared.stage.Stage.{Stage};
 use crate::fadt::is_reduced;
 use crate::listed_tables::listed;
 use acpi_base::field::{is_signed, u32_at, u64_at};
-use acpi_base::{Code, Image, Policy, Witness};
+use acpi_base::{Code, LentImage, Policy, Witness};
 
 /// Whether the witness is a fault of the FACS that the FADT names: `at` is its address, or 0 if none is named. A FADT
 /// of fewer than 116 bytes has none of these faults.
-pub(crate) fn is_facs_fault(image: &Image, policy: &Policy, witness: &Witness) -> bool
+pub(crate) fn is_facs_fault(image: &LentImage<'_>, policy: &Policy, witness: &Witness) -> bool
     ensures { IsTrue result ↔ FaultCondition Stage.Facs image.now policy.now witness.now }
 {
     if witness.other != 0 || witness.point != 0 {
@@ -27,7 +27,7 @@ pub(crate) fn is_facs_fault(image: &Image, policy: &Policy, witness: &Witness) -
 }
 
 /// Whether the FACS that a FADT names has the fault with this code at an address.
-fn has_fault(image: &Image, fadt: &[u8], code: Code, at: u64) -> bool
+fn has_fault(image: &LentImage<'_>, fadt: &[u8], code: Code, at: u64) -> bool
     ensures { IsTrue result ↔ ((116 ≤ length fadt.now)
         × NamedFacsFault image.now fadt.now code at) }
 {
@@ -43,13 +43,16 @@ fn has_fault(image: &Image, fadt: &[u8], code: Code, at: u64) -> bool
         Code::FacsHeaderOut => named && prefix.is_none(),
         Code::FacsSignature => named && prefix.is_some_and(|prefix| !is_signed(prefix, b"FACS")),
         Code::FacsLength => named && prefix.is_some_and(|prefix| u32_at(prefix, 4) < 64),
-        Code::FacsOut => named && prefix.is_some_and(|prefix| is_out(image, at, u32_at(prefix, 4))),
+        Code::FacsOut => match prefix {
+            Some(prefix) => named && is_out(image, at, u32_at(prefix, 4)),
+            None => false,
+        },
         _ => false,
     }
 }
 
 /// Whether the Length is at least 64, and that many bytes from an address on are not all present.
-fn is_out(image: &Image, address: u64, length: u32) -> bool
+fn is_out(image: &LentImage<'_>, address: u64, length: u32) -> bool
     ensures { IsTrue result ↔ ((64 ≤ length) × (bytes_at image.now address length ≡ None)) }
 {
     length >= 64 && image.window(address, u64::from(length)).is_none()

@@ -7,7 +7,7 @@ ghost use Rattle.acpi_base.specs.declared.stage.Stage.{Stage};
 
 use crate::listed_tables::{listed, lists_none};
 use acpi_base::field::{u8_at, u32_at};
-use acpi_base::{Code, Image, Policy, Witness};
+use acpi_base::{Code, LentImage, Policy, Witness};
 
 /// RESET_REG_SUP, a bit of Flags: the reset register may be used.
 const RESET_REG_SUP: u32 = 10;
@@ -16,7 +16,7 @@ const RESET_REG_SUP: u32 = 10;
 const HW_REDUCED_ACPI: u32 = 20;
 
 /// Whether the witness is a fault of the FADT: `at` is an offset in it, or 0.
-pub(crate) fn is_fadt_fault(image: &Image, policy: &Policy, witness: &Witness) -> bool
+pub(crate) fn is_fadt_fault(image: &LentImage<'_>, policy: &Policy, witness: &Witness) -> bool
     ensures { IsTrue result ↔ FaultCondition Stage.Fadt image.now policy.now witness.now }
 {
     if witness.other != 0 || witness.point != 0 {

@@ -13,10 +13,10 @@ use crate::madt::is_madt_fault;
 use crate::pptt::is_pptt_fault;
 use crate::slit::is_slit_fault;
 use crate::srat::is_srat_fault;
-use acpi_base::{Image, Policy, Witness};
+use acpi_base::{LentImage, Policy, Witness};
 
 /// Codes 32 to 40 and 58: whether the witness is a fault of the listed MADT.
-pub(crate) fn in_madt(image: &Image, policy: &Policy, witness: &Witness) -> bool
+pub(crate) fn in_madt(image: &LentImage<'_>, policy: &Policy, witness: &Witness) -> bool
     ensures { IsTrue result ↔ HasMadt image.now policy.now
         (λ madt. MadtCondition (stage_of witness.now.code) policy.now madt witness.now) }
 {
@@ -24,7 +24,7 @@ pub(crate) fn in_madt(image: &Image, policy: &Policy, witness: &Witness) -> bool
 }
 
 /// Codes 41 to 45: whether the witness is a fault of the listed SRAT.
-pub(crate) fn in_srat(image: &Image, policy: &Policy, witness: &Witness) -> bool
+pub(crate) fn in_srat(image: &LentImage<'_>, policy: &Policy, witness: &Witness) -> bool
     ensures { IsTrue result ↔ HasSrat image.now policy.now
         (λ srat. SratCondition (stage_of witness.now.code) policy.now srat witness.now) }
 {
@@ -32,7 +32,7 @@ pub(crate) fn in_srat(image: &Image, policy: &Policy, witness: &Witness) -> bool
 }
 
 /// Codes 46 to 49: whether the witness is a fault of the listed SLIT.
-pub(crate) fn in_slit(image: &Image, policy: &Policy, witness: &Witness) -> bool
+pub(crate) fn in_slit(image: &LentImage<'_>, policy: &Policy, witness: &Witness) -> bool
     ensures { IsTrue result ↔ HasSlit image.now policy.now
         (λ slit. SlitFault slit witness.now.code witness.now.at witness.now.other
         witness.now.point) }
@@ -41,7 +41,7 @@ pub(crate) fn in_slit(image: &Image, policy: &Policy, witness: &Witness) -> bool
 }
 
 /// Codes 50 to 56: whether the witness is a fault of the listed PPTT.
-pub(crate) fn in_pptt(image: &Image, policy: &Policy, witness: &Witness) -> bool
+pub(crate) fn in_pptt(image: &LentImage<'_>, policy: &Policy, witness: &Witness) -> bool
     ensures { IsTrue result ↔ HasPptt image.now policy.now
         (λ pptt. PpttCondition (stage_of witness.now.code) pptt witness.now) }
 {
@@ -49,7 +49,7 @@ pub(crate) fn in_pptt(image: &Image, policy: &Policy, witness: &Witness) -> bool
 }
 
 /// Code 57: whether the witness is a fault of the listed MADT and SRAT.
-pub(crate) fn in_madt_and_srat(image: &Image, policy: &Policy, witness: &Witness) -> bool
+pub(crate) fn in_madt_and_srat(image: &LentImage<'_>, policy: &Policy, witness: &Witness) -> bool
     ensures { IsTrue result ↔ HasMadt image.now policy.now
         (λ madt. HasSrat image.now policy.now
         (λ srat. DomainFault policy.now.processors madt srat witness.now.code witness.now.at
@@ -60,7 +60,7 @@ pub(crate) fn in_madt_and_srat(image: &Image, policy: &Policy, witness: &Witness
 }
 
 /// Code 59: whether the witness is a fault of the listed MADT and PPTT.
-pub(crate) fn in_madt_and_pptt(image: &Image, policy: &Policy, witness: &Witness) -> bool
+pub(crate) fn in_madt_and_pptt(image: &LentImage<'_>, policy: &Policy, witness: &Witness) -> bool
     ensures { IsTrue result ↔ HasMadt image.now policy.now
         (λ madt. HasPptt image.now policy.now
         (λ pptt. LeafFault madt pptt witness.now.code witness.now.at witness.now.other

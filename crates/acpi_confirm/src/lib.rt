@@ -52,7 +52,7 @@ mod slit;
 mod srat;
 mod tables;
 
-use acpi_base::{Image, Policy, Stage, Witness};
+use acpi_base::{LentImage, Policy, Stage, Witness};
 use facs::is_facs_fault;
 use fadt::is_fadt_fault;
 use in_tables::{in_madt, in_madt_and_pptt, in_madt_and_srat, in_pptt, in_slit, in_srat};
@@ -65,7 +65,7 @@ use tables::is_table_fault;
 /// nothing, and always returns.
 ///
 /// A fault need not be the first one: if a set has several, `confirm` accepts each.
-pub fn confirm(image: &Image, policy: &Policy, witness: &Witness) -> bool
+pub fn confirm(image: &LentImage<'_>, policy: &Policy, witness: &Witness) -> bool
     ensures fault { IsTrue result ↔ Fault image.now policy.now witness.now }
 {
     match witness.code.stage() {

@@ -8,11 +8,15 @@ ghost use Rattle.acpi_confirm.specs.Roots.{HasSlots, IsHeaderIn, IsSignedIn, IsC
 use crate::root::{Root, complete_root};
 use crate::tables::table_at;
 use acpi_base::field::is_signed;
-use acpi_base::{Image, Policy};
+use acpi_base::{LentImage, Policy};
 
 /// The bytes of the first listed table with the signature, if it is complete: the first slot whose address has a
 /// header with the signature decides.
-pub(crate) fn listed<'a>(image: &'a Image, policy: &Policy, signature: &[u8; 4]) -> Option<&'a [u8]>
+pub(crate) fn listed<'a>(
+    image: &'a LentImage<'_>,
+    policy: &Policy,
+    signature: &[u8; 4],
+) -> Option<&'a [u8]>
     ensures found { MatchOption result ((whole : List ℕ)
         → ¬ IsListedTable image.now policy.now.rsdp signature.now whole)
         (λ whole. IsListedTable image.now policy.now.rsdp signature.now whole.now) }
@@ -24,7 +28,7 @@ pub(crate) fn listed<'a>(image: &'a Image, policy: &Policy, signature: &[u8; 4])
 /// The bytes of the first listed table with the one signature, and of that with the other, each if it is complete. The
 /// slots are read once for both.
 pub(crate) fn both_listed<'a>(
-    image: &'a Image,
+    image: &'a LentImage<'_>,
     policy: &Policy,
     one: &[u8; 4],
     other: &[u8; 4],
@@ -48,7 +52,7 @@ pub(crate) fn both_listed<'a>(
 }
 
 /// Whether the root table is complete and lists no header with the signature.
-pub(crate) fn lists_none(image: &Image, policy: &Policy, signature: &[u8; 4]) -> bool
+pub(crate) fn lists_none(image: &LentImage<'_>, policy: &Policy, signature: &[u8; 4]) -> bool
     ensures { IsTrue result ↔ ListsNone image.now policy.now.rsdp signature.now }
 {
     match complete_root(image, policy.rsdp()) {
@@ -60,7 +64,7 @@ pub(crate) fn lists_none(image: &Image, policy: &Policy, signature: &[u8; 4]) ->
 }
 
 /// The table at an address that was found, if there is one and the table is complete.
-fn table_found(image: &Image, address: Option<u64>) -> Option<&[u8]>
+fn table_found<'a>(image: &'a LentImage<'_>, address: Option<u64>) -> Option<&'a [u8]>
     ensures found { (p d : ℕ) (bytes signature : List ℕ) → IsCompleteRoot image.now p d bytes
         → MatchOption address (IsNoneListed image.now bytes d signature)
         (IsFirstListed image.now bytes d signature)
@@ -74,7 +78,7 @@ fn table_found(image: &Image, address: Option<u64>) -> Option<&[u8]>
 /// The address in the first slot at whose address a header with the one signature is present, and the same for the
 /// other one.
 fn first_with_each(
-    image: &Image,
+    image: &LentImage<'_>,
     root: &Root<'_>,
     one: &[u8; 4],
     other: &[u8; 4],
@@ -99,7 +103,7 @@ fn first_with_each(
 
 /// The address in slot k and the header there, if the slot has an address and the header is present.
 #[tactic(auto, using(acpi_base::proofs::Root::Slots::one_slot))]
-fn header_in<'a>(image: &'a Image, root: &Root<'_>, k: u64) -> Option<(u64, &'a [u8])>
+fn header_in<'a>(image: &'a LentImage<'_>, root: &Root<'_>, k: u64) -> Option<(u64, &'a [u8])>
     requires { HasSlots root.now.width root.now.bytes.now }
     ensures { IsHeaderIn image.now root.now.bytes.now root.now.width k result }
 {

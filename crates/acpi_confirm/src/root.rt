@@ -10,7 +10,7 @@ ghost use Rattle.acpi_confirm.specs.Roots.{IsCompleteRoot, HasSlots};
 
 use crate::tables::table_at;
 use acpi_base::field::{is_signed, u8_at, u32_at, u64_at};
-use acpi_base::{Code, Image, Policy, Witness, sum};
+use acpi_base::{Code, LentImage, Policy, Witness, sum};
 
 /// The addresses that an RSDP names; 0 for none.
 #[derive(Clone, Copy, Debug)]
@@ -29,7 +29,7 @@ struct RootPlace {
 }
 
 /// Whether the witness is a fault of the root table that the RSDP names.
-pub(crate) fn is_root_fault(image: &Image, policy: &Policy, witness: &Witness) -> bool
+pub(crate) fn is_root_fault(image: &LentImage<'_>, policy: &Policy, witness: &Witness) -> bool
     ensures { IsTrue result ↔ FaultCondition Stage.Root image.now policy.now witness.now }
 {
     if witness.other != 0 || witness.point != 0 {
@@ -42,7 +42,7 @@ pub(crate) fn is_root_fault(image: &Image, policy: &Policy, witness: &Witness) -
 }
 
 /// Whether the RSDP at an address names a root table at `at` that has the fault with this code.
-fn has_named_fault(image: &Image, rsdp: u64, at: u64, code: Code) -> bool
+fn has_named_fault(image: &LentImage<'_>, rsdp: u64, at: u64, code: Code) -> bool
     ensures { IsTrue result ↔ ((d : ℕ) × IsRoot image.now rsdp at d
         × RootTableFault image.now at d code) }
 {
@@ -53,7 +53,7 @@ fn has_named_fault(image: &Image, rsdp: u64, at: u64, code: Code) -> bool
 }
 
 /// Whether the root table at a place has the fault with this code.
-fn has_fault(image: &Image, root: RootPlace, code: Code) -> bool
+fn has_fault(image: &LentImage<'_>, root: RootPlace, code: Code) -> bool
     requires { IsSlotWidth root.width }
     ensures { IsTrue result ↔ RootTableFault image.now root.address root.width code }
 {
@@ -81,7 +81,7 @@ fn signature(width: u32) -> &'static [u8; 4]
 
 /// The addresses that the RSDP at an address names, if its 20 bytes are present, or for the extended form its 36.
 #[tactic(auto, unfolding(acpi_base::specs::Rsdp::addresses_at))]
-fn addresses_at(image: &Image, address: u64) -> Option<Addresses>
+fn addresses_at(image: &LentImage<'_>, address: u64) -> Option<Addresses>
     ensures { option_map (λ named. record { rsdt = named.rsdt; xsdt = named.xsdt })
         result ≡ addresses_at image.now address }
 {
@@ -122,14 +122,14 @@ fn chosen_root(named: Addresses) -> Option<RootPlace>
 }
 
 /// Whether the RSDP at an address can be read and names no root table.
-fn names_no_root(image: &Image, address: u64) -> bool
+fn names_no_root(image: &LentImage<'_>, address: u64) -> bool
     ensures { IsTrue result ↔ HasNoRoot image.now address }
 {
     addresses_at(image, address).is_some_and(|named| chosen_root(named).is_none())
 }
 
 /// The place of the root table that the RSDP at an address names.
-fn named_root(image: &Image, address: u64) -> Option<RootPlace>
+fn named_root(image: &LentImage<'_>, address: u64) -> Option<RootPlace>
     ensures found { MatchOption result ((r d : ℕ) → ¬ IsRoot image.now address r d)
         (λ root. IsRoot image.now address root.address root.width) }
     ensures width { IfSome result (λ root. IsSlotWidth root.width) }
@@ -150,7 +150,7 @@ pub(crate) struct Root<'a> {
 
 /// The root table that the RSDP at an address names, if it is complete and has its kind's signature.
 #[tactic(auto, using(acpi_base::proofs::Tables::Faults::signed_table))]
-pub(crate) fn complete_root(image: &Image, address: u64) -> Option<Root<'_>>
+pub(crate) fn complete_root<'a>(image: &'a LentImage<'_>, address: u64) -> Option<Root<'a>>
     ensures found { MatchOption result ((d : ℕ) (bytes : List ℕ)
         → ¬ IsCompleteRoot image.now address d bytes)
         (λ root. IsCompleteRoot image.now address root.width root.bytes.now) }

@@ -8,11 +8,11 @@ ghost use Rattle.acpi_base.specs.declared.stage.Stage.{Stage};
 
 use crate::root::complete_root;
 use acpi_base::field::u32_at;
-use acpi_base::{Code, Image, Policy, Witness, sum};
+use acpi_base::{Code, LentImage, Policy, Witness, sum};
 
 /// Whether the witness is a fault of the table that a slot lists: `at` is the slot's number, `other` the table's
 /// address.
-pub(crate) fn is_table_fault(image: &Image, policy: &Policy, witness: &Witness) -> bool
+pub(crate) fn is_table_fault(image: &LentImage<'_>, policy: &Policy, witness: &Witness) -> bool
     ensures { IsTrue result ↔ FaultCondition Stage.Tables image.now policy.now witness.now }
 {
     witness.point == 0
@@ -22,7 +22,7 @@ pub(crate) fn is_table_fault(image: &Image, policy: &Policy, witness: &Witness) 
 
 /// Whether slot k of the root table that the RSDP at an address names lists a table.
 #[tactic(auto, using(crate::proofs::Roots::slot_of_set, crate::proofs::Roots::slot_of_bytes, crate::proofs::Roots::root_of_slot))]
-fn is_listed(image: &Image, rsdp: u64, k: u64, table: u64) -> bool
+fn is_listed(image: &LentImage<'_>, rsdp: u64, k: u64, table: u64) -> bool
     ensures { IsTrue result ↔ IsSlot image.now rsdp k table }
 {
     match complete_root(image, rsdp) {
@@ -32,7 +32,7 @@ fn is_listed(image: &Image, rsdp: u64, k: u64, table: u64) -> bool
 }
 
 /// Whether the table at an address has the fault with this code.
-fn has_fault(image: &Image, address: u64, code: Code) -> bool
+fn has_fault(image: &LentImage<'_>, address: u64, code: Code) -> bool
     ensures { IsTrue result ↔ TableFault image.now address code }
 {
     let Some(header) = image.window(address, 36) else {
@@ -49,7 +49,7 @@ fn has_fault(image: &Image, address: u64, code: Code) -> bool
 }
 
 /// The bytes of the table at an address, as many as its Length says, if that is at least 36 and they are present.
-pub(crate) fn table_at(image: &Image, address: u64) -> Option<&[u8]>
+pub(crate) fn table_at<'a>(image: &'a LentImage<'_>, address: u64) -> Option<&'a [u8]>
     ensures found { MatchOption result ((header whole : List ℕ)
         → ¬ IsTable image.now address header whole)
         (λ whole. (header : List ℕ) × IsTable image.now address header whole.now) }

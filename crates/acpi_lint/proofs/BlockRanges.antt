@@ -1,8 +1,8 @@
 -- What the register blocks of a FADT have of system I/O, as spans.
-use Rattle.std.proofs.Common.{◌≡◌, ℕ, ◌+◌, ◌*◌, ◌<◌, List, [], Option, refl, subst, arith}
+use Rattle.std.proofs.Common.{◌≡◌, ℕ, ◌+◌, ◌<◌, List, [], Option, refl, subst, arith}
 use Rattle.acpi_graph.specs.declared.span.Span.{Span}
 use Rattle.acpi_lint.specs.Ranges.{FindsRange}
-use Rattle.acpi_lint.specs.Rules.FadtBlocks.{block_address, port_bytes}
+use Rattle.acpi_lint.specs.Rules.FadtBlocks.{block_at, block_address, port_bytes}
 use Rattle.acpi_lint.specs.Rules.Ports.{IsBlockRange}
 use Rattle.acpi_lint.proofs.RangeLists.{AreRangesBefore, no_ranges, none_until, range_as}
 
@@ -14,18 +14,18 @@ none_before whole =
 
 -- none has a name between those of block k and of the next one
 pub next_before : (whole : List ℕ) (k : ℕ) (spans : List Span)
-    → AreRangesBefore (IsBlockRange whole) (56 + 4 * k + 1) spans
-    → AreRangesBefore (IsBlockRange whole) (56 + 4 * (k + 1)) spans
+    → AreRangesBefore (IsBlockRange whole) (block_at k + 1) spans
+    → AreRangesBefore (IsBlockRange whole) (block_at (k + 1)) spans
 next_before whole k spans before =
-    none_until (56 + 4 * (k + 1)) spans before (omega arith)
+    none_until (block_at (k + 1)) spans before (omega arith)
     (λ o s n from below (j, inside, is, _, _). absurd (omega (arith, from, below, is)))
 
 -- what is found for block k
 pub block_range : (whole : List ℕ) (k : ℕ) (found : Option Span) → k < 8
-    → FindsRange (56 + 4 * k) (λ s n. (s ≡ block_address whole k) × (n ≡ port_bytes whole k)) found
-    → FindsRange (56 + 4 * k) (IsBlockRange whole (56 + 4 * k)) found
+    → FindsRange (block_at k) (λ s n. (s ≡ block_address whole k) × (n ≡ port_bytes whole k)) found
+    → FindsRange (block_at k) (IsBlockRange whole (block_at k)) found
 block_range whole k found inside =
-    range_as (56 + 4 * k) found (λ s n (start, count). (k, inside, refl, start, count))
+    range_as (block_at k) found (λ s n (start, count). (k, inside, refl, start, count))
     (λ s n (j, below, is, start, count).
     let same : j ≡ k = omega (arith, is) in (
       subst (λ (i : ℕ). s ≡ block_address whole i) same start,

@@ -12,14 +12,13 @@ use Rattle.acpi_read.specs.declared.typed_entries.EntryAt.{EntryAt}
 use Rattle.acpi_check.specs.CollectedValues.{Picks, Collects}
 use Rattle.acpi_check.proofs.EntryPasses.Collecting.{are_collected, gathered_same, itself}
 use Rattle.acpi_check.proofs.EntryPasses.Kept.{AreRising, kept_has, kept_from, keys_rise}
-use Rattle.acpi_lint.specs.EntryNumbers.{FindsRepeated, AreGathered, AreKnown}
+use Rattle.acpi_lint.specs.EntryNumbers.{AreGathered, AreKnown}
 use Rattle.acpi_lint.specs.Numbered.{at_place, HasAt, AreNumbersAt}
 use Rattle.acpi_lint.specs.Places.{FindsLeast}
 use Rattle.acpi_lint.specs.declared.numbered.Numbered.{Numbered}
 use Rattle.acpi_lint.specs.declared.place.Place.{Place}
 use Rattle.acpi_lint.proofs.KnownOnes.{are_known}
 use Rattle.acpi_lint.proofs.LeastPlaces.{least_as}
-use Rattle.acpi_lint.proofs.SameNumbers.{found_later}
 
 -- ---- collected
 
@@ -134,23 +133,6 @@ found_twice given r are least =
     holds) least
 
 -- ---- numbers that are gathered from entries, if each call returns the number that `read` gives
-
-pub repeated_read : {E Said : Type 0} (value : E → Said) {Answers : Bor (EntryAt E) → Option Numbered → Type 0}
-    (read : Said → Option ℕ) (low : ℕ) (entries : List (PlacedEntry Said)) (found : Option Place)
-    → AreRising low entries → FindsRepeated (Picks value Answers) entries found
-    → ((at : Bor (EntryAt E)) (picked : Option Numbered) → Answers at picked
-    → picked ≡ option_map (at_place at.now.offset) (read (value at.now.entry)))
-    → FindsLeast (Repeats read entries) found
-repeated_read {E} {Said} value read low entries found rises (given, collects, least) each =
-    found_twice {X = E} given (Ok found) are (found_later given found are.placed least)
-  where
-    are : AreNumbersAt (NamesAt read entries) given
-    are =
-        are_numbers (λ s. read s.entry) (NamesAt read entries) low entries given rises
-        (collected_same (λ s. option_map (at_place s.offset) (read s.entry)) entries given collects
-        (λ s picked (at, is, answers). each at picked answers
-        ∙ ap (λ (t : PlacedEntry Said). option_map (at_place t.offset) (read t.entry)) is))
-        (as_named read entries)
 
 pub known_read : {E Said : Type 0} (value : E → Said) {Answers : Bor (EntryAt E) → Option ℕ → Type 0}
     (read : Said → Option ℕ) (entries : List (PlacedEntry Said)) (known : List ℕ)

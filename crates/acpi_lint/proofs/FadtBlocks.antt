@@ -1,9 +1,9 @@
 -- The first register block for which a condition holds.
-use Rattle.std.proofs.Common.{◌≡◌, ℕ, ◌+◌, ◌*◌, ◌<◌, None, subst, inl, inr, arith}
+use Rattle.std.proofs.Common.{◌≡◌, ℕ, ◌+◌, ◌<◌, None, subst, inl, inr, arith}
 use Rattle.std.proofs.lemmas.Bool.{cases_lt}
 use Rattle.acpi_lint.specs.FadtPlaces.{IsOfBlock}
 use Rattle.acpi_lint.specs.Places.{FindsLeast, IsLeast, IsNotAfter}
-use Rattle.acpi_lint.specs.Rules.FadtBlocks.{OnBlock}
+use Rattle.acpi_lint.specs.Rules.FadtBlocks.{block_at, OnBlock}
 use Rattle.acpi_lint.specs.declared.place.Place.{Place}
 
 -- it holds for none of the blocks before k
@@ -18,7 +18,7 @@ first_block Is k p block before first =
       least = λ at other point it. upto at other point it.k it.place it.is;
     }
   where
-    upto : (at other point j : ℕ) → at ≡ 56 + 4 * j → Is j other point → IsNotAfter p at other point
+    upto : (at other point j : ℕ) → at ≡ block_at j → Is j other point → IsNotAfter p at other point
     upto at other point j place is =
         elim (cases_lt j k) [
           | inl less ↦ absurd (before j at other point less (place, is))

@@ -31,6 +31,15 @@ are_known {E} read entries gathered known is rise same =
     from : (n : ℕ) → ((s : PlacedEntry E) × Contains entries s × (make s ≡ Some n)) → IsNamed read entries n
     from n (s, listed, names) = (s.offset, (s.entry, listed, names))
 
+pub known_ones : {E X : Type 0} (read : E → Option ℕ) (entries : List (PlacedEntry E)) (gathered : List ℕ)
+    (r : Result (Vec ℕ Global) X) → gathered ≡ filter_map (λ s. read s.entry) entries
+    → IfOk r (λ numbers. AllPairs (λ i j. i < j) numbers.items)
+    → IfOk r (λ numbers. (n : ℕ) → Contains numbers.items n ↔ Contains gathered n)
+    → IfOk r (λ numbers. AreKnown (IsNamed read entries) numbers.items)
+known_ones read entries gathered (Err e) is rise same = tt
+known_ones read entries gathered (Ok numbers) is rise same =
+    are_known read entries gathered numbers.items is rise same
+
 -- and the numbers at places are those at any place
 pub are_placed : {X : Type 0} (StandsAt : ℕ → ℕ → Type 0) (given : List Numbered) (gathered : List ℕ)
     (r : Result (Vec ℕ Global) X) → AreNumbersAt StandsAt given → gathered ≡ map (λ g. g.number) given

@@ -13,7 +13,6 @@ mod FirstNumbers
 mod FirstOfCodes
 mod FirstPlaces
 mod FirstSlots
-mod FirstStarts
 mod HeaderTexts
 mod HierarchyPlaces
 mod KnownOnes
@@ -52,7 +51,8 @@ mod SomeEntries
 mod SortedNumbers
 mod SourcesOfGsis
 mod StageVerdicts
-mod StructureSpans
+mod StartOverlaps
+mod StructureRanges
 mod TablesAt
 mod TwoGiccs
 mod UidDomains

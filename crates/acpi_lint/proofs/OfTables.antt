@@ -5,8 +5,8 @@ use Rattle.std.proofs.lemmas.Option.{same_Some}
 use denote.Ref.{Bor}
 use Rattle.acpi_base.specs.Contents.{HasPptt}
 use Rattle.acpi_base.specs.Entries.{PlacedEntry}
-use Rattle.acpi_lint.specs.Rules.Numbered.{OnEntry, Repeats}
-use Rattle.acpi_lint.specs.Rules.Broken.{OfFadt, OfMadt, OfSrat, OfSlit, OfMadtBytes, OfSratBytes, Condition, HoldsAt, Slots, Set, Fadt, FadtMemory, FadtMadt, Madt, MadtEntries, MadtNumbers, MadtBytes, MadtSrat, MadtPptt, Srat, SratEntries, SratBytes, SratSlit, Slit, Pptt, PpttEntries, PpttBytes}
+use Rattle.acpi_lint.specs.Rules.Numbered.{OnEntry, HasNumber, Repeats}
+use Rattle.acpi_lint.specs.Rules.Broken.{OfFadt, OfMadt, OfSrat, OfSlit, OfMadtBytes, OfSratBytes, Condition, HoldsAt, Slots, Set, OnFadt, OnMadt, OnSrat, OnPptt, Fadt, FadtMemory, FadtMadt, Madt, MadtEntries, MadtNumbers, MadtBytes, MadtSrat, MadtPptt, Srat, SratEntries, SratBytes, SratSlit, Slit, Pptt, PpttEntries, PpttBytes}
 use Rattle.acpi_base.specs.Listed.{fadt_signature, madt_signature, srat_signature, slit_signature, pptt_signature, HasListed, IsListedTable}
 use Rattle.acpi_base.specs.Madt.{MadtEntry, madt_contents}
 use Rattle.acpi_base.specs.Memory.{Memory}
@@ -19,15 +19,13 @@ use Rattle.acpi_read.specs.Slits.{HasRows}
 use Rattle.acpi_read.specs.Entries.{entry_at_value}
 use Rattle.acpi_read.specs.declared.typed_entries.EntryAt.{EntryAt}
 use Rattle.acpi_check.specs.CollectedValues.{Picks}
-use Rattle.acpi_check.proofs.EntryPasses.Kept.{AreRising, madt_rising, srat_rising, pptt_rising}
-use Rattle.acpi_lint.specs.EntryNumbers.{FindsRepeated}
+use Rattle.acpi_check.proofs.EntryPasses.Kept.{AreRising, srat_rising, pptt_rising}
+use Rattle.acpi_lint.specs.MadtNumbers.{NamesWith}
 use Rattle.acpi_lint.specs.Places.{PicksFirst, FindsOwn, FindsLeast}
-use Rattle.acpi_lint.specs.Numbered.{at_place}
 use Rattle.acpi_lint.specs.CompleteTables.{IsFound, IsLong, IsAnyOpaque, AreEntries, AreCompleteTables, table_of}
-use Rattle.acpi_lint.specs.declared.numbered.Numbered.{Numbered}
 use Rattle.acpi_lint.specs.declared.place.Place.{Place}
 use Rattle.acpi_lint.specs.declared.complete_tables.CompleteTables.{CompleteTables}
-use Rattle.acpi_lint.proofs.CollectedNumbers.{each_ok, repeated_read}
+use Rattle.acpi_lint.proofs.CollectedNumbers.{each_ok}
 use Rattle.acpi_lint.proofs.FirstEntries.{least_of_entries}
 use Rattle.acpi_lint.proofs.LeastPlaces.{least_as}
 use Rattle.acpi_base.specs.Root.{IsSlot}
@@ -35,7 +33,7 @@ use Rattle.acpi_base.specs.TableKinds.{signature_of}
 use Rattle.acpi_base.specs.declared.table_kind.TableKind.{TableKind}
 use Rattle.acpi_lint.specs.Slots.{IsRootOf, AreSlots, AreFirstSlots}
 use Rattle.acpi_lint.specs.RuleGroups.{group_of, as_group, Finds}
-use Rattle.acpi_lint.specs.declared.advice.RuleGroup.{RuleGroup}
+use Rattle.acpi_lint.specs.declared.rule_group.RuleGroup.{RuleGroup}
 use Rattle.acpi_base.specs.declared.table_kind.TableKind.TheVariants as kind
 
 pub of_table : {m : Memory} {p : ℕ} {signature whole : List ℕ} (P : List ℕ → ℕ → ℕ → ℕ → Type 0) (found : Option Place)
@@ -254,20 +252,6 @@ own_of {Said = Said} Of read list low rises value {Answers = Answers} Is found s
     (λ whole (e, one, picks). least_of_entries value (λ at. Is) low found picks one (rises whole)
     (λ at picked here answers. each at picked answers))
 
-pub own_madt : (m : Memory) (q : PolicyValue) {E T : Type 0} (value : E → MadtEntry)
-    {Answers : Bor (EntryAt E) → Option Place → Type 0} (Is : MadtEntry → ℕ → ℕ → Type 0) (found : Option Place)
-    (said : T → List (PlacedEntry MadtEntry)) (entries : Option T) {tables : CompleteTables}
-    → AreCompleteTables m q.rsdp
-    tables
-    → AreEntries 44 (λ whole. (madt_contents whole).entries) tables.madt (option_map said entries)
-    → MatchOption entries (found ≡ None) (λ e. PicksFirst (Picks value Answers) (said e) found)
-    → ((at : Bor (EntryAt E)) (picked : Option Place) → Answers at picked
-    → FindsOwn (λ at. Is) (entry_at_value value at.now) picked)
-    → FindsLeast (λ at other point. OfMadt m q (λ madt. OnEntry Is madt.entries at other point)) found
-own_madt m q value Is found said entries are (view, long, same) is each =
-    own_of (OfMadt m q) madt_contents (λ c. c.entries) 44 madt_rising value Is found said entries view
-    (madt_lifts m q view are long) same is each
-
 pub own_srat : (m : Memory) (q : PolicyValue) {E T : Type 0} (value : E → SratEntry)
     {Answers : Bor (EntryAt E) → Option Place → Type 0} (Is : SratEntry → ℕ → ℕ → Type 0) (found : Option Place)
     (said : T → List (PlacedEntry SratEntry)) (entries : Option T) {tables : CompleteTables}
@@ -296,27 +280,41 @@ own_pptt m q value Is found said entries {tables = tables} are same is each =
     own_of (HasPptt m q) pptt_contents (λ c. c.entries) 36 pptt_rising value Is found said entries tables.pptt
     (pptt_lifts m q tables.pptt are refl) same is each
 
--- a number that repeats
-pub repeated_madt : (m : Memory) (q : PolicyValue) {E T X : Type 0} (value : E → MadtEntry)
-    {Answers : Bor (EntryAt E) → Option Numbered → Type 0} (read : MadtEntry → Option ℕ) (r : Result (Option Place) X)
-    (said : T → List (PlacedEntry MadtEntry)) (entries : Option T) {tables : CompleteTables}
-    → AreCompleteTables m q.rsdp
-    tables
-    → AreEntries 44 (λ whole. (madt_contents whole).entries) tables.madt (option_map said entries)
-    → IfOk r (λ found. MatchOption entries (found ≡ None) (λ e. FindsRepeated (Picks value Answers) (said e) found))
-    → ((at : Bor (EntryAt E)) (picked : Option Numbered) → Answers at picked
-    → picked ≡ option_map (at_place at.now.offset) (read (value at.now.entry)))
-    → IfOk r (FindsLeast (λ at other point. OfMadt m q (λ madt. Repeats read madt.entries at other point)))
-repeated_madt m q value read (Err e) said entries are (view, long, same) is each = tt
-repeated_madt m q {X = X} value {Answers = Answers} read (Ok found) said entries are (view, long, same) is each =
-    of_one (OfMadt m q) madt_contents (λ c at other point. Repeats read c.entries at other point) {X = X} (Ok found)
-    view
-    (madt_lifts m q view are long)
-    (viewed (found ≡ None) (λ e. FindsRepeated (Picks value Answers) (said e) found) said (λ whole. (madt_contents
-    whole).entries)
-    entries view same is)
-    (λ none. ap Ok none)
-    (λ whole (e, one, repeats). repeated_read value read 44 _ found (madt_rising whole) (rw one at repeats) each)
+-- ---- what is found for the entries of the MADT, and in a set without one
+
+pub entry_there : (Is : MadtEntry → ℕ → ℕ → Type 0) (found : Option Place) {tables : CompleteTables}
+    {view : Option (List ℕ)} {whole : List ℕ} → IsLong 44 tables.madt view → view ≡ Some whole
+    → FindsLeast (λ at other point. OnEntry Is (madt_contents whole).entries at other point) found
+    → Finds (OnMadt (MadtEntries Is)) tables found
+entry_there Is found {view = view} long is least = λ m q are.
+    there (OfMadt m q) madt_contents (λ madt. OnEntry Is madt.entries) found (madt_lifts m q view are long) is least
+
+pub no_entry : (Is : MadtEntry → ℕ → ℕ → Type 0) (view : Option (List ℕ)) {tables : CompleteTables}
+    → IsLong 44 tables.madt view → view ≡ None → Finds (OnMadt (MadtEntries Is)) tables None
+no_entry Is view long none = λ m q are.
+    not_there (OfMadt m q) madt_contents (λ madt. OnEntry Is madt.entries) (madt_lifts m q view are long) none
+
+pub number_there : (read : MadtEntry → Option ℕ) (found : Option Place) {tables : CompleteTables}
+    {view : Option (List ℕ)} {whole : List ℕ} → IsLong 44 tables.madt view → view ≡ Some whole
+    → FindsLeast (NamesWith read 0 (madt_contents whole).entries) found
+    → Finds (OnMadt (MadtEntries (HasNumber read))) tables found
+number_there read found long is least =
+    entry_there (HasNumber read) found long is
+    (least_as found (λ at other point ((e, stands, number), none). (e, stands, (number, none)))
+    (λ at other point (e, stands, (number, none)). ((e, stands, number), none)) least)
+
+pub repeated_there : (tables : CompleteTables) (read : MadtEntry → Option ℕ) {X : Type 0} (r : Result (Option Place) X)
+    {view : Option (List ℕ)} {whole : List ℕ} → IsLong 44 tables.madt view → view ≡ Some whole
+    → IfOk r (FindsLeast (Repeats read (madt_contents whole).entries))
+    → IfOk r (Finds (OnMadt (MadtNumbers read)) tables)
+repeated_there tables read r {view = view} long is =
+    each_ok r (λ found least. λ m q are.
+    there (OfMadt m q) madt_contents (λ madt. Repeats read madt.entries) found (madt_lifts m q view are long) is least)
+
+pub no_repeated : (read : MadtEntry → Option ℕ) (view : Option (List ℕ)) {tables : CompleteTables}
+    → IsLong 44 tables.madt view → view ≡ None → Finds (OnMadt (MadtNumbers read)) tables None
+no_repeated read view long none = λ m q are.
+    not_there (OfMadt m q) madt_contents (λ madt. Repeats read madt.entries) (madt_lifts m q view are long) none
 
 -- ---- the SRAT and the SLIT
 
@@ -379,23 +377,23 @@ with_localities m q P slit n found rows lifts least =
 in_group : (c : Condition) → as_group (group_of c) c ≡ c
 in_group (Slots P) = refl
 in_group (Set P) = refl
-in_group (Fadt P) = refl
-in_group (FadtMemory P) = refl
-in_group (FadtMadt P) = refl
-in_group (Madt P) = refl
-in_group (MadtEntries P) = refl
-in_group (MadtNumbers read) = refl
-in_group (MadtBytes P) = refl
-in_group (MadtSrat P) = refl
-in_group (MadtPptt P) = refl
-in_group (Srat P) = refl
-in_group (SratEntries P) = refl
-in_group (SratBytes P) = refl
-in_group (SratSlit P) = refl
+in_group (OnFadt (Fadt P)) = refl
+in_group (OnFadt (FadtMemory P)) = refl
+in_group (OnFadt (FadtMadt P)) = refl
+in_group (OnMadt (Madt P)) = refl
+in_group (OnMadt (MadtEntries P)) = refl
+in_group (OnMadt (MadtNumbers read)) = refl
+in_group (OnMadt (MadtBytes P)) = refl
+in_group (OnMadt (MadtSrat P)) = refl
+in_group (OnMadt (MadtPptt P)) = refl
+in_group (OnSrat (Srat P)) = refl
+in_group (OnSrat (SratEntries P)) = refl
+in_group (OnSrat (SratBytes P)) = refl
+in_group (OnSrat (SratSlit P)) = refl
 in_group (Slit P) = refl
-in_group (Pptt P) = refl
-in_group (PpttEntries P) = refl
-in_group (PpttBytes P) = refl
+in_group (OnPptt (Pptt P)) = refl
+in_group (OnPptt (PpttEntries P)) = refl
+in_group (OnPptt (PpttBytes P)) = refl
 
 pub is_of_group : (c : Condition) {found g : RuleGroup} → found ≡ group_of c → found ≡ g → as_group g c ≡ c
 is_of_group c is same = subst (λ (h : RuleGroup). as_group h c ≡ c) (sym is ∙ same) (in_group c)

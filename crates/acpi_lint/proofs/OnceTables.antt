@@ -14,6 +14,7 @@ use Rattle.acpi_lint.specs.Headers.{once_numbered}
 use Rattle.acpi_lint.specs.Numbered.{IsNoLater, IsUnlikeAt}
 use Rattle.acpi_lint.specs.Places.{FindsLeast, IsLeast, IsNotAfter}
 use Rattle.acpi_lint.specs.Rules.HeaderAdvice.{is_once, once_signatures, signature_number, ListsNumber, IsSecondOther}
+use Rattle.acpi_lint.specs.Rules.Slots.{IsSecond}
 use Rattle.acpi_lint.specs.Slots.{signature_at, IsTableAt, AreSlots}
 use Rattle.acpi_lint.specs.declared.listed_slots.Slot.{Slot}
 use Rattle.acpi_lint.specs.declared.numbered.Numbered.{Numbered}
@@ -108,17 +109,19 @@ second_from {m} {p} slots at other n are (g, f, unlike, is) =
     let (there, _) = given_from slots f are unlike.first.listed in
     rw (← ap (λ (x : Place). x.at) is, ← ap (λ (x : Place). x.other) is) (
       g.value,
-      record {
-        signature = g.number;
-        once = here.1;
-        here = here.0;
-        a = f.value;
-        there = rw unlike.same there.0;
-        first = λ k b lists.
-            upto k b (unlike.first.least (record { number = g.number; at = k; value = b })
-            (given_to slots g.number k b are (lists, here.1)) unlike.same);
-        differs = λ same. unlike.differ (sym same);
-      },
+      (
+        g.number,
+        here.1,
+        record {
+          here = here.0;
+          a = f.value;
+          there = rw unlike.same there.0;
+          first = λ k b lists.
+              upto k b (unlike.first.least (record { number = g.number; at = k; value = b })
+              (given_to slots g.number k b are (lists, here.1)) unlike.same);
+          differs = λ same. unlike.differ (sym same);
+        },
+      ),
       place,
     )
   where
@@ -126,18 +129,18 @@ second_from {m} {p} slots at other n are (g, f, unlike, is) =
     upto k b (inl less) = omega arith
     upto k b (inr (same, rest)) = omega (arith, same)
 
-second_to : {m : Memory} {p at other point : ℕ} (slots : List Slot) → AreSlots m (IsSlot m p) slots
-    → (second : IsSecondOther m p at other point)
-    → IsUnlikeAt Later (filter_map once_numbered slots) at other second.signature
-second_to {m} {p} {at} {other} {point} slots are second = (
-  record { number = second.signature; at = at; value = point },
-  record { number = second.signature; at = other; value = second.a },
+second_to : {m : Memory} {p at other point n : ℕ} (slots : List Slot) → AreSlots m (IsSlot m p) slots
+    → is_once n ≡ true → IsSecond (ListsNumber m p n) at other point
+    → IsUnlikeAt Later (filter_map once_numbered slots) at other n
+second_to {m} {p} {at} {other} {point} {n} slots are once second = (
+  record { number = n; at = at; value = point },
+  record { number = n; at = other; value = second.a },
   record {
     first =
         record {
-          listed = given_to slots second.signature other second.a are (second.there, second.once);
+          listed = given_to slots n other second.a are (second.there, once);
           least = λ g listed same.
-              let ((lists, once), _) = given_from slots g are listed in
+              let ((lists, _), _) = given_from slots g are listed in
               let low = second.first g.at g.value (rw same at lists) in
               elim (eq-or-lt_of_le {n = other} {m = g.at} low) [
                 | inl one ↦
@@ -146,7 +149,7 @@ second_to {m} {p} {at} {other} {point} slots are second = (
                 | inr less ↦ inl less
               ];
         };
-    listed = given_to slots second.signature at point are (second.here, second.once);
+    listed = given_to slots n at point are (second.here, once);
     same = refl;
     differ = λ same. second.differs (sym same);
   },
@@ -156,7 +159,7 @@ second_to {m} {p} {at} {other} {point} slots are second = (
 -- no such slot is found
 pub no_second : {m : Memory} {p : ℕ} (slots : List Slot) → AreSlots m (IsSlot m p) slots
     → FindsLeast (IsUnlikeAt Later (filter_map once_numbered slots)) None → FindsLeast (IsSecondOther m p) None
-no_second slots are none = λ at other point second. none at other second.signature (second_to slots are second)
+no_second slots are none = λ at other point (n, once, second). none at other n (second_to slots are once second)
 
 -- the first one is found, and this is the address that it lists
 pub first_second : {m : Memory} {p : ℕ} (slots : List Slot) (r : Place) (address : ℕ) → AreSlots m (IsSlot m p) slots
@@ -164,19 +167,20 @@ pub first_second : {m : Memory} {p : ℕ} (slots : List Slot) (r : Place) (addre
     → ((s : Slot) → Contains slots s → s.number ≡ r.at → address ≡ s.table.address)
     → FindsLeast (IsSecondOther m p) (Some (record { at = r.at; other = r.other; point = address }))
 first_second {m} {p} slots r address are least tells =
-    let (point, second, (s, listed, number, there)) = second_from slots r.at r.other r.point are least.here in
+    let (point, (signature, signed, second), (s, listed, number, there)) =
+    second_from slots r.at r.other r.point are least.here in
     let same : address ≡ point = tells s listed number ∙ there in
     record {
-      here = rw same second;
-      least = λ at other others also.
-          after at other others same second also (least.least at other also.signature (second_to slots are also));
+      here = (signature, signed, rw same second);
+      least = λ at other others (n, once, also).
+          after at other others n same second also (least.least at other n (second_to slots are once also));
     }
   where
-    after : (at other others : ℕ) {point : ℕ} → address ≡ point → IsSecondOther m p r.at r.other point
-        → (also : IsSecondOther m p at other others) → IsNotAfter r at other also.signature
+    after : (at other others n : ℕ) {point k : ℕ} → address ≡ point → IsSecond (ListsNumber m p k) r.at r.other point
+        → IsSecond (ListsNumber m p n) at other others → IsNotAfter r at other n
         → IsNotAfter (record { at = r.at; other = r.other; point = address }) at other others
-    after at other others same second also (inl before) = inl before
-    after at other others same second also (inr (here, inl less)) = inr (here, inl less)
-    after at other others same second also (inr (here, inr (there, rest))) =
+    after at other others n same second also (inl before) = inl before
+    after at other others n same second also (inr (here, inl less)) = inr (here, inl less)
+    after at other others n same second also (inr (here, inr (there, rest))) =
         let one = one_listed (rw here at second.here.0) also.here.0 in
         inr (here, inr (there, omega (arith, same, one)))

@@ -8,13 +8,13 @@ use Rattle.acpi_base.specs.Policy.{PolicyValue}
 use Rattle.acpi_base.specs.Pptt.{PpttContents, pptt_contents}
 use Rattle.acpi_lint.specs.CompleteTables.{IsFound, IsOpaque, HasOpaque, IsAnyOpaque, AreCompleteTables}
 use Rattle.acpi_lint.specs.RuleGroups.{NeedsOpaque}
-use Rattle.acpi_lint.specs.Rules.Broken.{OfMadt, FadtMadt, Madt, MadtEntries, MadtNumbers, MadtPptt}
+use Rattle.acpi_lint.specs.Rules.Broken.{OfMadt, OnFadt, OnMadt, FadtMadt, Madt, MadtEntries, MadtNumbers, MadtPptt}
 use Rattle.acpi_lint.specs.Rules.EntryTypes.{type_of, HasType}
-use Rattle.acpi_lint.specs.Rules.FadtWithMadt.{IsFadtForArch, IsGiccOn, IsNoBootMethod}
+use Rattle.acpi_lint.specs.Rules.FadtWithMadt.{IsFadtForArch, IsUsableGicc, IsNoBootMethod}
 use Rattle.acpi_lint.specs.Rules.Gic.{field_where, is_gicd, is_gicr, names_redistributor, gicc_base, gicd_version, gicr_length, own_redistributor}
 use Rattle.acpi_lint.specs.Rules.GicAdvice.{reserved_mpidr, IsNoDistributor, IsNoRedistributor, IsGicrTooSmall, IsGiccBaseDiffers, IsRedistributorTwice}
 use Rattle.acpi_lint.specs.Rules.GicRanges.{HasRegisters, IsGicOverlap}
-use Rattle.acpi_lint.specs.Rules.ApicAdvice.{hart_id_on}
+use Rattle.acpi_lint.specs.Rules.ApicAdvice.{usable_hart_id}
 use Rattle.acpi_lint.specs.Rules.MadtAdvice.{gicd, IsMadtUnread}
 use Rattle.acpi_lint.specs.Rules.Numbered.{NamesAt}
 use Rattle.acpi_lint.specs.Rules.PpttAdvice.{IsLeafNowhere}
@@ -41,12 +41,13 @@ not_opaque m q {tables = tables} are none =
 -- ---- rules by what they look at
 
 pub madt_needs : (P : MadtContents → ℕ → ℕ → ℕ → Type 0)
-    → ((madt : MadtContents) (at other point : ℕ) → P madt at other point → HasOpaque madt) → NeedsOpaque (Madt P)
+    → ((madt : MadtContents) (at other point : ℕ) → P madt at other point → HasOpaque madt)
+    → NeedsOpaque (OnMadt (Madt P))
 madt_needs P each m q at other point (whole, listed, (size, holds)) =
     (whole, listed, (size, each (madt_contents whole) at other point holds))
 
 pub entries_need : (P : MadtEntry → ℕ → ℕ → Type 0) → ((e : MadtEntry) (other point : ℕ) → P e other point → IsOpaque e)
-    → NeedsOpaque (MadtEntries P)
+    → NeedsOpaque (OnMadt (MadtEntries P))
 entries_need P each m q at other point (whole, listed, (size, (e, stands, holds))) =
     (whole, listed, (size, (at, (e, stands, each e other point holds))))
 
@@ -58,19 +59,19 @@ pub named_opaque : (read : MadtEntry → Option ℕ) → IsOpaqueNumber read →
     → NamesAt read madt.entries o n → HasOpaque madt
 named_opaque read each madt o n (e, stands, is) = (o, (e, stands, each e n is))
 
-pub number_needs : (read : MadtEntry → Option ℕ) → IsOpaqueNumber read → NeedsOpaque (MadtNumbers read)
+pub number_needs : (read : MadtEntry → Option ℕ) → IsOpaqueNumber read → NeedsOpaque (OnMadt (MadtNumbers read))
 number_needs read each m q at other point (whole, listed, (size, repeats)) =
     (whole, listed, (size, named_opaque read each (madt_contents whole) at point repeats.here))
 
 pub fadt_madt_needs : (P : PolicyValue → List ℕ → MadtContents → ℕ → ℕ → ℕ → Type 0)
     → ((q : PolicyValue) (fadt : List ℕ) (madt : MadtContents) (at other point : ℕ) → P q fadt madt at other point
-    → HasOpaque madt) → NeedsOpaque (FadtMadt P)
+    → HasOpaque madt) → NeedsOpaque (OnFadt (FadtMadt P))
 fadt_madt_needs P each m q at other point (fadt, found, (length, (whole, listed, (size, holds)))) =
     (whole, listed, (size, each q fadt (madt_contents whole) at other point holds))
 
 pub madt_pptt_needs : (P : MadtContents → PpttContents → ℕ → ℕ → ℕ → Type 0)
     → ((madt : MadtContents) (pptt : PpttContents) (at other point : ℕ) → P madt pptt at other point → HasOpaque madt)
-    → NeedsOpaque (MadtPptt P)
+    → NeedsOpaque (OnMadt (MadtPptt P))
 madt_pptt_needs P each m q at other point (whole, listed, (size, (bytes, found, holds))) =
     (whole, listed, (size, each (madt_contents whole) (pptt_contents bytes) at other point holds))
 
@@ -112,7 +113,7 @@ arch_opaque q fadt madt at other point (inl (place, unused, reduced, inr hart)) 
 arch_opaque q fadt madt at other point (inr (place, version, gicc, older)) =
     typed_opaque madt 11 (omega arith) gicc
 
-gicc_opaque : (e : MadtEntry) → IsGiccOn e → IsOpaque e
+gicc_opaque : (e : MadtEntry) → IsUsableGicc e → IsOpaque e
 gicc_opaque (Opaque e) is = tt
 gicc_opaque (LocalApic v) is = elim is [ ]
 gicc_opaque (IoApic v) is = elim is [ ]
@@ -141,7 +142,7 @@ gicd_opaque (AddressOverride v) n some = cc
 gicd_opaque (X2apic v) n some = cc
 gicd_opaque (X2apicNmi v) n some = cc
 
-pub hart_opaque : IsOpaqueNumber hart_id_on
+pub hart_opaque : IsOpaqueNumber usable_hart_id
 hart_opaque (Opaque e) n some = tt
 hart_opaque (LocalApic v) n some = cc
 hart_opaque (IoApic v) n some = cc

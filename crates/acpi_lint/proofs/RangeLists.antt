@@ -92,11 +92,6 @@ pub pushed : {IsRange : ℕ → ℕ → ℕ → Type 0} {end : ℕ} {spans after
     → AreRangesBefore IsRange (end + 1) after
 pushed {spans = spans} found is before finds = rw is (one_until spans found before finds)
 
--- after the first push
-pub first_pushed : {IsRange : ℕ → ℕ → ℕ → Type 0} {spans after : List Span} (found : Option Span) → spans ≡ []
-    → after ≡ spans ++ option_to_list found → FindsRange 0 (IsRange 0) found → AreRangesBefore IsRange 1 after
-first_pushed found none is finds = pushed found is (rw none no_ranges) finds
-
 pub all_ranges : {IsRange : ℕ → ℕ → ℕ → Type 0} {end : ℕ} (spans : List Span) → AreRangesBefore IsRange end spans
     → ((o s n : ℕ) → IsRange o s n → (n ≡ 0) ⊎ (o < end)) → AreRanges IsRange spans
 all_ranges spans are within =

@@ -20,7 +20,7 @@ use Rattle.acpi_lint.proofs.LeastPlaces.{least_as, not_after_itself}
 
 -- ---- spans by their names
 
-pub one_named : (spans : List Span) → NamesDiffer spans → (a b : Span) → Contains spans a → Contains spans b
+one_named : (spans : List Span) → NamesDiffer spans → (a b : Span) → Contains spans a → Contains spans b
     → a.name ≡ b.name → a ≡ b
 one_named spans differ a b (i, inside, is) (j, within, other) named =
     let one : get_or spans i a ≡ a = get_or_default spans i a a inside ∙ is in
@@ -36,7 +36,7 @@ one_named spans differ a b (i, inside, is) (j, within, other) named =
           (ap (λ (s : Span). s.name) one)))
     ]
 
-pub finite_spans : (spans : List Span) → NamesDiffer spans → AreFiniteRanges (HasSpan spans)
+finite_spans : (spans : List Span) → NamesDiffer spans → AreFiniteRanges (HasSpan spans)
 finite_spans spans differ =
     record {
       one_start = λ o s t x one other.

@@ -3,14 +3,13 @@ use Rattle.std.proofs.Common.{◌≡◌, ℕ, suc, ◌<◌, ◌≤◌, List, [],
 use Rattle.std.specs.Prelude.{◌⊎◌, option_map}
 use Rattle.std.proofs.lemmas.List.{map-id}
 use Rattle.std.proofs.lemmas.Option.{none-some, same_Some}
-use denote.Ref.{Bor}
 use Rattle.acpi_base.specs.Entries.{PlacedEntry, Stands, entries_of}
 use Rattle.acpi_base.specs.Number.{field}
 use Rattle.acpi_check.proofs.EntryPasses.Kept.{AreRising, rising}
 use Rattle.acpi_base.proofs.Elements.{first_or_later, no_element}
-use Rattle.acpi_read.specs.declared.entry.Entry.{Entry}
+use Rattle.acpi_base.specs.declared.table_kind.TableKind.{TableKind}
 use Rattle.acpi_lint.specs.Places.{PicksFirst, FindsOwn, IsLeast, FindsLeast}
-use Rattle.acpi_lint.specs.Reserved.{past_place, PicksRaw}
+use Rattle.acpi_lint.specs.Reserved.{limits_of, past_place, FindsPast}
 use Rattle.acpi_lint.specs.Rules.Numbered.{OnEntry}
 use Rattle.acpi_lint.specs.Rules.Reserved.{Limit, first_past, IsEntryPast, IsFieldWrong}
 use Rattle.acpi_lint.specs.declared.place.Place.{Place}
@@ -37,17 +36,12 @@ raw_rising : (first : ℕ) (whole : List ℕ) → AreRising first (entries_of fi
 raw_rising first whole =
     subst (AreRising first) (map-id (entries_of first whole)) (rising (λ e. e) first whole)
 
-pub least_of_raw : {Answers : Bor Entry → Option Place → Type 0} (limits : List ℕ → List Limit) (first : ℕ)
-    (whole : List ℕ) (found : Option Place) → PicksFirst (PicksRaw Answers) (entries_of first whole) found
-    → ((at : Bor Entry) (picked : Option Place) → Answers at picked
-    → picked ≡ option_map (past_place at.now.offset) (first_past (limits at.now.bytes.now) at.now.bytes.now))
-    → FindsLeast (OnEntry (IsEntryPast limits) (entries_of first whole)) found
-least_of_raw {Answers} limits first whole found picks each =
-    least_picked (λ at. IsEntryPast limits) first (entries_of first whole) (raw_rising first whole) (PicksRaw Answers)
-    (λ s picked here (at, is, answers). own_past limits s picked
-    (each at picked answers
-    ∙ ap (λ (t : PlacedEntry (List ℕ)). option_map (past_place t.offset) (first_past (limits t.entry) t.entry)) is))
-    found picks
+pub least_past : (kind : TableKind) (first : ℕ) (whole : List ℕ) (found : Option Place)
+    → PicksFirst (FindsPast kind) (entries_of first whole) found
+    → FindsLeast (OnEntry (IsEntryPast (limits_of kind)) (entries_of first whole)) found
+least_past kind first whole found picks =
+    least_picked (λ at. IsEntryPast (limits_of kind)) first (entries_of first whole) (raw_rising first whole)
+    (FindsPast kind) (λ s picked here is. own_past (limits_of kind) s picked is) found picks
 
 from_first : {E : Type 0} (first : ℕ) (left : List (PlacedEntry E)) (o : ℕ) (e : E) → AreRising first left
     → Stands left o e → first ≤ o

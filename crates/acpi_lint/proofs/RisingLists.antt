@@ -23,19 +23,22 @@ none_below P key n above =
       rise = λ i j d before within. absurd (omega (arith, within));
     }
 
+pub none_until : {X : Type 0} {P : X → Type 0} {key : X → ℕ} {n : ℕ} {xs : List X} (next : ℕ) → IsUpTo P key n xs
+    → n ≤ next → ((x : X) → P x → n ≤ key x → ¬ (key x < next)) → IsUpTo P key next xs
+none_until {key = key} {n = n} next before upto none =
+    record {
+      listed = λ x here. (let (holds, below) = before.listed x here in (holds, omega (arith, below, upto)));
+      all = λ x holds below. elim (cases_lt (key x) n) [
+        | inl less ↦ before.all x holds less
+        | inr from ↦ absurd (none x holds from below)
+      ];
+      rise = before.rise;
+    }
+
 pub none_next : {X : Type 0} {P : X → Type 0} {key : X → ℕ} {n : ℕ} {xs : List X} → IsUpTo P key n xs
     → ((x : X) → P x → key x ≢ n) → IsUpTo P key (n + 1) xs
 none_next {key = key} {n = n} before none =
-    record {
-      listed = λ x here. (let (holds, below) = before.listed x here in (holds, omega arith));
-      all = λ x holds below. before.all x holds
-          (elim (cases_eq (key x) n) [
-            | inl same ↦ absurd (none x holds same)
-            | inr differs ↦ omega
-                (arith, differs, below)
-          ]);
-      rise = before.rise;
-    }
+    none_until (n + 1) before (omega arith) (λ x holds from below. none x holds (omega (arith, from, below)))
 
 pub rise_more : {X : Type 0} (key : X → ℕ) (xs : List X) (y : X) → AllPairs (λ x z. key x < key z) xs
     → ((x : X) → Contains xs x → key x < key y) → AllPairs (λ x z. key x < key z) (xs ++ y ∷ [])
@@ -71,6 +74,16 @@ one_next {X} {P} {key} {n} {xs} y before holds next one =
           | inl same ↦ rw (← same) (holds, omega (arith, next))
           | inr none ↦ absurd (no_element x none)
         ]
+
+pub one_of_key : {X : Type 0} (key : X → ℕ) (xs : List X) → AllPairs (λ x y. key x < key y) xs → (a b : X)
+    → Contains xs a → Contains xs b → key a ≡ key b → a ≡ b
+one_of_key {X} key xs rise a b (i, inside, is) (j, within, other) same =
+    let there : get_or xs j a ≡ b = get_or_default xs j a b within ∙ other in
+    elim (cases_order i j) [
+      | inl equal ↦ sym is ∙ ap (λ (k : ℕ). get_or xs k a) equal ∙ there
+      | inr (inl before) ↦ absurd (omega (arith, rise i j a before within, ap key is, ap key there, same))
+      | inr (inr behind) ↦ absurd (omega (arith, rise j i a behind inside, ap key is, ap key there, same))
+    ]
 
 -- ---- the first with P
 

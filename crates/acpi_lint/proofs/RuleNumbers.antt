@@ -1,5 +1,5 @@
 -- A rule is the only one with its number, and is found by its name.
-use Rattle.std.proofs.Common.{◌≡◌, ◌+◌, ◌-◌, ◌<◌, ◌≤◌, ℕ, List, ◌∷◌, length, drop, true, false, Option, Some, refl, sym, ap, subst, ◌∙◌, arith}
+use Rattle.std.proofs.Common.{◌≡◌, ◌+◌, ◌-◌, ◌<◌, ◌≤◌, ℕ, List, ◌∷◌, Bor, length, drop, true, false, Option, Some, refl, sym, ap, subst, ◌∙◌, arith}
 use Rattle.std.specs.Prelude.{find}
 use Rattle.std.specs.Str.{bytes_eq}
 use Rattle.std.specs.List.{slice_get}
@@ -7,6 +7,14 @@ use Rattle.std.proofs.lemmas.Option.{same_Some}
 use Rattle.acpi_lint.specs.Rules.Rows.{all_rules, rule_name, rule_number}
 use Rattle.acpi_lint.specs.declared.rule.Rule.{Rule}
 use Rattle.acpi_lint.specs.declared.rule.Rule.TheVariants as rule
+use Rattle.acpi_lint.specs.declared.rule_group.RuleGroup.{RuleGroup}
+
+-- a rule with its name and its group
+abbrev pub Row : Type 0
+Row = Rule × Bor (List ℕ) × RuleGroup
+
+abbrev pub number_in : Row → ℕ
+number_in row = rule_number row.0
 
 rule_at_number : (r : Rule) → slice_get all_rules (rule_number r - 101) ≡ Some r
 rule_at_number rule.ListedTwice = refl

@@ -34,18 +34,20 @@ second_from {m} {p} firsts s place are slot there is = from s.table.kind refl is
         let (differs, one) = differs_from f.table.address s.table.address
         (record { at = s.number; other = f.number; point = s.table.address }) place is in
         rw (← one) (
-          record {
-            kind = kind;
-            here = (slot, (there.tells (sought.Kind kind)).0 same);
-            a = f.table.address;
-            there = (first.slot, first.here);
-            first = λ k b (other, signed).
-                elim (cases_lt k f.number) [
-                  | inl less ↦ absurd (first.before k b less other signed)
-                  | inr most ↦ most
-                ];
-            differs = differs;
-          },
+          (
+            kind,
+            record {
+              here = (slot, (there.tells (sought.Kind kind)).0 same);
+              a = f.table.address;
+              there = (first.slot, first.here);
+              first = λ k b (other, signed).
+                  elim (cases_lt k f.number) [
+                    | inl less ↦ absurd (first.before k b less other signed)
+                    | inr most ↦ most
+                  ];
+              differs = differs;
+            },
+          ),
           refl,
         )
 
@@ -58,12 +60,11 @@ second_from {m} {p} firsts s place are slot there is = from s.table.kind refl is
 pub second_to : {m : Memory} {p at other point : ℕ} (firsts : FirstSlots) (s : Slot) → AreFirstSlots m p firsts
     → s.number ≡ at → s.table.address ≡ point → IsTableAt m s.table → IsSecondTable m p at other point
     → second_place firsts s ≡ Some (record { at = at; other = other; point = point })
-second_to {m} {p} {at} {other} {point} firsts s are number address there second =
-    let kind : s.table.kind ≡ Some second.kind =
-    (there.tells (sought.Kind second.kind)).1 (rw address second.here.1) in
-    rw kind (behind (first_of firsts second.kind) (are second.kind))
+second_to {m} {p} {at} {other} {point} firsts s are number address there (kind, second) =
+    let is : s.table.kind ≡ Some kind = (there.tells (sought.Kind kind)).1 (rw address second.here.1) in
+    rw is (behind (first_of firsts kind) (are kind))
   where
-    behind : (found : Option Slot) → FindsSlot m p (IsSought m (sought.Kind second.kind)) found
+    behind : (found : Option Slot) → FindsSlot m p (IsSought m (sought.Kind kind)) found
         → option_and_then (second_after s) found ≡ Some (record { at = at; other = other; point = point })
     behind None none = absurd (none at point second.here.0 second.here.1)
     behind (Some f) first =

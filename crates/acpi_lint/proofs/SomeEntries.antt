@@ -72,12 +72,10 @@ any_of_entries {E} {Said} {T} value {Answers} Is {said} {entries} found picks sa
     where_given s picked (at, is, answers) =
         subst (λ (t : PlacedEntry Said). IsTrue (is_some picked) ↔ Is t.entry) is (each at picked answers)
 
-pub where_none : {T : Type 0} {Q : ℕ → Type 0} (found : Option T) (answer : Bool)
-    → IsTrue (is_some found) ↔ ((o : ℕ) × Q o) → is_some found ≡ not answer → IsTrue answer ↔ ((o : ℕ) → ¬ Q o)
-where_none None true tells is = (λ yes. λ o holds. absurd (let there = tells.1 (o, holds) in cc), λ none. refl)
-where_none None false tells is = cc
-where_none (Some v) true tells is = cc
-where_none (Some v) false tells is = (λ yes. cc, λ none. (let (o, holds) = tells.0 refl in absurd (none o holds)))
+-- nothing of a kind is there, if not anything is
+pub none_there : {Q : ℕ → Type 0} (any : Bool) → IsTrue any ↔ ((o : ℕ) × Q o) → IsTrue (not any) ↔ ((o : ℕ) → ¬ Q o)
+none_there true tells = (λ none. absurd cc, λ none. (let (o, holds) = tells.0 refl in absurd (none o holds)))
+none_there false tells = (λ yes. λ o holds. absurd (let there = tells.1 (o, holds) in cc), λ none. refl)
 
 -- a number that `read` gives for any entry
 abbrev pub HasSome : {E : Type 0} → (E → Option ℕ) → E → Type 0

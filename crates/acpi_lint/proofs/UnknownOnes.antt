@@ -7,7 +7,7 @@ use Rattle.std.proofs.lemmas.List.{get_or_default}
 use Rattle.std.proofs.lemmas.Option.{none-some, same_Some}
 use Rattle.acpi_base.specs.Entries.{PlacedEntry}
 use Rattle.acpi_lint.specs.Rules.Numbered.{NamesAt}
-use Rattle.acpi_lint.specs.Rules.Processors.{Processor, processor_of, apic_id_on, uid_on_without_id, placed_apic_id, placed_uid}
+use Rattle.acpi_lint.specs.Rules.Processors.{Processor, processor_of, usable_apic_id, usable_uid_without_id, placed_apic_id, placed_uid}
 use Rattle.acpi_base.specs.Madt as madt
 use Rattle.acpi_base.specs.Srat as srat
 use Rattle.acpi_lint.specs.Places.{FindsOwn, FindsLeast}
@@ -99,19 +99,19 @@ affinity_has_one (srat.ApicDomain v) uid is = cc
 affinity_has_one (srat.X2apicDomain v) uid is = cc
 affinity_has_one e uid is = refl
 
-one_number : (on : Bool) (apic_id : Option ℕ) (n uid : ℕ)
-    → (if on && is_none apic_id then Some n else None) ≡ Some uid → (if on then apic_id else None) ≡ None
+one_number : (usable : Bool) (apic_id : Option ℕ) (n uid : ℕ)
+    → (if usable && is_none apic_id then Some n else None) ≡ Some uid → (if usable then apic_id else None) ≡ None
 one_number true None n uid is = refl
 one_number true (Some id) n uid is = cc
 one_number false apic_id n uid is = refl
 
 of_processor : (p : Option Processor) (uid : ℕ)
-    → option_and_then (λ p. if p.on && is_none p.apic_id then Some p.uid else None) p ≡ Some uid
-    → option_and_then (λ p. if p.on then p.apic_id else None) p ≡ None
+    → option_and_then (λ p. if p.usable && is_none p.apic_id then Some p.uid else None) p ≡ Some uid
+    → option_and_then (λ p. if p.usable then p.apic_id else None) p ≡ None
 of_processor None uid is = refl
-of_processor (Some p) uid is = one_number p.on p.apic_id p.uid uid is
+of_processor (Some p) uid is = one_number p.usable p.apic_id p.uid uid is
 
-pub processor_has_one : (e : madt.MadtEntry) (uid : ℕ) → uid_on_without_id e ≡ Some uid → apic_id_on e ≡ None
+pub processor_has_one : (e : madt.MadtEntry) (uid : ℕ) → usable_uid_without_id e ≡ Some uid → usable_apic_id e ≡ None
 processor_has_one e uid is = of_processor (processor_of e) uid is
 
 -- the entry at `at` has one of two numbers, which is unknown

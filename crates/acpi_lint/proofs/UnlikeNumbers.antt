@@ -13,7 +13,7 @@ use Rattle.acpi_lint.proofs.LeastPlaces.{least_as, finds_one_more}
 
 -- ---- the first of a number
 
-same_numbered : (a b : Numbered) → a.number ≡ b.number → a.at ≡ b.at → a.value ≡ b.value → a ≡ b
+pub same_numbered : (a b : Numbered) → a.number ≡ b.number → a.at ≡ b.at → a.value ≡ b.value → a ≡ b
 same_numbered a b same place value =
     ap (λ (n : ℕ). record a { number = n }) same
     ∙ ap (λ (p : ℕ). record { number = b.number; at = p; value = a.value }) place
@@ -40,7 +40,7 @@ number_upto : (a b : Numbered) → IsNotAbove a b → a.number ≤ b.number
 number_upto a b (inl less) = omega arith
 number_upto a b (inr (same, rest)) = omega (arith, same)
 
-never_falls : (sorted : List Numbered) → AllPairs IsNotAbove sorted → (i j : ℕ) (d : Numbered) → i ≤ j
+pub never_falls : (sorted : List Numbered) → AllPairs IsNotAbove sorted → (i j : ℕ) (d : Numbered) → i ≤ j
     → j < length sorted → (get_or sorted i d).number ≤ (get_or sorted j d).number
 never_falls sorted order i j d least within =
     elim (cases_order i j) [

@@ -2,16 +2,13 @@
 use Rattle.std.specs.Prelude.{◌<◌, ◌↔◌, ℕ, List, AllPairs, Contains, Option, option_map, ◌≡◌, ◌⊎◌, Some, None, MatchOption}
 use Rattle.std.specs.Option.{option_and_then}
 use Rattle.acpi_lint.specs.Rules.Processors as said
-use Rattle.acpi_lint.specs.Rules.Processors.{placed_uid, processor_domain, apic_id_on, uid_on_without_id, placed_apic_id}
+use Rattle.acpi_lint.specs.Rules.Processors.{placed_uid, processor_domain, usable_apic_id, usable_uid_without_id, placed_apic_id}
 use Rattle.acpi_base.specs.Srat.{SratEntry}
 use Rattle.acpi_base.specs.Entries.{PlacedEntry}
 use Rattle.acpi_lint.specs.Rules.Numbered.{IsNamed}
 use Rattle.acpi_base.specs.Madt.{MadtEntry}
 use Rattle.acpi_check.specs.CollectedValues.{Collects}
-use Rattle.acpi_lint.specs.Numbered.{IsUnlikeAt}
-use Rattle.acpi_lint.specs.Places.{FindsLeast}
 use Rattle.acpi_lint.specs.declared.numbered.Numbered.{Numbered}
-use Rattle.acpi_lint.specs.declared.numbered.Order.TheVariants.{Later}
 use Rattle.acpi_lint.specs.declared.place.Place.{Place}
 use Rattle.acpi_lint.specs.declared.processors.Processor.{Processor}
 
@@ -19,7 +16,7 @@ use Rattle.acpi_lint.specs.declared.processors.Processor.{Processor}
 
 -- the processor that a struct describes
 abbrev pub processor_value : Processor → said.Processor
-processor_value p = record { uid = p.uid; apic_id = p.apic_id; on = p.on }
+processor_value p = record { uid = p.uid; apic_id = p.apic_id; usable = p.usable }
 
 -- the domain into which an entry at a place puts the processor with a UID
 abbrev pub domain_of_uid : ℕ → SratEntry → Option Numbered
@@ -27,11 +24,6 @@ domain_of_uid at e =
     option_and_then (λ uid. option_map (λ d. record { number = uid; at = at; value = d }) (processor_domain e)) (placed_uid e)
 
 -- ---- numbers that are gathered from entries: `Gives` says what may be gathered of each
-
--- the number of an entry that an earlier entry has too, at its first place
-abbrev pub FindsRepeated : {S : Type 0} → (S → Option Numbered → Type 0) → List S → Option Place → Type 0
-FindsRepeated Gives entries found =
-    (given : List Numbered) × Collects Gives entries given × FindsLeast (IsUnlikeAt Later given) found
 
 -- these are all that are gathered, and rise
 abbrev pub AreGathered : {S : Type 0} → (S → Option ℕ → Type 0) → List S → List ℕ → Type 0
@@ -68,7 +60,7 @@ IsUnknownAffinity ids uids at e other point =
 -- the same for a usable processor, by its UID if it has no APIC ID
 abbrev pub IsUnplaced : List ℕ → List ℕ → ℕ → MadtEntry → ℕ → ℕ → Type 0
 IsUnplaced ids uids at e other point =
-    IsUnknown ids at (apic_id_on e) other point ⊎ IsUnknown uids at (uid_on_without_id e) other point
+    IsUnknown ids at (usable_apic_id e) other point ⊎ IsUnknown uids at (usable_uid_without_id e) other point
 
 -- one of these numbers is at `at` and is unknown
 abbrev pub IsUnknownAt : List ℕ → List Numbered → ℕ → ℕ → ℕ → Type 0

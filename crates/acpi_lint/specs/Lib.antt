@@ -8,6 +8,7 @@ pub mod FadtPlaces
 pub mod Headers
 pub mod Hierarchy
 pub mod Leaves
+pub mod MadtForms
 pub mod MadtNumbers
 pub mod Numbered
 pub mod Overrides

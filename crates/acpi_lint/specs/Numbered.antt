@@ -1,5 +1,5 @@
 -- Values that are given to numbers at places, such as offsets or slots.
-use Rattle.std.specs.Prelude.{◌≡◌, ◌≢◌, ℕ, ◌<◌, ◌≤◌, ◌⊎◌, ◌↔◌, List, AllPairs, Contains}
+use Rattle.std.specs.Prelude.{◌≡◌, ◌≢◌, ℕ, ◌<◌, ◌≤◌, ◌⊎◌, ◌↔◌, List, AllPairs, Contains, Option, Some, None}
 use Rattle.acpi_lint.specs.declared.numbered.Numbered.{Numbered}
 use Rattle.acpi_lint.specs.declared.numbered.Order.{Order}
 use Rattle.acpi_lint.specs.declared.numbered.Order.TheVariants.{Later, First}
@@ -49,3 +49,25 @@ pub record AreNumbersAt (StandsAt : ℕ → ℕ → Type 0) (given : List Number
   pub rise : AllPairs (λ a b. a.at < b.at) given
   pub placed : (g : Numbered) → Contains given g → g.value ≡ g.at
   pub all : (at n : ℕ) → HasAt given at n ↔ StandsAt at n
+
+-- ---- ranges of numbers: each is at its name, and its value says how many numbers it has
+
+-- the range with the name o of n numbers from s on
+abbrev pub range_at : ℕ → ℕ → ℕ → Numbered
+range_at o s n = record { number = s; at = o; value = n }
+
+-- `Is s n` says that the range with the name o has n numbers from s on: this is it, or there is none
+abbrev pub FindsNumbered : ℕ → (ℕ → ℕ → Type 0) → Option Numbered → Type 0
+FindsNumbered o Is None = (s n : ℕ) → ¬ Is s n
+FindsNumbered o Is (Some g) =
+    (g.at ≡ o) × Is g.number g.value × ((s n : ℕ) → Is s n → (s ≡ g.number) × (n ≡ g.value))
+
+-- these are all of the ranges, no two of which have one name
+pub record AreNumberedRanges (IsRange : ℕ → ℕ → ℕ → Type 0) (given : List Numbered) : Type 0 where
+  pub listed : (g : Numbered) → Contains given g → IsRange g.at g.number g.value
+  pub all : (o s n : ℕ) → IsRange o s n → Contains given (range_at o s n)
+  pub one : (a b : Numbered) → Contains given a → Contains given b → a.at ≡ b.at → a ≡ b
+
+-- of those that begin at s the first has n numbers; its start is its name
+abbrev pub IsFirstRange : List Numbered → ℕ → ℕ → ℕ → Type 0
+IsFirstRange given name s n = (name ≡ s) × ((f : Numbered) × IsFirstOfNumber given f × (f.number ≡ s) × (f.value ≡ n))

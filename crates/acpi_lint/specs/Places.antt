@@ -3,6 +3,7 @@ use Rattle.std.specs.Prelude.{◌≡◌, ℕ, List, [], ◌∷◌, Option, Some,
 use Rattle.acpi_base.specs.Order.{AreNotAfter}
 use Rattle.acpi_base.specs.Entries.{PlacedEntry, AreUnused}
 use Rattle.acpi_base.specs.Fadt.{gas_at, FadtTableFault}
+use Rattle.acpi_lint.specs.Rules.FadtBlocks.{block_at, structure_at}
 use Rattle.acpi_lint.specs.Rules.FadtAdvice.{DoFieldsDiffer}
 use Rattle.acpi_base.specs.declared.code.Code.{Code}
 use Rattle.acpi_base.specs.Facs.{NamedFacsFault}
@@ -73,7 +74,7 @@ AreTwoFields whole narrow wide at other point = (at ≡ narrow) × DoFieldsDiffe
 -- system I/O
 abbrev pub IsBlock : List ℕ → ℕ → ℕ → ℕ → ℕ → Type 0
 IsBlock whole k at other point =
-    ((gas_at whole (148 + 12 * k)).space ≡ 1) × AreTwoFields whole (56 + 4 * k) (152 + 12 * k) at other point
+    ((gas_at whole (structure_at k)).space ≡ 1) × AreTwoFields whole (block_at k) (structure_at k + 4) at other point
 
 -- ---- places of the faults of the FACS that a FADT names (ACPI 6.5, 5.2.10)
 

@@ -1,5 +1,5 @@
 -- Spans that represent ranges, and how they are collected.
-use Rattle.std.specs.Prelude.{◌≡◌, ℕ, ◌+◌, ◌^◌, ◌<◌, ◌≤◌, List, AllPairs, Contains, Option, Some, None}
+use Rattle.std.specs.Prelude.{◌≡◌, ℕ, ◌+◌, ◌^◌, ◌<◌, List, Contains, Option, Some, None}
 use Rattle.acpi_graph.specs.Spans.{NamesDiffer}
 use Rattle.acpi_graph.specs.declared.span.Span.{Span}
 
@@ -29,21 +29,3 @@ FindsRange o Is None = (s n : ℕ) → Is s n → n ≡ 0
 FindsRange o Is (Some span) =
     (n : ℕ) × IsSpanOf o span.start n span × (span.start < 2 ^ 64) × Is span.start n
     × ((s c : ℕ) → Is s c → (s ≡ span.start) × (c ≡ n))
-
--- ---- the first of each start
-
--- of the spans that begin where this one of the list begins, it has the lowest name
-pub record IsFirstOfStart (spans : List Span) (span : Span) : Type 0 where
-  pub listed : Contains spans span
-  pub first : (other : Span) → Contains spans other → other.start ≡ span.start → span.name ≤ other.name
-
--- these are the first spans of each start, by their starts
-pub record AreFirstOfStarts (spans kept : List Span) : Type 0 where
-  pub rise : AllPairs (λ a b. a.start < b.start) kept
-  pub names : NamesDiffer kept
-  pub listed : (span : Span) → Contains kept span → IsFirstOfStart spans span
-  pub all : (span : Span) → Contains spans span → (first : Span) × Contains kept first × (first.start ≡ span.start)
-
--- the first span of the list that begins at s has n numbers; its start is its name
-abbrev pub IsFirstRange : List Span → ℕ → ℕ → ℕ → Type 0
-IsFirstRange spans name s n = (name ≡ s) × ((span : Span) × IsFirstOfStart spans span × IsSpanOf span.name s n span)

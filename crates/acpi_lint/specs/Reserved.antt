@@ -1,11 +1,13 @@
 -- Limits of the numbers of an entry, as the code has them, and what is found by an entry's bytes.
-use Rattle.std.specs.Prelude.{◌≡◌, ℕ, Bool, List, Option, map, nat_le, ◌&&◌}
-use denote.Ref.{Bor}
+use Rattle.std.specs.Prelude.{◌≡◌, ℕ, Bool, List, [], Option, map, option_map, nat_le, ◌&&◌}
 use Rattle.acpi_base.specs.Entries.{PlacedEntry}
-use Rattle.acpi_read.specs.Entries.{entry_value}
-use Rattle.acpi_read.specs.declared.entry.Entry.{Entry}
+use Rattle.acpi_base.specs.Madt.{madt_entry}
+use Rattle.acpi_base.specs.Pptt.{pptt_entry}
+use Rattle.acpi_base.specs.Srat.{srat_entry}
+use Rattle.acpi_base.specs.declared.table_kind.TableKind.{TableKind}
+use Rattle.acpi_base.specs.declared.table_kind.TableKind.TheVariants as kind
 use Rattle.acpi_lint.specs.Rules.Reserved as said
-use Rattle.acpi_lint.specs.Rules.Reserved.{first_past}
+use Rattle.acpi_lint.specs.Rules.Reserved.{first_past, madt_limits, srat_limits, pptt_limits}
 use Rattle.acpi_lint.specs.declared.place.Place.{Place}
 use Rattle.acpi_lint.specs.declared.reserved.Limit.{Limit}
 
@@ -24,6 +26,13 @@ has_width l = nat_le 1 l.1 && nat_le l.1 8
 abbrev pub past_place : ℕ → ℕ → Place
 past_place at other = record { at = at; other = other; point = 0 }
 
--- what a call returns for an entry, by the entry's bytes
-abbrev pub PicksRaw : {T : Type 0} → (Bor Entry → Option T → Type 0) → PlacedEntry (List ℕ) → Option T → Type 0
-PicksRaw Answers s picked = (at : Bor Entry) × (entry_value at.now ≡ s) × Answers at picked
+-- the limits of the numbers of an entry with these bytes, in a table of a kind
+abbrev pub limits_of : TableKind → List ℕ → List said.Limit
+limits_of kind.Madt e = madt_limits (madt_entry e)
+limits_of kind.Srat e = srat_limits (srat_entry e)
+limits_of kind.Pptt e = pptt_limits (pptt_entry e)
+limits_of _ e = []
+
+-- the place of the first number of an entry that is more than it may be, or there is none
+abbrev pub FindsPast : TableKind → PlacedEntry (List ℕ) → Option Place → Type 0
+FindsPast kind s picked = picked ≡ option_map (past_place s.offset) (first_past (limits_of kind s.entry) s.entry)

@@ -1,10 +1,10 @@
 //! Numbers in entries of a MADT on local APICs and harts, and on interrupts (ACPI 6.5, 5.2.12.2 to 5.2.12.13).
 
-ghost use Rattle.std.specs.Prelude.{◌≡◌, ◌<◌, option_map};
-ghost use Rattle.acpi_lint.specs.Rules.ApicAdvice.{local_id_on, plain_apic_id, low_x2apic_id, broadcast_id, both_set, both_flags, hart_id_on, level_timer, other_lint};
+ghost use Rattle.std.specs.Prelude.{◌≡◌, ◌<◌};
+ghost use Rattle.acpi_lint.specs.Rules.ApicAdvice.{usable_local_id, plain_apic_id, low_x2apic_id, broadcast_id, both_set, both_flags, usable_hart_id, level_timer, other_lint};
 ghost use Rattle.acpi_read.specs.Madts.{madt_value};
 
-use crate::processors::{is_gicc, is_on, is_rintc, is_set};
+use crate::processors::{is_gicc, is_rintc, is_set, is_usable};
 use acpi_base::field::{u32_at, u64_at};
 use acpi_read::MadtEntry;
 
@@ -13,54 +13,58 @@ const CAPABLE: u32 = 1;
 
 // ---- local APICs and harts
 
-/// The ID of a local APIC or a local x2APIC that is on: Enabled or Online Capable.
+/// The ID of a usable local APIC or local x2APIC: Enabled or Online Capable.
 #[inline(always)]
-pub fn local_id_on(entry: &MadtEntry<'_>) -> Option<u64>
-    ensures { result ≡ local_id_on (madt_value entry.now) }
+pub fn usable_local_id(entry: &MadtEntry<'_>) -> Option<u64>
+    ensures { result ≡ usable_local_id (madt_value entry.now) }
 {
     match entry {
-        MadtEntry::LocalApic(apic) if is_on(apic.flags, CAPABLE) => Some(u64::from(apic.apic_id)),
-        MadtEntry::X2apic(apic) if is_on(apic.flags, CAPABLE) => Some(u64::from(apic.x2apic_id)),
+        MadtEntry::LocalApic(apic) if is_usable(apic.flags, CAPABLE) => Some(u64::from(
+            apic.apic_id,
+        )),
+        MadtEntry::X2apic(apic) if is_usable(apic.flags, CAPABLE) => Some(u64::from(
+            apic.x2apic_id,
+        )),
         _ => None,
     }
 }
 
-/// The ID of a local APIC that is on, if it is not 255, which means all.
+/// The ID of a usable local APIC, if it is not 255, which means all.
 #[inline(always)]
 pub fn plain_apic_id(entry: &MadtEntry<'_>) -> Option<u64>
     ensures { result ≡ plain_apic_id (madt_value entry.now) }
 {
     match entry {
-        MadtEntry::LocalApic(apic) if is_on(apic.flags, CAPABLE) && apic.apic_id != u8::MAX => {
+        MadtEntry::LocalApic(apic) if is_usable(apic.flags, CAPABLE) && apic.apic_id != u8::MAX => {
             Some(u64::from(apic.apic_id))
         }
         _ => None,
     }
 }
 
-/// The ID of a local x2APIC that is on, if a local APIC could have it: it is below 255.
+/// The ID of a usable local x2APIC, if a local APIC could have it: it is below 255.
 #[inline(always)]
 pub fn low_x2apic_id(entry: &MadtEntry<'_>) -> Option<u64>
     ensures { result ≡ low_x2apic_id (madt_value entry.now) }
 {
     match entry {
-        MadtEntry::X2apic(apic) if is_on(apic.flags, CAPABLE) && apic.x2apic_id < 255 => {
+        MadtEntry::X2apic(apic) if is_usable(apic.flags, CAPABLE) && apic.x2apic_id < 255 => {
             Some(u64::from(apic.x2apic_id))
         }
         _ => None,
     }
 }
 
-/// The ID of a local APIC or a local x2APIC that is on, if it is the one that means all.
+/// The ID of a usable local APIC or local x2APIC, if it is the one that means all.
 #[inline(always)]
 pub fn broadcast_id(entry: &MadtEntry<'_>) -> Option<u64>
     ensures { result ≡ broadcast_id (madt_value entry.now) }
 {
     match entry {
-        MadtEntry::LocalApic(apic) if is_on(apic.flags, CAPABLE) && apic.apic_id == u8::MAX => {
+        MadtEntry::LocalApic(apic) if is_usable(apic.flags, CAPABLE) && apic.apic_id == u8::MAX => {
             Some(u64::from(apic.apic_id))
         }
-        MadtEntry::X2apic(apic) if is_on(apic.flags, CAPABLE) && apic.x2apic_id == u32::MAX => {
+        MadtEntry::X2apic(apic) if is_usable(apic.flags, CAPABLE) && apic.x2apic_id == u32::MAX => {
             Some(u64::from(apic.x2apic_id))
         }
         _ => None,
@@ -90,13 +94,13 @@ pub fn both_flags(entry: &MadtEntry<'_>) -> Option<u64>
     }
 }
 
-/// The ID of a hart that is on.
+/// The ID of a usable hart.
 #[inline(always)]
-pub fn hart_id_on(entry: &MadtEntry<'_>) -> Option<u64>
-    ensures { result ≡ hart_id_on (madt_value entry.now) }
+pub fn usable_hart_id(entry: &MadtEntry<'_>) -> Option<u64>
+    ensures { result ≡ usable_hart_id (madt_value entry.now) }
 {
     match entry {
-        MadtEntry::Opaque(bytes) if is_rintc(bytes) && is_on(u32_at(bytes, 4), CAPABLE) => {
+        MadtEntry::Opaque(bytes) if is_rintc(bytes) && is_usable(u32_at(bytes, 4), CAPABLE) => {
             Some(u64_at(bytes, 8))
         }
         _ => None,

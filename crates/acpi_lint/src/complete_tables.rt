@@ -2,7 +2,6 @@
 
 ghost use Rattle.std.specs.Prelude.{◌≡◌, ◌↔◌, ℕ, IfOk, IsTrue, option_map};
 ghost use Rattle.acpi_base.specs.Entries.{entries_read_by};
-ghost use Rattle.acpi_base.specs.Madt.{madt_contents, madt_entry};
 ghost use Rattle.acpi_base.specs.Pptt.{pptt_contents, pptt_entry};
 ghost use Rattle.acpi_base.specs.Srat.{srat_contents, srat_entry};
 ghost use Rattle.acpi_base.specs.TableKinds.{signature_of};
@@ -11,8 +10,8 @@ ghost use Rattle.acpi_lint.specs.CompleteTables.{IsFound, IsLong, IsAnyOpaque, A
 
 use crate::first_slots::FirstSlots;
 use crate::listed_slots::{Slot, listed_slots};
-use crate::madt_numbers::has_opaque;
-use acpi_base::{Image, TableKind};
+use crate::madt_forms::has_opaque;
+use acpi_base::{LentImage, TableKind};
 use acpi_read::{Fadt, MadtEntry, PpttEntry, Root, SratEntry, Table, TableEntry, TypedEntries};
 use std::alloc::{AllocError, Global};
 
@@ -41,7 +40,7 @@ pub struct CompleteTables<'a> {
 }
 
 /// The first listed table of a kind in a set with these first slots.
-fn found<'a>(image: &'a Image, firsts: &FirstSlots, kind: TableKind) -> Option<Table<'a>>
+fn found<'a>(image: &'a LentImage<'_>, firsts: &FirstSlots, kind: TableKind) -> Option<Table<'a>>
     ensures { (p : ℕ) → AreFirstSlots image.now p firsts.now
         → IsFound image.now p (signature_of kind) result }
 {
@@ -61,7 +60,11 @@ fn is_any_opaque(madt: &Option<Table<'_>>) -> bool
 
 impl<'a> CompleteTables<'a> {
     /// The tables of the set that the RSDP at an address leads to. Allocates for each address that is listed.
-    pub fn of(alloc: Global, image: &'a Image, rsdp: u64) -> Result<CompleteTables<'a>, AllocError>
+    pub fn of(
+        alloc: Global,
+        image: &'a LentImage<'_>,
+        rsdp: u64,
+    ) -> Result<CompleteTables<'a>, AllocError>
         ensures { IfOk result (AreCompleteTables image.now rsdp) }
     {
         let root = Root::complete(image, rsdp);
@@ -132,14 +135,6 @@ impl<'a> CompleteTables<'a> {
         ensures { result ≡ self.now.pptt }
     {
         self.table(TableKind::Pptt)
-    }
-
-    /// The entries of the MADT, if it has the 44 bytes of its fields.
-    pub fn madt_entries(&self) -> Option<TypedEntries<'a, MadtEntry<'a>>>
-        ensures { AreEntries 44 (λ whole. (madt_contents whole).entries) self.now.madt
-            (option_map (λ e. entries_read_by madt_entry e.entries.entries) result) }
-    {
-        Some(self.madt()?.entries::<MadtEntry<'_>>())
     }
 
     /// The entries of the SRAT, if it has the 48 bytes of its fields.

@@ -11,12 +11,12 @@ ghost use Rattle.acpi_lint.specs.CompleteTables.{AreCompleteTables};
 
 use crate::complete_tables::CompleteTables;
 use crate::place::Place;
-use acpi_base::{Code, Frame, Image, Question, TableKind};
+use acpi_base::{Code, Frame, LentImage, Question, TableKind};
 use acpi_read::{Fadt, Table, fails};
 
 /// Whether the FACS at the address that a FADT names, which is not 0, has the fault with this code. Each code is
 /// looked for, even if earlier bytes are wrong.
-fn has_fault(image: &Image, fadt: &Fadt<'_>, address: u64, code: Code) -> bool
+fn has_fault(image: &LentImage<'_>, fadt: &Fadt<'_>, address: u64, code: Code) -> bool
     requires named { address ≡ facs_address fadt.now }
     requires some { address ≢ 0 }
     ensures { IsTrue result ↔ NamedFacsFault image.now fadt.now code address }
@@ -32,7 +32,7 @@ fn has_fault(image: &Image, fadt: &Fadt<'_>, address: u64, code: Code) -> bool
 }
 
 /// The fault with this code of the FACS that a FADT names, at its address, or at 0 if none is named.
-fn named_fault(image: &Image, fadt: &Fadt<'_>, code: Code) -> Option<Place>
+fn named_fault(image: &LentImage<'_>, fadt: &Fadt<'_>, code: Code) -> Option<Place>
     ensures { FindsLeast (IsFacsFault image.now fadt.now code) result }
 {
     let address = fadt.facs_address();
@@ -45,7 +45,7 @@ fn named_fault(image: &Image, fadt: &Fadt<'_>, code: Code) -> Option<Place>
 }
 
 /// The same for the table of a FADT: one of fewer than 116 bytes has none.
-fn table_fault(image: &Image, table: Table<'_>, code: Code) -> Option<Place>
+fn table_fault(image: &LentImage<'_>, table: Table<'_>, code: Code) -> Option<Place>
     ensures { FindsLeast (IsFacsFaultOf image.now table.entry code) result }
 {
     named_fault(image, &Fadt::new(table).ok()?, code)
@@ -53,7 +53,7 @@ fn table_fault(image: &Image, table: Table<'_>, code: Code) -> Option<Place>
 
 /// The fault with this code of the FACS that the set's FADT names: its address, or 0 if none is named. The tables are
 /// those of the image's set.
-pub fn facs_fault(image: &Image, tables: &CompleteTables<'_>, code: Code) -> Option<Place>
+pub fn facs_fault(image: &LentImage<'_>, tables: &CompleteTables<'_>, code: Code) -> Option<Place>
     ensures { (q : PolicyValue) → AreCompleteTables image.now q.rsdp tables.now
         → FindsLeast (IsFaultOfStage Stage.Facs code image.now q) result }
 {

@@ -1,19 +1,24 @@
 //! Advice on a FADT of at least 116 bytes (ACPI 6.5, 5.2.9): fields that disagree, and fields that are missing.
 
-ghost use Rattle.std.specs.Prelude.{◌≡◌, ◌≤◌, ◌<◌, ◌+◌, ◌*◌, ◌↔◌, IsTrue, length};
+ghost use Rattle.std.specs.Prelude.{◌≡◌, ◌≤◌, ◌<◌, ◌+◌, ◌*◌, ◌↔◌, IfOk, length};
 ghost use Rattle.acpi_lint.specs.Rules.FadtAdvice.{fields_length, IsFadtOfRevision, IsFacsDiffers, IsDsdtDiffers, IsBlockDiffers};
 ghost use Rattle.acpi_lint.specs.RuleGroups.{in_fadt};
 ghost use Rattle.acpi_lint.specs.Rules.Broken.{condition};
 ghost use Rattle.acpi_lint.specs.Places.{AreTwoFields, IsBlock, FindsLeast};
 
-use crate::fadt_blocks::{block_width, gpe_overlap, half_block, no_pm1_block, port_past_end};
+use crate::fadt_blocks::{
+    block_offset, block_width, gpe_overlap, half_block, no_pm1_block, port_past_end,
+    structure_offset,
+};
 use crate::fadt_fields::{
     fadt_reserved, no_dsdt, reset_nowhere, sci_zero, sleep_register, smi_half,
 };
 use crate::place::Place;
+use crate::port_overlap::ports_overlap;
 use crate::rule::Rule;
 use acpi_base::field::{u8_at, u32_at, u64_at};
 use acpi_read::Fadt;
+use std::alloc::{AllocError, Global};
 
 /// The minimum length in bytes of a FADT of this Revision with all its fields; 0 below Revision 3.
 fn fields_length(revision: u8) -> u64
@@ -82,16 +87,16 @@ fn dsdt_differs(fadt: &Fadt<'_>) -> Option<Place>
 
 /// The addresses of register block k, if the X_ structure is in system I/O and names another address than the 4-byte
 /// field.
-fn block_at(bytes: &[u8], k: usize) -> Option<Place>
+fn block_at(bytes: &[u8], k: u8) -> Option<Place>
     requires long { 116 ≤ length bytes.now }
     requires block { k < 8 }
     ensures { FindsLeast (IsBlock bytes.now k) result }
 {
-    let structure = 148 + 12 * k;
+    let structure = structure_offset(k) as usize;
     if structure + 12 > bytes.len() || u8_at(bytes, structure) != 1 {
         return None;
     }
-    two_fields(bytes, 56 + 4 * k, structure + 4)
+    two_fields(bytes, block_offset(k) as usize, structure + 4)
 }
 
 /// The first register block with two addresses, if the hardware is not reduced.
@@ -110,25 +115,26 @@ fn block_differs(fadt: &Fadt<'_>) -> Option<Place>
 }
 
 /// The place where a rule on the fields of a FADT is broken. None for another rule.
-pub fn fadt_place(rule: Rule, fadt: &Fadt<'_>) -> Option<Place>
-    ensures { FindsLeast (in_fadt (condition rule) fadt.now) result }
+pub fn fadt_place(alloc: Global, rule: Rule, fadt: &Fadt<'_>) -> Result<Option<Place>, AllocError>
+    ensures { IfOk result (FindsLeast (in_fadt (condition rule) fadt.now)) }
 {
     match rule {
-        Rule::FadtOfRevision => fadt_of_revision(fadt),
-        Rule::FacsDiffers => facs_differs(fadt),
-        Rule::DsdtDiffers => dsdt_differs(fadt),
-        Rule::BlockDiffers => block_differs(fadt),
-        Rule::NoDsdt => no_dsdt(fadt),
-        Rule::NoPm1Block => no_pm1_block(fadt),
-        Rule::BlockWidth => block_width(fadt),
-        Rule::HalfBlock => half_block(fadt),
-        Rule::PortPastEnd => port_past_end(fadt),
-        Rule::GpeOverlap => gpe_overlap(fadt),
-        Rule::SmiHalf => smi_half(fadt),
-        Rule::SciZero => sci_zero(fadt),
-        Rule::ResetNowhere => reset_nowhere(fadt),
-        Rule::SleepRegister => sleep_register(fadt),
-        Rule::FadtReserved => fadt_reserved(fadt),
-        _ => None,
+        Rule::FadtOfRevision => Ok(fadt_of_revision(fadt)),
+        Rule::FacsDiffers => Ok(facs_differs(fadt)),
+        Rule::DsdtDiffers => Ok(dsdt_differs(fadt)),
+        Rule::BlockDiffers => Ok(block_differs(fadt)),
+        Rule::NoDsdt => Ok(no_dsdt(fadt)),
+        Rule::NoPm1Block => Ok(no_pm1_block(fadt)),
+        Rule::BlockWidth => Ok(block_width(fadt)),
+        Rule::HalfBlock => Ok(half_block(fadt)),
+        Rule::PortsOverlap => ports_overlap(alloc, fadt),
+        Rule::PortPastEnd => Ok(port_past_end(fadt)),
+        Rule::GpeOverlap => Ok(gpe_overlap(fadt)),
+        Rule::SmiHalf => Ok(smi_half(fadt)),
+        Rule::SciZero => Ok(sci_zero(fadt)),
+        Rule::ResetNowhere => Ok(reset_nowhere(fadt)),
+        Rule::SleepRegister => Ok(sleep_register(fadt)),
+        Rule::FadtReserved => Ok(fadt_reserved(fadt)),
+        _ => Ok(None),
     }
 }

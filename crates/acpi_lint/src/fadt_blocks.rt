@@ -3,15 +3,12 @@
 ghost use Rattle.std.specs.Prelude.{◌≡◌, ◌<◌, ◌+◌, ◌*◌, ◌↔◌, IsTrue};
 ghost use Rattle.acpi_lint.specs.FadtPlaces.{IsOfBlock};
 ghost use Rattle.acpi_lint.specs.Places.{FindsLeast};
-ghost use Rattle.acpi_lint.specs.Rules.FadtBlocks.{block_address, block_length, port_count, port_bytes, IsNoPm1Block, DoWidthsDiffer, IsBlockWidth, IsHalf, IsHalfBlock, IsPastEndAt, IsSmiPastEnd, IsBlockPastEnd, IsFixedPastEnd, IsResetPort, IsResetPastEnd, HasResetRegister, IsPortPastEnd, OnBlock, IsGiven, IsGpeOverlap};
+ghost use Rattle.acpi_lint.specs.Rules.FadtBlocks.{block_at, structure_at, block_address, block_length, port_count, port_bytes, IsNoPm1Block, DoWidthsDiffer, IsBlockWidth, IsHalf, IsHalfBlock, IsPastEndAt, IsSmiPastEnd, IsBlockPastEnd, IsFixedPastEnd, IsResetPort, IsResetPastEnd, HasResetRegister, IsPortPastEnd, OnBlock, IsGiven, IsGpeOverlap};
 ghost use Rattle.acpi_read.specs.Fadts.{block_view_value};
 
 use crate::place::Place;
 use acpi_base::field::{u8_at, u32_at, u64_at};
-use acpi_read::{Block, Fadt, RESET_REG_SUP, has_flag};
-
-/// The offsets of the blocks' length bytes.
-const BLOCK_LENGTHS: [usize; 8] = [88, 88, 89, 89, 90, 91, 92, 93];
+use acpi_read::{BLOCK_LENGTHS, Block, Fadt, RESET_REG_SUP, has_flag};
 
 /// System I/O, an address space.
 const SYSTEM_IO: u8 = 1;
@@ -62,10 +59,17 @@ pub fn port_bytes(fadt: &Fadt<'_>, k: u8) -> u8
 }
 
 /// The offset of the 4-byte field of register block k.
-fn block_offset(k: u8) -> u64
-    ensures { result ≡ 56 + 4 * k }
+pub fn block_offset(k: u8) -> u32
+    ensures { result ≡ block_at k }
 {
-    56 + 4 * u64::from(k)
+    56 + 4 * u32::from(k)
+}
+
+/// The offset of its X_ structure.
+pub fn structure_offset(k: u8) -> u32
+    ensures { result ≡ structure_at k }
+{
+    148 + 12 * u32::from(k)
 }
 
 // ---- rules on one block
@@ -94,9 +98,9 @@ fn width_differs(fadt: &Fadt<'_>, k: u8) -> Option<Place>
     ensures { FindsLeast (IsOfBlock (DoWidthsDiffer fadt.now) k) result }
 {
     let bytes = fadt.bytes();
-    let structure = 148 + 12 * k as usize;
+    let structure = structure_offset(k) as usize;
     if structure + 12 > bytes.len()
-        || u32_at(bytes, 56 + 4 * k as usize) == 0
+        || u32_at(bytes, block_offset(k) as usize) == 0
         || u64_at(bytes, structure + 4) == 0
     {
         return None;
@@ -107,7 +111,7 @@ fn width_differs(fadt: &Fadt<'_>, k: u8) -> Option<Place>
         return None;
     }
     Some(Place {
-        at: block_offset(k),
+        at: u64::from(block_offset(k)),
         other,
         point,
     })
@@ -139,7 +143,7 @@ fn half_at(fadt: &Fadt<'_>, k: u8) -> Option<Place>
         return None;
     }
     Some(Place {
-        at: block_offset(k),
+        at: u64::from(block_offset(k)),
         other,
         point,
     })
@@ -189,7 +193,11 @@ fn past_end_at(fadt: &Fadt<'_>, k: u8) -> Option<Place>
     requires { k < 8 }
     ensures { FindsLeast (IsOfBlock (IsBlockPastEnd fadt.now) k) result }
 {
-    past_end(block_offset(k), block_address(fadt, k), port_bytes(fadt, k))
+    past_end(
+        u64::from(block_offset(k)),
+        block_address(fadt, k),
+        port_bytes(fadt, k),
+    )
 }
 
 /// The first register block that ends past the last port.

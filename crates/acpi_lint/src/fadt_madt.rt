@@ -1,7 +1,7 @@
 //! Advice on a FADT beside a MADT: its version and its flags by the processors that there are, and overrides (ACPI 6.5,
 //! 5.2.9, 5.2.12).
 
-ghost use Rattle.std.specs.Prelude.{◌≡◌, ◌<◌, ◌↔◌, ℕ, IsSome, IsTrue};
+ghost use Rattle.std.specs.Prelude.{◌≡◌, ◌<◌, ◌↔◌, ℕ, IsTrue};
 ghost use Rattle.acpi_base.specs.Entries.{StandsWith};
 ghost use Rattle.acpi_base.specs.Madt.{madt_contents};
 ghost use Rattle.acpi_base.specs.Number.{field};
@@ -11,8 +11,8 @@ ghost use Rattle.acpi_lint.specs.Rules.FadtWithMadt.{minor_version, IsVersion, I
 ghost use Rattle.acpi_read.specs.Entries.{entry_at_value};
 ghost use Rattle.acpi_read.specs.Madts.{madt_value};
 
-use crate::gic::is_gicc_on;
-use crate::madt_numbers::has_type;
+use crate::gic::is_usable_gicc;
+use crate::madt_forms::{MadtForm, has_form, has_type};
 use crate::passes::first_picked;
 use crate::place::Place;
 use crate::processors::{RINTC, is_gicc, is_set};
@@ -147,23 +147,23 @@ pub fn override_past_isa(fadt: &Fadt<'_>, madt: &Table<'_>) -> Option<Place>
 // ---- how processors with a GIC are started
 
 /// The place of a GICC that is Enabled or Online Capable.
-fn gicc_on(at: &EntryAt<MadtEntry<'_>>) -> Option<Place>
+fn usable_gicc(at: &EntryAt<MadtEntry<'_>>) -> Option<Place>
     ensures { FindsOwn IsGiccAt (entry_at_value madt_value at.now) result }
 {
     match at.entry {
-        MadtEntry::Opaque(bytes) if is_gicc_on(bytes) => Some(Place::at(at.offset)),
+        MadtEntry::Opaque(bytes) if is_usable_gicc(bytes) => Some(Place::at(at.offset)),
         _ => None,
     }
 }
 
-/// The place of a GICC that is on and comes after this offset, which is `other`.
+/// The place of a usable GICC that comes after this offset, which is `other`.
 fn gicc_after(first: u64, at: &EntryAt<MadtEntry<'_>>) -> Option<Place>
     ensures { FindsOwn (IsGiccAfter first) (entry_at_value madt_value at.now) result }
 {
     if at.offset <= first {
         return None;
     }
-    let place = gicc_on(at)?;
+    let place = usable_gicc(at)?;
     Some(Place {
         at: place.at,
         other: first,
@@ -171,36 +171,26 @@ fn gicc_after(first: u64, at: &EntryAt<MadtEntry<'_>>) -> Option<Place>
     })
 }
 
-/// The place of the second GICC of a MADT that is on; `other` is the first.
+/// The place of the second usable GICC of a MADT; `other` is the first.
 fn second_gicc(madt: &Table<'_>) -> Option<Place>
     ensures { FindsLeast (AreTwoGiccs (madt_contents madt.now)) result }
 {
-    let first = first_picked(madt.entries::<MadtEntry<'_>>(), gicc_on)?;
+    let first = first_picked(madt.entries::<MadtEntry<'_>>(), usable_gicc)?;
     first_picked(
         madt.entries::<MadtEntry<'_>>(),
         |at| gicc_after(first.at, at),
     )
 }
 
-/// Some for a GICC that is on and has a version of the parking protocol.
-fn parking(at: &EntryAt<MadtEntry<'_>>) -> Option<()>
-    ensures { IsSome result ↔ IsParking (madt_value at.now.entry) }
-{
-    match at.entry {
-        MadtEntry::Opaque(bytes) if is_gicc_on(bytes) && u32_at(bytes, 16) != 0 => Some(()),
-        _ => None,
-    }
-}
-
-/// Whether none of a MADT's GICCs that are on has a version of the parking protocol.
+/// Whether none of a MADT's usable GICCs has a version of the parking protocol.
 fn are_none_parking(madt: &Table<'_>) -> bool
     ensures { IsTrue result
         ↔ ((o : ℕ) → ¬ StandsWith (madt_contents madt.now).entries o IsParking) }
 {
-    first_picked(madt.entries::<MadtEntry<'_>>(), parking).is_none()
+    !has_form(madt, MadtForm::Parking)
 }
 
-/// Whether a MADT is well-formed, and none of its GICCs that are on has a version of the parking
+/// Whether a MADT is well-formed, and none of its usable GICCs has a version of the parking
 /// protocol.
 fn is_none_parking(policy: &Policy, madt: &Table<'_>) -> bool
     ensures { IsTrue result ↔ IsNoneParking (madt_contents madt.now) }
@@ -208,14 +198,14 @@ fn is_none_parking(policy: &Policy, madt: &Table<'_>) -> bool
     are_none_parking(madt) && is_madt_well_formed(policy, madt)
 }
 
-/// Whether a MADT has several GICCs that are on.
+/// Whether a MADT has several usable GICCs.
 fn has_two_giccs(madt: &Table<'_>) -> bool
     ensures { IsTrue result ↔ HasTwoGiccs (madt_contents madt.now) }
 {
     second_gicc(madt).is_some()
 }
 
-/// Whether a MADT that is well-formed has several GICCs that are on, of which none has the parking protocol.
+/// Whether a MADT that is well-formed has several usable GICCs, of which none has the parking protocol.
 fn is_unstarted(policy: &Policy, madt: &Table<'_>) -> bool
     ensures { IsTrue result ↔ AreUnstarted (madt_contents madt.now) }
 {
@@ -230,7 +220,7 @@ fn has_no_psci(fadt: &Fadt<'_>) -> bool
     bytes.len() >= 131 && !is_set(u32::from(u16_at(bytes, 129)), 0)
 }
 
-/// ARM_BOOT_ARCH, at 129, if there is no PSCI, and a MADT that is well-formed has several GICCs that are on, of which
+/// ARM_BOOT_ARCH, at 129, if there is no PSCI, and a MADT that is well-formed has several usable GICCs, of which
 /// none has the parking protocol.
 pub fn no_boot_method(policy: &Policy, fadt: &Fadt<'_>, madt: &Table<'_>) -> Option<Place>
     ensures { FindsLeast (IsNoBootMethod fadt.now (madt_contents madt.now)) result }

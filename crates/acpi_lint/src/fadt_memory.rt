@@ -9,12 +9,12 @@ ghost use Rattle.acpi_lint.specs.Rules.NamedAdvice.{IsBrokenDsdt, IsDsdtWrong, I
 use crate::limits::{above, used};
 use crate::place::Place;
 use crate::rule::Rule;
-use acpi_base::{Frame, Image, Question};
+use acpi_base::{Frame, LentImage, Question};
 use acpi_read::{Facs, Fadt, fails};
 
 /// Whether the header at an address is not that of a DSDT, or says a Length that no table has, or the table there has a
 /// wrong checksum.
-fn is_no_dsdt(image: &Image, address: u64) -> bool
+fn is_no_dsdt(image: &LentImage<'_>, address: u64) -> bool
     ensures { IsTrue result ↔ IsBrokenDsdt image.now address }
 {
     fails(image, address, Frame::TABLE, Question::Signature(*b"DSDT"))
@@ -23,7 +23,7 @@ fn is_no_dsdt(image: &Image, address: u64) -> bool
 }
 
 /// DSDT, at 40, if what a FADT names as the DSDT is none, or has a wrong checksum.
-fn dsdt_wrong(image: &Image, fadt: &Fadt<'_>) -> Option<Place>
+fn dsdt_wrong(image: &LentImage<'_>, fadt: &Fadt<'_>) -> Option<Place>
     ensures { FindsLeast (IsDsdtWrong image.now fadt.now) result }
 {
     let address = fadt.dsdt_address();
@@ -45,7 +45,7 @@ fn odd_facs(bytes: &[u8]) -> Option<Place>
 }
 
 /// The same of the FACS that a FADT names, if it is valid.
-fn facs_reserved(image: &Image, fadt: &Fadt<'_>) -> Option<Place>
+fn facs_reserved(image: &LentImage<'_>, fadt: &Fadt<'_>) -> Option<Place>
     ensures { FindsLeast (IsFacsReserved image.now fadt.now) result }
 {
     let facs = Facs::read(image, fadt).ok()??;
@@ -53,7 +53,7 @@ fn facs_reserved(image: &Image, fadt: &Fadt<'_>) -> Option<Place>
 }
 
 /// The place where a rule on what a FADT names is broken. None for another rule.
-pub fn fadt_memory_place(image: &Image, rule: Rule, fadt: &Fadt<'_>) -> Option<Place>
+pub fn fadt_memory_place(image: &LentImage<'_>, rule: Rule, fadt: &Fadt<'_>) -> Option<Place>
     ensures { FindsLeast (in_fadt_memory (condition rule) image.now fadt.now) result }
 {
     match rule {

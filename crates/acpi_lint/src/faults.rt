@@ -18,7 +18,7 @@ use crate::root::root_fault;
 use crate::rsdp::rsdp_fault;
 use crate::slit::slit_fault;
 use crate::slots::slot_fault;
-use acpi_base::{Code, Image, Policy, Stage, TableKind, Witness};
+use acpi_base::{Code, LentImage, Policy, Stage, TableKind, Witness};
 use acpi_check::Chain;
 use acpi_read::{MadtEntry, PpttEntry, SratEntry};
 use std::alloc::{AllocError, Global};
@@ -26,7 +26,7 @@ use std::alloc::{AllocError, Global};
 /// The place of the first fault with a code, whether or not earlier stages hold.
 fn first_place(
     alloc: Global,
-    image: &Image,
+    image: &LentImage<'_>,
     tables: &CompleteTables<'_>,
     policy: &Policy,
     code: Code,
@@ -63,7 +63,7 @@ fn first_place(
 /// The first fault with a code, whether or not earlier stages hold.
 fn first_fault(
     alloc: Global,
-    image: &Image,
+    image: &LentImage<'_>,
     tables: &CompleteTables<'_>,
     policy: &Policy,
     code: Code,
@@ -85,7 +85,7 @@ fn first_fault(
 /// The first faults of all codes that have one, in the order of the codes' numbers.
 pub fn first_faults(
     alloc: Global,
-    image: &Image,
+    image: &LentImage<'_>,
     tables: &CompleteTables<'_>,
     policy: &Policy,
 ) -> Result<Vec<Witness>, AllocError>

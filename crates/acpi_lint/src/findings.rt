@@ -7,7 +7,7 @@ use crate::advice::first_advice;
 use crate::complete_tables::CompleteTables;
 use crate::faults::first_faults;
 use crate::rule::Advice;
-use acpi_base::{Image, Policy, Witness};
+use acpi_base::{LentImage, Policy, Witness};
 use std::alloc::{AllocError, Global};
 
 /// All that is wrong with an image: at most one fault of each code and one finding of each rule.
@@ -25,7 +25,7 @@ pub struct Findings {
 ///
 /// Refuses with `AllocError` if out of memory: it allocates for each finding, and for what is compared or looked up,
 /// at most for each slot of the root table, each entry of the MADT, the SRAT and the PPTT, and each byte of the PPTT.
-pub fn lint(alloc: Global, image: &Image, policy: &Policy) -> Result<Findings, AllocError>
+pub fn lint(alloc: Global, image: &LentImage<'_>, policy: &Policy) -> Result<Findings, AllocError>
     ensures { IfOk result (λ found.
         AreFindings image.now policy.now found.faults.items found.advice.items) }
 {

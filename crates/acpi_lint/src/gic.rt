@@ -1,12 +1,12 @@
 //! The parts of a GIC, as entries of a MADT describe them, and their fields (ACPI 6.5, 5.2.12.14 to 5.2.12.18).
 
 ghost use Rattle.std.specs.Prelude.{◌≡◌, ◌≤◌, length, IsTrue};
-ghost use Rattle.acpi_lint.specs.Rules.Gic.{is_gicc_on, has_mpidr, names_redistributor, is_gicd, is_msi_frame, is_gicr, is_its, gicc_base, gicc_uid_on, mpidr_on, own_redistributor, gicd_base, gicd_version, msi_frame_id, msi_frame_base, gicr_base, gicr_length, its_id, its_base};
+ghost use Rattle.acpi_lint.specs.Rules.Gic.{is_usable_gicc, has_mpidr, names_redistributor, is_gicd, is_msi_frame, is_gicr, is_its, gicc_base, usable_gicc_uid, usable_mpidr, own_redistributor, gicd_base, gicd_version, msi_frame_id, msi_frame_base, gicr_base, gicr_length, its_id, its_base};
 ghost use Rattle.acpi_lint.specs.Rules.GicAdvice.{is_reserved_mpidr, reserved_mpidr, empty_gicr, other_gicr};
 ghost use Rattle.acpi_lint.specs.MadtNumbers.{other_gicc_base};
 ghost use Rattle.acpi_read.specs.Madts.{madt_value};
 
-use crate::processors::{GICD, is_gicc, is_on};
+use crate::processors::{GICD, is_gicc, is_usable};
 use acpi_base::field::{u8_at, u32_at, u64_at};
 use acpi_read::MadtEntry;
 
@@ -30,31 +30,31 @@ pub const ITS_LEN: usize = 20;
 
 // ---- the parts
 
-/// Whether the bytes are a GIC CPU interface that is on: Enabled or Online Capable.
+/// Whether the bytes are a usable GIC CPU interface: Enabled or Online Capable.
 #[inline(always)]
-pub fn is_gicc_on(bytes: &[u8]) -> bool
-    ensures value { result ≡ is_gicc_on bytes.now }
+pub fn is_usable_gicc(bytes: &[u8]) -> bool
+    ensures value { result ≡ is_usable_gicc bytes.now }
     ensures size { IsTrue result → 40 ≤ length bytes.now }
 {
-    is_gicc(bytes) && is_on(u32_at(bytes, 12), 3)
+    is_gicc(bytes) && is_usable(u32_at(bytes, 12), 3)
 }
 
-/// Whether they are one that is on and has an MPIDR.
+/// Whether they are a usable one that has an MPIDR.
 #[inline(always)]
 fn has_mpidr(bytes: &[u8]) -> bool
     ensures value { result ≡ has_mpidr bytes.now }
     ensures size { IsTrue result → 76 ≤ length bytes.now }
 {
-    is_gicc_on(bytes) && bytes.len() >= 76
+    is_usable_gicc(bytes) && bytes.len() >= 76
 }
 
-/// Whether they are one that is on and names a redistributor of its own.
+/// Whether they are a usable one that names a redistributor of its own.
 #[inline(always)]
 fn names_redistributor(bytes: &[u8]) -> bool
     ensures value { result ≡ names_redistributor bytes.now }
     ensures size { IsTrue result → 68 ≤ length bytes.now }
 {
-    is_gicc_on(bytes) && bytes.len() >= 68 && u64_at(bytes, 60) != 0
+    is_usable_gicc(bytes) && bytes.len() >= 68 && u64_at(bytes, 60) != 0
 }
 
 /// Whether they are a distributor.
@@ -106,21 +106,21 @@ pub fn gicc_base(entry: &MadtEntry<'_>) -> Option<u64>
     }
 }
 
-/// The UID of a CPU interface that is on.
+/// The UID of a usable CPU interface.
 #[inline(always)]
-pub fn gicc_uid_on(entry: &MadtEntry<'_>) -> Option<u64>
-    ensures { result ≡ gicc_uid_on (madt_value entry.now) }
+pub fn usable_gicc_uid(entry: &MadtEntry<'_>) -> Option<u64>
+    ensures { result ≡ usable_gicc_uid (madt_value entry.now) }
 {
     match entry {
-        MadtEntry::Opaque(bytes) if is_gicc_on(bytes) => Some(u64::from(u32_at(bytes, 8))),
+        MadtEntry::Opaque(bytes) if is_usable_gicc(bytes) => Some(u64::from(u32_at(bytes, 8))),
         _ => None,
     }
 }
 
-/// The MPIDR of a CPU interface that is on.
+/// The MPIDR of a usable CPU interface.
 #[inline(always)]
-pub fn mpidr_on(entry: &MadtEntry<'_>) -> Option<u64>
-    ensures { result ≡ mpidr_on (madt_value entry.now) }
+pub fn usable_mpidr(entry: &MadtEntry<'_>) -> Option<u64>
+    ensures { result ≡ usable_mpidr (madt_value entry.now) }
 {
     match entry {
         MadtEntry::Opaque(bytes) if has_mpidr(bytes) => Some(u64_at(bytes, 68)),
@@ -128,7 +128,7 @@ pub fn mpidr_on(entry: &MadtEntry<'_>) -> Option<u64>
     }
 }
 
-/// The address of the redistributor that a CPU interface that is on names as its own.
+/// The address of the redistributor that a usable CPU interface names as its own.
 #[inline(always)]
 pub fn own_redistributor(entry: &MadtEntry<'_>) -> Option<u64>
     ensures { result ≡ own_redistributor (madt_value entry.now) }
@@ -237,12 +237,12 @@ fn is_reserved_mpidr(mpidr: u64) -> bool
     mpidr >> 24 & 0xFF != 0 || mpidr >> 40 != 0
 }
 
-/// The MPIDR of a CPU interface that is on, if such a bit is set.
+/// The MPIDR of a usable CPU interface, if such a bit is set.
 #[inline(always)]
 pub fn reserved_mpidr(entry: &MadtEntry<'_>) -> Option<u64>
     ensures { result ≡ reserved_mpidr (madt_value entry.now) }
 {
-    let mpidr = mpidr_on(entry)?;
+    let mpidr = usable_mpidr(entry)?;
     is_reserved_mpidr(mpidr).then_some(mpidr)
 }
 

@@ -8,13 +8,13 @@ ghost use Rattle.acpi_lint.specs.Hierarchy.{IsUnmarkedLeaf, IsMarkedParent, IsCh
 ghost use Rattle.acpi_lint.specs.Places.{FindsOwn, FindsLeast};
 ghost use Rattle.acpi_lint.specs.Rules.Hierarchy.{unmarked_id, IsLeafUnflagged, IsLeafAsParent};
 
-use crate::leaves::{HAS_LEAVES, parents_of, revision};
+use crate::leaves::{parents_of, revision};
 use crate::passes::first_picked;
 use crate::place::Place;
 use crate::processors::is_set;
 use crate::well_formed::is_pptt_well_formed;
 use acpi_base::Policy;
-use acpi_check::binary_search;
+use acpi_check::{HAS_LEAVES, binary_search};
 use acpi_read::{EntryAt, PpttEntry, Table};
 use std::alloc::{AllocError, Global};
 

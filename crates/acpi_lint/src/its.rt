@@ -1,19 +1,16 @@
 //! The rule on the affinities of interrupt translation services, ITS, of a GIC (ACPI 6.5, 5.2.12.18, 5.2.16.5).
 
-ghost use Rattle.std.specs.Prelude.{◌≡◌, ◌<◌, ◌≤◌, ◌↔◌, length, AllPairs, IfOk, IsSome, IsTrue};
+ghost use Rattle.std.specs.Prelude.{◌≡◌, ◌<◌, ◌≤◌, ◌↔◌, AllPairs, IfOk, IsTrue};
 ghost use Rattle.acpi_base.specs.Madt.{madt_contents};
 ghost use Rattle.acpi_base.specs.Srat.{srat_contents};
 ghost use Rattle.acpi_read.specs.Entries.{entry_at_value};
-ghost use Rattle.acpi_read.specs.Madts.{madt_value, IsCompleteEntry};
 ghost use Rattle.acpi_read.specs.Srats.{srat_value};
-ghost use Rattle.acpi_lint.specs.EntryNumbers.{AreKnown, IsUnknownOf, IsWhere};
+ghost use Rattle.acpi_lint.specs.EntryNumbers.{IsUnknownOf, IsWhere};
 ghost use Rattle.acpi_lint.specs.Places.{FindsOwn, FindsLeast};
-ghost use Rattle.acpi_lint.specs.Rules.Gic.{its_id};
-ghost use Rattle.acpi_lint.specs.Rules.Its.{its_affinity_id, IsOtherIts, AreItsRead, AreItsKnown, IsItsNowhere};
-ghost use Rattle.acpi_lint.specs.Rules.Numbered.{IsNamed};
+ghost use Rattle.acpi_lint.specs.Rules.Its.{its_affinity_id, AreItsRead, AreItsKnown, IsItsNowhere};
 
-use crate::gic::{ITS, ITS_LEN, its_id};
-use crate::known_numbers::known_numbers;
+use crate::madt_forms::{MadtForm, has_form};
+use crate::madt_numbers::{MadtNumber, rising_numbers};
 use crate::nowhere::unknown_place;
 use crate::passes::first_picked;
 use crate::place::Place;
@@ -21,41 +18,14 @@ use crate::processors::is_its_affinity;
 use crate::well_formed::is_madt_well_formed;
 use acpi_base::Policy;
 use acpi_base::field::u32_at;
-use acpi_read::{EntryAt, MadtEntry, SratEntry, Table};
+use acpi_read::{EntryAt, SratEntry, Table};
 use std::alloc::{AllocError, Global};
-
-/// The ID of an ITS.
-fn its_id_at(at: &EntryAt<MadtEntry<'_>>) -> Option<u64>
-    ensures { result ≡ its_id (madt_value at.now.entry) }
-{
-    its_id(&at.entry)
-}
-
-/// The IDs of a MADT's ITS, in rising order. Allocates for each.
-fn its_ids(alloc: Global, madt: &Table<'_>) -> Result<Vec<u64>, AllocError>
-    ensures { IfOk result
-        (λ known. AreKnown (IsNamed its_id (madt_contents madt.now).entries) known.items) }
-{
-    known_numbers(alloc, madt.entries::<MadtEntry<'_>>(), its_id_at)
-}
-
-/// Some for an entry of a MADT with the type of an ITS and another length.
-fn other_its_at(at: &EntryAt<MadtEntry<'_>>) -> Option<()>
-    requires { IsCompleteEntry at.now.entry }
-    ensures { IsSome result ↔ IsOtherIts (madt_value at.now.entry) }
-{
-    match at.entry {
-        MadtEntry::Opaque(bytes) if bytes[0] == ITS && bytes.len() != ITS_LEN => Some(()),
-        _ => None,
-    }
-}
 
 /// Whether the rules read all ITS of a MADT.
 fn are_its_read(madt: &Table<'_>) -> bool
     ensures { IsTrue result ↔ AreItsRead (madt_contents madt.now) }
 {
-    let other = first_picked(madt.entries::<MadtEntry<'_>>(), other_its_at);
-    other.is_none()
+    !has_form(madt, MadtForm::OtherIts)
 }
 
 /// Whether all ITS of a MADT are known: the rules read all, and the MADT is well-formed.
@@ -103,7 +73,7 @@ pub fn its_nowhere(
     ensures { IfOk result (FindsLeast
         (IsItsNowhere (madt_contents madt.now) (srat_contents srat.now))) }
 {
-    let ids = its_ids(alloc, madt)?;
+    let ids = rising_numbers(alloc, madt, MadtNumber::ItsId)?;
     let ids = ids.as_slice();
     let place = first_picked(srat.entries::<SratEntry<'_>>(), |at| unknown_its(ids, at));
     Ok(where_its_known(policy, madt, place))

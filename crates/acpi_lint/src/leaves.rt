@@ -12,7 +12,7 @@ use crate::numbered::{Numbered, at_place};
 use crate::processors::is_set;
 use crate::well_formed::is_pptt_well_formed;
 use acpi_base::Policy;
-use acpi_check::{binary_search, collected, sorted_unique};
+use acpi_check::{HAS_LEAVES, binary_search, collected, sorted_unique};
 use acpi_read::{EntryAt, PpttEntry, Table};
 use std::alloc::{AllocError, Global};
 
@@ -101,9 +101,6 @@ fn unnamed_leaves(alloc: Global, pptt: &Table<'_>) -> Result<Vec<Numbered>, Allo
         at_place(at.offset, unnamed_id(&parents, at))
     })
 }
-
-/// The lowest Revision of the PPTT that has the flag of a leaf.
-pub const HAS_LEAVES: u8 = 2;
 
 /// The ACPI processor IDs of a PPTT's leaves, each with its leaf's offset; the offsets rise. Below Revision 2 a PPTT has
 /// leaves only if it is well-formed. Allocates for each leaf, and below Revision 2 also for each node.

@@ -6,7 +6,7 @@ ghost use Rattle.acpi_base.specs.Root.{HasSlot, IsSlot};
 ghost use Rattle.acpi_lint.specs.Slots.{IsRootOf, IsSought, AreSlots, FindsSlot};
 
 use crate::table_at::{Sought, TableAt};
-use acpi_base::Image;
+use acpi_base::LentImage;
 use acpi_read::Root;
 use std::alloc::{AllocError, Global};
 
@@ -20,7 +20,7 @@ pub struct Slot {
 }
 
 /// The slots of a root table that list an address.
-fn slots_of(alloc: Global, image: &Image, root: &Root<'_>) -> Result<Vec<Slot>, AllocError>
+fn slots_of(alloc: Global, image: &LentImage<'_>, root: &Root<'_>) -> Result<Vec<Slot>, AllocError>
     ensures { IfOk result
         (λ slots. AreSlots image.now (HasSlot root.now.bytes root.now.width) slots.items) }
 {
@@ -40,7 +40,7 @@ fn slots_of(alloc: Global, image: &Image, root: &Root<'_>) -> Result<Vec<Slot>, 
 /// is looked up once. Allocates for each of them.
 pub fn listed_slots(
     alloc: Global,
-    image: &Image,
+    image: &LentImage<'_>,
     root: &Option<Root<'_>>,
 ) -> Result<Vec<Slot>, AllocError>
     ensures { (p : ℕ) → IsRootOf image.now p root.now

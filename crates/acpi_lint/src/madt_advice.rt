@@ -10,7 +10,8 @@ ghost use Rattle.acpi_lint.specs.Rules.EntryTypes.{HasType};
 ghost use Rattle.acpi_lint.specs.Rules.GicAdvice.{LacksDistributor, IsNoDistributor, LacksRedistributor, IsNoRedistributor, AreGicrsKnown, IsGicrTooSmall, IsGiccBaseDiffers, IsRedistributorTwice, HasVersion};
 
 use crate::gic::GICR;
-use crate::madt_numbers::{MadtNumber, all_numbers, first_number, has_number, has_type};
+use crate::madt_forms::has_type;
+use crate::madt_numbers::{MadtNumber, all_numbers, first_number, has_number};
 use crate::numbered::{Numbered, Order, first_unlike};
 use crate::place::Place;
 use crate::processors::GICD;
@@ -22,7 +23,7 @@ use std::alloc::{AllocError, Global};
 
 // ---- local APICs and interrupts
 
-/// The first local x2APIC that is on and has an ID below 255, if a local APIC is on and has another ID than 255.
+/// The first usable local x2APIC with an ID below 255, if a usable local APIC has another ID than 255.
 pub fn x2apic_below_255(madt: &Table<'_>) -> Option<Place>
     ensures { FindsLeast (IsX2ApicBelow255 (madt_contents madt.now)) result }
 {
@@ -63,8 +64,8 @@ fn has_either_type(madt: &Table<'_>, low: u8, high: u8) -> bool
     has_type(madt, low) || has_type(madt, high)
 }
 
-/// Whether a MADT that is well-formed has no I/O APIC or I/O SAPIC, though a local APIC or a local x2APIC is on, and
-/// there is an override or an NMI source.
+/// Whether a MADT that is well-formed has no I/O APIC or I/O SAPIC, though a local APIC or a local x2APIC is usable,
+/// and there is an override or an NMI source.
 fn lacks_io_apic(policy: &Policy, madt: &Table<'_>) -> bool
     ensures { IsTrue result ↔ LacksIoApic (madt_contents madt.now) }
 {
@@ -81,7 +82,7 @@ fn lacks_io_apic(policy: &Policy, madt: &Table<'_>) -> bool
 }
 
 /// A place without numbers, if a MADT that is well-formed has no I/O APIC or I/O SAPIC, though a
-/// local APIC or a local x2APIC is on, and there is an override or an NMI source.
+/// local APIC or a local x2APIC is usable, and there is an override or an NMI source.
 pub fn no_io_apic(policy: &Policy, madt: &Table<'_>) -> Option<Place>
     ensures { FindsLeast (IsNoIoApic (madt_contents madt.now)) result }
 {
@@ -183,8 +184,8 @@ fn redistributors(lengths: &[u64]) -> u128
     count
 }
 
-/// The first range of redistributors, with how many there are as `other`, and with how many CPU interfaces are on as
-/// `point`, if these are more, and all ranges are known. Allocates for each of both.
+/// The first range of redistributors, with how many there are as `other`, and with how many CPU interfaces are usable
+/// as `point`, if these are more, and all ranges are known. Allocates for each of both.
 pub fn gicr_too_small(
     alloc: Global,
     policy: &Policy,
@@ -224,7 +225,7 @@ pub fn gicc_base_differs(madt: &Table<'_>) -> Option<Place>
     first_number(madt, MadtNumber::OtherGiccBase(first.point), first.at)
 }
 
-/// The first CPU interface that is on and names its own redistributor, at the address `point`, if there is a range of
+/// The first usable CPU interface that names its own redistributor, at the address `point`, if there is a range of
 /// them, of which the first is at `other`.
 pub fn redistributor_twice(madt: &Table<'_>) -> Option<Place>
     ensures { FindsLeast (IsRedistributorTwice (madt_contents madt.now)) result }

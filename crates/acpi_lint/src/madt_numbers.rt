@@ -1,38 +1,50 @@
-//! Numbers that entries of a MADT may have: the first one, whether there is any, and all of them.
+//! Numbers that entries of a MADT may have: the first one, whether there is any, all of them, and one that repeats.
 
-ghost use Rattle.std.specs.Prelude.{◌≡◌, ◌↔◌, IfOk, IsTrue};
+ghost use Rattle.std.specs.Prelude.{◌≡◌, ◌↔◌, IfOk, IsTrue, option_map};
 ghost use Rattle.acpi_base.specs.Madt.{madt_contents};
 ghost use Rattle.acpi_read.specs.Madts.{madt_value};
 ghost use Rattle.acpi_read.specs.Entries.{entry_at_value};
-ghost use Rattle.acpi_lint.specs.CompleteTables.{IsOpaque, HasOpaque};
-ghost use Rattle.acpi_lint.specs.EntryNumbers.{IsAnyNamed};
+ghost use Rattle.acpi_lint.specs.EntryNumbers.{AreKnown, IsAnyNamed};
 ghost use Rattle.acpi_lint.specs.MadtNumbers.{number_of, HasNumberWith, NamesWith};
+ghost use Rattle.acpi_lint.specs.Numbered.{at_place, AreNumbersAt};
 ghost use Rattle.acpi_lint.specs.Places.{FindsOwn, FindsLeast};
-ghost use Rattle.acpi_lint.specs.Rules.EntryTypes.{type_of, HasType};
-ghost use Rattle.acpi_lint.specs.Rules.Numbered.{numbers_of};
+ghost use Rattle.acpi_lint.specs.Rules.Numbered.{IsNamed, NamesAt, Repeats, numbers_of};
 
 use crate::apic::{
-    both_flags, broadcast_id, level_timer, local_id_on, low_x2apic_id, other_lint, plain_apic_id,
+    both_flags, broadcast_id, level_timer, low_x2apic_id, other_lint, plain_apic_id,
+    usable_hart_id, usable_local_id,
 };
 use crate::gic::{
-    empty_gicr, gicc_base, gicc_uid_on, gicd_version, gicr_base, gicr_length, other_gicc_base,
-    other_gicr, own_redistributor, reserved_mpidr,
+    empty_gicr, gicc_base, gicd_version, gicr_base, gicr_length, its_id, msi_frame_id,
+    other_gicc_base, other_gicr, own_redistributor, reserved_mpidr, usable_gicc_uid, usable_mpidr,
 };
+use crate::numbered::{Numbered, first_repeated};
 use crate::place::Place;
-use acpi_check::collected;
+use crate::processors::{
+    apic_id_of, gicd, io_apic_id, nonzero_io_apic_address, uid_of, usable_apic_id, usable_uid,
+};
+use acpi_check::{collected, sorted_unique};
 use acpi_read::{EntryAt, MadtEntry, Table};
 use std::alloc::{AllocError, Global};
 
 /// A number that an entry of a MADT may have.
 #[derive(Clone, Copy)]
 pub enum MadtNumber {
-    /// The ID of a local APIC or a local x2APIC that is on.
+    /// The UID of a processor.
+    Uid,
+    /// The UID of a usable processor.
+    UsableUid,
+    /// The APIC ID, x2APIC ID or core's ID of a processor that has one.
+    ApicId,
+    /// The same of a usable processor.
+    UsableApicId,
+    /// The ID of a usable local APIC or local x2APIC.
     LocalId,
-    /// The ID of a local APIC that is on, if it is not 255.
+    /// The ID of a usable local APIC, if it is not 255.
     PlainApicId,
-    /// The ID of a local x2APIC that is on, if it is below 255.
+    /// The ID of a usable local x2APIC, if it is below 255.
     LowX2apicId,
-    /// The ID of a local APIC or a local x2APIC that is on, if it means all.
+    /// The ID of a usable local APIC or local x2APIC, if it means all.
     BroadcastId,
     /// The flags of a processor, if it is Enabled and Online Capable.
     BothFlags,
@@ -40,6 +52,14 @@ pub enum MadtNumber {
     LevelTimer,
     /// The Local APIC LINT# of an NMI of local APICs, if it is not 1.
     OtherLint,
+    /// The ID of an I/O APIC.
+    IoApicId,
+    /// The address of an I/O APIC, if it is not 0.
+    IoApicAddress,
+    /// The ID of a usable hart.
+    UsableHartId,
+    /// The number 0 of a GIC distributor.
+    Gicd,
     /// The version of a GIC distributor.
     GicdVersion,
     /// The address of a range of redistributors.
@@ -50,16 +70,22 @@ pub enum MadtNumber {
     EmptyGicr,
     /// The length of an entry of the type of such a range that has another length.
     OtherGicr,
-    /// The UID of a GIC CPU interface that is on.
+    /// The UID of a usable GIC CPU interface.
     GiccUid,
     /// The address of a GIC CPU interface.
     GiccBase,
     /// The address of a GIC CPU interface, if it is not this one.
     OtherGiccBase(u64),
-    /// The address of the redistributor that a GIC CPU interface that is on names as its own.
+    /// The address of the redistributor that a usable GIC CPU interface names as its own.
     OwnRedistributor,
-    /// The MPIDR of a GIC CPU interface that is on, if a bit is set that is none of an affinity.
+    /// The MPIDR of a usable GIC CPU interface.
+    UsableMpidr,
+    /// The same, if a bit is set that is none of an affinity.
     ReservedMpidr,
+    /// The ID of an interrupt translation service.
+    ItsId,
+    /// The ID of an MSI frame.
+    MsiFrameId,
 }
 
 impl MadtNumber {
@@ -73,23 +99,34 @@ impl MadtNumber {
         ensures { result ≡ number_of self (madt_value entry.now) }
     {
         match self {
-            MadtNumber::LocalId => local_id_on(entry),
+            MadtNumber::Uid => uid_of(entry).map(u64::from),
+            MadtNumber::UsableUid => usable_uid(entry).map(u64::from),
+            MadtNumber::ApicId => apic_id_of(entry).map(u64::from),
+            MadtNumber::UsableApicId => usable_apic_id(entry).map(u64::from),
+            MadtNumber::LocalId => usable_local_id(entry),
             MadtNumber::PlainApicId => plain_apic_id(entry),
             MadtNumber::LowX2apicId => low_x2apic_id(entry),
             MadtNumber::BroadcastId => broadcast_id(entry),
             MadtNumber::BothFlags => both_flags(entry),
             MadtNumber::LevelTimer => level_timer(entry),
             MadtNumber::OtherLint => other_lint(entry),
+            MadtNumber::IoApicId => io_apic_id(entry).map(u64::from),
+            MadtNumber::IoApicAddress => nonzero_io_apic_address(entry).map(u64::from),
+            MadtNumber::UsableHartId => usable_hart_id(entry),
+            MadtNumber::Gicd => gicd(entry).map(u64::from),
             MadtNumber::GicdVersion => gicd_version(entry),
             MadtNumber::GicrBase => gicr_base(entry),
             MadtNumber::GicrLength => gicr_length(entry),
             MadtNumber::EmptyGicr => empty_gicr(entry),
             MadtNumber::OtherGicr => other_gicr(entry),
-            MadtNumber::GiccUid => gicc_uid_on(entry),
+            MadtNumber::GiccUid => usable_gicc_uid(entry),
             MadtNumber::GiccBase => gicc_base(entry),
             MadtNumber::OtherGiccBase(base) => other_gicc_base(base, entry),
             MadtNumber::OwnRedistributor => own_redistributor(entry),
+            MadtNumber::UsableMpidr => usable_mpidr(entry),
             MadtNumber::ReservedMpidr => reserved_mpidr(entry),
+            MadtNumber::ItsId => its_id(entry),
+            MadtNumber::MsiFrameId => msi_frame_id(entry),
         }
     }
 }
@@ -146,61 +183,61 @@ pub fn all_numbers(
     )
 }
 
-// ---- types of entries
-
-/// The type of an entry.
-#[inline(always)]
-fn type_of(entry: &MadtEntry<'_>) -> u8
-    ensures { result ≡ type_of (madt_value entry.now) }
+/// The numbers of all entries of a MADT that have one, in rising order. Allocates for each.
+pub fn rising_numbers(
+    alloc: Global,
+    madt: &Table<'_>,
+    number: MadtNumber,
+) -> Result<Vec<u64>, AllocError>
+    ensures { IfOk result (λ known. AreKnown
+        (IsNamed (number_of number) (madt_contents madt.now).entries) known.items) }
 {
-    match entry {
-        MadtEntry::LocalApic(_) => 0,
-        MadtEntry::IoApic(_) => 1,
-        MadtEntry::Override(_) => 2,
-        MadtEntry::NmiSource(_) => 3,
-        MadtEntry::LocalNmi(_) => 4,
-        MadtEntry::AddressOverride(_) => 5,
-        MadtEntry::X2apic(_) => 9,
-        MadtEntry::X2apicNmi(_) => 10,
-        MadtEntry::Opaque(bytes) => match bytes.first() {
-            Some(first) => *first,
-            None => 0,
-        },
-    }
+    let numbers = all_numbers(alloc, madt, number)?;
+    sorted_unique(numbers)
 }
 
-/// Whether a MADT has an entry of this type, of any length.
+/// The number of an entry at the entry's offset.
 #[inline(always)]
-pub fn has_type(madt: &Table<'_>, wanted: u8) -> bool
-    ensures { IsTrue result ↔ HasType (madt_contents madt.now) wanted }
+fn number_at(number: MadtNumber, at: &EntryAt<MadtEntry<'_>>) -> Option<Numbered>
+    ensures { result
+        ≡ option_map (at_place at.now.offset) (number_of number (madt_value at.now.entry)) }
 {
-    for at in madt.entries::<MadtEntry<'_>>() {
-        if type_of(&at.entry) == wanted {
-            return true;
-        }
-    }
-    false
+    let number = number.of(&at.entry)?;
+    Some(Numbered {
+        number,
+        at: at.offset,
+        value: at.offset,
+    })
 }
 
-/// Whether an entry is one that the stages do not read.
+/// The numbers of all entries of a MADT that have one, each at its entry's offset. Allocates for each.
 #[inline(always)]
-fn is_opaque(entry: &MadtEntry<'_>) -> bool
-    ensures { IsTrue result ↔ IsOpaque (madt_value entry.now) }
+fn numbers_at(
+    alloc: Global,
+    madt: &Table<'_>,
+    number: MadtNumber,
+) -> Result<Vec<Numbered>, AllocError>
+    ensures { IfOk result (λ given. AreNumbersAt
+        (NamesAt (number_of number) (madt_contents madt.now).entries) given.items) }
 {
-    match entry {
-        MadtEntry::Opaque(_) => true,
-        _ => false,
-    }
+    collected(
+        alloc,
+        madt.entries::<MadtEntry<'_>>(),
+        |at| number_at(number, at),
+    )
 }
 
-/// Whether a MADT has such an entry.
-pub fn has_opaque(madt: &Table<'_>) -> bool
-    ensures { IsTrue result ↔ HasOpaque (madt_contents madt.now) }
+/// The first entry of a MADT that has the number of an earlier one; `other` is the first that has it, and `point` the
+/// number. Allocates for each number.
+#[inline(always)]
+pub fn repeated_number(
+    alloc: Global,
+    madt: &Table<'_>,
+    number: MadtNumber,
+) -> Result<Option<Place>, AllocError>
+    ensures { IfOk result
+        (FindsLeast (Repeats (number_of number) (madt_contents madt.now).entries)) }
 {
-    for at in madt.entries::<MadtEntry<'_>>() {
-        if is_opaque(&at.entry) {
-            return true;
-        }
-    }
-    false
+    let given = numbers_at(alloc, madt, number)?;
+    first_repeated(given)
 }

@@ -5,7 +5,7 @@
 ghost use Rattle.std.specs.Prelude.{◌<◌, AllPairs, IfOk};
 ghost use Rattle.acpi_lint.specs.Rules.MadtAdvice.{nmi_uid, IsNmiNowhere, IsNoProcessor};
 ghost use Rattle.acpi_lint.specs.Rules.PpttAdvice.{IsNoLeaf, IsLeafNowhere};
-ghost use Rattle.acpi_lint.specs.Rules.Processors.{uid_on, AreProcessorsRead, AreProcessorsKnown};
+ghost use Rattle.acpi_lint.specs.Rules.Processors.{usable_uid, AreProcessorsRead, AreProcessorsKnown};
 ghost use Rattle.acpi_lint.specs.Rules.SratAdvice.{IsAffinityNowhere, IsNoDomain};
 ghost use Rattle.acpi_base.specs.Madt.{madt_contents};
 ghost use Rattle.acpi_base.specs.Pptt.{pptt_contents};
@@ -21,19 +21,20 @@ ghost use Rattle.acpi_lint.specs.EntryNumbers.{IsUnknown, IsUnknownOf, IsUnknown
 use crate::gic_overlap::gic_overlap;
 use crate::its::its_nowhere;
 use crate::known_numbers::{
-    are_processors_known, are_processors_read, has_node, has_opaque_processor, is_any_on,
-    is_any_placed, leaf_ids, placed_apic_ids, placed_uids, processor_apic_ids, processor_uids,
+    are_processors_known, are_processors_read, has_node, has_opaque_processor, is_any_placed,
+    leaf_ids, placed_apic_ids, placed_uids,
 };
 use crate::leaves::leaves_of;
 use crate::madt_advice::{
     gicc_base_differs, gicr_too_small, no_distributor, no_io_apic, no_redistributor,
     redistributor_twice, two_sources_one_gsi, x2apic_below_255,
 };
+use crate::madt_numbers::{MadtNumber, has_number, rising_numbers};
 use crate::numbered::Numbered;
 use crate::passes::first_picked;
 use crate::place::Place;
 use crate::processors::{
-    apic_id_on, nmi_uid, placed_apic_id, placed_uid, uid_on, uid_on_without_id,
+    nmi_uid, placed_apic_id, placed_uid, usable_apic_id, usable_uid, usable_uid_without_id,
 };
 use crate::rule::Rule;
 use crate::well_formed::{is_pptt_well_formed, is_srat_well_formed};
@@ -80,7 +81,7 @@ fn where_read(madt: &Table<'_>, place: Option<Place>) -> Option<Place>
 fn no_processor(policy: &Policy, madt: &Table<'_>) -> Option<Place>
     ensures { FindsLeast (IsNoProcessor (madt_contents madt.now)) result }
 {
-    if is_any_on(madt) {
+    if has_number(madt, MadtNumber::UsableUid) {
         return None;
     }
     where_known(policy, madt, Some(Place::at(0)))
@@ -103,7 +104,7 @@ fn nmi_nowhere(
 ) -> Result<Option<Place>, AllocError>
     ensures { IfOk result (FindsLeast (IsNmiNowhere (madt_contents madt.now))) }
 {
-    let uids = processor_uids(alloc, madt)?;
+    let uids = rising_numbers(alloc, madt, MadtNumber::Uid)?;
     let uids = uids.as_slice();
     let place = first_picked(madt.entries::<MadtEntry<'_>>(), |at| unknown_nmi(uids, at));
     Ok(where_known(policy, madt, place))
@@ -160,8 +161,8 @@ fn affinity_nowhere(
     ensures { IfOk result (FindsLeast
         (IsAffinityNowhere (madt_contents madt.now) (srat_contents srat.now))) }
 {
-    let ids = processor_apic_ids(alloc, madt)?;
-    let uids = processor_uids(alloc, madt)?;
+    let ids = rising_numbers(alloc, madt, MadtNumber::ApicId)?;
+    let uids = rising_numbers(alloc, madt, MadtNumber::Uid)?;
     let ids = ids.as_slice();
     let uids = uids.as_slice();
     let place = first_picked(
@@ -177,9 +178,9 @@ fn unplaced(ids: &[u64], uids: &[u64], at: &EntryAt<MadtEntry<'_>>) -> Option<Pl
     requires uids { AllPairs (λ i j. i < j) uids.now }
     ensures { FindsOwn (IsUnplaced ids.now uids.now) (entry_at_value madt_value at.now) result }
 {
-    match uid_on_without_id(&at.entry) {
+    match usable_uid_without_id(&at.entry) {
         Some(uid) => unknown_place(uids, at.offset, Some(uid)),
-        None => unknown_place(ids, at.offset, apic_id_on(&at.entry)),
+        None => unknown_place(ids, at.offset, usable_apic_id(&at.entry)),
     }
 }
 
@@ -235,9 +236,9 @@ pub fn madt_srat_place(
 /// The place of a usable processor whose UID is not among the leaves' IDs.
 fn leafless(ids: &[u64], at: &EntryAt<MadtEntry<'_>>) -> Option<Place>
     requires { AllPairs (λ i j. i < j) ids.now }
-    ensures { FindsOwn (IsUnknownOf uid_on ids.now) (entry_at_value madt_value at.now) result }
+    ensures { FindsOwn (IsUnknownOf usable_uid ids.now) (entry_at_value madt_value at.now) result }
 {
-    unknown_place(ids, at.offset, uid_on(&at.entry))
+    unknown_place(ids, at.offset, usable_uid(&at.entry))
 }
 
 /// The first usable processor of a MADT for which a PPTT has no leaf, if the PPTT has a node and is well-formed, and the
@@ -295,7 +296,7 @@ fn leaf_nowhere(
     if !has_opaque_processor(madt) {
         return Ok(None);
     }
-    let uids = processor_uids(alloc, madt)?;
+    let uids = rising_numbers(alloc, madt, MadtNumber::Uid)?;
     let leaves = leaves_of(alloc, policy, pptt)?;
     Ok(where_known(policy, madt, first_unknown(&uids, &leaves)))
 }

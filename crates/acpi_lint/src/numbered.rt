@@ -94,7 +94,7 @@ fn least_unlike(sorted: &[Numbered], order: Order) -> Option<Place>
 const FEW: usize = 20;
 
 /// Sorts numbers. Refuses if out of memory, for more than `FEW` that are not in order.
-fn sort_numbers(given: &mut Vec<Numbered>) -> Result<(), AllocError>
+pub fn sort_numbers(given: &mut Vec<Numbered>) -> Result<(), AllocError>
     ensures permutation { IsPermutation given.old.items given.new.items }
     ensures sorted { OnOk result (AllPairs IsNotAbove given.new.items) }
 {

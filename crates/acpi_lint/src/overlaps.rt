@@ -21,12 +21,12 @@ pub fn range_span(name: u32, start: u64, count: u64) -> Option<Span>
     Span::new(start, start + u128::from(count), name)
 }
 
-/// Adds a span, if there is one.
-pub fn push(spans: &mut Vec<Span>, found: Option<Span>) -> Result<(), AllocError>
-    ensures { OnOk result (spans.new.items ≡ spans.old.items ++ option_to_list found) }
+/// Adds an item, if there is one.
+pub fn push<T: Copy>(items: &mut Vec<T>, found: Option<T>) -> Result<(), AllocError>
+    ensures { OnOk result (items.new.items ≡ items.old.items ++ option_to_list found) }
 {
-    if let Some(span) = found {
-        spans.push(span)?;
+    if let Some(item) = found {
+        items.push(item)?;
     }
     Ok(())
 }

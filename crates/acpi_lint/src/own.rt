@@ -18,14 +18,14 @@ ghost use Rattle.acpi_read.specs.Srats.{srat_value};
 ghost use Rattle.acpi_read.specs.Entries.{entry_at_value};
 ghost use Rattle.acpi_check.specs.CollectedValues.{Picks};
 ghost use Rattle.acpi_lint.specs.Places.{PicksFirst, FindsOwn};
-ghost use Rattle.acpi_lint.specs.RuleGroups.{Finds, on_madt_entry, on_srat_entry, on_srat_slit_entry, on_pptt_entry};
-ghost use Rattle.acpi_lint.specs.Rules.Broken as broken;
+ghost use Rattle.acpi_lint.specs.RuleGroups.{Finds, as_group, on_srat_entry, on_srat_slit_entry, on_pptt_entry};
 ghost use Rattle.acpi_lint.specs.Rules.Broken.{condition};
+ghost use Rattle.acpi_lint.specs.declared.rule_group.RuleGroup.TheVariants as group;
 
 use crate::complete_tables::CompleteTables;
 use crate::domains::{empty_range, initiator_off};
 use crate::gic::{GICD_LEN, GICR, GICR_LEN, ITS, ITS_LEN, MSI_FRAME, MSI_FRAME_LEN};
-use crate::madt_numbers::{MadtNumber, number_place};
+use crate::madt_numbers::{MadtNumber, first_number};
 use crate::passes::first_picked;
 use crate::place::Place;
 use crate::processors::{
@@ -104,36 +104,18 @@ fn madt_unread(at: &EntryAt<MadtEntry<'_>>) -> Option<Place>
 /// The place of the first entry of a set's MADT that breaks a rule by itself. None for another rule. The rule is told
 /// apart before the entries are gone over, so that each pass reads only what its rule needs.
 pub fn madt_entries_place(tables: &CompleteTables<'_>, rule: Rule) -> Option<Place>
-    ensures { Finds (broken.MadtEntries (on_madt_entry (condition rule))) tables.now result }
+    ensures { Finds (as_group group.MadtEntries (condition rule)) tables.now result }
 {
-    let entries = tables.madt_entries();
+    let madt = tables.madt()?;
     match rule {
-        Rule::IoApicAtZero => first_own_place(entries, io_apic_at_zero),
-        Rule::MadtUnread => first_own_place(entries, madt_unread),
-        Rule::BroadcastId => first_own_place(
-            entries,
-            |at| number_place(MadtNumber::BroadcastId, 0, at),
-        ),
-        Rule::EnabledAndCapable => first_own_place(
-            entries,
-            |at| number_place(MadtNumber::BothFlags, 0, at),
-        ),
-        Rule::TimerLevel => first_own_place(
-            entries,
-            |at| number_place(MadtNumber::LevelTimer, 0, at),
-        ),
-        Rule::LintNotOne => first_own_place(
-            entries,
-            |at| number_place(MadtNumber::OtherLint, 0, at),
-        ),
-        Rule::MpidrReserved => first_own_place(
-            entries,
-            |at| number_place(MadtNumber::ReservedMpidr, 0, at),
-        ),
-        Rule::GicrEmpty => first_own_place(
-            entries,
-            |at| number_place(MadtNumber::EmptyGicr, 0, at),
-        ),
+        Rule::IoApicAtZero => first_picked(madt.entries::<MadtEntry<'_>>(), io_apic_at_zero),
+        Rule::MadtUnread => first_picked(madt.entries::<MadtEntry<'_>>(), madt_unread),
+        Rule::BroadcastId => first_number(&madt, MadtNumber::BroadcastId, 0),
+        Rule::EnabledAndCapable => first_number(&madt, MadtNumber::BothFlags, 0),
+        Rule::TimerLevel => first_number(&madt, MadtNumber::LevelTimer, 0),
+        Rule::LintNotOne => first_number(&madt, MadtNumber::OtherLint, 0),
+        Rule::MpidrReserved => first_number(&madt, MadtNumber::ReservedMpidr, 0),
+        Rule::GicrEmpty => first_number(&madt, MadtNumber::EmptyGicr, 0),
         _ => None,
     }
 }

@@ -1,16 +1,13 @@
 //! Advice on register blocks of a FADT that share a port (ACPI 6.5, 5.2.9).
 
-ghost use Rattle.std.specs.Prelude.{◌≡◌, ◌+◌, ◌*◌, ◌<◌, ℕ, IfOk};
-ghost use Rattle.acpi_base.specs.Memory.{Memory};
+ghost use Rattle.std.specs.Prelude.{◌≡◌, ◌<◌, IfOk};
 ghost use Rattle.acpi_check.specs.RangeSpans.{BeginLow};
-ghost use Rattle.acpi_lint.specs.CompleteTables.{AreCompleteTables};
 ghost use Rattle.acpi_lint.specs.Places.{FindsLeast};
 ghost use Rattle.acpi_lint.specs.Ranges.{AreRanges, FindsRange};
-ghost use Rattle.acpi_lint.specs.Rules.FadtBlocks.{block_address, port_bytes};
-ghost use Rattle.acpi_lint.specs.Rules.Ports.{IsBlockRange, IsBlockOverlap, IsPortsOverlap};
+ghost use Rattle.acpi_lint.specs.Rules.FadtBlocks.{block_at, block_address, port_bytes};
+ghost use Rattle.acpi_lint.specs.Rules.Ports.{IsBlockRange, IsPortsOverlap};
 
-use crate::complete_tables::CompleteTables;
-use crate::fadt_blocks::{block_address, port_bytes};
+use crate::fadt_blocks::{block_address, block_offset, port_bytes};
 use crate::overlaps::{first_overlap, push, range_span};
 use crate::place::Place;
 use acpi_graph::Span;
@@ -20,11 +17,11 @@ use std::alloc::{AllocError, Global};
 /// What register block k has of system I/O, by the offset of its 4-byte field.
 fn block_span(fadt: &Fadt<'_>, k: u8) -> Option<Span>
     requires { k < 8 }
-    ensures { FindsRange (56 + 4 * k) (λ s n.
+    ensures { FindsRange (block_at k) (λ s n.
         (s ≡ block_address fadt.now k) × (n ≡ port_bytes fadt.now k)) result }
 {
     let bytes = u64::from(port_bytes(fadt, k));
-    range_span(56 + 4 * u32::from(k), block_address(fadt, k), bytes)
+    range_span(block_offset(k), block_address(fadt, k), bytes)
 }
 
 /// What the register blocks have of system I/O. Allocates for each.
@@ -41,28 +38,12 @@ fn block_spans(alloc: Global, fadt: &Fadt<'_>) -> Result<Vec<Span>, AllocError>
 
 /// The lowest port that two register blocks have, and the first two that have it, if the hardware
 /// is not reduced. Allocates for each block.
-fn block_overlap(alloc: Global, fadt: &Fadt<'_>) -> Result<Option<Place>, AllocError>
-    ensures { IfOk result (FindsLeast (IsBlockOverlap fadt.now)) }
+pub fn ports_overlap(alloc: Global, fadt: &Fadt<'_>) -> Result<Option<Place>, AllocError>
+    ensures { IfOk result (FindsLeast (IsPortsOverlap fadt.now)) }
 {
     if fadt.reduced() {
         return Ok(None);
     }
     let spans = block_spans(alloc, fadt)?;
     first_overlap(alloc, spans)
-}
-
-/// The lowest port that two register blocks of a set's FADT have, and the first two that have it,
-/// if the hardware is not reduced. None if there is no FADT, or no two blocks share a port. The
-/// tables are those of the set. Allocates for each block.
-pub fn ports_overlap(
-    alloc: Global,
-    tables: &CompleteTables<'_>,
-) -> Result<Option<Place>, AllocError>
-    ensures { (m : Memory) (p : ℕ) → AreCompleteTables m p tables.now
-        → IfOk result (FindsLeast (IsPortsOverlap m p)) }
-{
-    let Some(fadt) = tables.fadt() else {
-        return Ok(None);
-    };
-    block_overlap(alloc, &fadt)
 }

@@ -1,10 +1,10 @@
 //! Numbers in entries: those of processors, and those that are compared with them or looked up.
 
-ghost use Rattle.std.specs.Prelude.{◌≡◌, ◌<◌, ◌≤◌, ◌||◌, length, IsTrue};
+ghost use Rattle.std.specs.Prelude.{◌≡◌, ◌<◌, ◌≤◌, length, IsTrue};
 ghost use Rattle.std.specs.Option.{option_map};
 ghost use Rattle.acpi_lint.specs.Rules.MadtAdvice.{io_apic_address, io_apic_id, nonzero_io_apic_address, nmi_uid, gicd};
 ghost use Rattle.acpi_lint.specs.Rules.PpttAdvice.{cache_id};
-ghost use Rattle.acpi_lint.specs.Rules.Processors.{is_gicc, is_rintc, is_core_pic, opaque_processor, processor_of, uid_of, uid_on, apic_id_of, apic_id_on, uid_on_without_id, is_gicc_affinity, is_rintc_affinity, is_its_affinity, is_generic_affinity, placed_apic_id, placed_uid, processor_domain, any_domain};
+ghost use Rattle.acpi_lint.specs.Rules.Processors.{is_usable, is_gicc, is_rintc, is_core_pic, opaque_processor, processor_of, uid_of, usable_uid, apic_id_of, usable_apic_id, usable_uid_without_id, is_gicc_affinity, is_rintc_affinity, is_its_affinity, is_generic_affinity, placed_apic_id, placed_uid, processor_domain, any_domain};
 ghost use Rattle.acpi_base.specs.Number.{has_bit};
 ghost use Rattle.acpi_read.specs.Madts.{madt_value};
 ghost use Rattle.acpi_read.specs.Pptts.{pptt_value};
@@ -24,7 +24,7 @@ pub struct Processor {
     /// Its APIC ID, x2APIC ID or core's ID: they are one number space. A GIC CPU interface and a hart have none.
     pub apic_id: Option<u32>,
     /// Whether it is usable: Enabled or Online Capable.
-    pub on: bool,
+    pub usable: bool,
 }
 
 /// The type of a GIC distributor (ACPI 6.5, 5.2.12.15).
@@ -67,9 +67,9 @@ pub fn is_set(flags: u32, bit: u32) -> bool
 
 /// Whether Enabled, bit 0, or Online Capable, the bit `capable`, is set in a processor's flags.
 #[inline(always)]
-pub fn is_on(flags: u32, capable: u32) -> bool
+pub fn is_usable(flags: u32, capable: u32) -> bool
     requires { capable < 32 }
-    ensures { result ≡ has_bit flags 0 || has_bit flags capable }
+    ensures { result ≡ is_usable flags capable }
 {
     is_set(flags, 0) || is_set(flags, capable)
 }
@@ -112,21 +112,21 @@ pub fn opaque_processor(bytes: &[u8]) -> Option<Processor>
         return Some(Processor {
             uid: u32_at(bytes, 8),
             apic_id: None,
-            on: is_on(u32_at(bytes, 12), 3),
+            usable: is_usable(u32_at(bytes, 12), 3),
         });
     }
     if is_rintc(bytes) {
         return Some(Processor {
             uid: u32_at(bytes, 16),
             apic_id: None,
-            on: is_on(u32_at(bytes, 4), 1),
+            usable: is_usable(u32_at(bytes, 4), 1),
         });
     }
     if is_core_pic(bytes) {
         return Some(Processor {
             uid: u32_at(bytes, 3),
             apic_id: Some(u32_at(bytes, 7)),
-            on: is_enabled(u32_at(bytes, 11)),
+            usable: is_enabled(u32_at(bytes, 11)),
         });
     }
     None
@@ -141,12 +141,12 @@ fn processor_of(entry: &MadtEntry<'_>) -> Option<Processor>
         MadtEntry::LocalApic(processor) => Some(Processor {
             uid: u32::from(processor.uid),
             apic_id: Some(u32::from(processor.apic_id)),
-            on: is_on(processor.flags, 1),
+            usable: is_usable(processor.flags, 1),
         }),
         MadtEntry::X2apic(processor) => Some(Processor {
             uid: processor.uid,
             apic_id: Some(processor.x2apic_id),
-            on: is_on(processor.flags, 1),
+            usable: is_usable(processor.flags, 1),
         }),
         MadtEntry::Opaque(bytes) => opaque_processor(bytes),
         _ => None,
@@ -164,11 +164,11 @@ pub fn uid_of(entry: &MadtEntry<'_>) -> Option<u32>
 
 /// The UID of a usable processor.
 #[inline(always)]
-pub fn uid_on(entry: &MadtEntry<'_>) -> Option<u32>
-    ensures { result ≡ uid_on (madt_value entry.now) }
+pub fn usable_uid(entry: &MadtEntry<'_>) -> Option<u32>
+    ensures { result ≡ usable_uid (madt_value entry.now) }
 {
     let processor = processor_of(entry)?;
-    processor.on.then_some(processor.uid)
+    processor.usable.then_some(processor.uid)
 }
 
 /// The APIC ID, x2APIC ID or core's ID of a processor that has one.
@@ -181,11 +181,11 @@ pub fn apic_id_of(entry: &MadtEntry<'_>) -> Option<u32>
 
 /// The same for a usable processor.
 #[inline(always)]
-pub fn apic_id_on(entry: &MadtEntry<'_>) -> Option<u32>
-    ensures { result ≡ apic_id_on (madt_value entry.now) }
+pub fn usable_apic_id(entry: &MadtEntry<'_>) -> Option<u32>
+    ensures { result ≡ usable_apic_id (madt_value entry.now) }
 {
     let processor = processor_of(entry)?;
-    if processor.on {
+    if processor.usable {
         processor.apic_id
     } else {
         None
@@ -194,11 +194,11 @@ pub fn apic_id_on(entry: &MadtEntry<'_>) -> Option<u32>
 
 /// The UID of a usable processor that has no APIC ID.
 #[inline(always)]
-pub fn uid_on_without_id(entry: &MadtEntry<'_>) -> Option<u32>
-    ensures { result ≡ uid_on_without_id (madt_value entry.now) }
+pub fn usable_uid_without_id(entry: &MadtEntry<'_>) -> Option<u32>
+    ensures { result ≡ usable_uid_without_id (madt_value entry.now) }
 {
     let processor = processor_of(entry)?;
-    (processor.on && processor.apic_id.is_none()).then_some(processor.uid)
+    (processor.usable && processor.apic_id.is_none()).then_some(processor.uid)
 }
 
 /// The UID to which a local APIC NMI or local x2APIC NMI applies. None if it applies to all processors.

@@ -1,74 +1,36 @@
 //! Numbers that occur twice although each should be unique, and processors that are put into two domains.
 
-ghost use Rattle.std.specs.Prelude.{◌≡◌, IfOk, MatchOption, option_map};
-ghost use denote.Ref.{Bor};
-ghost use Rattle.acpi_base.specs.Entries.{entries_read_by};
+ghost use Rattle.std.specs.Prelude.{◌≡◌, IfOk, option_map};
 ghost use Rattle.acpi_lint.specs.Rules.PpttAdvice.{cache_id, IsSameCacheId, IsSameLeaf};
 ghost use Rattle.acpi_lint.specs.Rules.SratAdvice.{IsTwoUidDomains};
 ghost use Rattle.acpi_base.specs.Pptt.{pptt_contents};
 ghost use Rattle.acpi_base.specs.Srat.{srat_contents};
 ghost use Rattle.acpi_read.specs.Pptts.{pptt_value};
 ghost use Rattle.acpi_read.specs.Srats.{srat_value};
-ghost use Rattle.acpi_check.specs.CollectedValues.{Picks};
-ghost use Rattle.acpi_lint.specs.RuleGroups.{Finds, unique_number, in_pptt, in_srat};
-ghost use Rattle.acpi_lint.specs.Rules.Broken as broken;
+ghost use Rattle.acpi_lint.specs.Rules.Numbered.{NamesAt};
+ghost use Rattle.acpi_lint.specs.RuleGroups.{Finds, as_group, in_pptt, in_srat};
 ghost use Rattle.acpi_lint.specs.Rules.Broken.{condition};
-ghost use Rattle.acpi_lint.specs.EntryNumbers.{domain_of_uid, FindsRepeated};
-ghost use Rattle.acpi_lint.specs.Numbered.{at_place};
+ghost use Rattle.acpi_lint.specs.EntryNumbers.{domain_of_uid};
+ghost use Rattle.acpi_lint.specs.Numbered.{at_place, AreNumbersAt};
 ghost use Rattle.acpi_lint.specs.Places.{FindsLeast};
+ghost use Rattle.acpi_lint.specs.declared.rule_group.RuleGroup.TheVariants as group;
 
-use crate::apic::hart_id_on;
 use crate::complete_tables::CompleteTables;
 use crate::domains::no_memory_range;
-use crate::gic::{its_id, mpidr_on, msi_frame_id};
 use crate::hierarchy::{leaf_as_parent, leaf_unflagged};
 use crate::leaves::{leaves_of, revision};
+use crate::madt_numbers::{MadtNumber, repeated_number};
 use crate::numbered::{Numbered, Order, at_place, first_repeated, first_unlike};
 use crate::packages::no_package;
 use crate::place::Place;
-use crate::processors::{
-    apic_id_on, cache_id, gicd, io_apic_id, nonzero_io_apic_address, placed_uid, processor_domain,
-    uid_on,
-};
+use crate::processors::{cache_id, placed_uid, processor_domain};
 use crate::rule::Rule;
 use acpi_base::Policy;
 use acpi_check::collected;
-use acpi_read::{EntryAt, MadtEntry, PpttEntry, SratEntry, Table, TableEntry, TypedEntries};
+use acpi_read::{EntryAt, PpttEntry, SratEntry, Table};
 use std::alloc::{AllocError, Global};
 
-/// The first entry of a table whose number an earlier one has; `other` is the first that has it, and `point` the
-/// number. `pick` returns an entry's number at its place. None if there is no table. Allocates for each number.
-pub fn repeated<'a, E: TableEntry<'a> + Copy, F: Fn(&EntryAt<E>) -> Option<Numbered>>(
-    alloc: Global,
-    entries: Option<TypedEntries<'a, E>>,
-    pick: F,
-) -> Result<Option<Place>, AllocError>
-    requires { (at : Bor (EntryAt E)) → F.pre pick at }
-    ensures { IfOk result (λ found. MatchOption entries.entry (found ≡ None) (λ e.
-        FindsRepeated (Picks E.value (F.post pick)) (entries_read_by E.said_by e.entries.entries)
-        found)) }
-{
-    let Some(entries) = entries else {
-        return Ok(None);
-    };
-    let numbers = collected(alloc, entries, pick)?;
-    first_unlike(numbers, Order::Later)
-}
-
 // ---- the MADT
-
-/// The number of an entry of a MADT at the entry's place.
-#[inline(always)]
-fn number_at(at: &EntryAt<MadtEntry<'_>>, number: Option<u64>) -> Option<Numbered>
-    ensures { result ≡ option_map (at_place at.now.offset) number }
-{
-    let number = number?;
-    Some(Numbered {
-        number,
-        at: at.offset,
-        value: at.offset,
-    })
-}
 
 /// The first entry of a set's MADT that has the number of an earlier one, where a rule wants it to be unique. None for
 /// another rule. The rule is told apart before the entries are gone over, so that each pass reads only what its rule
@@ -78,31 +40,21 @@ pub fn madt_numbers_place(
     tables: &CompleteTables<'_>,
     rule: Rule,
 ) -> Result<Option<Place>, AllocError>
-    ensures { IfOk result (Finds (broken.MadtNumbers (unique_number (condition rule))) tables.now) }
+    ensures { IfOk result (Finds (as_group group.MadtNumbers (condition rule)) tables.now) }
 {
-    let entries = tables.madt_entries();
+    let Some(madt) = tables.madt() else {
+        return Ok(None);
+    };
     match rule {
-        Rule::SameUid => repeated(alloc, entries, |at| at_place(at.offset, uid_on(&at.entry))),
-        Rule::SameApicId => repeated(
-            alloc,
-            entries,
-            |at| at_place(at.offset, apic_id_on(&at.entry)),
-        ),
-        Rule::SameIoApicId => repeated(
-            alloc,
-            entries,
-            |at| at_place(at.offset, io_apic_id(&at.entry)),
-        ),
-        Rule::SameIoApicAddress => repeated(
-            alloc,
-            entries,
-            |at| at_place(at.offset, nonzero_io_apic_address(&at.entry)),
-        ),
-        Rule::SecondGicd => repeated(alloc, entries, |at| at_place(at.offset, gicd(&at.entry))),
-        Rule::SameMpidr => repeated(alloc, entries, |at| number_at(at, mpidr_on(&at.entry))),
-        Rule::SameIts => repeated(alloc, entries, |at| number_at(at, its_id(&at.entry))),
-        Rule::SameMsiFrame => repeated(alloc, entries, |at| number_at(at, msi_frame_id(&at.entry))),
-        Rule::SameHart => repeated(alloc, entries, |at| number_at(at, hart_id_on(&at.entry))),
+        Rule::SameUid => repeated_number(alloc, &madt, MadtNumber::UsableUid),
+        Rule::SameApicId => repeated_number(alloc, &madt, MadtNumber::UsableApicId),
+        Rule::SameIoApicId => repeated_number(alloc, &madt, MadtNumber::IoApicId),
+        Rule::SameIoApicAddress => repeated_number(alloc, &madt, MadtNumber::IoApicAddress),
+        Rule::SecondGicd => repeated_number(alloc, &madt, MadtNumber::Gicd),
+        Rule::SameMpidr => repeated_number(alloc, &madt, MadtNumber::UsableMpidr),
+        Rule::SameIts => repeated_number(alloc, &madt, MadtNumber::ItsId),
+        Rule::SameMsiFrame => repeated_number(alloc, &madt, MadtNumber::MsiFrameId),
+        Rule::SameHart => repeated_number(alloc, &madt, MadtNumber::UsableHartId),
         _ => Ok(None),
     }
 }
@@ -119,6 +71,14 @@ fn cache_id_at(at: &EntryAt<PpttEntry<'_>>) -> Option<Numbered>
     at_place(at.offset, cache_id(&at.entry))
 }
 
+/// The Cache IDs of a PPTT's caches. Allocates for each.
+fn cache_ids(alloc: Global, pptt: &Table<'_>) -> Result<Vec<Numbered>, AllocError>
+    ensures { IfOk result (λ ids. AreNumbersAt (NamesAt cache_id (pptt_contents pptt.now).entries)
+        ids.items) }
+{
+    collected(alloc, pptt.entries::<PpttEntry<'_>>(), cache_id_at)
+}
+
 /// The first cache that has the Cache ID of an earlier one, if the PPTT's Revision is 3 or later. Allocates for the
 /// Cache ID of each.
 fn same_cache_id(alloc: Global, pptt: &Table<'_>) -> Result<Option<Place>, AllocError>
@@ -127,7 +87,8 @@ fn same_cache_id(alloc: Global, pptt: &Table<'_>) -> Result<Option<Place>, Alloc
     if revision(pptt) < HAS_CACHE_IDS {
         return Ok(None);
     }
-    repeated(alloc, Some(pptt.entries::<PpttEntry<'_>>()), cache_id_at)
+    let ids = cache_ids(alloc, pptt)?;
+    first_repeated(ids)
 }
 
 /// The first leaf that has the ACPI processor ID of an earlier one. Allocates for each leaf, and below Revision 2 for

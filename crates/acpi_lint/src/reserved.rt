@@ -2,13 +2,13 @@
 
 ghost use Rattle.std.specs.Prelude.{◌≡◌, ◌≤◌, IsTrue, length, true, option_map};
 ghost use Rattle.std.specs.List.{list_all};
-ghost use denote.Ref.{Bor};
 ghost use Rattle.acpi_base.specs.Entries.{IsEntry};
 ghost use Rattle.acpi_base.specs.Madt.{madt_entry, Opaque};
 ghost use Rattle.acpi_base.specs.Pptt.{pptt_entry};
 ghost use Rattle.acpi_base.specs.Srat.{srat_entry};
+ghost use Rattle.acpi_read.specs.Entries.{entry_value};
 ghost use Rattle.acpi_lint.specs.Places.{PicksFirst, FindsLeast};
-ghost use Rattle.acpi_lint.specs.Reserved.{limit_value, limits_value, has_width, past_place, PicksRaw};
+ghost use Rattle.acpi_lint.specs.Reserved.{limit_value, limits_value, limits_of, has_width, past_place, FindsPast};
 ghost use Rattle.acpi_lint.specs.RuleGroups.{in_madt_bytes, in_srat_bytes, in_pptt_bytes};
 ghost use Rattle.acpi_lint.specs.Rules.Broken.{condition};
 ghost use Rattle.acpi_lint.specs.Rules.Reserved as said;
@@ -18,6 +18,7 @@ use crate::domains::domain_past_revision;
 use crate::gic::is_gicd;
 use crate::place::Place;
 use crate::rule::Rule;
+use acpi_base::TableKind;
 use acpi_base::field::{number_at, u32_at};
 use acpi_read::{Entries, Entry, MADT_FLAGS, MadtEntry, PpttEntry, SratEntry, Table, TableEntry};
 
@@ -60,22 +61,6 @@ fn past_place(offset: u64, past: Option<u64>) -> Option<Place>
         other,
         point: 0,
     })
-}
-
-/// The place that `place` returns for the first entry for which it returns one, by the entry's bytes.
-fn first_raw_place<'a, F: Fn(&Entry<'a>) -> Option<Place>>(
-    entries: Entries<'a>,
-    place: F,
-) -> Option<Place>
-    requires { (at : Bor Entry) → F.pre place at }
-    ensures { PicksFirst (PicksRaw (F.post place)) entries.entry.entries result }
-{
-    for entry in entries {
-        if let Some(found) = place(&entry) {
-            return Some(found);
-        }
-    }
-    None
 }
 
 // ---- the MADT
@@ -146,14 +131,6 @@ fn distributor_past(bytes: &[u8]) -> Option<u64>
     first_past(bytes, &DISTRIBUTOR)
 }
 
-/// The place of such a number in an entry of a MADT.
-fn madt_past_at(entry: &Entry<'_>) -> Option<Place>
-    ensures { result ≡ option_map (past_place entry.now.offset)
-        (said.first_past (madt_limits (madt_entry entry.now.bytes.now)) entry.now.bytes.now) }
-{
-    past_place(entry.offset, madt_past(entry.bytes))
-}
-
 /// The flags of a MADT that the standard defines: bit 0.
 const MADT_DEFINED: u32 = 1;
 
@@ -172,7 +149,7 @@ fn madt_reserved(madt: &Table<'_>) -> Option<Place>
         });
     }
     match Entries::madt(madt.copied()) {
-        Ok(entries) => first_raw_place(entries, madt_past_at),
+        Ok(entries) => first_past_at(entries, TableKind::Madt),
         Err(_) => None,
     }
 }
@@ -236,14 +213,6 @@ fn srat_past(bytes: &[u8]) -> Option<u64>
     }
 }
 
-/// The place of such a number in an entry of an SRAT.
-fn srat_past_at(entry: &Entry<'_>) -> Option<Place>
-    ensures { result ≡ option_map (past_place entry.now.offset)
-        (said.first_past (srat_limits (srat_entry entry.now.bytes.now)) entry.now.bytes.now) }
-{
-    past_place(entry.offset, srat_past(entry.bytes))
-}
-
 /// The offset in an SRAT of its first reserved field, 4 bytes, whose value is 1.
 const SRAT_ONE: usize = 36;
 
@@ -262,7 +231,7 @@ fn srat_reserved(srat: &Table<'_>) -> Option<Place>
         });
     }
     match Entries::srat(srat.copied()) {
-        Ok(entries) => first_raw_place(entries, srat_past_at),
+        Ok(entries) => first_past_at(entries, TableKind::Srat),
         Err(_) => None,
     }
 }
@@ -305,19 +274,11 @@ fn pptt_past(bytes: &[u8]) -> Option<u64>
     }
 }
 
-/// The place of such a number in an entry of a PPTT.
-fn pptt_past_at(entry: &Entry<'_>) -> Option<Place>
-    ensures { result ≡ option_map (past_place entry.now.offset)
-        (said.first_past (pptt_limits (pptt_entry entry.now.bytes.now)) entry.now.bytes.now) }
-{
-    past_place(entry.offset, pptt_past(entry.bytes))
-}
-
 /// The place of the first entry of a PPTT with a number that is more than it may be.
 fn pptt_reserved(pptt: &Table<'_>) -> Option<Place>
     ensures { FindsLeast (IsPpttReserved pptt.now) result }
 {
-    first_raw_place(Entries::pptt(pptt.copied()), pptt_past_at)
+    first_past_at(Entries::pptt(pptt.copied()), TableKind::Pptt)
 }
 
 /// The place where a rule on the bytes of a PPTT is broken. None for another rule.
@@ -328,4 +289,39 @@ pub fn pptt_bytes_place(rule: Rule, pptt: &Table<'_>) -> Option<Place>
         Rule::PpttReserved => pptt_reserved(pptt),
         _ => None,
     }
+}
+
+// ---- any of these tables
+
+/// The offset in an entry of a table of a kind of the first number that is more than it may be. None for a table
+/// without entries.
+fn past(kind: TableKind, bytes: &[u8]) -> Option<u64>
+    requires { IsEntry bytes.now }
+    ensures { result ≡ said.first_past (limits_of kind bytes.now) bytes.now }
+{
+    match kind {
+        TableKind::Madt => madt_past(bytes),
+        TableKind::Srat => srat_past(bytes),
+        TableKind::Pptt => pptt_past(bytes),
+        _ => None,
+    }
+}
+
+/// The place of such a number in an entry.
+fn past_at(kind: TableKind, entry: &Entry<'_>) -> Option<Place>
+    ensures { FindsPast kind (entry_value entry.now) result }
+{
+    past_place(entry.offset, past(kind, entry.bytes))
+}
+
+/// The place of the first entry with such a number.
+fn first_past_at(entries: Entries<'_>, kind: TableKind) -> Option<Place>
+    ensures { PicksFirst (FindsPast kind) entries.entry.entries result }
+{
+    for entry in entries {
+        if let Some(place) = past_at(kind, &entry) {
+            return Some(place);
+        }
+    }
+    None
 }

@@ -9,11 +9,11 @@ ghost use Rattle.acpi_lint.specs.StageFaults.{IsFaultOfStage};
 
 use crate::place::Place;
 use acpi_base::field::u32_at;
-use acpi_base::{Code, Frame, Image, Policy, Question};
+use acpi_base::{Code, Frame, LentImage, Policy, Question};
 use acpi_read::{RootPlace, fails, named_root};
 
 /// Whether the header at a place is present, and its Length is at least 36 and ends within a slot.
-fn is_ragged(image: &Image, root: RootPlace) -> bool
+fn is_ragged(image: &LentImage<'_>, root: RootPlace) -> bool
     requires { IsSlotWidth root.width }
     ensures { IsTrue result ↔ RootTableFault image.now root.address root.width Code.RootRagged }
 {
@@ -26,7 +26,7 @@ fn is_ragged(image: &Image, root: RootPlace) -> bool
 
 /// Whether the root table at a place has the fault with this code. Each code is looked for, even if earlier bytes are
 /// wrong.
-fn has_fault(image: &Image, root: RootPlace, code: Code) -> bool
+fn has_fault(image: &LentImage<'_>, root: RootPlace, code: Code) -> bool
     requires { IsSlotWidth root.width }
     ensures { IsTrue result ↔ RootTableFault image.now root.address root.width code }
 {
@@ -51,7 +51,7 @@ fn has_fault(image: &Image, root: RootPlace, code: Code) -> bool
 
 /// The fault of the root table with this code: the RSDP names no root table, or the one that it names has it. There
 /// is at most one, which is reported at the address of the RSDP or of the root table.
-pub fn root_fault(image: &Image, policy: &Policy, code: Code) -> Option<Place>
+pub fn root_fault(image: &LentImage<'_>, policy: &Policy, code: Code) -> Option<Place>
     ensures { FindsLeast (IsFaultOfStage Stage.Root code image.now policy.now) result }
 {
     let rsdp = policy.rsdp();

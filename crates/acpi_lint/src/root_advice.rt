@@ -10,7 +10,7 @@ ghost use Rattle.acpi_lint.specs.Differences.{first_difference, FindsDifference}
 
 use crate::complete_tables::CompleteTables;
 use crate::place::Place;
-use acpi_base::Image;
+use acpi_base::LentImage;
 use acpi_base::field::{is_signed, number_at, u32_at};
 use acpi_graph::sort_unless_sorted;
 use acpi_read::{Root, Rsdp, Table};
@@ -56,7 +56,7 @@ fn xsdt<'a>(tables: &CompleteTables<'a>) -> Option<&'a [u8]>
 
 /// The RSDT that the RSDP at an address names, if 36 bytes of that are present and the table is
 /// complete.
-fn named_rsdt(image: &Image, rsdp: u64) -> Option<Table<'_>>
+fn named_rsdt<'a>(image: &'a LentImage<'_>, rsdp: u64) -> Option<Table<'a>>
     ensures { MatchOption result ((bytes : List ℕ) → ¬ IsNamedRsdt image.now rsdp bytes)
         (IsNamedRsdt image.now rsdp) }
 {
@@ -74,7 +74,7 @@ fn named_rsdt(image: &Image, rsdp: u64) -> Option<Table<'_>>
 
 /// The signature of what is at an address that a slot lists, if that is below 2^32 and the 4 bytes are present.
 #[tactic(auto, unfolding(crate::specs::Rules::RootAdvice::listed_signature))]
-fn listed_signature(image: &Image, address: u64) -> Option<u32>
+fn listed_signature(image: &LentImage<'_>, address: u64) -> Option<u32>
     ensures { result ≡ listed_signature image.now address }
 {
     if address == 0 || address >= 1 << 32 {
@@ -86,7 +86,7 @@ fn listed_signature(image: &Image, address: u64) -> Option<u32>
 /// Those of all slots of a root table, which have `width` bytes.
 fn listed_signatures(
     alloc: Global,
-    image: &Image,
+    image: &LentImage<'_>,
     bytes: &[u8],
     width: usize,
 ) -> Result<Vec<u32>, AllocError>
@@ -136,7 +136,7 @@ fn lowest_difference(mut ours: Vec<u32>, mut theirs: Vec<u32>) -> Result<Option<
 /// both. The tables are those of the set. Allocates for each slot of the two.
 pub fn rsdt_differs(
     alloc: Global,
-    image: &Image,
+    image: &LentImage<'_>,
     rsdp: u64,
     tables: &CompleteTables<'_>,
 ) -> Result<Option<Place>, AllocError>

@@ -10,11 +10,11 @@ ghost use Rattle.acpi_lint.specs.StageFaults.{IsFaultOfStage};
 
 use crate::place::Place;
 use acpi_base::field::{is_signed, u8_at};
-use acpi_base::{Code, Frame, Image, Policy, Question, sum};
+use acpi_base::{Code, Frame, LentImage, Policy, Question, sum};
 use acpi_read::{Rsdp, fails};
 
 /// Whether the RSDP at an address, which begins with `head`, has the extended form, and this question about that fails.
-fn is_extended_fault(image: &Image, address: u64, head: &[u8], question: Question) -> bool
+fn is_extended_fault(image: &LentImage<'_>, address: u64, head: &[u8], question: Question) -> bool
     requires head { bytes_at image.now address 20 ≡ Some head.now }
     requires long { length head.now ≡ 20 }
     ensures { IsTrue result ↔ (IsExtended image.now address
@@ -25,7 +25,7 @@ fn is_extended_fault(image: &Image, address: u64, head: &[u8], question: Questio
 
 /// Whether the RSDP at an address has the fault with this code. Each code is looked for, even if earlier bytes are
 /// wrong.
-fn has_fault(image: &Image, address: u64, code: Code) -> bool
+fn has_fault(image: &LentImage<'_>, address: u64, code: Code) -> bool
     ensures { IsTrue result ↔ RsdpFault image.now address code }
 {
     let Some(head) = image.window(address, Rsdp::SHORT_LENGTH) else {
@@ -43,7 +43,7 @@ fn has_fault(image: &Image, address: u64, code: Code) -> bool
 }
 
 /// The fault of the RSDP with this code: it has at most one, which is reported at its address.
-pub fn rsdp_fault(image: &Image, policy: &Policy, code: Code) -> Option<Place>
+pub fn rsdp_fault(image: &LentImage<'_>, policy: &Policy, code: Code) -> Option<Place>
     ensures { FindsLeast (IsFaultOfStage Stage.Rsdp code image.now policy.now) result }
 {
     let address = policy.rsdp();

@@ -1,22 +1,30 @@
 //! Advice on the RSDP (ACPI 6.5, 5.2.5.3).
 
-ghost use Rattle.std.specs.Prelude.{◌≡◌, ℕ, List, Some, length, MatchOption};
-ghost use Rattle.acpi_base.specs.Memory.{bytes_at};
+ghost use Rattle.std.specs.Prelude.{◌≡◌, ◌≤◌, ℕ, List, Some, length, MatchOption};
+ghost use Rattle.acpi_base.specs.Rsdp.{revision_of};
 ghost use Rattle.acpi_lint.specs.Places.{FindsLeast};
 ghost use Rattle.acpi_lint.specs.Rules.RsdpAdvice.{AreExtendedBytes, IsOddRevision, IsLongRsdp, IsOddExtended, IsRsdpReserved};
 
 use crate::limits::used;
 use crate::place::Place;
-use acpi_base::Image;
+use acpi_base::LentImage;
 use acpi_base::field::{u8_at, u32_at};
 use acpi_read::Rsdp;
 
+/// The Revision of an RSDP, whose first bytes these are.
+pub fn revision_of(head: &[u8]) -> u8
+    requires { 20 ≤ length head.now }
+    ensures { result ≡ revision_of head.now }
+{
+    u8_at(head, 15)
+}
+
 /// The place of the Revision, if it is neither 0 nor 2.
-fn odd_revision(image: &Image, rsdp: u64) -> Option<Place>
+fn odd_revision(image: &LentImage<'_>, rsdp: u64) -> Option<Place>
     ensures { FindsLeast (IsOddRevision image.now rsdp) result }
 {
     let head = image.window(rsdp, Rsdp::SHORT_LENGTH)?;
-    let revision = u8_at(head, 15);
+    let revision = revision_of(head);
     (revision != 0 && revision != 2).then_some(Place {
         at: 15,
         other: 0,
@@ -25,19 +33,19 @@ fn odd_revision(image: &Image, rsdp: u64) -> Option<Place>
 }
 
 /// The 36 bytes of the extended form, if the RSDP has it and they are present.
-fn extended_bytes(image: &Image, rsdp: u64) -> Option<&[u8]>
+fn extended_bytes<'a>(image: &'a LentImage<'_>, rsdp: u64) -> Option<&'a [u8]>
     ensures { MatchOption result ((bytes : List ℕ) → ¬ AreExtendedBytes image.now rsdp bytes)
         (λ bytes. AreExtendedBytes image.now rsdp bytes.now × (length bytes.now ≡ 36)) }
 {
     let head = image.window(rsdp, Rsdp::SHORT_LENGTH)?;
-    if u8_at(head, 15) < 2 {
+    if revision_of(head) < 2 {
         return None;
     }
     image.window(rsdp, Rsdp::EXTENDED_LENGTH)
 }
 
 /// The place of the Length of the extended form, if that is above 36, and as many bytes are present.
-fn long_rsdp(image: &Image, rsdp: u64, bytes: &[u8]) -> Option<Place>
+fn long_rsdp(image: &LentImage<'_>, rsdp: u64, bytes: &[u8]) -> Option<Place>
     requires { length bytes.now ≡ 36 }
     ensures { FindsLeast (IsLongRsdp image.now rsdp bytes.now) result }
 {
@@ -54,7 +62,7 @@ fn long_rsdp(image: &Image, rsdp: u64, bytes: &[u8]) -> Option<Place>
 }
 
 /// The place of the first field or reserved byte of the extended form that has no meaning.
-fn odd_extended(image: &Image, rsdp: u64) -> Option<Place>
+fn odd_extended(image: &LentImage<'_>, rsdp: u64) -> Option<Place>
     ensures { FindsLeast (IsOddExtended image.now rsdp) result }
 {
     let bytes = extended_bytes(image, rsdp)?;
@@ -62,7 +70,7 @@ fn odd_extended(image: &Image, rsdp: u64) -> Option<Place>
 }
 
 /// The place of the first field or reserved byte of the RSDP at an address that has no meaning.
-pub fn rsdp_reserved(image: &Image, rsdp: u64) -> Option<Place>
+pub fn rsdp_reserved(image: &LentImage<'_>, rsdp: u64) -> Option<Place>
     ensures { FindsLeast (IsRsdpReserved image.now rsdp) result }
 {
     odd_revision(image, rsdp).or(odd_extended(image, rsdp))

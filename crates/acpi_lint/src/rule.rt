@@ -1,7 +1,11 @@
 //! Advice: what breaks none of the statements, but is probably wrong.
 
 ghost use Rattle.std.specs.Prelude.{◌≡◌, ◌+◌, ◌<◌, ◌≤◌, ◌↔◌, length, IsSome, IfSome};
+ghost use Rattle.acpi_lint.specs.RuleGroups.{group_of};
+ghost use Rattle.acpi_lint.specs.Rules.Broken.{condition};
 ghost use Rattle.acpi_lint.specs.Rules.Rows.{all_rules, rule_name, rule_named, rule_number};
+
+use crate::rule_group::RuleGroup;
 
 /// A rule of advice. A set of tables may have a reason to break a rule, so none is a fault. A processor is usable if it
 /// is Enabled or Online Capable. Sections are those of ACPI 6.5.
@@ -180,92 +184,120 @@ pub enum Rule {
 /// The number of the first rule.
 const FIRST: u8 = 101;
 
-/// Each rule with its name, in the order of their numbers.
-const ROWS: [(Rule, &str); Rule::COUNT] = [
-    (Rule::ListedTwice, "ListedTwice"),
-    (Rule::SecondTable, "SecondTable"),
-    (Rule::ListedApart, "ListedApart"),
-    (Rule::FadtOfRevision, "FadtOfRevision"),
-    (Rule::FacsDiffers, "FacsDiffers"),
-    (Rule::DsdtDiffers, "DsdtDiffers"),
-    (Rule::BlockDiffers, "BlockDiffers"),
-    (Rule::SciNowhere, "SciNowhere"),
-    (Rule::SameUid, "SameUid"),
-    (Rule::SameApicId, "SameApicId"),
-    (Rule::IoApicAtZero, "IoApicAtZero"),
-    (Rule::SameIoApicId, "SameIoApicId"),
-    (Rule::SameIoApicAddress, "SameIoApicAddress"),
-    (Rule::NmiNowhere, "NmiNowhere"),
-    (Rule::SecondGicd, "SecondGicd"),
-    (Rule::NoProcessor, "NoProcessor"),
-    (Rule::TwoUidDomains, "TwoUidDomains"),
-    (Rule::AffinityNowhere, "AffinityNowhere"),
-    (Rule::NoDomain, "NoDomain"),
-    (Rule::DomainPastSlit, "DomainPastSlit"),
-    (Rule::SlitDiffers, "SlitDiffers"),
-    (Rule::SameLeaf, "SameLeaf"),
-    (Rule::CacheShape, "CacheShape"),
-    (Rule::SameCacheId, "SameCacheId"),
-    (Rule::NoLeaf, "NoLeaf"),
-    (Rule::LeafNowhere, "LeafNowhere"),
-    (Rule::MadtUnread, "MadtUnread"),
-    (Rule::SratUnread, "SratUnread"),
-    (Rule::NullSlot, "NullSlot"),
-    (Rule::RsdtDiffers, "RsdtDiffers"),
-    (Rule::TablesOverlap, "TablesOverlap"),
-    (Rule::NoDsdt, "NoDsdt"),
-    (Rule::DsdtWrong, "DsdtWrong"),
-    (Rule::NoPm1Block, "NoPm1Block"),
-    (Rule::BlockWidth, "BlockWidth"),
-    (Rule::HalfBlock, "HalfBlock"),
-    (Rule::PortsOverlap, "PortsOverlap"),
-    (Rule::PortPastEnd, "PortPastEnd"),
-    (Rule::GpeOverlap, "GpeOverlap"),
-    (Rule::SmiHalf, "SmiHalf"),
-    (Rule::SciZero, "SciZero"),
-    (Rule::ResetNowhere, "ResetNowhere"),
-    (Rule::FadtForArch, "FadtForArch"),
-    (Rule::SleepRegister, "SleepRegister"),
-    (Rule::FadtReserved, "FadtReserved"),
-    (Rule::FacsReserved, "FacsReserved"),
-    (Rule::RsdpReserved, "RsdpReserved"),
-    (Rule::HeaderText, "HeaderText"),
-    (Rule::SecondOther, "SecondOther"),
-    (Rule::X2ApicBelow255, "X2ApicBelow255"),
-    (Rule::BroadcastId, "BroadcastId"),
-    (Rule::CapableTooEarly, "CapableTooEarly"),
-    (Rule::EnabledAndCapable, "EnabledAndCapable"),
-    (Rule::OverridePastIsa, "OverridePastIsa"),
-    (Rule::TimerLevel, "TimerLevel"),
-    (Rule::TwoSourcesOneGsi, "TwoSourcesOneGsi"),
-    (Rule::LintNotOne, "LintNotOne"),
-    (Rule::NoIoApic, "NoIoApic"),
-    (Rule::NoDistributor, "NoDistributor"),
-    (Rule::NoRedistributor, "NoRedistributor"),
-    (Rule::GicrTooSmall, "GicrTooSmall"),
-    (Rule::GiccBaseDiffers, "GiccBaseDiffers"),
-    (Rule::SameMpidr, "SameMpidr"),
-    (Rule::MpidrReserved, "MpidrReserved"),
-    (Rule::GicrEmpty, "GicrEmpty"),
-    (Rule::SameIts, "SameIts"),
-    (Rule::SameMsiFrame, "SameMsiFrame"),
-    (Rule::GicOverlap, "GicOverlap"),
-    (Rule::RedistributorTwice, "RedistributorTwice"),
-    (Rule::NoBootMethod, "NoBootMethod"),
-    (Rule::SameHart, "SameHart"),
-    (Rule::MadtReserved, "MadtReserved"),
-    (Rule::NoMemoryRange, "NoMemoryRange"),
-    (Rule::EmptyRange, "EmptyRange"),
-    (Rule::InitiatorOff, "InitiatorOff"),
-    (Rule::DomainPastRevision, "DomainPastRevision"),
-    (Rule::ItsNowhere, "ItsNowhere"),
-    (Rule::SratReserved, "SratReserved"),
-    (Rule::RemoteAsLocal, "RemoteAsLocal"),
-    (Rule::LeafUnflagged, "LeafUnflagged"),
-    (Rule::LeafAsParent, "LeafAsParent"),
-    (Rule::NoPackage, "NoPackage"),
-    (Rule::CacheNumbers, "CacheNumbers"),
-    (Rule::PpttReserved, "PpttReserved"),
+/// Each rule with its name and its group, in the order of their numbers.
+const ROWS: [(Rule, &str, RuleGroup); Rule::COUNT] = [
+    (Rule::ListedTwice, "ListedTwice", RuleGroup::Slots),
+    (Rule::SecondTable, "SecondTable", RuleGroup::Slots),
+    (Rule::ListedApart, "ListedApart", RuleGroup::Slots),
+    (Rule::FadtOfRevision, "FadtOfRevision", RuleGroup::Fadt),
+    (Rule::FacsDiffers, "FacsDiffers", RuleGroup::Fadt),
+    (Rule::DsdtDiffers, "DsdtDiffers", RuleGroup::Fadt),
+    (Rule::BlockDiffers, "BlockDiffers", RuleGroup::Fadt),
+    (Rule::SciNowhere, "SciNowhere", RuleGroup::FadtMadt),
+    (Rule::SameUid, "SameUid", RuleGroup::MadtNumbers),
+    (Rule::SameApicId, "SameApicId", RuleGroup::MadtNumbers),
+    (Rule::IoApicAtZero, "IoApicAtZero", RuleGroup::MadtEntries),
+    (Rule::SameIoApicId, "SameIoApicId", RuleGroup::MadtNumbers),
+    (
+        Rule::SameIoApicAddress,
+        "SameIoApicAddress",
+        RuleGroup::MadtNumbers,
+    ),
+    (Rule::NmiNowhere, "NmiNowhere", RuleGroup::Madt),
+    (Rule::SecondGicd, "SecondGicd", RuleGroup::MadtNumbers),
+    (Rule::NoProcessor, "NoProcessor", RuleGroup::Madt),
+    (Rule::TwoUidDomains, "TwoUidDomains", RuleGroup::Srat),
+    (
+        Rule::AffinityNowhere,
+        "AffinityNowhere",
+        RuleGroup::MadtSrat,
+    ),
+    (Rule::NoDomain, "NoDomain", RuleGroup::MadtSrat),
+    (Rule::DomainPastSlit, "DomainPastSlit", RuleGroup::SratSlit),
+    (Rule::SlitDiffers, "SlitDiffers", RuleGroup::Slit),
+    (Rule::SameLeaf, "SameLeaf", RuleGroup::Pptt),
+    (Rule::CacheShape, "CacheShape", RuleGroup::PpttEntries),
+    (Rule::SameCacheId, "SameCacheId", RuleGroup::Pptt),
+    (Rule::NoLeaf, "NoLeaf", RuleGroup::MadtPptt),
+    (Rule::LeafNowhere, "LeafNowhere", RuleGroup::MadtPptt),
+    (Rule::MadtUnread, "MadtUnread", RuleGroup::MadtEntries),
+    (Rule::SratUnread, "SratUnread", RuleGroup::SratEntries),
+    (Rule::NullSlot, "NullSlot", RuleGroup::Slots),
+    (Rule::RsdtDiffers, "RsdtDiffers", RuleGroup::Set),
+    (Rule::TablesOverlap, "TablesOverlap", RuleGroup::Set),
+    (Rule::NoDsdt, "NoDsdt", RuleGroup::Fadt),
+    (Rule::DsdtWrong, "DsdtWrong", RuleGroup::FadtMemory),
+    (Rule::NoPm1Block, "NoPm1Block", RuleGroup::Fadt),
+    (Rule::BlockWidth, "BlockWidth", RuleGroup::Fadt),
+    (Rule::HalfBlock, "HalfBlock", RuleGroup::Fadt),
+    (Rule::PortsOverlap, "PortsOverlap", RuleGroup::Fadt),
+    (Rule::PortPastEnd, "PortPastEnd", RuleGroup::Fadt),
+    (Rule::GpeOverlap, "GpeOverlap", RuleGroup::Fadt),
+    (Rule::SmiHalf, "SmiHalf", RuleGroup::Fadt),
+    (Rule::SciZero, "SciZero", RuleGroup::Fadt),
+    (Rule::ResetNowhere, "ResetNowhere", RuleGroup::Fadt),
+    (Rule::FadtForArch, "FadtForArch", RuleGroup::FadtMadt),
+    (Rule::SleepRegister, "SleepRegister", RuleGroup::Fadt),
+    (Rule::FadtReserved, "FadtReserved", RuleGroup::Fadt),
+    (Rule::FacsReserved, "FacsReserved", RuleGroup::FadtMemory),
+    (Rule::RsdpReserved, "RsdpReserved", RuleGroup::Set),
+    (Rule::HeaderText, "HeaderText", RuleGroup::Slots),
+    (Rule::SecondOther, "SecondOther", RuleGroup::Slots),
+    (Rule::X2ApicBelow255, "X2ApicBelow255", RuleGroup::Madt),
+    (Rule::BroadcastId, "BroadcastId", RuleGroup::MadtEntries),
+    (
+        Rule::CapableTooEarly,
+        "CapableTooEarly",
+        RuleGroup::FadtMadt,
+    ),
+    (
+        Rule::EnabledAndCapable,
+        "EnabledAndCapable",
+        RuleGroup::MadtEntries,
+    ),
+    (
+        Rule::OverridePastIsa,
+        "OverridePastIsa",
+        RuleGroup::FadtMadt,
+    ),
+    (Rule::TimerLevel, "TimerLevel", RuleGroup::MadtEntries),
+    (Rule::TwoSourcesOneGsi, "TwoSourcesOneGsi", RuleGroup::Madt),
+    (Rule::LintNotOne, "LintNotOne", RuleGroup::MadtEntries),
+    (Rule::NoIoApic, "NoIoApic", RuleGroup::Madt),
+    (Rule::NoDistributor, "NoDistributor", RuleGroup::Madt),
+    (Rule::NoRedistributor, "NoRedistributor", RuleGroup::Madt),
+    (Rule::GicrTooSmall, "GicrTooSmall", RuleGroup::Madt),
+    (Rule::GiccBaseDiffers, "GiccBaseDiffers", RuleGroup::Madt),
+    (Rule::SameMpidr, "SameMpidr", RuleGroup::MadtNumbers),
+    (Rule::MpidrReserved, "MpidrReserved", RuleGroup::MadtEntries),
+    (Rule::GicrEmpty, "GicrEmpty", RuleGroup::MadtEntries),
+    (Rule::SameIts, "SameIts", RuleGroup::MadtNumbers),
+    (Rule::SameMsiFrame, "SameMsiFrame", RuleGroup::MadtNumbers),
+    (Rule::GicOverlap, "GicOverlap", RuleGroup::Madt),
+    (
+        Rule::RedistributorTwice,
+        "RedistributorTwice",
+        RuleGroup::Madt,
+    ),
+    (Rule::NoBootMethod, "NoBootMethod", RuleGroup::FadtMadt),
+    (Rule::SameHart, "SameHart", RuleGroup::MadtNumbers),
+    (Rule::MadtReserved, "MadtReserved", RuleGroup::MadtBytes),
+    (Rule::NoMemoryRange, "NoMemoryRange", RuleGroup::Srat),
+    (Rule::EmptyRange, "EmptyRange", RuleGroup::SratEntries),
+    (Rule::InitiatorOff, "InitiatorOff", RuleGroup::SratEntries),
+    (
+        Rule::DomainPastRevision,
+        "DomainPastRevision",
+        RuleGroup::SratBytes,
+    ),
+    (Rule::ItsNowhere, "ItsNowhere", RuleGroup::MadtSrat),
+    (Rule::SratReserved, "SratReserved", RuleGroup::SratBytes),
+    (Rule::RemoteAsLocal, "RemoteAsLocal", RuleGroup::Slit),
+    (Rule::LeafUnflagged, "LeafUnflagged", RuleGroup::Pptt),
+    (Rule::LeafAsParent, "LeafAsParent", RuleGroup::Pptt),
+    (Rule::NoPackage, "NoPackage", RuleGroup::Pptt),
+    (Rule::CacheNumbers, "CacheNumbers", RuleGroup::PpttEntries),
+    (Rule::PpttReserved, "PpttReserved", RuleGroup::PpttBytes),
 ];
 
 impl Rule {
@@ -279,7 +311,7 @@ impl Rule {
     {
         let index = number.checked_sub(FIRST)?;
         let rows = ROWS.as_slice();
-        let (rule, _) = rows.get(usize::from(index))?;
+        let (rule, _, _) = rows.get(usize::from(index))?;
         Some(*rule)
     }
 
@@ -310,6 +342,14 @@ impl Rule {
     {
         let rows = ROWS.as_slice();
         rows[usize::from(self.number() - FIRST)].1
+    }
+
+    /// What the rule looks at.
+    pub(crate) fn group(self) -> RuleGroup
+        ensures { result ≡ group_of (condition self) }
+    {
+        let rows = ROWS.as_slice();
+        rows[usize::from(self.number() - FIRST)].2
     }
 }
 

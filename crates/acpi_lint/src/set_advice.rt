@@ -7,20 +7,19 @@ ghost use Rattle.acpi_lint.specs.RuleGroups.{in_set};
 ghost use Rattle.acpi_lint.specs.Rules.Broken.{condition};
 
 use crate::complete_tables::CompleteTables;
-use crate::memory_spans::tables_overlap;
 use crate::place::Place;
-use crate::port_overlap::ports_overlap;
 use crate::root_advice::rsdt_differs;
 use crate::rsdp_advice::rsdp_reserved;
 use crate::rule::Rule;
-use acpi_base::Image;
+use crate::structures::tables_overlap;
+use acpi_base::LentImage;
 use std::alloc::{AllocError, Global};
 
 /// The place where a rule on the memory of a set is broken. None for another rule. The tables are those of the set that
 /// the RSDP at an address leads to.
 pub fn set_place(
     alloc: Global,
-    image: &Image,
+    image: &LentImage<'_>,
     rsdp: u64,
     tables: &CompleteTables<'_>,
     rule: Rule,
@@ -31,7 +30,6 @@ pub fn set_place(
     match rule {
         Rule::RsdtDiffers => rsdt_differs(alloc, image, rsdp, tables),
         Rule::TablesOverlap => tables_overlap(alloc, image, rsdp, tables),
-        Rule::PortsOverlap => ports_overlap(alloc, tables),
         Rule::RsdpReserved => Ok(rsdp_reserved(image, rsdp)),
         _ => Ok(None),
     }

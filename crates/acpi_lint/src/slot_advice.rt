@@ -7,9 +7,9 @@ ghost use Rattle.acpi_base.specs.Memory.{Memory};
 ghost use Rattle.acpi_lint.specs.Places.{FindsLeast};
 ghost use Rattle.acpi_lint.specs.Slots.{numbered_slot, second_place};
 ghost use Rattle.acpi_lint.specs.CompleteTables.{AreCompleteTables};
-ghost use Rattle.acpi_lint.specs.RuleGroups.{in_slots, Finds};
-ghost use Rattle.acpi_lint.specs.Rules.Broken as broken;
+ghost use Rattle.acpi_lint.specs.RuleGroups.{as_group, Finds};
 ghost use Rattle.acpi_lint.specs.Rules.Broken.{condition};
+ghost use Rattle.acpi_lint.specs.declared.rule_group.RuleGroup.TheVariants as group;
 
 use crate::complete_tables::CompleteTables;
 use crate::first_slots::FirstSlots;
@@ -94,7 +94,7 @@ pub fn slot_place(
     tables: &CompleteTables<'_>,
     rule: Rule,
 ) -> Result<Option<Place>, AllocError>
-    ensures { IfOk result (Finds (broken.Slots (in_slots (condition rule))) tables.now) }
+    ensures { IfOk result (Finds (as_group group.Slots (condition rule)) tables.now) }
 {
     match rule {
         Rule::ListedTwice => listed_twice(alloc, tables),

@@ -12,7 +12,7 @@ ghost use Rattle.acpi_lint.specs.Slots.{IsLengthAt, IsTableAt, HasSought};
 
 use crate::header_advice::odd_field;
 use acpi_base::field::{is_signed, u32_at};
-use acpi_base::{Code, Image, TableKind};
+use acpi_base::{Code, LentImage, TableKind};
 use acpi_read::sums_to_zero;
 
 /// What is looked for at the addresses that slots list.
@@ -46,7 +46,7 @@ pub struct TableAt {
 }
 
 /// The fault of a table whose header is present. `run` has the bytes from its address on.
-fn table_fault(image: &Image, address: u64, run: &[u8], header: &[u8]) -> Option<Code>
+fn table_fault(image: &LentImage<'_>, address: u64, run: &[u8], header: &[u8]) -> Option<Code>
     requires run { AreBytesFrom image.now address run.now }
     requires present { bytes_at image.now address 36 ≡ Some header.now }
     requires long { length header.now ≡ 36 }
@@ -94,7 +94,7 @@ fn is_apart(header: &[u8]) -> bool
 impl TableAt {
     /// What is at an address, for which the image is searched once. Its bytes are summed only if all of them are
     /// present.
-    pub fn of(image: &Image, address: u64) -> TableAt
+    pub fn of(image: &LentImage<'_>, address: u64) -> TableAt
         ensures there { result.address ≡ address }
         ensures noted { IsTableAt image.now result }
     {

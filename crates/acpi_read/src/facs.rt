@@ -10,7 +10,7 @@ ghost use Rattle.acpi_base.specs.declared.code.Code.{Code};
 
 use crate::fadt::Fadt;
 use crate::frame::bytes_of;
-use acpi_base::{Code, Frame, Image, Question};
+use acpi_base::{Code, Frame, LentImage, Question};
 use std::marker::Model;
 
 /// The firmware ACPI control structure (ACPI 6.5, 5.2.10): as many bytes as its Length says, from 64 to
@@ -47,7 +47,7 @@ impl<'a> Facs<'a> {
     /// address that it names is not a multiple of 64; `FacsHeaderOut` if the 8 bytes there are not all present;
     /// `FacsSignature` if they do not begin with `FACS`; `FacsLength` if its Length is below 64; `FacsOut` if its
     /// Length bytes are not all present.
-    pub fn read(image: &'a Image, fadt: &Fadt<'_>) -> Result<Option<Facs<'a>>, Code>
+    pub fn read(image: &'a LentImage<'_>, fadt: &Fadt<'_>) -> Result<Option<Facs<'a>>, Code>
         ensures ok { IsOk result ↔ HasValidFacs image.now fadt.now }
         ensures none { (result ≡ Ok None)
             ↔ ((is_reduced fadt.now ≡ true) × (facs_address fadt.now ≡ 0)) }

@@ -77,8 +77,8 @@ pub const RESET_REG_SUP: u32 = 10;
 /// HW_REDUCED_ACPI, a bit of Flags: the ACPI registers are not implemented.
 const HW_REDUCED_ACPI: u32 = 20;
 
-/// The offsets of the blocks' length bytes.
-const BLOCK_LENGTHS: [usize; 8] = [
+/// The offsets of the register blocks' length bytes, in the order of `Fadt::block`.
+pub const BLOCK_LENGTHS: [usize; 8] = [
     PM1_EVT_LEN,
     PM1_EVT_LEN,
     PM1_CNT_LEN,

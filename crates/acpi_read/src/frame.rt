@@ -8,14 +8,14 @@ ghost use Rattle.acpi_read.specs.Frames.{is_signed_as, AreBytesOf, IsFirstFrameF
 
 use crate::table::sums_to_zero;
 use acpi_base::field::{is_signed, u32_at};
-use acpi_base::{Frame, Image, Question};
+use acpi_base::{Frame, LentImage, Question};
 
 /// The bytes of the structure at an address, as many as its Length says, or the first check that fails. The checksum is
 /// not checked, and the signature only if one is passed. The image is searched once.
 // Inlined, so that the numbers of the frame are known where they are compared.
 #[inline(always)]
 pub(crate) fn bytes_of<'a>(
-    image: &'a Image,
+    image: &'a LentImage<'_>,
     address: u64,
     frame: Frame,
     signature: Option<[u8; 4]>,
@@ -53,7 +53,7 @@ pub(crate) fn bytes_of<'a>(
 
 /// Whether a check of the structure at an address fails, even if earlier ones do. Bytes are summed only for
 /// `Question::Sum`. The image is searched once.
-pub fn fails(image: &Image, address: u64, frame: Frame, question: Question) -> bool
+pub fn fails(image: &LentImage<'_>, address: u64, frame: Frame, question: Question) -> bool
     requires { frame.length_at + 4 ≤ frame.header }
     ensures { IsTrue result ↔ FrameFault frame image.now address question }
 {
@@ -68,7 +68,9 @@ pub fn fails(image: &Image, address: u64, frame: Frame, question: Question) -> b
         Question::Signature(signature) => !is_signed(header, &signature),
         Question::Length => length < frame.least,
         Question::Bytes => length >= frame.least && whole.is_none(),
-        Question::Sum => length >= frame.least
-            && whole.is_some_and(|whole| !sums_to_zero(image, address, whole)),
+        Question::Sum => match whole {
+            Some(whole) => length >= frame.least && !sums_to_zero(image, address, whole),
+            None => false,
+        },
     }
 }

@@ -73,7 +73,7 @@ pub use entries::Entries;
 pub use entry::Entry;
 pub use entry_codes::{EntryCodes, Subject};
 pub use facs::Facs;
-pub use fadt::{Block, Fadt, RESET_REG_SUP, has_flag};
+pub use fadt::{BLOCK_LENGTHS, Block, Fadt, RESET_REG_SUP, has_flag};
 pub use first_tables::{FirstTables, Listed};
 pub use frame::fails;
 pub use gas::Gas;

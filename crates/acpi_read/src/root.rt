@@ -18,7 +18,7 @@ use crate::header::{Header, header_at};
 use crate::layout::Layout;
 use crate::rsdp::Rsdp;
 use acpi_base::field::{u8_at, u32_at, u64_at};
-use acpi_base::{Code, Frame, Image, Question, sum};
+use acpi_base::{Code, Frame, LentImage, Question, sum};
 use std::marker::Model;
 
 /// The root table (ACPI 6.5, 5.2.7 and 5.2.8): the XSDT or the RSDT, whose slots after the header are the addresses
@@ -107,7 +107,7 @@ fn chosen_root(named: Addresses) -> Option<RootPlace>
 
 /// The addresses that the RSDP at an address names, if its 20 bytes are present, or for the extended form its 36.
 #[tactic(auto, unfolding(acpi_base::specs::Rsdp::addresses_at))]
-fn addresses_at(image: &Image, address: u64) -> Option<Addresses>
+fn addresses_at(image: &LentImage<'_>, address: u64) -> Option<Addresses>
     ensures { option_map (λ named. record { rsdt = named.rsdt; xsdt = named.xsdt })
         result ≡ addresses_at image.now address }
 {
@@ -128,7 +128,7 @@ fn addresses_at(image: &Image, address: u64) -> Option<Addresses>
 /// The place of the root table that the RSDP at an address names, whether the RSDP is valid or not: that of the XSDT
 /// if it names one, otherwise that of the RSDT, otherwise none. There is no place either if the RSDP cannot be read:
 /// if its 20 bytes are not present, or for the extended form its 36. What is at the place is not checked.
-pub fn named_root(image: &Image, rsdp: u64) -> Option<Option<RootPlace>>
+pub fn named_root(image: &LentImage<'_>, rsdp: u64) -> Option<Option<RootPlace>>
     ensures root { option_map (option_map place_value)
         result ≡ option_map chosen_root (addresses_at image.now rsdp) }
     ensures width { IfSome result (λ named. IfSome named (λ root. IsSlotWidth root.width)) }
@@ -149,7 +149,7 @@ fn place_of(rsdp: &Rsdp) -> Option<RootPlace>
 }
 
 /// The root table at a place.
-fn read_at(image: &Image, place: RootPlace) -> Result<Root<'_>, Code>
+fn read_at<'a>(image: &'a LentImage<'_>, place: RootPlace) -> Result<Root<'a>, Code>
     requires { IsSlotWidth place.width }
     ensures ok { IfOk result
         (λ root. (root.address ≡ place.address) × (root.width ≡ place.width)
@@ -197,7 +197,7 @@ impl<'a> Root<'a> {
     /// present; `RootSignature` if they do not begin with `XSDT`, or `RSDT` for an RSDT; `RootLength` if its Length
     /// is below 36; `RootOut` if its Length bytes are not all present; `RootRagged` if its Length ends within a slot;
     /// `RootSum` if its bytes do not sum to 0.
-    pub fn read(image: &'a Image, rsdp: &Rsdp) -> Result<Root<'a>, Code>
+    pub fn read(image: &'a LentImage<'_>, rsdp: &Rsdp) -> Result<Root<'a>, Code>
         ensures ok { IfOk result (IsValidNamedRoot image.now rsdp.now.named) }
         ensures valid { (root : RootValue) → IsValidNamedRoot image.now rsdp.now.named root
             → IsOk result }
@@ -216,7 +216,7 @@ impl<'a> Root<'a> {
     /// The root table that the RSDP at an address names, if it is a complete table with its kind's signature,
     /// whatever its bytes and those of the RSDP sum to, and even if its Length ends within a slot. None if the RSDP
     /// cannot be read or names none, and if no such table is there.
-    pub fn complete(image: &'a Image, rsdp: u64) -> Option<Root<'a>>
+    pub fn complete(image: &'a LentImage<'_>, rsdp: u64) -> Option<Root<'a>>
         ensures { MatchOption result ((root : RootValue) → ¬ IsCompleteRoot image.now rsdp root)
             (IsCompleteRoot image.now rsdp) }
     {

@@ -8,7 +8,7 @@ ghost use Rattle.acpi_base.specs.declared.code.Code.{Code};
 
 use crate::frame::bytes_of;
 use acpi_base::field::{array_at, is_signed, u8_at, u32_at, u64_at};
-use acpi_base::{Code, Frame, Image, Question, sum};
+use acpi_base::{Code, Frame, LentImage, Question, sum};
 use std::marker::Model;
 
 /// The root system description pointer (ACPI 6.5, 5.2.5.3), which names the RSDT and the XSDT.
@@ -81,7 +81,7 @@ impl Rsdp {
     /// bytes are not all present; `RsdpLength` if its Length is below 36; `RsdpLongOut` if its Length bytes are not
     /// all present; `RsdpExtendedSum` if they do not sum to 0.
     #[tactic(auto, using(acpi_base::proofs::Rsdp::Naming::extended_named), unfolding(acpi_base::specs::Rsdp::addresses_at))]
-    pub fn read(image: &Image, address: u64) -> Result<Rsdp, Code>
+    pub fn read(image: &LentImage<'_>, address: u64) -> Result<Rsdp, Code>
         ensures ok { IsOk result ↔ IsValidRsdp image.now address }
         ensures value { IfOk result (IsRsdp image.now address) }
         ensures fault { IfErr result (RsdpFault image.now address) }

@@ -12,7 +12,7 @@ ghost use Rattle.acpi_read.specs.Structures.{header_value};
 
 use crate::frame::bytes_of;
 use crate::header::{Header, header_at};
-use acpi_base::{Code, Frame, Image, Question, sum};
+use acpi_base::{Code, Frame, LentImage, Question, sum};
 use std::marker::Model;
 
 /// A system description table of any kind (ACPI 6.5, 5.2.6): as many bytes as its Length says, from 36 to 2^32 - 1. A
@@ -44,7 +44,7 @@ const FEW: usize = 256;
 /// Whether the bytes, which are those at the address, sum to 0 modulo 256. Fewer than 256 of them are read, however
 /// many there are.
 #[inline(always)]
-pub fn sums_to_zero(image: &Image, address: u64, bytes: &[u8]) -> bool
+pub fn sums_to_zero(image: &LentImage<'_>, address: u64, bytes: &[u8]) -> bool
     requires { bytes_at image.now address (length bytes.now) ≡ Some bytes.now }
     ensures { IsTrue result ↔ (byte_sum bytes.now ≡ 0) }
 {
@@ -59,7 +59,7 @@ impl<'a> Table<'a> {
     ///
     /// Refuses, in this order: `TableHeaderOut` if its header's 36 bytes are not all present; `TableLength` if its
     /// Length is below 36; `TableOut` if its Length bytes are not all present; `TableSum` if they do not sum to 0.
-    pub fn read(image: &'a Image, address: u64) -> Result<Table<'a>, Code>
+    pub fn read(image: &'a LentImage<'_>, address: u64) -> Result<Table<'a>, Code>
         ensures ok { IsOk result ↔ IsValidTable image.now address }
         ensures value { IfOk result
             (λ bytes. (header : List ℕ) × IsTable image.now address header bytes) }
@@ -81,7 +81,7 @@ impl<'a> Table<'a> {
     }
 
     /// The table at an address at which there is known to be a valid one. Its bytes are not summed again.
-    pub fn valid(image: &'a Image, address: u64) -> Table<'a>
+    pub fn valid(image: &'a LentImage<'_>, address: u64) -> Table<'a>
         requires { IsValidTable image.now address }
         ensures { (header : List ℕ) × IsTable image.now address header result }
     {
@@ -93,7 +93,7 @@ impl<'a> Table<'a> {
 
     /// The table at an address, whatever its bytes sum to. None if there is no complete one: if its header's 36 bytes
     /// are not all present, its Length is below 36, or its Length bytes are not all present.
-    pub fn complete(image: &'a Image, address: u64) -> Option<Table<'a>>
+    pub fn complete(image: &'a LentImage<'_>, address: u64) -> Option<Table<'a>>
         ensures { MatchOption result
             ((header bytes : List ℕ) → ¬ IsTable image.now address header bytes)
             (λ bytes. (header : List ℕ) × IsTable image.now address header bytes) }

@@ -45,7 +45,7 @@ with_one key before from is =
 
 -- ---- all entries
 
-gives_of : {E : Type 0} (Gives : ℕ → ℕ → E → Type 0) (s : PlacedEntry E) (o : ℕ) (e : E) (k d : ℕ)
+pub gives_of : {E : Type 0} (Gives : ℕ → ℕ → E → Type 0) (s : PlacedEntry E) (o : ℕ) (e : E) (k d : ℕ)
     → s ≡ record { offset = o; entry = e } → Gives k d e → Gives k d s.entry
 gives_of {E} Gives s o e k d is gives = subst (λ (t : PlacedEntry E). Gives k d t.entry) (sym is) gives
 

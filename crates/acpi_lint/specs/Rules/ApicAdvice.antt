@@ -1,45 +1,41 @@
 -- Further advice on the MADT: local APICs, harts, overrides, NMIs and I/O APICs (ACPI 6.5, 5.2.12.2 to 5.2.12.13).
 -- `at` is an entry's offset from the table's start.
-use Rattle.std.specs.Prelude.{◌≡◌, ◌≢◌, ℕ, ◌-◌, ◌^◌, ◌<◌, ◌≤◌, ◌⊎◌, Bool, Option, Some, None, nat_lt, not, ◌==◌, ◌&&◌, ◌||◌, if◌then◌else◌}
+use Rattle.std.specs.Prelude.{◌≡◌, ◌≢◌, ℕ, ◌-◌, ◌^◌, ◌<◌, ◌≤◌, ◌⊎◌, Option, Some, None, nat_lt, not, ◌==◌, ◌&&◌, if◌then◌else◌}
 use Rattle.acpi_base.specs.Entries.{AreUnused}
 use Rattle.acpi_base.specs.Madt.{MadtEntry, LocalApic, Override, LocalNmi, X2apic, X2apicNmi, Opaque, MadtContents}
 use Rattle.acpi_base.specs.Number.{field, has_bit}
 use Rattle.acpi_lint.specs.Rules.EntryTypes.{HasType}
 use Rattle.acpi_lint.specs.Rules.Numbered.{NamesAt, IsNamed}
-use Rattle.acpi_lint.specs.Rules.Processors.{is_gicc, is_rintc}
+use Rattle.acpi_lint.specs.Rules.Processors.{is_usable, is_gicc, is_rintc}
 use Rattle.acpi_lint.specs.Rules.WellFormed.{IsWellFormedMadt}
 
 -- ---- local APICs and harts
 
--- a processor with these flags is on: Enabled, bit 0, or Online Capable, bit 1 (5.2.12.2)
-abbrev pub is_on : ℕ → Bool
-is_on flags = has_bit flags 0 || has_bit flags 1
+-- the ID of a usable local APIC (5.2.12.2) or local x2APIC (5.2.12.12)
+abbrev pub usable_local_id : MadtEntry → Option ℕ
+usable_local_id (LocalApic v) = if is_usable v.flags 1 then Some v.apic_id else None
+usable_local_id (X2apic v) = if is_usable v.flags 1 then Some v.x2apic_id else None
+usable_local_id _ = None
 
--- the ID of a local APIC (5.2.12.2) or a local x2APIC (5.2.12.12) that is on
-abbrev pub local_id_on : MadtEntry → Option ℕ
-local_id_on (LocalApic v) = if is_on v.flags then Some v.apic_id else None
-local_id_on (X2apic v) = if is_on v.flags then Some v.x2apic_id else None
-local_id_on _ = None
-
--- that of a local APIC that is on, if it is not 255, which means all
+-- that of a usable local APIC, if it is not 255, which means all
 abbrev pub plain_apic_id : MadtEntry → Option ℕ
-plain_apic_id (LocalApic v) = if is_on v.flags && not (v.apic_id == 255) then Some v.apic_id else None
+plain_apic_id (LocalApic v) = if is_usable v.flags 1 && not (v.apic_id == 255) then Some v.apic_id else None
 plain_apic_id _ = None
 
--- that of a local x2APIC that is on, if a local APIC could have it
+-- that of a usable local x2APIC, if a local APIC could have it
 abbrev pub low_x2apic_id : MadtEntry → Option ℕ
-low_x2apic_id (X2apic v) = if is_on v.flags && nat_lt v.x2apic_id 255 then Some v.x2apic_id else None
+low_x2apic_id (X2apic v) = if is_usable v.flags 1 && nat_lt v.x2apic_id 255 then Some v.x2apic_id else None
 low_x2apic_id _ = None
 
--- the local x2APIC at `at` is on, and a local APIC, of which one is on, could have its ID, `point` (5.2.12.12)
+-- the local x2APIC at `at` is usable, and a local APIC, of which one is usable, could have its ID, `point` (5.2.12.12)
 abbrev pub IsX2ApicBelow255 : MadtContents → ℕ → ℕ → ℕ → Type 0
 IsX2ApicBelow255 c at other point =
     ((id : ℕ) × IsNamed plain_apic_id c.entries id) × NamesAt low_x2apic_id c.entries at point × (other ≡ 0)
 
--- the ID of a local APIC or a local x2APIC that is on, if it is the one that means all (5.2.12.2, 5.2.12.12)
+-- the ID of a usable local APIC or local x2APIC, if it is the one that means all (5.2.12.2, 5.2.12.12)
 abbrev pub broadcast_id : MadtEntry → Option ℕ
-broadcast_id (LocalApic v) = if is_on v.flags && (v.apic_id == 255) then Some v.apic_id else None
-broadcast_id (X2apic v) = if is_on v.flags && (v.x2apic_id == 2 ^ 32 - 1) then Some v.x2apic_id else None
+broadcast_id (LocalApic v) = if is_usable v.flags 1 && (v.apic_id == 255) then Some v.apic_id else None
+broadcast_id (X2apic v) = if is_usable v.flags 1 && (v.x2apic_id == 2 ^ 32 - 1) then Some v.x2apic_id else None
 broadcast_id _ = None
 
 -- these flags, if Enabled, bit 0, and Online Capable, this bit, are both set
@@ -55,10 +51,10 @@ both_flags (Opaque e) =
     if is_gicc e then both_set (field e 12 4) 3 else if is_rintc e then both_set (field e 4 4) 1 else None
 both_flags _ = None
 
--- the ID of a hart that is on (RINTC, after ACPI 6.5)
-abbrev pub hart_id_on : MadtEntry → Option ℕ
-hart_id_on (Opaque e) = if is_rintc e && is_on (field e 4 4) then Some (field e 8 8) else None
-hart_id_on _ = None
+-- the ID of a usable hart (RINTC, after ACPI 6.5)
+abbrev pub usable_hart_id : MadtEntry → Option ℕ
+usable_hart_id (Opaque e) = if is_rintc e && is_usable (field e 4 4) 1 then Some (field e 8 8) else None
+usable_hart_id _ = None
 
 -- ---- interrupts
 
@@ -90,10 +86,10 @@ pub record IsTwoSourcesOneGsi (c : MadtContents) (at other point : ℕ) : Type 0
   pub before : other < at
   pub first : (p s : ℕ) → NamesAt (source_for point) c.entries p s → s ≢ source → other ≤ p
 
--- a local APIC or a local x2APIC is on, there is an override (2) or an NMI source (3), there is neither an I/O APIC
+-- a local APIC or a local x2APIC is usable, there is an override (2) or an NMI source (3), there is neither an I/O APIC
 -- (1) nor an I/O SAPIC (6), and the MADT is well-formed
 pub record LacksIoApic (c : MadtContents) : Type 0 where
-  pub on : (id : ℕ) × IsNamed local_id_on c.entries id
+  pub usable : (id : ℕ) × IsNamed usable_local_id c.entries id
   pub named : HasType c 2 ⊎ HasType c 3
   pub no_apic : ¬ HasType c 1
   pub no_sapic : ¬ HasType c 6

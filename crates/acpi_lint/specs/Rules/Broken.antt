@@ -3,16 +3,16 @@ use Rattle.std.specs.Prelude.{ℕ, ◌≤◌, List, length, Option}
 use Rattle.acpi_base.specs.Memory.{Memory}
 use Rattle.acpi_base.specs.Policy.{PolicyValue}
 use Rattle.acpi_base.specs.Contents.{HasMadt, HasSrat, HasSlit, HasPptt}
-use Rattle.acpi_base.specs.Listed.{fadt_signature, madt_signature, srat_signature, pptt_signature, HasListed}
+use Rattle.acpi_base.specs.Listed.{madt_signature, srat_signature, pptt_signature, HasListed}
 use Rattle.acpi_base.specs.Madt.{MadtEntry, MadtContents}
 use Rattle.acpi_base.specs.Srat.{SratEntry, SratContents}
 use Rattle.acpi_base.specs.Slit.{SlitContents, HasSlitSize}
 use Rattle.acpi_base.specs.Pptt.{PpttEntry, PpttContents}
-use Rattle.acpi_lint.specs.Rules.ApicAdvice.{broadcast_id, both_flags, hart_id_on, level_timer, other_lint, IsX2ApicBelow255, IsTwoSourcesOneGsi, IsNoIoApic}
-use Rattle.acpi_lint.specs.Rules.Gic.{mpidr_on, msi_frame_id, its_id}
+use Rattle.acpi_lint.specs.Rules.ApicAdvice.{broadcast_id, both_flags, usable_hart_id, level_timer, other_lint, IsX2ApicBelow255, IsTwoSourcesOneGsi, IsNoIoApic}
+use Rattle.acpi_lint.specs.Rules.Gic.{usable_mpidr, msi_frame_id, its_id}
 use Rattle.acpi_lint.specs.Rules.GicAdvice.{reserved_mpidr, empty_gicr, IsNoDistributor, IsNoRedistributor, IsGicrTooSmall, IsGiccBaseDiffers, IsRedistributorTwice}
 use Rattle.acpi_lint.specs.Rules.Numbered.{OnEntry, HasNumber, Repeats}
-use Rattle.acpi_lint.specs.Rules.Processors.{uid_on, apic_id_on}
+use Rattle.acpi_lint.specs.Rules.Processors.{usable_uid, usable_apic_id}
 use Rattle.acpi_lint.specs.Rules.Slots.{IsListedTwice, IsSecondTable, IsListedApart}
 use Rattle.acpi_lint.specs.Rules.FadtAdvice.{IsFadtOfRevision, IsFacsDiffers, IsDsdtDiffers, IsBlockDiffers, IsSciNowhere}
 use Rattle.acpi_lint.specs.Rules.FadtBlocks.{IsNoPm1Block, IsBlockWidth, IsHalfBlock, IsPortPastEnd, IsGpeOverlap}
@@ -24,7 +24,7 @@ use Rattle.acpi_lint.specs.Rules.SlitAdvice.{IsSlitDiffers, IsRemoteAsLocal}
 use Rattle.acpi_lint.specs.Rules.PpttAdvice.{IsSameLeaf, IsCacheShape, IsSameCacheId, IsNoLeaf, IsLeafNowhere}
 use Rattle.acpi_lint.specs.Rules.GicRanges.{IsGicOverlap}
 use Rattle.acpi_lint.specs.Rules.Ports.{IsPortsOverlap}
-use Rattle.acpi_lint.specs.Rules.Structures.{IsTablesOverlap}
+use Rattle.acpi_lint.specs.Rules.Structures.{OfNamingFadt, IsTablesOverlap}
 use Rattle.acpi_lint.specs.Rules.Its.{IsItsNowhere}
 use Rattle.acpi_lint.specs.Rules.Reserved.{IsMadtReserved, IsSratReserved, IsPpttReserved}
 use Rattle.acpi_lint.specs.Rules.Domains.{IsNoMemoryRange, IsEmptyRange, IsInitiatorOff, IsDomainPastRevision}
@@ -41,7 +41,7 @@ use Rattle.acpi_lint.specs.declared.rule.Rule.TheVariants as rule
 
 -- P of the FADT's bytes, at least 116 (5.2.9)
 abbrev pub OfFadt : Memory → PolicyValue → (List ℕ → Type 0) → Type 0
-OfFadt m q P = HasListed m q.rsdp fadt_signature (λ whole. (116 ≤ length whole) × P whole)
+OfFadt m q P = OfNamingFadt m q.rsdp P
 
 -- P of what the MADT says, of at least 44 bytes (5.2.12)
 abbrev pub OfMadt : Memory → PolicyValue → (MadtContents → Type 0) → Type 0
@@ -65,137 +65,165 @@ OfSlit m q P = HasSlit m q (λ slit. HasSlitSize slit × P slit)
 
 -- ---- the rules
 
--- what a rule looks at, and the relation that says with which numbers it is broken there
+-- what a rule on the FADT looks at, and the relation that says with which numbers it is broken there
+pub data FadtCondition : Type 1 where
+  Fadt : (List ℕ → ℕ → ℕ → ℕ → Type 0) → FadtCondition
+  FadtMemory : (Memory → List ℕ → ℕ → ℕ → ℕ → Type 0) → FadtCondition  -- what it names in memory
+  FadtMadt : (PolicyValue → List ℕ → MadtContents → ℕ → ℕ → ℕ → Type 0) → FadtCondition
+
+-- the same for the MADT
+pub data MadtCondition : Type 1 where
+  Madt : (MadtContents → ℕ → ℕ → ℕ → Type 0) → MadtCondition
+  MadtEntries : (MadtEntry → ℕ → ℕ → Type 0) → MadtCondition  -- each entry by itself
+  MadtNumbers : (MadtEntry → Option ℕ) → MadtCondition  -- a number that each entry may have, and that should be unique
+  MadtBytes : (List ℕ → ℕ → ℕ → ℕ → Type 0) → MadtCondition  -- the bytes of the table
+  MadtSrat : (MadtContents → SratContents → ℕ → ℕ → ℕ → Type 0) → MadtCondition
+  MadtPptt : (MadtContents → PpttContents → ℕ → ℕ → ℕ → Type 0) → MadtCondition
+
+-- the same for the SRAT
+pub data SratCondition : Type 1 where
+  Srat : (SratContents → ℕ → ℕ → ℕ → Type 0) → SratCondition
+  SratEntries : (SratEntry → ℕ → ℕ → Type 0) → SratCondition
+  SratBytes : (List ℕ → ℕ → ℕ → ℕ → Type 0) → SratCondition
+  SratSlit : (ℕ → SratEntry → ℕ → ℕ → Type 0) → SratCondition  -- each entry, with the number of the SLIT's localities
+
+-- the same for the PPTT
+pub data PpttCondition : Type 1 where
+  Pptt : (PpttContents → ℕ → ℕ → ℕ → Type 0) → PpttCondition
+  PpttEntries : (PpttEntry → ℕ → ℕ → Type 0) → PpttCondition
+  PpttBytes : (List ℕ → ℕ → ℕ → ℕ → Type 0) → PpttCondition
+
+-- the same for any rule
 pub data Condition : Type 1 where
   Slots : (Memory → ℕ → ℕ → ℕ → ℕ → Type 0) → Condition  -- the slots of the root table that the RSDP at an address names
   Set : (Memory → ℕ → ℕ → ℕ → ℕ → Type 0) → Condition  -- the memory, from the RSDP at an address on
-  Fadt : (List ℕ → ℕ → ℕ → ℕ → Type 0) → Condition
-  FadtMemory : (Memory → List ℕ → ℕ → ℕ → ℕ → Type 0) → Condition  -- what the FADT names in memory
-  FadtMadt : (PolicyValue → List ℕ → MadtContents → ℕ → ℕ → ℕ → Type 0) → Condition
-  Madt : (MadtContents → ℕ → ℕ → ℕ → Type 0) → Condition
-  MadtEntries : (MadtEntry → ℕ → ℕ → Type 0) → Condition  -- each entry by itself
-  MadtNumbers : (MadtEntry → Option ℕ) → Condition  -- a number that each entry may have, and that should be unique
-  MadtBytes : (List ℕ → ℕ → ℕ → ℕ → Type 0) → Condition  -- the bytes of the table
-  MadtSrat : (MadtContents → SratContents → ℕ → ℕ → ℕ → Type 0) → Condition
-  MadtPptt : (MadtContents → PpttContents → ℕ → ℕ → ℕ → Type 0) → Condition
-  Srat : (SratContents → ℕ → ℕ → ℕ → Type 0) → Condition
-  SratEntries : (SratEntry → ℕ → ℕ → Type 0) → Condition
-  SratBytes : (List ℕ → ℕ → ℕ → ℕ → Type 0) → Condition
-  SratSlit : (ℕ → SratEntry → ℕ → ℕ → Type 0) → Condition  -- each entry, with the number of the SLIT's localities
+  OnFadt : FadtCondition → Condition
+  OnMadt : MadtCondition → Condition
+  OnSrat : SratCondition → Condition
   Slit : (SlitContents → ℕ → ℕ → ℕ → Type 0) → Condition
-  Pptt : (PpttContents → ℕ → ℕ → ℕ → Type 0) → Condition
-  PpttEntries : (PpttEntry → ℕ → ℕ → Type 0) → Condition
-  PpttBytes : (List ℕ → ℕ → ℕ → ℕ → Type 0) → Condition
+  OnPptt : PpttCondition → Condition
 
 -- the condition of each rule
 abbrev pub condition : Rule → Condition
 condition rule.ListedTwice = Slots IsListedTwice
 condition rule.SecondTable = Slots IsSecondTable
 condition rule.ListedApart = Slots IsListedApart
-condition rule.FadtOfRevision = Fadt IsFadtOfRevision
-condition rule.FacsDiffers = Fadt IsFacsDiffers
-condition rule.DsdtDiffers = Fadt IsDsdtDiffers
-condition rule.BlockDiffers = Fadt IsBlockDiffers
-condition rule.SciNowhere = FadtMadt IsSciNowhere
-condition rule.SameUid = MadtNumbers uid_on
-condition rule.SameApicId = MadtNumbers apic_id_on
-condition rule.IoApicAtZero = MadtEntries IsIoApicAtZero
-condition rule.SameIoApicId = MadtNumbers io_apic_id
-condition rule.SameIoApicAddress = MadtNumbers nonzero_io_apic_address
-condition rule.NmiNowhere = Madt IsNmiNowhere
-condition rule.SecondGicd = MadtNumbers gicd
-condition rule.NoProcessor = Madt IsNoProcessor
-condition rule.TwoUidDomains = Srat IsTwoUidDomains
-condition rule.AffinityNowhere = MadtSrat IsAffinityNowhere
-condition rule.NoDomain = MadtSrat IsNoDomain
-condition rule.DomainPastSlit = SratSlit IsDomainPastSlit
+condition rule.FadtOfRevision = OnFadt (Fadt IsFadtOfRevision)
+condition rule.FacsDiffers = OnFadt (Fadt IsFacsDiffers)
+condition rule.DsdtDiffers = OnFadt (Fadt IsDsdtDiffers)
+condition rule.BlockDiffers = OnFadt (Fadt IsBlockDiffers)
+condition rule.SciNowhere = OnFadt (FadtMadt IsSciNowhere)
+condition rule.SameUid = OnMadt (MadtNumbers usable_uid)
+condition rule.SameApicId = OnMadt (MadtNumbers usable_apic_id)
+condition rule.IoApicAtZero = OnMadt (MadtEntries IsIoApicAtZero)
+condition rule.SameIoApicId = OnMadt (MadtNumbers io_apic_id)
+condition rule.SameIoApicAddress = OnMadt (MadtNumbers nonzero_io_apic_address)
+condition rule.NmiNowhere = OnMadt (Madt IsNmiNowhere)
+condition rule.SecondGicd = OnMadt (MadtNumbers gicd)
+condition rule.NoProcessor = OnMadt (Madt IsNoProcessor)
+condition rule.TwoUidDomains = OnSrat (Srat IsTwoUidDomains)
+condition rule.AffinityNowhere = OnMadt (MadtSrat IsAffinityNowhere)
+condition rule.NoDomain = OnMadt (MadtSrat IsNoDomain)
+condition rule.DomainPastSlit = OnSrat (SratSlit IsDomainPastSlit)
 condition rule.SlitDiffers = Slit IsSlitDiffers
-condition rule.SameLeaf = Pptt IsSameLeaf
-condition rule.CacheShape = PpttEntries IsCacheShape
-condition rule.SameCacheId = Pptt IsSameCacheId
-condition rule.NoLeaf = MadtPptt IsNoLeaf
-condition rule.LeafNowhere = MadtPptt IsLeafNowhere
-condition rule.MadtUnread = MadtEntries IsMadtUnread
-condition rule.SratUnread = SratEntries IsSratUnread
+condition rule.SameLeaf = OnPptt (Pptt IsSameLeaf)
+condition rule.CacheShape = OnPptt (PpttEntries IsCacheShape)
+condition rule.SameCacheId = OnPptt (Pptt IsSameCacheId)
+condition rule.NoLeaf = OnMadt (MadtPptt IsNoLeaf)
+condition rule.LeafNowhere = OnMadt (MadtPptt IsLeafNowhere)
+condition rule.MadtUnread = OnMadt (MadtEntries IsMadtUnread)
+condition rule.SratUnread = OnSrat (SratEntries IsSratUnread)
 condition rule.NullSlot = Slots IsNullSlot
 condition rule.RsdtDiffers = Set IsRsdtDiffers
 condition rule.TablesOverlap = Set IsTablesOverlap
-condition rule.NoDsdt = Fadt IsNoDsdt
-condition rule.DsdtWrong = FadtMemory IsDsdtWrong
-condition rule.NoPm1Block = Fadt IsNoPm1Block
-condition rule.BlockWidth = Fadt IsBlockWidth
-condition rule.HalfBlock = Fadt IsHalfBlock
-condition rule.PortsOverlap = Set IsPortsOverlap
-condition rule.PortPastEnd = Fadt IsPortPastEnd
-condition rule.GpeOverlap = Fadt IsGpeOverlap
-condition rule.SmiHalf = Fadt IsSmiHalf
-condition rule.SciZero = Fadt IsSciZero
-condition rule.ResetNowhere = Fadt IsResetNowhere
-condition rule.FadtForArch = FadtMadt (λ q. IsFadtForArch)
-condition rule.SleepRegister = Fadt IsSleepRegister
-condition rule.FadtReserved = Fadt IsFadtReserved
-condition rule.FacsReserved = FadtMemory IsFacsReserved
+condition rule.NoDsdt = OnFadt (Fadt IsNoDsdt)
+condition rule.DsdtWrong = OnFadt (FadtMemory IsDsdtWrong)
+condition rule.NoPm1Block = OnFadt (Fadt IsNoPm1Block)
+condition rule.BlockWidth = OnFadt (Fadt IsBlockWidth)
+condition rule.HalfBlock = OnFadt (Fadt IsHalfBlock)
+condition rule.PortsOverlap = OnFadt (Fadt IsPortsOverlap)
+condition rule.PortPastEnd = OnFadt (Fadt IsPortPastEnd)
+condition rule.GpeOverlap = OnFadt (Fadt IsGpeOverlap)
+condition rule.SmiHalf = OnFadt (Fadt IsSmiHalf)
+condition rule.SciZero = OnFadt (Fadt IsSciZero)
+condition rule.ResetNowhere = OnFadt (Fadt IsResetNowhere)
+condition rule.FadtForArch = OnFadt (FadtMadt (λ q. IsFadtForArch))
+condition rule.SleepRegister = OnFadt (Fadt IsSleepRegister)
+condition rule.FadtReserved = OnFadt (Fadt IsFadtReserved)
+condition rule.FacsReserved = OnFadt (FadtMemory IsFacsReserved)
 condition rule.RsdpReserved = Set IsRsdpReserved
 condition rule.HeaderText = Slots IsHeaderText
 condition rule.SecondOther = Slots IsSecondOther
-condition rule.X2ApicBelow255 = Madt IsX2ApicBelow255
-condition rule.BroadcastId = MadtEntries (HasNumber broadcast_id)
-condition rule.CapableTooEarly = FadtMadt (λ q. IsCapableTooEarly)
-condition rule.EnabledAndCapable = MadtEntries (HasNumber both_flags)
-condition rule.OverridePastIsa = FadtMadt (λ q. IsOverridePastIsa)
-condition rule.TimerLevel = MadtEntries (HasNumber level_timer)
-condition rule.TwoSourcesOneGsi = Madt IsTwoSourcesOneGsi
-condition rule.LintNotOne = MadtEntries (HasNumber other_lint)
-condition rule.NoIoApic = Madt IsNoIoApic
-condition rule.NoDistributor = Madt IsNoDistributor
-condition rule.NoRedistributor = Madt IsNoRedistributor
-condition rule.GicrTooSmall = Madt IsGicrTooSmall
-condition rule.GiccBaseDiffers = Madt IsGiccBaseDiffers
-condition rule.SameMpidr = MadtNumbers mpidr_on
-condition rule.MpidrReserved = MadtEntries (HasNumber reserved_mpidr)
-condition rule.GicrEmpty = MadtEntries (HasNumber empty_gicr)
-condition rule.SameIts = MadtNumbers its_id
-condition rule.SameMsiFrame = MadtNumbers msi_frame_id
-condition rule.GicOverlap = Madt IsGicOverlap
-condition rule.RedistributorTwice = Madt IsRedistributorTwice
-condition rule.NoBootMethod = FadtMadt (λ q. IsNoBootMethod)
-condition rule.SameHart = MadtNumbers hart_id_on
-condition rule.MadtReserved = MadtBytes IsMadtReserved
-condition rule.NoMemoryRange = Srat IsNoMemoryRange
-condition rule.EmptyRange = SratEntries IsEmptyRange
-condition rule.InitiatorOff = SratEntries IsInitiatorOff
-condition rule.DomainPastRevision = SratBytes IsDomainPastRevision
-condition rule.ItsNowhere = MadtSrat IsItsNowhere
-condition rule.SratReserved = SratBytes IsSratReserved
+condition rule.X2ApicBelow255 = OnMadt (Madt IsX2ApicBelow255)
+condition rule.BroadcastId = OnMadt (MadtEntries (HasNumber broadcast_id))
+condition rule.CapableTooEarly = OnFadt (FadtMadt (λ q. IsCapableTooEarly))
+condition rule.EnabledAndCapable = OnMadt (MadtEntries (HasNumber both_flags))
+condition rule.OverridePastIsa = OnFadt (FadtMadt (λ q. IsOverridePastIsa))
+condition rule.TimerLevel = OnMadt (MadtEntries (HasNumber level_timer))
+condition rule.TwoSourcesOneGsi = OnMadt (Madt IsTwoSourcesOneGsi)
+condition rule.LintNotOne = OnMadt (MadtEntries (HasNumber other_lint))
+condition rule.NoIoApic = OnMadt (Madt IsNoIoApic)
+condition rule.NoDistributor = OnMadt (Madt IsNoDistributor)
+condition rule.NoRedistributor = OnMadt (Madt IsNoRedistributor)
+condition rule.GicrTooSmall = OnMadt (Madt IsGicrTooSmall)
+condition rule.GiccBaseDiffers = OnMadt (Madt IsGiccBaseDiffers)
+condition rule.SameMpidr = OnMadt (MadtNumbers usable_mpidr)
+condition rule.MpidrReserved = OnMadt (MadtEntries (HasNumber reserved_mpidr))
+condition rule.GicrEmpty = OnMadt (MadtEntries (HasNumber empty_gicr))
+condition rule.SameIts = OnMadt (MadtNumbers its_id)
+condition rule.SameMsiFrame = OnMadt (MadtNumbers msi_frame_id)
+condition rule.GicOverlap = OnMadt (Madt IsGicOverlap)
+condition rule.RedistributorTwice = OnMadt (Madt IsRedistributorTwice)
+condition rule.NoBootMethod = OnFadt (FadtMadt (λ q. IsNoBootMethod))
+condition rule.SameHart = OnMadt (MadtNumbers usable_hart_id)
+condition rule.MadtReserved = OnMadt (MadtBytes IsMadtReserved)
+condition rule.NoMemoryRange = OnSrat (Srat IsNoMemoryRange)
+condition rule.EmptyRange = OnSrat (SratEntries IsEmptyRange)
+condition rule.InitiatorOff = OnSrat (SratEntries IsInitiatorOff)
+condition rule.DomainPastRevision = OnSrat (SratBytes IsDomainPastRevision)
+condition rule.ItsNowhere = OnMadt (MadtSrat IsItsNowhere)
+condition rule.SratReserved = OnSrat (SratBytes IsSratReserved)
 condition rule.RemoteAsLocal = Slit IsRemoteAsLocal
-condition rule.LeafUnflagged = Pptt IsLeafUnflagged
-condition rule.LeafAsParent = Pptt IsLeafAsParent
-condition rule.NoPackage = Pptt IsNoPackage
-condition rule.CacheNumbers = PpttEntries IsCacheNumbers
-condition rule.PpttReserved = PpttBytes IsPpttReserved
+condition rule.LeafUnflagged = OnPptt (Pptt IsLeafUnflagged)
+condition rule.LeafAsParent = OnPptt (Pptt IsLeafAsParent)
+condition rule.NoPackage = OnPptt (Pptt IsNoPackage)
+condition rule.CacheNumbers = OnPptt (PpttEntries IsCacheNumbers)
+condition rule.PpttReserved = OnPptt (PpttBytes IsPpttReserved)
 
 -- the condition holds in a set for these numbers
-abbrev pub HoldsAt : Condition → Memory → PolicyValue → ℕ → ℕ → ℕ → Type 0
-HoldsAt (Slots P) m q at other point = P m q.rsdp at other point
-HoldsAt (Set P) m q at other point = P m q.rsdp at other point
-HoldsAt (Fadt P) m q at other point = OfFadt m q (λ fadt. P fadt at other point)
-HoldsAt (FadtMemory P) m q at other point = OfFadt m q (λ fadt. P m fadt at other point)
-HoldsAt (FadtMadt P) m q at other point = OfFadt m q (λ fadt. OfMadt m q (λ madt. P q fadt madt at other point))
-HoldsAt (Madt P) m q at other point = OfMadt m q (λ madt. P madt at other point)
-HoldsAt (MadtEntries P) m q at other point = OfMadt m q (λ madt. OnEntry P madt.entries at other point)
-HoldsAt (MadtNumbers read) m q at other point = OfMadt m q (λ madt. Repeats read madt.entries at other point)
-HoldsAt (MadtBytes P) m q at other point = OfMadtBytes m q (λ whole. P whole at other point)
-HoldsAt (MadtSrat P) m q at other point = OfMadt m q (λ madt. OfSrat m q (λ srat. P madt srat at other point))
-HoldsAt (MadtPptt P) m q at other point = OfMadt m q (λ madt. HasPptt m q (λ pptt. P madt pptt at other point))
-HoldsAt (Srat P) m q at other point = OfSrat m q (λ srat. P srat at other point)
-HoldsAt (SratEntries P) m q at other point = OfSrat m q (λ srat. OnEntry P srat.entries at other point)
-HoldsAt (SratBytes P) m q at other point = OfSratBytes m q (λ whole. P whole at other point)
-HoldsAt (SratSlit P) m q at other point =
+abbrev pub FadtHoldsAt : FadtCondition → Memory → PolicyValue → ℕ → ℕ → ℕ → Type 0
+FadtHoldsAt (Fadt P) m q at other point = OfFadt m q (λ fadt. P fadt at other point)
+FadtHoldsAt (FadtMemory P) m q at other point = OfFadt m q (λ fadt. P m fadt at other point)
+FadtHoldsAt (FadtMadt P) m q at other point = OfFadt m q (λ fadt. OfMadt m q (λ madt. P q fadt madt at other point))
+
+abbrev pub MadtHoldsAt : MadtCondition → Memory → PolicyValue → ℕ → ℕ → ℕ → Type 0
+MadtHoldsAt (Madt P) m q at other point = OfMadt m q (λ madt. P madt at other point)
+MadtHoldsAt (MadtEntries P) m q at other point = OfMadt m q (λ madt. OnEntry P madt.entries at other point)
+MadtHoldsAt (MadtNumbers read) m q at other point = OfMadt m q (λ madt. Repeats read madt.entries at other point)
+MadtHoldsAt (MadtBytes P) m q at other point = OfMadtBytes m q (λ whole. P whole at other point)
+MadtHoldsAt (MadtSrat P) m q at other point = OfMadt m q (λ madt. OfSrat m q (λ srat. P madt srat at other point))
+MadtHoldsAt (MadtPptt P) m q at other point = OfMadt m q (λ madt. HasPptt m q (λ pptt. P madt pptt at other point))
+
+abbrev pub SratHoldsAt : SratCondition → Memory → PolicyValue → ℕ → ℕ → ℕ → Type 0
+SratHoldsAt (Srat P) m q at other point = OfSrat m q (λ srat. P srat at other point)
+SratHoldsAt (SratEntries P) m q at other point = OfSrat m q (λ srat. OnEntry P srat.entries at other point)
+SratHoldsAt (SratBytes P) m q at other point = OfSratBytes m q (λ whole. P whole at other point)
+SratHoldsAt (SratSlit P) m q at other point =
     OfSrat m q (λ srat. OfSlit m q (λ slit. OnEntry (P slit.count) srat.entries at other point))
-HoldsAt (Slit P) m q at other point = OfSlit m q (λ slit. P slit at other point)
-HoldsAt (Pptt P) m q at other point = HasPptt m q (λ pptt. P pptt at other point)
-HoldsAt (PpttEntries P) m q at other point = HasPptt m q (λ pptt. OnEntry P pptt.entries at other point)
-HoldsAt (PpttBytes P) m q at other point = HasListed m q.rsdp pptt_signature (λ whole. P whole at other point)
+
+abbrev pub PpttHoldsAt : PpttCondition → Memory → PolicyValue → ℕ → ℕ → ℕ → Type 0
+PpttHoldsAt (Pptt P) m q at other point = HasPptt m q (λ pptt. P pptt at other point)
+PpttHoldsAt (PpttEntries P) m q at other point = HasPptt m q (λ pptt. OnEntry P pptt.entries at other point)
+PpttHoldsAt (PpttBytes P) m q at other point = HasListed m q.rsdp pptt_signature (λ whole. P whole at other point)
+
+abbrev pub HoldsAt : Condition → Memory → PolicyValue → ℕ → ℕ → ℕ → Type 0
+HoldsAt (Slots P) m q = P m q.rsdp
+HoldsAt (Set P) m q = P m q.rsdp
+HoldsAt (OnFadt c) m q = FadtHoldsAt c m q
+HoldsAt (OnMadt c) m q = MadtHoldsAt c m q
+HoldsAt (OnSrat c) m q = SratHoldsAt c m q
+HoldsAt (Slit P) m q = λ at other point. OfSlit m q (λ slit. P slit at other point)
+HoldsAt (OnPptt c) m q = PpttHoldsAt c m q
 
 -- the rule is broken at these numbers
 abbrev pub IsBroken : Rule → Memory → PolicyValue → ℕ → ℕ → ℕ → Type 0

@@ -6,6 +6,7 @@ use Rattle.acpi_base.specs.Entries.{Stands, StandsWith}
 use Rattle.acpi_base.specs.Fadt.{is_reduced, gas_at}
 use Rattle.acpi_base.specs.Madt.{MadtEntry, Override, OverrideValue, MadtContents}
 use Rattle.acpi_base.specs.Policy.{PolicyValue}
+use Rattle.acpi_lint.specs.Rules.FadtBlocks.{block_at, structure_at}
 use Rattle.acpi_lint.specs.Rules.WellFormed.{IsWellFormedMadt}
 
 -- the minimum length of a FADT of this Revision, that of all its fields; 0 below Revision 3, which has no minimum here
@@ -43,9 +44,9 @@ pub record IsBlockDiffers (whole : List ℕ) (at other point : ℕ) : Type 0 whe
   pub not_reduced : is_reduced whole ≡ false
   pub k : ℕ
   pub block : k < 8
-  pub place : at ≡ 56 + 4 * k
-  pub space : (gas_at whole (148 + 12 * k)).space ≡ 1
-  pub differ : DoFieldsDiffer whole at (152 + 12 * k) other point
+  pub place : at ≡ block_at k
+  pub space : (gas_at whole (structure_at k)).space ≡ 1
+  pub differ : DoFieldsDiffer whole at (structure_at k + 4) other point
 
 -- ---- the interrupt of the FADT among those of the MADT
 

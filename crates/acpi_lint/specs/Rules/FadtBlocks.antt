@@ -1,11 +1,18 @@
 -- The register blocks of a FADT (ACPI 6.5, 5.2.9), from 0 to 7: PM1a_EVT, PM1b_EVT, PM1a_CNT, PM1b_CNT, PM2_CNT, PM_TMR, GPE0 and
--- GPE1. The 4-byte field of block k is at 56 + 4k, its X_ structure at 148 + 12k.
+-- GPE1.
 use Rattle.std.specs.Prelude.{◌≡◌, ◌≢◌, ℕ, ◌+◌, ◌*◌, ◌/◌, ◌^◌, ◌<◌, ◌≤◌, ◌⊎◌, List, length, slice_index, true, false, ◌==◌, if◌then◌else◌}
 use Rattle.acpi_base.specs.Entries.{AreUnused}
 use Rattle.acpi_base.specs.Number.{field}
 use Rattle.acpi_base.specs.Fadt.{is_reduced, has_reset, gas_at, block_lengths, BlockValue, NoBlock, GasBlock, PortBlock, block_value}
 
 -- ---- what a block is
+
+-- the offset of the 4-byte field of block k, and that of its X_ structure
+abbrev pub block_at : ℕ → ℕ
+block_at k = 56 + 4 * k
+
+abbrev pub structure_at : ℕ → ℕ
+structure_at k = 148 + 12 * k
 
 -- the address of a block; 0 for none
 abbrev pub address_in : BlockValue → ℕ
@@ -40,7 +47,7 @@ pub record OnBlock (Is : ℕ → ℕ → ℕ → Type 0) (low at other point : �
   pub k : ℕ
   pub from : low ≤ k
   pub block : k < 8
-  pub place : at ≡ 56 + 4 * k
+  pub place : at ≡ block_at k
   pub is : Is k other point
 
 -- PM1a_EVT or PM1a_CNT is none; applies if the hardware is not reduced, as the following do
@@ -52,12 +59,12 @@ IsNoPm1Block whole at other point =
 -- both fields of block k have an address, and its length byte in bits, `other`, is not the width of the X_ structure, `point`,
 -- though both are given, and a width can say it
 pub record DoWidthsDiffer (whole : List ℕ) (k other point : ℕ) : Type 0 where
-  pub narrow_used : field whole (56 + 4 * k) 4 ≢ 0
-  pub wide_there : 160 + 12 * k ≤ length whole
-  pub wide_used : (gas_at whole (148 + 12 * k)).address ≢ 0
+  pub narrow_used : field whole (block_at k) 4 ≢ 0
+  pub wide_there : structure_at k + 12 ≤ length whole
+  pub wide_used : (gas_at whole (structure_at k)).address ≢ 0
   pub bits : other ≡ 8 * block_length whole k
   pub bits_given : (other ≢ 0) × (other ≤ 255)
-  pub width : point ≡ (gas_at whole (148 + 12 * k)).bit_width
+  pub width : point ≡ (gas_at whole (structure_at k)).bit_width
   pub width_given : point ≢ 0
   pub differ : other ≢ point
 

@@ -5,7 +5,7 @@ use Rattle.acpi_base.specs.Fadt.{is_reduced, has_field}
 use Rattle.acpi_base.specs.Madt.{MadtEntry, LocalApic, X2apic, Override, Opaque, MadtContents}
 use Rattle.acpi_base.specs.Number.{field, has_bit}
 use Rattle.acpi_lint.specs.Rules.EntryTypes.{HasType}
-use Rattle.acpi_lint.specs.Rules.Gic.{is_gicc_on}
+use Rattle.acpi_lint.specs.Rules.Gic.{is_usable_gicc}
 use Rattle.acpi_lint.specs.Rules.Numbered.{OnEntry}
 use Rattle.acpi_lint.specs.Rules.Processors.{is_gicc}
 use Rattle.acpi_lint.specs.Rules.WellFormed.{IsWellFormedMadt}
@@ -69,19 +69,19 @@ IsOverridePastIsa whole c = OnEntry (IsPastIsa (field whole 46 2)) c.entries
 -- ---- how processors with a GIC are started (5.2.12.14)
 
 -- the entry is a GICC that is Enabled or Online Capable
-abbrev pub IsGiccOn : MadtEntry → Type 0
-IsGiccOn (Opaque e) = is_gicc_on e ≡ true
-IsGiccOn _ = ⊥
+abbrev pub IsUsableGicc : MadtEntry → Type 0
+IsUsableGicc (Opaque e) = is_usable_gicc e ≡ true
+IsUsableGicc _ = ⊥
 
 -- it is one, and has a version of the parking protocol
 abbrev pub IsParking : MadtEntry → Type 0
-IsParking (Opaque e) = (is_gicc_on e ≡ true) × (field e 16 4 ≢ 0)
+IsParking (Opaque e) = (is_usable_gicc e ≡ true) × (field e 16 4 ≢ 0)
 IsParking _ = ⊥
 
 -- there is more than one
 abbrev pub HasTwoGiccs : MadtContents → Type 0
 HasTwoGiccs c =
-    (o : ℕ) × (p : ℕ) × StandsWith c.entries o IsGiccOn × StandsWith c.entries p IsGiccOn × (o < p)
+    (o : ℕ) × (p : ℕ) × StandsWith c.entries o IsUsableGicc × StandsWith c.entries p IsUsableGicc × (o < p)
 
 -- none has the parking protocol; applies if the MADT is well-formed
 abbrev pub IsNoneParking : MadtContents → Type 0

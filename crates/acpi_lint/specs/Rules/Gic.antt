@@ -1,23 +1,23 @@
 -- The parts of a GIC, as entries of the MADT describe them: which bytes are one, and its fields (ACPI 6.5, 5.2.12.14
 -- to 5.2.12.18). Offsets of fields are from the entry's start.
-use Rattle.std.specs.Prelude.{ℕ, Bool, List, length, slice_index, Option, Some, None, nat_le, not, ◌==◌, ◌&&◌, ◌||◌, if◌then◌else◌}
-use Rattle.acpi_base.specs.Number.{field, has_bit}
+use Rattle.std.specs.Prelude.{ℕ, Bool, List, length, slice_index, Option, Some, None, nat_le, not, ◌==◌, ◌&&◌, if◌then◌else◌}
+use Rattle.acpi_base.specs.Number.{field}
 use Rattle.acpi_base.specs.Madt.{MadtEntry, Opaque}
-use Rattle.acpi_lint.specs.Rules.Processors.{is_gicc}
+use Rattle.acpi_lint.specs.Rules.Processors.{is_usable, is_gicc}
 
 -- ---- the parts
 
--- the bytes are a CPU interface, GICC, that is on: Enabled, bit 0 of its flags, or Online Capable, bit 3 (5.2.12.14)
-abbrev pub is_gicc_on : List ℕ → Bool
-is_gicc_on e = is_gicc e && (has_bit (field e 12 4) 0 || has_bit (field e 12 4) 3)
+-- the bytes are a usable CPU interface, GICC: Enabled, bit 0 of its flags, or Online Capable, bit 3 (5.2.12.14)
+abbrev pub is_usable_gicc : List ℕ → Bool
+is_usable_gicc e = is_gicc e && is_usable (field e 12 4) 3
 
--- one that is on, and is long enough for an MPIDR, which ACPI 5.1 added
+-- a usable one that is long enough for an MPIDR, which ACPI 5.1 added
 abbrev pub has_mpidr : List ℕ → Bool
-has_mpidr e = is_gicc_on e && nat_le 76 (length e)
+has_mpidr e = is_usable_gicc e && nat_le 76 (length e)
 
--- one that is on, and is long enough for the address of a redistributor of its own, and names one
+-- a usable one that is long enough for the address of a redistributor of its own, and names one
 abbrev pub names_redistributor : List ℕ → Bool
-names_redistributor e = is_gicc_on e && nat_le 68 (length e) && not (field e 60 8 == 0)
+names_redistributor e = is_usable_gicc e && nat_le 68 (length e) && not (field e 60 8 == 0)
 
 -- a distributor, GICD (5.2.12.15)
 abbrev pub is_gicd : List ℕ → Bool
@@ -46,13 +46,13 @@ field_where is at width _ = None
 abbrev pub gicc_base : MadtEntry → Option ℕ
 gicc_base e = field_where is_gicc 32 8 e
 
--- the UID of one that is on
-abbrev pub gicc_uid_on : MadtEntry → Option ℕ
-gicc_uid_on e = field_where is_gicc_on 8 4 e
+-- the UID of a usable one
+abbrev pub usable_gicc_uid : MadtEntry → Option ℕ
+usable_gicc_uid e = field_where is_usable_gicc 8 4 e
 
--- the MPIDR of one that is on, and the address of a redistributor of its own, if it names one
-abbrev pub mpidr_on : MadtEntry → Option ℕ
-mpidr_on e = field_where has_mpidr 68 8 e
+-- the MPIDR of a usable one, and the address of a redistributor of its own, if it names one
+abbrev pub usable_mpidr : MadtEntry → Option ℕ
+usable_mpidr e = field_where has_mpidr 68 8 e
 
 abbrev pub own_redistributor : MadtEntry → Option ℕ
 own_redistributor e = field_where names_redistributor 60 8 e

@@ -5,7 +5,7 @@ use Rattle.acpi_base.specs.Entries.{AreUnused}
 use Rattle.acpi_base.specs.Madt.{MadtEntry, Opaque, MadtContents}
 use Rattle.acpi_base.specs.Number.{field}
 use Rattle.acpi_lint.specs.Rules.EntryTypes.{HasType}
-use Rattle.acpi_lint.specs.Rules.Gic.{is_gicr, field_where, gicc_base, gicc_uid_on, mpidr_on, own_redistributor, gicd_version, gicr_base, gicr_length}
+use Rattle.acpi_lint.specs.Rules.Gic.{is_gicr, field_where, gicc_base, usable_gicc_uid, usable_mpidr, own_redistributor, gicd_version, gicr_base, gicr_length}
 use Rattle.acpi_lint.specs.Rules.Numbered.{NamesAt, IsNamed, IsFirstNamed, numbers_of}
 use Rattle.acpi_lint.specs.Rules.WellFormed.{IsWellFormedMadt}
 
@@ -15,9 +15,9 @@ use Rattle.acpi_lint.specs.Rules.WellFormed.{IsWellFormedMadt}
 abbrev pub is_reserved_mpidr : ℕ → Bool
 is_reserved_mpidr n = not (n / 2 ^ 24 % 2 ^ 8 == 0) || not (n / 2 ^ 40 == 0)
 
--- the MPIDR of a CPU interface that is on, if such a bit is set
+-- the MPIDR of a usable CPU interface, if such a bit is set
 abbrev pub reserved_mpidr : MadtEntry → Option ℕ
-reserved_mpidr e = option_and_then (λ n. if is_reserved_mpidr n then Some n else None) (mpidr_on e)
+reserved_mpidr e = option_and_then (λ n. if is_reserved_mpidr n then Some n else None) (usable_mpidr e)
 
 -- the address of a range of redistributors of no bytes (5.2.12.17)
 abbrev pub empty_gicr : MadtEntry → Option ℕ
@@ -41,7 +41,7 @@ abbrev pub IsNoDistributor : MadtContents → ℕ → ℕ → ℕ → Type 0
 IsNoDistributor c at other point = LacksDistributor c × (at ≡ 0) × AreUnused other point
 
 -- a GIC of this version has redistributors (3 and 4 do), and there is no entry of a range of them (14), nor does a
--- CPU interface that is on name its own
+-- usable CPU interface name its own
 pub record LacksRedistributor (c : MadtContents) (v : ℕ) : Type 0 where
   pub versioned : (v ≡ 3) ⊎ (v ≡ 4)
   pub no_range : ¬ HasType c 14
@@ -68,11 +68,11 @@ pub record AreGicrsKnown (c : MadtContents) : Type 0 where
 abbrev pub redistributor_count : MadtContents → ℕ
 redistributor_count c = sum_by (λ size. size / 0x20000) (numbers_of gicr_length c.entries)
 
--- how many CPU interfaces are on
+-- how many CPU interfaces are usable
 abbrev pub interface_count : MadtContents → ℕ
-interface_count c = length (numbers_of gicc_uid_on c.entries)
+interface_count c = length (numbers_of usable_gicc_uid c.entries)
 
--- the ranges, the first at `at`, have `other` redistributors, fewer than `point`, the number of CPU interfaces on
+-- the ranges, the first at `at`, have `other` redistributors, fewer than `point`, the number of usable CPU interfaces
 pub record IsGicrTooSmall (c : MadtContents) (at other point : ℕ) : Type 0 where
   pub known : AreGicrsKnown c
   pub first : (size : ℕ) × IsFirstNamed gicr_length c.entries at size
@@ -91,8 +91,8 @@ pub record IsGiccBaseDiffers (c : MadtContents) (at other point : ℕ) : Type 0 
   pub first : IsFirstNamed gicc_base c.entries other base
   pub differ : point ≢ base
 
--- the CPU interface at `at` is on and names its own redistributor, at the address `point`, though there are ranges of
--- them, of which the first is at `other` (5.2.12.17)
+-- the CPU interface at `at` is usable and names its own redistributor, at the address `point`, though there are ranges
+-- of them, of which the first is at `other` (5.2.12.17)
 abbrev pub IsRedistributorTwice : MadtContents → ℕ → ℕ → ℕ → Type 0
 IsRedistributorTwice c at other point =
     NamesAt own_redistributor c.entries at point × ((base : ℕ) × IsFirstNamed gicr_base c.entries other base)

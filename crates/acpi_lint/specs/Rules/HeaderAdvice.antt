@@ -4,6 +4,7 @@ use Rattle.std.specs.List.{list_any}
 use Rattle.acpi_base.specs.Memory.{Memory, bytes_at}
 use Rattle.acpi_base.specs.Number.{field}
 use Rattle.acpi_base.specs.Root.{IsSlot}
+use Rattle.acpi_lint.specs.Rules.Slots.{IsSecond}
 
 -- ---- text
 
@@ -59,11 +60,6 @@ ListsNumber m p n k a =
     IsSlot m p k a × ((header : List ℕ) × (bytes_at m a 36 ≡ Some header) × (signature_number header ≡ n))
 
 -- the slot lists a table of which a set has one, at another address than `other`, the first slot with its signature
-pub record IsSecondOther (m : Memory) (p at other point : ℕ) : Type 0 where
-  pub signature : ℕ
-  pub once : is_once signature ≡ true
-  pub here : ListsNumber m p signature at point
-  pub a : ℕ
-  pub there : ListsNumber m p signature other a
-  pub first : (k b : ℕ) → ListsNumber m p signature k b → other ≤ k
-  pub differs : a ≢ point
+abbrev pub IsSecondOther : Memory → ℕ → ℕ → ℕ → ℕ → Type 0
+IsSecondOther m p at other point =
+    (signature : ℕ) × (is_once signature ≡ true) × IsSecond (ListsNumber m p signature) at other point

@@ -4,14 +4,14 @@ use Rattle.std.specs.Option.{option_and_then}
 use Rattle.acpi_base.specs.Entries.{AreUnused}
 use Rattle.acpi_base.specs.Madt.{MadtEntry, IoApic, LocalNmi, X2apicNmi, Opaque, MadtContents}
 use Rattle.acpi_lint.specs.Rules.Numbered.{NamesAt, IsNamed}
-use Rattle.acpi_lint.specs.Rules.Processors.{uid_of, uid_on, AreProcessorsKnown}
+use Rattle.acpi_lint.specs.Rules.Processors.{uid_of, usable_uid, AreProcessorsKnown}
 
 -- ---- processors
 
 -- no processor is usable; applies if all processors are known
 abbrev pub IsNoProcessor : MadtContents → ℕ → ℕ → ℕ → Type 0
 IsNoProcessor c at other point =
-    AreProcessorsKnown c × ((uid : ℕ) → ¬ IsNamed uid_on c.entries uid) × (at ≡ 0) × AreUnused other point
+    AreProcessorsKnown c × ((uid : ℕ) → ¬ IsNamed usable_uid c.entries uid) × (at ≡ 0) × AreUnused other point
 
 -- the UID to which a local APIC NMI or local x2APIC NMI applies; all ones mean all processors (5.2.12.7, 5.2.12.13)
 abbrev pub nmi_uid : MadtEntry → Option ℕ

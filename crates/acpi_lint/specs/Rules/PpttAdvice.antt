@@ -5,7 +5,7 @@ use Rattle.acpi_base.specs.Number.{has_bit}
 use Rattle.acpi_base.specs.Madt.{MadtContents}
 use Rattle.acpi_base.specs.Pptt.{PpttEntry, Node, Cache, CacheValue, PpttContents}
 use Rattle.acpi_lint.specs.Rules.Numbered.{NamesAt, IsNamed, IsLater, Repeats}
-use Rattle.acpi_lint.specs.Rules.Processors.{uid_of, uid_on, AreProcessorsRead, AreProcessorsKnown, IsOpaqueProcessor, IsLeafAt, IsLeafId}
+use Rattle.acpi_lint.specs.Rules.Processors.{uid_of, usable_uid, AreProcessorsRead, AreProcessorsKnown, IsOpaqueProcessor, IsLeafAt, IsLeafId}
 use Rattle.acpi_lint.specs.Rules.WellFormed.{IsWellFormedPptt}
 
 -- the entry is a node
@@ -43,7 +43,7 @@ IsSameCacheId c at other point = (3 ≤ c.revision) × Repeats cache_id c.entrie
 abbrev pub IsNoLeaf : MadtContents → PpttContents → ℕ → ℕ → ℕ → Type 0
 IsNoLeaf madt pptt at other point =
     AreProcessorsRead madt × IsWellFormedPptt pptt × ((o : ℕ) × StandsWith pptt.entries o IsNode)
-    × NamesAt uid_on madt.entries at point
+    × NamesAt usable_uid madt.entries at point
     × (¬ IsLeafId pptt point) × (other ≡ 0)
 
 -- the leaf's ID `point` is no processor's UID; applies if all processors are known and the MADT has a processor of type 11, 17 or

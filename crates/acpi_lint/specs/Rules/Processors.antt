@@ -10,12 +10,15 @@ use Rattle.acpi_lint.specs.Rules.WellFormed.{IsWellFormedMadt, IsWellFormedPptt}
 
 -- ---- the MADT (5.2.12)
 
--- a processor: its UID, its APIC ID, x2APIC ID or core's ID if it has one, and whether it is usable: Enabled or Online
--- Capable
+-- a processor with these flags is usable: Enabled, bit 0, or Online Capable, which is this bit
+abbrev pub is_usable : ℕ → ℕ → Bool
+is_usable flags capable = has_bit flags 0 || has_bit flags capable
+
+-- a processor: its UID, its APIC ID, x2APIC ID or core's ID if it has one, and whether it is usable
 pub record Processor : Type 0 where
   pub uid : ℕ
   pub apic_id : Option ℕ
-  pub on : Bool
+  pub usable : Bool
 
 -- the bytes are a GIC CPU interface of at least 40 bytes, its length in ACPI 5.0 (5.2.12.14)
 abbrev pub is_gicc : List ℕ → Bool
@@ -33,19 +36,19 @@ is_core_pic e = (slice_index e 0 == 17) && (length e == 15)
 abbrev pub opaque_processor : List ℕ → Option Processor
 opaque_processor e =
     if is_gicc e
-    then Some (record { uid = field e 8 4; apic_id = None; on = has_bit (field e 12 4) 0 || has_bit (field e 12 4) 3 })
+    then Some (record { uid = field e 8 4; apic_id = None; usable = is_usable (field e 12 4) 3 })
     else if is_rintc e
-    then Some (record { uid = field e 16 4; apic_id = None; on = has_bit (field e 4 4) 0 || has_bit (field e 4 4) 1 })
+    then Some (record { uid = field e 16 4; apic_id = None; usable = is_usable (field e 4 4) 1 })
     else if is_core_pic e
-    then Some (record { uid = field e 3 4; apic_id = Some (field e 7 4); on = has_bit (field e 11 4) 0 })
+    then Some (record { uid = field e 3 4; apic_id = Some (field e 7 4); usable = has_bit (field e 11 4) 0 })
     else None
 
 -- the processor that an entry describes
 abbrev pub processor_of : madt.MadtEntry → Option Processor
 processor_of (madt.LocalApic v) =
-    Some (record { uid = v.uid; apic_id = Some v.apic_id; on = has_bit v.flags 0 || has_bit v.flags 1 })
+    Some (record { uid = v.uid; apic_id = Some v.apic_id; usable = is_usable v.flags 1 })
 processor_of (madt.X2apic v) =
-    Some (record { uid = v.uid; apic_id = Some v.x2apic_id; on = has_bit v.flags 0 || has_bit v.flags 1 })
+    Some (record { uid = v.uid; apic_id = Some v.x2apic_id; usable = is_usable v.flags 1 })
 processor_of (madt.Opaque e) = opaque_processor e
 processor_of _ = None
 
@@ -53,19 +56,20 @@ processor_of _ = None
 abbrev pub uid_of : madt.MadtEntry → Option ℕ
 uid_of e = option_map (λ p. p.uid) (processor_of e)
 
-abbrev pub uid_on : madt.MadtEntry → Option ℕ
-uid_on e = option_and_then (λ p. if p.on then Some p.uid else None) (processor_of e)
+abbrev pub usable_uid : madt.MadtEntry → Option ℕ
+usable_uid e = option_and_then (λ p. if p.usable then Some p.uid else None) (processor_of e)
 
 -- the APIC ID of a processor that has one, and of a usable one
 abbrev pub apic_id_of : madt.MadtEntry → Option ℕ
 apic_id_of e = option_and_then (λ p. p.apic_id) (processor_of e)
 
-abbrev pub apic_id_on : madt.MadtEntry → Option ℕ
-apic_id_on e = option_and_then (λ p. if p.on then p.apic_id else None) (processor_of e)
+abbrev pub usable_apic_id : madt.MadtEntry → Option ℕ
+usable_apic_id e = option_and_then (λ p. if p.usable then p.apic_id else None) (processor_of e)
 
 -- the UID of a usable processor that has no APIC ID
-abbrev pub uid_on_without_id : madt.MadtEntry → Option ℕ
-uid_on_without_id e = option_and_then (λ p. if p.on && is_none p.apic_id then Some p.uid else None) (processor_of e)
+abbrev pub usable_uid_without_id : madt.MadtEntry → Option ℕ
+usable_uid_without_id e =
+    option_and_then (λ p. if p.usable && is_none p.apic_id then Some p.uid else None) (processor_of e)
 
 -- the entry describes a processor that is not of x86
 abbrev pub IsOpaqueProcessor : madt.MadtEntry → Type 0

@@ -1,7 +1,7 @@
 -- Advice on what the standard reserves in the MADT, the SRAT and the PPTT (ACPI 6.5, 5.2.12, 5.2.16, 5.2.30): bytes
 -- that should be 0, flags that are not defined, and a number that should be 1. `at` is the offset of a field of the
 -- table itself, whose value is `point`, or of an entry, in which `other` is the offset of the first wrong number.
-use Rattle.std.specs.Prelude.{◌≡◌, ◌≢◌, ℕ, ◌+◌, ◌<◌, ◌⊎◌, Bool, List, [], ◌∷◌, ◌++◌, length, map, Option, Some, None, nat_le, nat_lt, ◌&&◌, if◌then◌else◌}
+use Rattle.std.specs.Prelude.{◌≡◌, ◌≢◌, ℕ, ◌+◌, ◌<◌, ◌⊎◌, Bool, List, [], ◌∷◌, ◌++◌, length, map, find, Option, Some, option_map, nat_le, nat_lt, ◌&&◌, if◌then◌else◌}
 use Rattle.std.specs.List.{range_with_len}
 use Rattle.acpi_base.specs.Entries.{entries_of}
 use Rattle.acpi_base.specs.Number.{field}
@@ -32,8 +32,7 @@ is_past e l = nat_le (l.offset + l.size) (length e) && nat_lt l.most (field e l.
 
 -- the offset of the first of these numbers that is more than it may be; they are listed in the order of their offsets
 abbrev pub first_past : List Limit → List ℕ → Option ℕ
-first_past [] e = None
-first_past (l ∷ limits) e = if is_past e l then Some l.offset else first_past limits e
+first_past limits e = option_map (λ l. l.offset) (find (is_past e) limits)
 
 -- a number of the entry is more than it may be by these limits, and `other` is the offset of the first one
 abbrev pub IsEntryPast : (List ℕ → List Limit) → List ℕ → ℕ → ℕ → Type 0

@@ -16,15 +16,18 @@ IsListedTwice m p at other point = IsLater (IsSlot m p) at other point
 abbrev pub ListsSigned : Memory → ℕ → List ℕ → ℕ → ℕ → Type 0
 ListsSigned m p signature k a = IsSlot m p k a × IsSigned m a signature
 
--- The slot lists a table with the signature of a kind, at another address than `other`, the first slot of that kind. Only the
--- first table of a kind is read (5.2).
-pub record IsSecondTable (m : Memory) (p at other point : ℕ) : Type 0 where
-  pub kind : TableKind
-  pub here : ListsSigned m p (signature_of kind) at point
+-- `Lists k a` says that slot k is one of these and lists the address a: `at` lists `point`, and `other`, the first of them,
+-- lists another one
+pub record IsSecond (Lists : ℕ → ℕ → Type 0) (at other point : ℕ) : Type 0 where
+  pub here : Lists at point
   pub a : ℕ
-  pub there : ListsSigned m p (signature_of kind) other a
-  pub first : (k b : ℕ) → ListsSigned m p (signature_of kind) k b → other ≤ k
+  pub there : Lists other a
+  pub first : (k b : ℕ) → Lists k b → other ≤ k
   pub differs : a ≢ point
+
+-- that of the tables of a kind, of which only the first is read (5.2)
+abbrev pub IsSecondTable : Memory → ℕ → ℕ → ℕ → ℕ → Type 0
+IsSecondTable m p at other point = (kind : TableKind) × IsSecond (ListsSigned m p (signature_of kind)) at other point
 
 -- the DSDT's signature (5.2.11.1)
 abbrev pub dsdt_signature : List ℕ

@@ -3,7 +3,7 @@ use Rattle.std.specs.Prelude.{◌≡◌, ◌≢◌, ℕ, ◌≤◌, ◌⊎◌, L
 use Rattle.acpi_base.specs.Madt.{MadtContents}
 use Rattle.acpi_base.specs.Srat.{SratEntry, Opaque, SratContents}
 use Rattle.acpi_lint.specs.Rules.Numbered.{NamesAt, IsNamed}
-use Rattle.acpi_lint.specs.Rules.Processors.{uid_of, apic_id_of, apic_id_on, uid_on_without_id, placed_apic_id, placed_uid, processor_domain, any_domain, AreProcessorsRead, AreProcessorsKnown}
+use Rattle.acpi_lint.specs.Rules.Processors.{uid_of, apic_id_of, usable_apic_id, usable_uid_without_id, placed_apic_id, placed_uid, processor_domain, any_domain, AreProcessorsRead, AreProcessorsKnown}
 use Rattle.acpi_lint.specs.Rules.WellFormed.{IsWellFormedSrat}
 
 -- the affinity at o places the processor with this UID in the domain d (5.2.16.4, and RINTC Affinity)
@@ -34,8 +34,8 @@ IsAffinityNowhere madt srat at other point =
 abbrev pub IsNoDomain : MadtContents → SratContents → ℕ → ℕ → ℕ → Type 0
 IsNoDomain madt srat at other point =
     AreProcessorsRead madt × IsWellFormedSrat srat × ((d : ℕ) × IsNamed processor_domain srat.entries d)
-    × ((NamesAt apic_id_on madt.entries at point × ¬ IsNamed placed_apic_id srat.entries point)
-    ⊎ (NamesAt uid_on_without_id madt.entries at point × ¬ IsNamed placed_uid srat.entries point))
+    × ((NamesAt usable_apic_id madt.entries at point × ¬ IsNamed placed_apic_id srat.entries point)
+    ⊎ (NamesAt usable_uid_without_id madt.entries at point × ¬ IsNamed placed_uid srat.entries point))
     × (other ≡ 0)
 
 -- the entry's domain is `point`, and the SLIT has `other` localities, so none with this number (5.2.17)

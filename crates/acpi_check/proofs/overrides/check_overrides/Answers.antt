@@ -1,22 +1,7 @@
-use Rattle.acpi_base.specs.Madt.{madt_contents, Overrides}
-use Rattle.acpi_check.proofs.EntryPasses.Kept.{madt_rising}
-use Rattle.acpi_check.proofs.EntryPasses.OverridesPass.{one_source, clash}
-use Rattle.acpi_check.proofs.EntryPasses.ValuesPass.{at_first, at_next, stops, ends}
+use Rattle.acpi_base.specs.Madt.{madt_contents}
+use Rattle.acpi_check.proofs.EntryPasses.OverridesPass.{clash}
 use Rattle.acpi_check.proofs.overrides.check_overrides.Goals as goal
 
-pub loop-at-init : goal.loop-at-init
-loop-at-init c = rw c.entries-entries.ensures.entries (at_first Overrides 44 256 (madt_rising c.args.madt.now))
-
-pub loop-at-preserved : goal.loop-at-preserved
-loop-at-preserved c =
-    at_next c.loop-at.firsts c.pass_given.new.firsts one_source (rw c.in-Some.ensures.steps.0 at c.loop-at.invariant)
-    c.number_given.result c.number_given.ensures.given c.in_default-pass_given.ensures
-
-pub returns-in-Some-pass_given-clause-settled : goal.returns-in-Some-pass_given-clause-settled
-returns-in-Some-pass_given-clause-settled c =
-    clash (madt_contents c.args.madt.now) c.in-Some-pass_given.found
-    (stops c.loop-at.firsts c.pass_given.new.firsts one_source (rw c.in-Some.ensures.steps.0 at c.loop-at.invariant)
-    c.number_given.result c.number_given.ensures.given c.in-Some-pass_given.found c.in-Some-pass_given.ensures)
-
-pub returns-clause-settled : goal.returns-clause-settled
-returns-clause-settled c = ends c.loop-at.firsts (rw c.in_default.ensures.steps.0 at c.loop-at.invariant)
+pub returns-in-Some-clause-settled : goal.returns-in-Some-clause-settled
+returns-in-Some-clause-settled c =
+    clash (madt_contents c.args.madt.now) c.in-Some.found c.in-Some.ensures

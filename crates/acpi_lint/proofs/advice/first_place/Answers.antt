@@ -1,9 +1,6 @@
-use Rattle.acpi_read.specs.Pptts.{pptt_value}
-use Rattle.acpi_read.specs.Srats.{srat_value}
-use Rattle.std.proofs.Common.{rules}
-use Rattle.acpi_lint.specs.RuleGroups.{in_set, on_srat_entry, on_pptt_entry}
+use Rattle.acpi_lint.specs.RuleGroups.{in_set}
 use Rattle.acpi_lint.specs.Rules.Broken.{condition}
-use Rattle.acpi_lint.proofs.OfTables.{each_memory, own_srat, own_pptt, is_of_group, as_rule, each_rule, each_set}
+use Rattle.acpi_lint.proofs.OfTables.{each_memory, is_of_group, as_rule, each_rule, each_set}
 use Rattle.acpi_lint.proofs.advice.first_place.Goals as goal
 
 pub returns-in-Slots : goal.returns-in-Slots
@@ -44,9 +41,9 @@ returns-in-Pptt c =
 
 pub returns-in-Fadt : goal.returns-in-Fadt
 returns-in-Fadt c =
-    as_rule c.args.image.now c.args.policy.now c.listed_fadt_place.result
-    (is_of_group (condition c.args.rule) c.group.ensures c.in-Fadt.is)
-    (c.listed_fadt_place.ensures c.args.image.now c.args.policy.now c.requires)
+    each_set c.args.image.now c.args.policy.now c.listed_fadt_place.result
+    (is_of_group (condition c.args.rule) c.group.ensures c.in-Fadt.is) c.requires
+    c.listed_fadt_place.ensures
 
 pub returns-in-SratSlit : goal.returns-in-SratSlit
 returns-in-SratSlit c =
@@ -74,21 +71,15 @@ returns-in-MadtEntries c =
 
 pub returns-in-SratEntries : goal.returns-in-SratEntries
 returns-in-SratEntries c =
-    as_rule c.args.image.now c.args.policy.now c.first_own_place.result
+    as_rule c.args.image.now c.args.policy.now c.srat_entries_place.result
     (is_of_group (condition c.args.rule) c.group.ensures c.in-SratEntries.is)
-    (own_srat c.args.image.now c.args.policy.now srat_value (on_srat_entry (condition c.args.rule))
-    c.first_own_place.result _
-    c.srat_entries.result c.requires c.srat_entries.ensures c.first_own_place.ensures
-    (λ at picked answers. search rules))
+    (c.srat_entries_place.ensures c.args.image.now c.args.policy.now c.requires)
 
 pub returns-in-PpttEntries : goal.returns-in-PpttEntries
 returns-in-PpttEntries c =
-    as_rule c.args.image.now c.args.policy.now c.first_own_place-in-PpttEntries.result
+    as_rule c.args.image.now c.args.policy.now c.pptt_entries_place.result
     (is_of_group (condition c.args.rule) c.group.ensures c.in-PpttEntries.is)
-    (own_pptt c.args.image.now c.args.policy.now pptt_value (on_pptt_entry (condition c.args.rule))
-    c.first_own_place-in-PpttEntries.result _
-    c.pptt_entries.result c.requires c.pptt_entries.ensures c.first_own_place-in-PpttEntries.ensures
-    (λ at picked answers. search rules))
+    (c.pptt_entries_place.ensures c.args.image.now c.args.policy.now c.requires)
 
 pub returns-in-MadtNumbers : goal.returns-in-MadtNumbers
 returns-in-MadtNumbers c =

@@ -1,17 +1,19 @@
-use Rattle.std.proofs.Common.{◌≡◌, None, rules}
 use Rattle.acpi_lint.specs.Rules.Broken.{OfFadt}
 use Rattle.acpi_lint.specs.RuleGroups.{in_fadt}
 use Rattle.acpi_lint.specs.Rules.Broken.{condition}
+use Rattle.acpi_lint.proofs.CollectedNumbers.{each_ok}
 use Rattle.acpi_lint.proofs.OfTables.{fadt_lifts, not_there, there}
 use Rattle.acpi_lint.proofs.advice.listed_fadt_place.Goals as goal
 
-pub returns-in_err-fadt : goal.returns-in_err-fadt
-returns-in_err-fadt c = λ m q are.
-    let none : c.from_residual.result ≡ None = search rules in
-    rw none (not_there (OfFadt m q) (λ whole. whole) (in_fadt (condition c.args.rule))
-    (fadt_lifts m q c.fadt.result are c.fadt.ensures) c.in_err-fadt.was)
+pub returns-in_default : goal.returns-in_default
+returns-in_default c = λ m q are.
+    not_there (OfFadt m q) (λ whole. whole) (in_fadt (condition c.args.rule))
+    (fadt_lifts m q c.fadt.result are c.fadt.ensures) c.in_default.is
 
 pub returns : goal.returns
-returns c = λ m q are.
-    there (OfFadt m q) (λ whole. whole) (in_fadt (condition c.args.rule)) c.fadt_place.result
-    (fadt_lifts m q c.fadt.result are c.fadt.ensures) c.in_ok-fadt.was c.fadt_place.ensures
+returns c =
+    each_ok c.fadt_place.result
+    (λ found least. λ m q are.
+    there (OfFadt m q) (λ whole. whole) (in_fadt (condition c.args.rule)) found
+    (fadt_lifts m q c.fadt.result are c.fadt.ensures) c.in-Some.is least)
+    c.fadt_place.ensures

@@ -1,8 +1,8 @@
 use Rattle.std.specs.Prelude.{◌&&◌, ◌==◌}
 use Rattle.acpi_base.specs.Number.{field}
-use Rattle.acpi_lint.specs.Rules.ApicAdvice.{hart_id_on}
+use Rattle.acpi_lint.specs.Rules.ApicAdvice.{usable_hart_id}
 use Rattle.acpi_lint.specs.Rules.FadtWithMadt.{IsFadtForArch, IsNoBootMethod}
-use Rattle.acpi_lint.specs.Rules.Gic.{has_mpidr, is_gicr, is_its, is_msi_frame, mpidr_on, its_id, msi_frame_id}
+use Rattle.acpi_lint.specs.Rules.Gic.{has_mpidr, is_gicr, is_its, is_msi_frame, usable_mpidr, its_id, msi_frame_id}
 use Rattle.acpi_lint.specs.Rules.GicAdvice.{reserved_mpidr, empty_gicr, IsNoDistributor, IsNoRedistributor, IsGicrTooSmall, IsGiccBaseDiffers, IsRedistributorTwice}
 use Rattle.acpi_lint.specs.Rules.GicRanges.{IsGicOverlap}
 use Rattle.acpi_lint.specs.Rules.MadtAdvice.{gicd, IsMadtUnread}
@@ -45,7 +45,7 @@ returns-in-GiccBaseDiffers c = λ true. rw c.in-GiccBaseDiffers.is
 
 pub returns-in-SameMpidr : goal.returns-in-SameMpidr
 returns-in-SameMpidr c = λ true. rw c.in-SameMpidr.is
-    (number_needs mpidr_on (field_opaque has_mpidr 68 8))
+    (number_needs usable_mpidr (field_opaque has_mpidr 68 8))
 
 pub returns-in-MpidrReserved : goal.returns-in-MpidrReserved
 returns-in-MpidrReserved c = λ true. rw c.in-MpidrReserved.is
@@ -78,4 +78,4 @@ returns-in-NoBootMethod c = λ true. rw c.in-NoBootMethod.is
 
 pub returns-in-SameHart : goal.returns-in-SameHart
 returns-in-SameHart c = λ true. rw c.in-SameHart.is
-    (number_needs hart_id_on hart_opaque)
+    (number_needs usable_hart_id hart_opaque)

@@ -21,6 +21,9 @@ returns-in-BlockWidth c = rw c.in-BlockWidth.is c.block_width.ensures
 pub returns-in-HalfBlock : goal.returns-in-HalfBlock
 returns-in-HalfBlock c = rw c.in-HalfBlock.is c.half_block.ensures
 
+pub returns-in-PortsOverlap : goal.returns-in-PortsOverlap
+returns-in-PortsOverlap c = rw c.in-PortsOverlap.is c.ports_overlap.ensures
+
 pub returns-in-PortPastEnd : goal.returns-in-PortPastEnd
 returns-in-PortPastEnd c = rw c.in-PortPastEnd.is c.port_past_end.ensures
 

@@ -4,7 +4,7 @@ use Rattle.acpi_lint.proofs.madt_advice.lacks_io_apic.Goals as goal
 pub returns : goal.returns
 returns c = (
   λ true. record {
-    on = c.has_number.ensures.0 c.if-not-has_number.false;
+    usable = c.has_number.ensures.0 c.if-not-has_number.false;
     named = c.has_either_type.ensures.0 c.if-not-has_either_type.false;
     no_apic = λ has. true≢false (sym (c.has_either_type-2.ensures.1 (inl has)) ∙ c.if-has_either_type.false);
     no_sapic = λ has. true≢false (sym (c.has_either_type-2.ensures.1 (inr has)) ∙ c.if-has_either_type.false);

@@ -1,6 +1,6 @@
 use Rattle.std.proofs.Common.{rules}
 use Rattle.acpi_lint.specs.Rules.Numbered.{IsNamed}
-use Rattle.acpi_lint.specs.Rules.Processors.{apic_id_on, uid_on_without_id, placed_apic_id, placed_uid, AreProcessorsRead}
+use Rattle.acpi_lint.specs.Rules.Processors.{usable_apic_id, usable_uid_without_id, placed_apic_id, placed_uid, AreProcessorsRead}
 use Rattle.acpi_base.specs.Madt.{madt_contents}
 use Rattle.acpi_base.specs.Srat.{srat_contents}
 use Rattle.acpi_read.specs.Madts.{madt_value}
@@ -23,13 +23,12 @@ returns c =
     least_as c.where_read.result (λ at other point (read, (sides, unused)). (read, well_formed, some, sides, unused))
     (λ at other point (read, _, _, sides, unused). (read, (sides, unused)))
     (where_holds (AreProcessorsRead (madt_contents c.args.madt.now))
-    (IsUnknownNamedOfTwo apic_id_on (IsNamed placed_apic_id others) uid_on_without_id (IsNamed placed_uid others)
-    entries)
+    (IsUnknownNamedOfTwo usable_apic_id (IsNamed placed_apic_id others) usable_uid_without_id
+    (IsNamed placed_uid others) entries)
     found
     c.where_read.result c.where_read.ensures
-    (unknown_of_two apic_id_on uid_on_without_id (IsNamed placed_apic_id others) (IsNamed placed_uid others) entries
-    ids uids
-    found
+    (unknown_of_two usable_apic_id usable_uid_without_id (IsNamed placed_apic_id others) (IsNamed placed_uid others)
+    entries ids uids found
     (rw (← c.as_slice-ids.ensures.value) at c.in_ok-ids.ensures)
     (rw (← c.as_slice-uids.ensures.value) at c.in_ok-uids.ensures)
     (least_of_entries madt_value (IsUnplaced ids uids) 44 found c.first_picked-place.ensures c.entries.ensures.entries

@@ -1,5 +1,5 @@
 use Rattle.std.proofs.Common.{rules}
-use Rattle.acpi_lint.specs.Rules.Processors.{uid_on, IsLeafId, AreProcessorsRead}
+use Rattle.acpi_lint.specs.Rules.Processors.{usable_uid, IsLeafId, AreProcessorsRead}
 use Rattle.acpi_base.specs.Madt.{madt_contents}
 use Rattle.acpi_base.specs.Pptt.{pptt_contents}
 use Rattle.acpi_read.specs.Madts.{madt_value}
@@ -27,8 +27,8 @@ returns c =
       unused,
     ))
     (λ at other point (read, _, _, named, none, unused). (read, (named, none, unused)))
-    (where_holds (AreProcessorsRead madt) (IsUnknownNamed uid_on IsId madt.entries) found c.where_read.result
+    (where_holds (AreProcessorsRead madt) (IsUnknownNamed usable_uid IsId madt.entries) found c.where_read.result
     c.where_read.ensures
-    (unknown_named uid_on IsId madt.entries known found (rw (← c.as_slice-ids.ensures.value) at c.in_ok-ids.ensures)
-    (least_of_entries madt_value (IsUnknownOf uid_on known) 44 found c.first_picked-place.ensures
+    (unknown_named usable_uid IsId madt.entries known found (rw (← c.as_slice-ids.ensures.value) at c.in_ok-ids.ensures)
+    (least_of_entries madt_value (IsUnknownOf usable_uid known) 44 found c.first_picked-place.ensures
     c.entries.ensures.entries (madt_rising c.args.madt.now) (λ at picked here answers. search rules))))

@@ -10,7 +10,7 @@ pub loop-k-preserved : goal.loop-k-preserved
 loop-k-preserved c =
     let whole = c.args.fadt.now in
     let k = c.loop-k.k in
-    next_before whole k c.push.new.spans.items
+    next_before whole k c.push.new.items.items
     (pushed c.block_span.result c.in_ok-push.ensures c.loop-k.invariant
     (block_range whole k c.block_span.result (omega (arith, c.loop-k-test.true)) c.block_span.ensures))
 

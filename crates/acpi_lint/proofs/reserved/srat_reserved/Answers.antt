@@ -1,8 +1,9 @@
-use Rattle.std.proofs.Common.{◌≡◌, ◌≢◌, rules, arith, sym, ◌∙◌}
+use Rattle.std.proofs.Common.{◌≡◌, ◌≢◌, arith, sym, ◌∙◌}
 use Rattle.acpi_base.specs.Number.{field}
 use Rattle.acpi_base.specs.Srat.{srat_entry}
+use Rattle.acpi_base.specs.declared.table_kind.TableKind.TheVariants as kind
 use Rattle.acpi_lint.specs.Rules.Reserved.{srat_limits}
-use Rattle.acpi_lint.proofs.ReservedPlaces.{least_of_raw, field_wrong, field_right}
+use Rattle.acpi_lint.proofs.ReservedPlaces.{least_past, field_wrong, field_right}
 use Rattle.acpi_lint.proofs.reserved.srat_reserved.Goals as goal
 
 pub returns-then-one-ne1 : goal.returns-then-one-ne1
@@ -15,7 +16,7 @@ returns-then-one-ne1 c =
 pub returns-in-Ok : goal.returns-in-Ok
 returns-in-Ok c =
     let is : c.u32_at-one.result ≡ field c.args.srat.now 36 4 = rw c.bytes.ensures.bytes at c.u32_at-one.ensures in
-    field_right 36 (λ number. number ≢ 1) (λ e. srat_limits (srat_entry e)) 48 c.args.srat.now c.first_raw_place.result
+    field_right 36 (λ number. number ≢ 1) (λ e. srat_limits (srat_entry e)) 48 c.args.srat.now c.first_past_at.result
     (λ other. other (sym is ∙ c.if-one-ne1.false))
-    (least_of_raw (λ e. srat_limits (srat_entry e)) 48 c.args.srat.now c.first_raw_place.result
-    (rw (c.in-Ok.ensures.entries, c.copied.ensures) at c.first_raw_place.ensures) (λ at picked answers. search rules))
+    (least_past kind.Srat 48 c.args.srat.now c.first_past_at.result
+    (rw (c.in-Ok.ensures.entries, c.copied.ensures) at c.first_past_at.ensures))

@@ -3,10 +3,6 @@ use Rattle.acpi_lint.proofs.set_advice.set_place.Goals as goal
 pub returns-in-TablesOverlap : goal.returns-in-TablesOverlap
 returns-in-TablesOverlap c = rw c.in-TablesOverlap.is c.tables_overlap.ensures
 
-pub returns-in-PortsOverlap : goal.returns-in-PortsOverlap
-returns-in-PortsOverlap c =
-    rw c.in-PortsOverlap.is (c.ports_overlap.ensures c.args.image.now c.args.rsdp c.requires)
-
 pub returns-in-RsdtDiffers : goal.returns-in-RsdtDiffers
 returns-in-RsdtDiffers c = rw c.in-RsdtDiffers.is c.rsdt_differs.ensures
 

@@ -27,9 +27,9 @@ returns-in-Some c = λ m p whole.
     let (here, number) = second_from firsts s place whole.firsts slot there is in
     record {
       here = here;
-      least = λ at other point second.
+      least = λ at other point (kind, second).
           let (t, listed, same, address) = whole.slots.all at point second.here.0 in
-          let also = second_to firsts t whole.firsts same address (whole.slots.listed t listed).1 second in
+          let also = second_to firsts t whole.firsts same address (whole.slots.listed t listed).1 (kind, second) in
           elim (at_or_behind (λ (x : Slot). x.number)
           (λ (x : Slot). second_place firsts x ≡ Some (numbers at other point)) slots i no_slot t
           whole.slots.rise within
@@ -45,10 +45,10 @@ returns-in-Some c = λ m p whole.
     }
 
 pub returns : goal.returns
-returns c = λ m p whole at other point second.
+returns c = λ m p whole at other point (kind, second).
     let firsts = c.args.tables.now.firsts in
     let (t, listed, same, address) = whole.slots.all at point second.here.0 in
     none_such (λ (x : Slot). second_place firsts x ≡ Some (numbers at other point)) c.args.tables.now.slots.items
     c.loop-slot.slot-index no_slot t (rw c.deref-slot-items.ensures.value at c.loop-slot-test.false)
     (λ j below some. none-some (numbers at other point) (sym (c.loop-slot.invariant j below) ∙ some)) listed
-    (second_to firsts t whole.firsts same address (whole.slots.listed t listed).1 second)
+    (second_to firsts t whole.firsts same address (whole.slots.listed t listed).1 (kind, second))

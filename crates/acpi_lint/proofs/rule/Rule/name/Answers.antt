@@ -1,4 +1,4 @@
-use Rattle.std.proofs.Common.{◌≡◌, ◌+◌, ◌<◌, ℕ, Bool, true, List, [], ◌∷◌, length, get_or, zero, suc, Bor, refl, ap, sym, ◌∙◌, arith}
+use Rattle.std.proofs.Common.{◌≡◌, ◌+◌, ◌<◌, ℕ, Bool, true, List, [], ◌∷◌, length, get_or, zero, suc, refl, ap, sym, ◌∙◌, arith}
 use Rattle.std.specs.List.{list_all}
 use Rattle.std.specs.Str.{bytes_eq}
 use Rattle.std.proofs.lemmas.Bool.{and_parts}
@@ -6,14 +6,8 @@ use Rattle.std.proofs.lemmas.Slice.Eq.{bytes_eq-Decides}
 use Rattle.acpi_base.proofs.Faults.Rows.{are_numbered, numbered_at}
 use Rattle.acpi_lint.specs.Rules.Rows.{rule_name, rule_number}
 use Rattle.acpi_lint.specs.declared.rule.Rule.{Rule}
-use Rattle.acpi_lint.proofs.RuleNumbers.{rule_below, rule_from, same_rule}
+use Rattle.acpi_lint.proofs.RuleNumbers.{Row, number_in, rule_below, rule_from, same_rule}
 use Rattle.acpi_lint.proofs.rule.Rule.name.Goals as goal
-
-abbrev Row : Type 0
-Row = Rule × Bor (List ℕ)
-
-abbrev number_in : Row → ℕ
-number_in row = rule_number row.0
 
 -- the row has its rule's name
 abbrev is_named : Row → Bool

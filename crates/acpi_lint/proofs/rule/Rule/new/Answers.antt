@@ -1,13 +1,8 @@
-use Rattle.std.proofs.Common.{ℕ, List, Bor, ◌<◌, length, ap, ◌∙◌, arith}
+use Rattle.std.proofs.Common.{◌<◌, length, ap, ◌∙◌, arith}
 use Rattle.std.proofs.lemmas.Bool.Decides.{nat_tests}
-use Rattle.acpi_lint.specs.Rules.Rows.{rule_number}
-use Rattle.acpi_lint.specs.declared.rule.Rule.{Rule}
 use Rattle.acpi_base.proofs.Faults.Rows.{are_numbered, numbered_at}
+use Rattle.acpi_lint.proofs.RuleNumbers.{number_in}
 use Rattle.acpi_lint.proofs.rule.Rule.new.Goals as goal
-
--- a row's number
-abbrev number_in : Rule × Bor (List ℕ) → ℕ
-number_in row = rule_number row.0
 
 pub returns-clause-same : goal.returns-clause-same
 unfolding are_numbered

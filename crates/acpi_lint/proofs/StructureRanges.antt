@@ -1,0 +1,435 @@
+-- The structures of a set, as they are collected by their names.
+use Rattle.std.proofs.Common.{◌≡◌, ◌≢◌, ℕ, ◌+◌, ◌^◌, ◌<◌, ◌≤◌, List, [], length, get_or, ◌++◌, true, Option, Some, None, refl, sym, ap, ◌∙◌, inl, inr, arith}
+use Rattle.std.specs.Prelude.{Contains}
+use Rattle.std.specs.List.Sorted.{IsPermutation}
+use Rattle.std.specs.Option.{option_to_list}
+use Rattle.std.proofs.Math.Nat.{eq-or-lt_of_le}
+use Rattle.std.proofs.lemmas.Bool.{cases_lt}
+use Rattle.std.proofs.lemmas.List.{append-nil}
+use Rattle.std.proofs.lemmas.List.Elements.{Contains-get_or}
+use Rattle.std.proofs.lemmas.List.Sorted.{Contains-permutation, IsPermutation-sym}
+use Rattle.acpi_base.specs.Fadt.{dsdt_address}
+use Rattle.acpi_base.specs.Memory.{Memory, bytes_at}
+use Rattle.acpi_base.specs.Policy.{new_policy}
+use Rattle.acpi_base.specs.Root.{IsSlot}
+use Rattle.acpi_base.specs.Signature.{has_signature}
+use Rattle.acpi_base.proofs.Frames.{length_frame, one_frame}
+use Rattle.acpi_base.proofs.Root.Named.{one_root, one_root_table, root_width}
+use Rattle.acpi_base.proofs.Root.Slots.{slot_of_root}
+use Rattle.acpi_read.specs.Roots.{RootValue, IsCompleteRoot}
+use Rattle.acpi_lint.specs.CompleteTables.{AreCompleteTables, IsLong}
+use Rattle.acpi_lint.specs.Numbered.{IsNoLater, AreNumberedRanges, FindsNumbered, IsFirstRange, range_at}
+use Rattle.acpi_lint.specs.Places.{FindsLeast}
+use Rattle.acpi_lint.specs.Rules.Overlaps.{IsInRange, IsRangeOverlap}
+use Rattle.acpi_lint.specs.Rules.Structures.{IsRsdpRange, IsRootRange, IsFacsRange, IsDsdtRange, IsTableRange, OfNamingFadt, IsStructure, IsFirstStructure, IsTablesOverlap}
+use Rattle.acpi_lint.specs.Rules.Slots.{dsdt_signature}
+use Rattle.acpi_lint.specs.Slots.{IsLengthAt, AreSlots}
+use Rattle.acpi_lint.specs.declared.complete_tables.CompleteTables.{CompleteTables}
+use Rattle.acpi_lint.specs.declared.listed_slots.Slot.{Slot}
+use Rattle.acpi_lint.specs.declared.numbered.Numbered.{Numbered}
+use Rattle.acpi_lint.specs.declared.place.Place.{Place}
+use Rattle.acpi_lint.proofs.FirstSlots.{one_listed}
+use Rattle.acpi_lint.proofs.ListedSlots.{no_slot}
+use Rattle.acpi_lint.proofs.OfTables.{fadt_lifts}
+use Rattle.acpi_lint.proofs.RangeOverlaps.{overlap_as, range_moved}
+use Rattle.acpi_lint.proofs.RisingLists.{IsUpTo, none_below, none_until, none_next, one_next, one_of_key, at_or_behind, none_such}
+use Rattle.acpi_lint.proofs.UnlikeNumbers.{same_numbered}
+
+-- ---- collected by their names
+
+-- these are the structures with names below `end`, by their names
+abbrev pub AreNamedBelow : Memory → ℕ → ℕ → List Numbered → Type 0
+AreNamedBelow m p end given = IsUpTo (λ g. IsStructure m p g.at g.number g.value) (λ g. g.at) end given
+
+-- after a push of what is found for the next name
+pub pushed : {m : Memory} {p end : ℕ} {after : List Numbered} (given : List Numbered) (found : Option Numbered)
+    → after ≡ given ++ option_to_list found → AreNamedBelow m p end given
+    → FindsNumbered end (IsStructure m p end) found → AreNamedBelow m p (end + 1) after
+pushed given None is before none =
+    rw (is, append-nil given) (none_next before (λ x here same. none x.number x.value (rw same at here)))
+pushed {m} {p} given (Some g) is before (name, here, only) =
+    rw is
+    (one_next g before (rw name here) name
+    (λ x also same.
+    let (number, value) = only x.number x.value (rw same at also) in
+    same_numbered x g number (same ∙ sym name) value))
+
+-- after the first push
+pub first_pushed : {m : Memory} {p : ℕ} {given after : List Numbered} (found : Option Numbered) → given ≡ []
+    → after ≡ given ++ option_to_list found → FindsNumbered 0 (IsStructure m p 0) found → AreNamedBelow m p 1 after
+first_pushed {m} {p} {given} found none is finds =
+    pushed given found is
+    (rw none (none_below (λ g. IsStructure m p g.at g.number g.value) (λ g. g.at) 0 (λ x here. omega arith))) finds
+
+pub all_ranges : {m : Memory} {p end : ℕ} (given : List Numbered) → AreNamedBelow m p end given
+    → ((o s n : ℕ) → IsStructure m p o s n → o < end) → AreNumberedRanges (IsStructure m p) given
+all_ranges given are within =
+    record {
+      listed = λ g here. (are.listed g here).0;
+      all = λ o s n is. are.all (range_at o s n) is (within o s n is);
+      one = one_of_key (λ g. g.at) given are.rise;
+    }
+
+-- ---- one structure
+
+-- what there is at most one of
+range_found : (o s n : ℕ) (Is : ℕ → ℕ → Type 0) (found : Numbered) → found ≡ range_at o s n → Is s n
+    → ((t c : ℕ) → Is t c → (t ≡ s) × (c ≡ n)) → FindsNumbered o Is (Some found)
+range_found o s n Is found same here only = rw same (refl, here, only)
+
+-- what is found for one relation is found for another one that says the same
+found_as : {A B : ℕ → ℕ → Type 0} (o : ℕ) (found : Option Numbered) → ((s n : ℕ) → A s n → B s n)
+    → ((s n : ℕ) → B s n → A s n) → FindsNumbered o A found → FindsNumbered o B found
+found_as o None to from none = λ s n is. none s n (from s n is)
+found_as o (Some g) to from (name, here, only) =
+    (name, to g.number g.value here, λ s n is. only s n (from s n is))
+
+-- the table that a FADT names, if it is signed
+pub dsdt_signed : (m : Memory) (fadt : List ℕ) (address : ℕ) (header : List ℕ) (found : Option Numbered)
+    → address ≡ dsdt_address fadt → address ≢ 0 → bytes_at m address 36 ≡ Some header
+    → has_signature header dsdt_signature ≡ true
+    → FindsNumbered 3 (λ s n. (s ≡ address) × IsTableRange m s n) found → FindsNumbered 3 (IsDsdtRange m fadt) found
+dsdt_signed m fadt address header found named some present signed =
+    found_as 3 found
+    (λ s n (is, here). (
+      λ zero. some (named ∙ zero),
+      is ∙ named,
+      record { header = header; header_present = rw is present; signed = signed },
+      here,
+    ))
+    (λ s n (_, is, _, here). (is ∙ sym named, here))
+
+one_length : {m : Memory} {a n c : ℕ} → IsTableRange m a n → IsTableRange m a c → n ≡ c
+one_length (header, whole, table, count) (also, other, same, size) =
+    count ∙ ap (λ (bytes : List ℕ). length bytes) (one_frame table same) ∙ sym size
+
+-- the table of a slot
+pub slot_listed : (m : Memory) (o a n : ℕ) (found : Numbered) → IsLengthAt m a n → n ≢ 0 → found ≡ range_at o a n
+    → FindsNumbered o (λ s c. (s ≡ a) × IsTableRange m s c) (Some found)
+slot_listed m o a n found (inl range) some same =
+    range_found o a n (λ s c. (s ≡ a) × IsTableRange m s c) found same (refl, range)
+    (λ t c (here, other). (here, one_length (rw here at other) range))
+slot_listed m o a n found (inr (zero, none)) some same = absurd (some zero)
+
+pub slot_empty : (m : Memory) (a n : ℕ) → IsLengthAt m a n → n ≡ 0 → (s c : ℕ) → ¬ ((s ≡ a) × IsTableRange m s c)
+slot_empty m a n (inl (header, whole, table, count)) zero = λ s c _.
+    omega (arith, zero, count, length_frame table, table.least)
+slot_empty m a n (inr (_, none)) zero = λ s c (same, is). none c (rw same at is)
+
+-- ---- each of them among all
+
+pub rsdp_range : (m : Memory) (p : ℕ) (found : Option Numbered) → FindsNumbered 0 (IsRsdpRange m p) found
+    → FindsNumbered 0 (IsStructure m p 0) found
+rsdp_range m p found =
+    found_as 0 found (λ s n is. inl (refl, is))
+    (λ s n is. elim is [
+      | inl (_, here) ↦ here
+      | inr (inl (off, _)) ↦ absurd (omega (arith, off))
+      | inr (inr (inl (off, _))) ↦ absurd (omega (arith, off))
+      | inr (inr (inr (inl (off, _)))) ↦ absurd (omega (arith, off))
+      | inr (inr (inr (inr (k, off, _, _)))) ↦ absurd (omega (arith, off))
+    ])
+
+root_range : (m : Memory) (p : ℕ) (found : Option Numbered) → FindsNumbered 1 (IsRootRange m p) found
+    → FindsNumbered 1 (IsStructure m p 1) found
+root_range m p found =
+    found_as 1 found (λ s n is. inr (inl (refl, is)))
+    (λ s n is. elim is [
+      | inl (off, _) ↦ absurd (omega (arith, off))
+      | inr (inl (_, here)) ↦ here
+      | inr (inr (inl (off, _))) ↦ absurd (omega (arith, off))
+      | inr (inr (inr (inl (off, _)))) ↦ absurd (omega (arith, off))
+      | inr (inr (inr (inr (k, off, _, _)))) ↦ absurd (omega (arith, off))
+    ])
+
+facs_range : (m : Memory) (p : ℕ) (found : Option Numbered)
+    → FindsNumbered 2 (λ s n. OfNamingFadt m p (λ fadt. IsFacsRange m fadt s n)) found
+    → FindsNumbered 2 (IsStructure m p 2) found
+facs_range m p found =
+    found_as 2 found (λ s n is. inr (inr (inl (refl, is))))
+    (λ s n is. elim is [
+      | inl (off, _) ↦ absurd (omega (arith, off))
+      | inr (inl (off, _)) ↦ absurd (omega (arith, off))
+      | inr (inr (inl (_, here))) ↦ here
+      | inr (inr (inr (inl (off, _)))) ↦ absurd (omega (arith, off))
+      | inr (inr (inr (inr (k, off, _, _)))) ↦ absurd (omega (arith, off))
+    ])
+
+dsdt_range : (m : Memory) (p : ℕ) (found : Option Numbered)
+    → FindsNumbered 3 (λ s n. OfNamingFadt m p (λ fadt. IsDsdtRange m fadt s n)) found
+    → FindsNumbered 3 (IsStructure m p 3) found
+dsdt_range m p found =
+    found_as 3 found (λ s n is. inr (inr (inr (inl (refl, is)))))
+    (λ s n is. elim is [
+      | inl (off, _) ↦ absurd (omega (arith, off))
+      | inr (inl (off, _)) ↦ absurd (omega (arith, off))
+      | inr (inr (inl (off, _))) ↦ absurd (omega (arith, off))
+      | inr (inr (inr (inl (_, here)))) ↦ here
+      | inr (inr (inr (inr (k, off, _, _)))) ↦ absurd (omega (arith, off))
+    ])
+
+-- the table of a slot
+slot_range : {m : Memory} {p : ℕ} (k address : ℕ) (found : Option Numbered) → IsSlot m p k address
+    → FindsNumbered (4 + k) (λ s n. (s ≡ address) × IsTableRange m s n) found
+    → FindsNumbered (4 + k) (IsStructure m p (4 + k)) found
+slot_range {m} {p} k address found lists =
+    found_as (4 + k) found
+    (λ s n (is, here). inr (inr (inr (inr (k, refl, rw is lists, here)))))
+    (λ s n of. elim of [
+      | inl (off, _) ↦ absurd (omega (arith, off))
+      | inr (inl (off, _)) ↦ absurd (omega (arith, off))
+      | inr (inr (inl (off, _))) ↦ absurd (omega (arith, off))
+      | inr (inr (inr (inl (off, _)))) ↦ absurd (omega (arith, off))
+      | inr (inr (inr (inr (j, same, slot, here)))) ↦
+          let one : k ≡ j = omega arith in
+          (one_listed (rw one slot) lists, here)
+    ])
+
+-- ---- the root table
+
+pub root_found : {m : Memory} {p : ℕ} {root : RootValue} (s n : ℕ) (found : Numbered) → IsCompleteRoot m p root
+    → s ≡ root.address → n ≡ length root.bytes → found ≡ range_at 1 s n
+    → FindsNumbered 1 (IsStructure m p 1) (Some found)
+root_found {m} {p} {root} s n found is begin count same =
+    root_range m p (Some found)
+    (range_found 1 s n (IsRootRange m p) found same
+    (rw begin (root.width, root.bytes, is.named, is.table, count)) only)
+  where
+    only : (t c : ℕ) → IsRootRange m p t c → (t ≡ s) × (c ≡ n)
+    only t c (d, whole, named, table, size) = (
+      (one_root m p t d root.address root.width named is.named).0 ∙ sym begin,
+      size ∙ ap (λ (bytes : List ℕ). length bytes) (one_root_table whole root.bytes named is.named table is.table)
+          ∙ sym count,
+    )
+
+-- without a root table there is only the RSDP
+pub rootless : {m : Memory} {p : ℕ} → ((root : RootValue) → ¬ IsCompleteRoot m p root) → (o s n : ℕ)
+    → IsStructure m p o s n → o < 1
+rootless none o s n (inl (zero, _)) = omega (arith, zero)
+rootless none o s n (inr (inl (_, (d, whole, named, table, _)))) =
+    absurd (none (record { address = s; width = d; bytes = whole }) (record { named = named; table = table }))
+rootless none o s n (inr (inr (inl (_, (fadt, listed, _))))) =
+    let first = listed.first in
+    absurd (none (record { address = first.r; width = first.d; bytes = first.whole })
+    (record { named = first.root; table = first.table }))
+rootless none o s n (inr (inr (inr (inl (_, (fadt, listed, _)))))) =
+    let first = listed.first in
+    absurd (none (record { address = first.r; width = first.d; bytes = first.whole })
+    (record { named = first.root; table = first.table }))
+rootless none o s n (inr (inr (inr (inr (k, _, slot, _))))) =
+    absurd (none (record { address = slot.r; width = slot.d; bytes = slot.whole })
+    (record { named = slot.root; table = slot.table }))
+
+-- ---- what the FADT names
+
+-- of the FADT that is viewed
+pub facs_found : {m : Memory} {p : ℕ} {tables : CompleteTables} {view : Option (List ℕ)} {fadt : List ℕ}
+    (found : Option Numbered) → AreCompleteTables m p tables → IsLong 116 tables.fadt view → view ≡ Some fadt
+    → FindsNumbered 2 (IsFacsRange m fadt) found → FindsNumbered 2 (IsStructure m p 2) found
+facs_found {m} {p} {tables} {view} {fadt} found are long is finds =
+    let lifts = rw is at (fadt_lifts m (new_policy p 0) view are long) in
+    facs_range m p found
+    (found_as 2 found (λ s n here. (lifts (λ bytes. IsFacsRange m bytes s n)).1 here)
+    (λ s n here. (lifts (λ bytes. IsFacsRange m bytes s n)).0 here) finds)
+
+pub dsdt_found : {m : Memory} {p : ℕ} {tables : CompleteTables} {view : Option (List ℕ)} {fadt : List ℕ}
+    (found : Option Numbered) → AreCompleteTables m p tables → IsLong 116 tables.fadt view → view ≡ Some fadt
+    → FindsNumbered 3 (IsDsdtRange m fadt) found → FindsNumbered 3 (IsStructure m p 3) found
+dsdt_found {m} {p} {tables} {view} {fadt} found are long is finds =
+    let lifts = rw is at (fadt_lifts m (new_policy p 0) view are long) in
+    dsdt_range m p found
+    (found_as 3 found (λ s n here. (lifts (λ bytes. IsDsdtRange m bytes s n)).1 here)
+    (λ s n here. (lifts (λ bytes. IsDsdtRange m bytes s n)).0 here) finds)
+
+-- without a FADT it names nothing
+pub none_named : {m : Memory} {p : ℕ} {tables : CompleteTables} {view : Option (List ℕ)}
+    → AreCompleteTables m p tables → IsLong 116 tables.fadt view → view ≡ None → (given : List Numbered)
+    → AreNamedBelow m p 2 given → AreNamedBelow m p 4 given
+none_named {m} {p} {tables} {view} are long none given before =
+    none_until 4 before (omega arith) (λ x is from below. no x.at x.number x.value from below is)
+  where
+    nothing : (P : List ℕ → Type 0) → ¬ OfNamingFadt m p P
+    nothing = rw none at (fadt_lifts m (new_policy p 0) view are long)
+
+    no : (o s n : ℕ) → 2 ≤ o → o < 4 → ¬ IsStructure m p o s n
+    no o s n from below (inl (is, _)) = omega (arith, is, from)
+    no o s n from below (inr (inl (is, _))) = omega (arith, is, from)
+    no o s n from below (inr (inr (inl (_, here)))) = nothing (λ fadt. IsFacsRange m fadt s n) here
+    no o s n from below (inr (inr (inr (inl (_, here))))) = nothing (λ fadt. IsDsdtRange m fadt s n) here
+    no o s n from below (inr (inr (inr (inr (k, is, _, _))))) = omega (arith, is, below)
+
+-- ---- all slots
+
+-- these are the structures before the table of the slot with index i; the slots before it have numbers below `end`
+pub record AreStructuresBefore (m : Memory) (p : ℕ) (slots : List Slot) (i : ℕ) (given : List Numbered) : Type 0 where
+  pub end : ℕ
+  pub ranges : AreNamedBelow m p (4 + end) given
+  pub passed : (j : ℕ) → j < i → (get_or slots j no_slot).number < end
+  pub coming : (j : ℕ) → i ≤ j → j < length slots → end ≤ (get_or slots j no_slot).number
+
+pub no_slots_yet : {m : Memory} {p : ℕ} (slots : List Slot) (given : List Numbered) → AreNamedBelow m p 4 given
+    → AreStructuresBefore m p slots 0 given
+no_slots_yet slots given ranges =
+    record {
+      end = 0;
+      ranges = ranges;
+      passed = λ j before. absurd (omega (arith, before));
+      coming = λ j from within. omega arith;
+    }
+
+pub slot_passed : {m : Memory} {p : ℕ} {given after : List Numbered} (slots : List Slot) (i : ℕ)
+    (found : Option Numbered) → AreSlots m (IsSlot m p) slots → i < length slots
+    → after ≡ given ++ option_to_list found → AreStructuresBefore m p slots i given
+    → FindsNumbered (4 + (get_or slots i no_slot).number)
+    (λ s n. (s ≡ (get_or slots i no_slot).table.address) × IsTableRange m s n) found
+    → AreStructuresBefore m p slots (i + 1) after
+slot_passed {m} {p} {given} {after} slots i found are within is before finds =
+    record {
+      end = number + 1;
+      ranges = rw next (pushed given found is (none_until (4 + number) before.ranges (omega (arith, low))
+          (λ x here from below. none x.at x.number x.value from below here))
+          (slot_range number slot.table.address found lists finds));
+      passed = λ j below. elim (eq-or-lt_of_le {n = j} {m = i} (omega (arith, below))) [
+        | inl same ↦ rw same (omega arith)
+        | inr less ↦ omega (arith, are.rise j i no_slot less within)
+      ];
+      coming = λ j from inside. omega (arith, are.rise i j no_slot (omega (arith, from)) inside);
+    }
+  where
+    slot : Slot
+    slot = get_or slots i no_slot
+
+    number : ℕ
+    number = slot.number
+
+    lists : IsSlot m p number slot.table.address
+    lists = (are.listed slot (Contains-get_or slots i no_slot within)).0
+
+    low : before.end ≤ number
+    low = before.coming i (omega arith) within
+
+    next : 4 + (number + 1) ≡ 4 + number + 1
+    next = omega arith
+
+    none : (o s n : ℕ) → 4 + before.end ≤ o → o < 4 + number → ¬ IsStructure m p o s n
+    none o s n from below (inl (off, _)) = omega (arith, off, from)
+    none o s n from below (inr (inl (off, _))) = omega (arith, off, from)
+    none o s n from below (inr (inr (inl (off, _)))) = omega (arith, off, from)
+    none o s n from below (inr (inr (inr (inl (off, _))))) = omega (arith, off, from)
+    none o s n from below (inr (inr (inr (inr (k, same, listed, _))))) =
+        let (x, here, at, _) = are.all k s listed in
+        elim (at_or_behind (λ (y : Slot). y.number) (λ (y : Slot). before.end ≤ y.number) slots i no_slot x are.rise
+        within (λ j less upto. omega (arith, before.passed j less, upto)) here (omega (arith, from, same, at))) [
+          | inl one ↦ omega (arith, ap (λ (y : Slot). y.number) one, at, same, below)
+          | inr more ↦ omega (arith, more, at, same, below)
+        ]
+
+pub all_passed : {m : Memory} {p : ℕ} (slots : List Slot) (i : ℕ) (given : List Numbered)
+    → AreSlots m (IsSlot m p) slots → length slots ≤ i → AreStructuresBefore m p slots i given
+    → AreNumberedRanges (IsStructure m p) given
+all_passed {m} {p} slots i given are done before = all_ranges given before.ranges within
+  where
+    within : (o s n : ℕ) → IsStructure m p o s n → o < 4 + before.end
+    within o s n (inl (is, _)) = omega (arith, is)
+    within o s n (inr (inl (is, _))) = omega (arith, is)
+    within o s n (inr (inr (inl (is, _)))) = omega (arith, is)
+    within o s n (inr (inr (inr (inl (is, _))))) = omega (arith, is)
+    within o s n (inr (inr (inr (inr (k, same, listed, _))))) =
+        let (x, here, at, _) = are.all k s listed in
+        elim (cases_lt k before.end) [
+          | inl less ↦ omega (arith, less, same)
+          | inr upto ↦
+              absurd (none_such (λ (y : Slot). before.end ≤ y.number) slots i no_slot x done
+              (λ j less most. omega (arith, before.passed j less, most)) here (omega (arith, upto, at)))
+        ]
+
+-- a slot of a root table of fewer than 2^32 bytes has a number that is far below
+pub slot_low : {m : Memory} {p : ℕ} {root : RootValue} (slots : List Slot) (i : ℕ) → IsCompleteRoot m p root
+    → AreSlots m (IsSlot m p) slots → i < length slots → length root.bytes < 2 ^ 32
+    → 4 + (get_or slots i no_slot).number < 2 ^ 32
+slot_low {m} {p} {root} slots i is are within size =
+    let slot : Slot = get_or slots i no_slot in
+    let lists = (are.listed slot (Contains-get_or slots i no_slot within)).0 in
+    let here =
+    slot_of_root m p root.address root.width slot.number slot.table.address root.bytes is.named is.table lists in
+    grind (arith, root_width is.named, here.inside)
+
+-- ---- their first overlap
+
+pub ranges_moved : {IsRange : ℕ → ℕ → ℕ → Type 0} (given sorted : List Numbered) → IsPermutation given sorted
+    → AreNumberedRanges IsRange given → AreNumberedRanges IsRange sorted
+ranges_moved given sorted moved are =
+    record {
+      listed = λ g here. are.listed g (back g here);
+      all = λ o s n is. Contains-permutation given sorted (range_at o s n) moved (are.all o s n is);
+      one = λ a b one other same. are.one a b (back a one) (back b other) same;
+    }
+  where
+    back : (x : Numbered) → Contains sorted x → Contains given x
+    back x listed = Contains-permutation sorted given x (IsPermutation-sym given sorted moved) listed
+
+-- what begins at an address first
+pub of_structures : {m : Memory} {p : ℕ} (given : List Numbered) (found : Option Place)
+    → AreNumberedRanges (IsStructure m p) given → FindsLeast (IsRangeOverlap (IsFirstRange given)) found
+    → FindsLeast (IsTablesOverlap m p) found
+of_structures {m} {p} given found are = overlap_as found to from
+  where
+    to : (o s x : ℕ) → IsInRange (IsFirstRange given) o s x → IsInRange (IsFirstStructure m p) o s x
+    to o s x (n, (named, (f, first, start, count)), upto, below) = (
+      n,
+      record {
+        named = named;
+        o = f.at;
+        here = range_moved (IsStructure m p) (are.listed f first.listed) refl start count;
+        first = λ k c other.
+            named_upto f k s c (first.least (range_at k s c) (are.all k s c other) (sym start));
+      },
+      upto,
+      below,
+    )
+      where
+        named_upto : (f : Numbered) (k s c : ℕ) → IsNoLater f (range_at k s c) → f.at ≤ k
+        named_upto f k s c (inl less) = omega arith
+        named_upto f k s c (inr (same, _)) = omega (arith, same)
+
+    from : (o s x : ℕ) → IsInRange (IsFirstStructure m p) o s x → IsInRange (IsFirstRange given) o s x
+    from o s x (n, is, upto, below) = (
+      n,
+      (
+        is.named,
+        (
+          range_at is.o s n,
+          record {
+            listed = are.all is.o s n is.here;
+            least = λ g there same. no_later g there
+                (is.first g.at g.value (range_moved (IsStructure m p) (are.listed g there) refl same refl));
+          },
+          refl,
+          refl,
+        ),
+      ),
+      upto,
+      below,
+    )
+      where
+        no_later : (g : Numbered) → Contains given g → is.o ≤ g.at → IsNoLater (range_at is.o s n) g
+        no_later g there least =
+            elim (eq-or-lt_of_le {n = is.o} {m = g.at} least) [
+              | inl same ↦
+                  let one = are.one (range_at is.o s n) g (are.all is.o s n is.here) there same in
+                  inr (same, omega (arith, ap (λ (y : Numbered). y.value) one))
+              | inr less ↦ inl less
+            ]
+
+-- none of them is empty
+pub not_empty : (m : Memory) (p o s n : ℕ) → IsStructure m p o s n → 0 < n
+not_empty m p o s n (inl (_, (_, (head, _, inl (_, is))))) = omega (arith, is)
+not_empty m p o s n (inl (_, (_, (head, _, inr (_, _, is))))) = omega (arith, is)
+not_empty m p o s n (inr (inl (_, (d, whole, _, table, count)))) =
+    omega (arith, count, length_frame table.table, table.table.least)
+not_empty m p o s n (inr (inr (inl (_, (fadt, _, (_, (_, _, (whole, facs, count)))))))) =
+    omega (arith, count, length_frame facs.frame, facs.frame.least)
+not_empty m p o s n (inr (inr (inr (inl (_, (fadt, _, (_, (_, _, _, (header, whole, table, count))))))))) =
+    omega (arith, count, length_frame table, table.least)
+not_empty m p o s n (inr (inr (inr (inr (k, _, _, (header, whole, table, count)))))) =
+    omega (arith, count, length_frame table, table.least)

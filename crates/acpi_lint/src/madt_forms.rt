@@ -1,0 +1,187 @@
+//! What entries of a MADT may be, where a rule asks whether there is one.
+
+ghost use Rattle.std.specs.Prelude.{◌≡◌, ◌↔◌, IsTrue, slice_index};
+ghost use Rattle.acpi_base.specs.Across.{IsIoApic};
+ghost use Rattle.acpi_base.specs.Madt.{madt_contents};
+ghost use Rattle.acpi_read.specs.Madts.{madt_value};
+ghost use Rattle.acpi_lint.specs.CompleteTables.{IsOpaque, HasOpaque};
+ghost use Rattle.acpi_lint.specs.MadtForms.{IsOfForm, HasForm};
+ghost use Rattle.acpi_lint.specs.Rules.EntryTypes.{type_of, HasType};
+ghost use Rattle.acpi_lint.specs.Rules.FadtWithMadt.{IsParking};
+ghost use Rattle.acpi_lint.specs.Rules.Its.{IsOtherIts};
+ghost use Rattle.acpi_lint.specs.Rules.Processors.{IsOpaqueProcessor, IsUnreadProcessor};
+
+use crate::gic::{ITS, ITS_LEN, is_usable_gicc};
+use crate::processors::{CORE_PIC, CORE_PIC_LEN, RINTC, RINTC_LEN, opaque_processor};
+use acpi_base::field::u32_at;
+use acpi_read::{GICC, GICC_LEN, MadtEntry, Table};
+
+/// What an entry of a MADT may be.
+#[derive(Clone, Copy)]
+pub enum MadtForm {
+    /// One of this type, of any length.
+    Type(u8),
+    /// One that the stages do not read.
+    Opaque,
+    /// A processor that is not of x86, if the rules read it.
+    OpaqueProcessor,
+    /// One that describes a processor that no rule reads.
+    UnreadProcessor,
+    /// One with the type of an interrupt translation service, ITS, and another length.
+    OtherIts,
+    /// An I/O APIC.
+    IoApic,
+    /// A usable GIC CPU interface with a version of the parking protocol.
+    Parking,
+}
+
+impl MadtForm {
+    /// Whether an entry is one.
+    #[inline(always)]
+    fn is_of(self, entry: &MadtEntry<'_>) -> bool
+        ensures { IsTrue result ↔ IsOfForm self (madt_value entry.now) }
+    {
+        match self {
+            MadtForm::Type(wanted) => type_of(entry) == wanted,
+            MadtForm::Opaque => is_opaque(entry),
+            MadtForm::OpaqueProcessor => is_opaque_processor(entry),
+            MadtForm::UnreadProcessor => is_unread_processor(entry),
+            MadtForm::OtherIts => is_other_its(entry),
+            MadtForm::IoApic => is_io_apic(entry),
+            MadtForm::Parking => is_parking(entry),
+        }
+    }
+}
+
+/// The first byte of an entry, its type; 0 if there is none.
+#[inline(always)]
+fn first_byte(bytes: &[u8]) -> u8
+    ensures { result ≡ slice_index bytes.now 0 }
+{
+    match bytes.first() {
+        Some(first) => *first,
+        None => 0,
+    }
+}
+
+/// The type of an entry.
+#[inline(always)]
+fn type_of(entry: &MadtEntry<'_>) -> u8
+    ensures { result ≡ type_of (madt_value entry.now) }
+{
+    match entry {
+        MadtEntry::LocalApic(_) => 0,
+        MadtEntry::IoApic(_) => 1,
+        MadtEntry::Override(_) => 2,
+        MadtEntry::NmiSource(_) => 3,
+        MadtEntry::LocalNmi(_) => 4,
+        MadtEntry::AddressOverride(_) => 5,
+        MadtEntry::X2apic(_) => 9,
+        MadtEntry::X2apicNmi(_) => 10,
+        MadtEntry::Opaque(bytes) => first_byte(bytes),
+    }
+}
+
+/// Whether an entry is one that the stages do not read.
+#[inline(always)]
+fn is_opaque(entry: &MadtEntry<'_>) -> bool
+    ensures { IsTrue result ↔ IsOpaque (madt_value entry.now) }
+{
+    match entry {
+        MadtEntry::Opaque(_) => true,
+        _ => false,
+    }
+}
+
+/// Whether it describes a processor that is not of x86 and that the rules read.
+#[inline(always)]
+fn is_opaque_processor(entry: &MadtEntry<'_>) -> bool
+    ensures { IsTrue result ↔ IsOpaqueProcessor (madt_value entry.now) }
+{
+    match entry {
+        MadtEntry::Opaque(bytes) => opaque_processor(bytes).is_some(),
+        _ => false,
+    }
+}
+
+/// The type of a local SAPIC (ACPI 6.5, 5.2.12.10), which no rule reads.
+const SAPIC: u8 = 7;
+
+/// Whether it describes a processor that no rule reads: a local SAPIC, or a GICC, CORE PIC or RINTC of a length that is
+/// not read.
+#[inline(always)]
+fn is_unread_processor(entry: &MadtEntry<'_>) -> bool
+    ensures { IsTrue result ↔ IsUnreadProcessor (madt_value entry.now) }
+{
+    match entry {
+        MadtEntry::Opaque(bytes) => match first_byte(bytes) {
+            SAPIC => true,
+            GICC => bytes.len() < GICC_LEN,
+            CORE_PIC => bytes.len() != CORE_PIC_LEN,
+            RINTC => bytes.len() < RINTC_LEN,
+            _ => false,
+        },
+        _ => false,
+    }
+}
+
+/// Whether it has the type of an ITS and another length.
+#[inline(always)]
+fn is_other_its(entry: &MadtEntry<'_>) -> bool
+    ensures { IsTrue result ↔ IsOtherIts (madt_value entry.now) }
+{
+    match entry {
+        MadtEntry::Opaque(bytes) => first_byte(bytes) == ITS && bytes.len() != ITS_LEN,
+        _ => false,
+    }
+}
+
+/// Whether it is an I/O APIC.
+#[inline(always)]
+fn is_io_apic(entry: &MadtEntry<'_>) -> bool
+    ensures { IsTrue result ↔ IsIoApic (madt_value entry.now) }
+{
+    match entry {
+        MadtEntry::IoApic(_) => true,
+        _ => false,
+    }
+}
+
+/// Whether it is a usable GIC CPU interface with a version of the parking protocol.
+#[inline(always)]
+fn is_parking(entry: &MadtEntry<'_>) -> bool
+    ensures { IsTrue result ↔ IsParking (madt_value entry.now) }
+{
+    match entry {
+        MadtEntry::Opaque(bytes) => is_usable_gicc(bytes) && u32_at(bytes, 16) != 0,
+        _ => false,
+    }
+}
+
+/// Whether a MADT has such an entry.
+#[inline(always)]
+pub fn has_form(madt: &Table<'_>, form: MadtForm) -> bool
+    ensures { IsTrue result ↔ HasForm (madt_contents madt.now) form }
+{
+    for at in madt.entries::<MadtEntry<'_>>() {
+        if form.is_of(&at.entry) {
+            return true;
+        }
+    }
+    false
+}
+
+/// Whether it has one of this type, of any length.
+#[inline(always)]
+pub fn has_type(madt: &Table<'_>, wanted: u8) -> bool
+    ensures { IsTrue result ↔ HasType (madt_contents madt.now) wanted }
+{
+    has_form(madt, MadtForm::Type(wanted))
+}
+
+/// Whether it has one that the stages do not read.
+pub fn has_opaque(madt: &Table<'_>) -> bool
+    ensures { IsTrue result ↔ HasOpaque (madt_contents madt.now) }
+{
+    has_form(madt, MadtForm::Opaque)
+}

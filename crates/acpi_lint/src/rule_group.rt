@@ -1,0 +1,44 @@
+//! What the rules of advice look at. Those of a group share a finder.
+
+/// What the rules of a group look at.
+#[derive(Clone, Copy)]
+pub enum RuleGroup {
+    /// The slots of the root table.
+    Slots,
+    /// The memory of the set: the RSDP, the root table and what they lead to.
+    Set,
+    /// Fields of the FADT.
+    Fadt,
+    /// What the FADT names in memory.
+    FadtMemory,
+    /// The FADT and the MADT.
+    FadtMadt,
+    /// The MADT.
+    Madt,
+    /// Each entry of the MADT by itself.
+    MadtEntries,
+    /// A number that each entry of the MADT may have, and that should be unique.
+    MadtNumbers,
+    /// The bytes of the MADT.
+    MadtBytes,
+    /// The MADT and the SRAT.
+    MadtSrat,
+    /// The MADT and the PPTT.
+    MadtPptt,
+    /// The SRAT.
+    Srat,
+    /// Each entry of the SRAT by itself.
+    SratEntries,
+    /// The bytes of the SRAT.
+    SratBytes,
+    /// Each entry of the SRAT, with the SLIT.
+    SratSlit,
+    /// The SLIT.
+    Slit,
+    /// The PPTT.
+    Pptt,
+    /// Each entry of the PPTT by itself.
+    PpttEntries,
+    /// The bytes of the PPTT.
+    PpttBytes,
+}

@@ -1,0 +1,169 @@
+//! Advice on the structures that a set has in memory: two that overlap (ACPI 6.5, 5.2).
+
+ghost use Rattle.std.specs.Prelude.{◌≡◌, ◌+◌, ◌^◌, ◌<◌, AllPairs, Contains, IfOk};
+ghost use Rattle.acpi_base.specs.Memory.{Memory};
+ghost use Rattle.acpi_lint.specs.CompleteTables.{AreCompleteTables};
+ghost use Rattle.acpi_lint.specs.Numbered.{IsNotAbove, AreNumberedRanges, FindsNumbered, IsFirstRange, range_at};
+ghost use Rattle.acpi_lint.specs.Places.{FindsLeast};
+ghost use Rattle.acpi_lint.specs.Slots.{IsLengthAt};
+ghost use Rattle.acpi_lint.specs.Rules.Overlaps.{IsRangeOverlap};
+ghost use Rattle.acpi_lint.specs.Rules.Structures.{IsRsdpRange, IsFacsRange, IsDsdtRange, IsTableRange, IsStructure, IsTablesOverlap};
+
+use crate::complete_tables::CompleteTables;
+use crate::listed_slots::Slot;
+use crate::numbered::{Numbered, sort_numbers};
+use crate::overlaps::push;
+use crate::place::Place;
+use crate::rsdp_advice::revision_of;
+use crate::table_at::TableAt;
+use acpi_base::LentImage;
+use acpi_base::field::is_signed;
+use acpi_read::{Facs, Fadt, Rsdp, Table};
+use std::alloc::{AllocError, Global};
+
+/// The names of the structures before those that slots list.
+const RSDP: u64 = 0;
+
+const ROOT: u64 = 1;
+
+const FACS: u64 = 2;
+
+const DSDT: u64 = 3;
+
+const FIRST_LISTED: u64 = 4;
+
+/// A structure: its address is a number, its name the place and its length the value. An image may have millions, and
+/// these are sorted with a buffer as long, so they are kept smaller than spans.
+fn structure(name: u64, address: u64, length: u64) -> Numbered
+    ensures { result ≡ range_at name address length }
+{
+    Numbered {
+        number: address,
+        at: name,
+        value: length,
+    }
+}
+
+/// The RSDP at an address, if its bytes are present: 20, or in the extended form 36.
+fn rsdp_range(image: &LentImage<'_>, rsdp: u64) -> Option<Numbered>
+    ensures { FindsNumbered 0 (IsRsdpRange image.now rsdp) result }
+{
+    let head = image.window(rsdp, Rsdp::SHORT_LENGTH)?;
+    if revision_of(head) < 2 {
+        return Some(structure(RSDP, rsdp, Rsdp::SHORT_LENGTH));
+    }
+    image.window(rsdp, Rsdp::EXTENDED_LENGTH)?;
+    Some(structure(RSDP, rsdp, Rsdp::EXTENDED_LENGTH))
+}
+
+/// The FACS that a FADT names, if it is valid.
+fn facs_range(image: &LentImage<'_>, fadt: &Fadt<'_>) -> Option<Numbered>
+    ensures { FindsNumbered 2 (IsFacsRange image.now fadt.now) result }
+{
+    let facs = Facs::read(image, fadt).ok()??;
+    Some(structure(FACS, facs.address(), facs.bytes().len() as u64))
+}
+
+/// The table at an address, if it is complete.
+fn table_range(image: &LentImage<'_>, name: u64, address: u64) -> Option<Numbered>
+    ensures { FindsNumbered name (λ s n. (s ≡ address) × IsTableRange image.now s n) result }
+{
+    let table = Table::complete(image, address)?;
+    Some(structure(name, address, table.bytes().len() as u64))
+}
+
+/// The DSDT that a FADT names, if it is complete and has its signature.
+fn dsdt_range(image: &LentImage<'_>, fadt: &Fadt<'_>) -> Option<Numbered>
+    ensures { FindsNumbered 3 (IsDsdtRange image.now fadt.now) result }
+{
+    let address = fadt.dsdt_address();
+    if address == 0 || !is_signed(image.window(address, 36)?, b"DSDT") {
+        return None;
+    }
+    table_range(image, DSDT, address)
+}
+
+/// The table that a slot lists, if it is complete.
+fn slot_range(slot: &Slot) -> Option<Numbered>
+    requires low { 4 + slot.now.number < 2 ^ 32 }
+    ensures { (m : Memory) → IsLengthAt m slot.now.table.address slot.now.table.length
+        → FindsNumbered (4 + slot.now.number) (λ s n. (s ≡ slot.now.table.address) × IsTableRange m s n) result }
+{
+    let TableAt {
+        address,
+        length,
+        ..
+    } = slot.table;
+    if length == 0 {
+        return None;
+    }
+    Some(structure(FIRST_LISTED + slot.number, address, u64::from(length)))
+}
+
+/// The structures of a set in memory, by their names. The tables are those of the set that the RSDP at an address leads to.
+/// Allocates for each of them.
+fn structures(
+    alloc: Global,
+    image: &LentImage<'_>,
+    rsdp: u64,
+    tables: &CompleteTables<'_>,
+) -> Result<Vec<Numbered>, AllocError>
+    requires { AreCompleteTables image.now rsdp tables.now }
+    ensures { IfOk result (λ given. AreNumberedRanges (IsStructure image.now rsdp) given.items) }
+{
+    let mut given = Vec::new(alloc);
+    push(&mut given, rsdp_range(image, rsdp))?;
+    let Some(root) = &tables.root else {
+        return Ok(given);
+    };
+    let length = root.bytes().len() as u64;
+    given.push(structure(ROOT, root.address(), length))?;
+    if let Some(fadt) = tables.fadt() {
+        push(&mut given, facs_range(image, &fadt))?;
+        push(&mut given, dsdt_range(image, &fadt))?;
+    }
+    for slot in &tables.slots {
+        push(&mut given, slot_range(slot))?;
+    }
+    Ok(given)
+}
+
+/// The first overlap of ranges in their order, of which only the first one of each start is compared: where the two begin,
+/// and the lowest number that is in both. None of the ranges is empty.
+fn overlap_by_starts(sorted: &[Numbered]) -> Option<Place>
+    requires order { AllPairs IsNotAbove sorted.now }
+    requires some { (g : Numbered) → Contains sorted.now g → 0 < g.value }
+    ensures { FindsLeast (IsRangeOverlap (IsFirstRange sorted.now)) result }
+{
+    let mut first = *sorted.first()?;
+    for here in sorted {
+        if here.number != first.number {
+            if here.number - first.number < first.value {
+                return Some(Place {
+                    at: first.number,
+                    other: here.number,
+                    point: here.number,
+                });
+            }
+            first = *here;
+        }
+    }
+    None
+}
+
+/// The lowest address that is in two structures of a set in memory, and where the first two that contain it begin; of those
+/// that begin at one address only the first is compared. The tables are those of the set that the RSDP at an address leads
+/// to. Allocates for each structure.
+pub fn tables_overlap(
+    alloc: Global,
+    image: &LentImage<'_>,
+    rsdp: u64,
+    tables: &CompleteTables<'_>,
+) -> Result<Option<Place>, AllocError>
+    requires { AreCompleteTables image.now rsdp tables.now }
+    ensures { IfOk result (FindsLeast (IsTablesOverlap image.now rsdp)) }
+{
+    let mut given = structures(alloc, image, rsdp, tables)?;
+    sort_numbers(&mut given)?;
+    Ok(overlap_by_starts(&given))
+}
