@@ -5,8 +5,10 @@ pub mod FadtBody
 pub mod Kinds
 pub mod Laws
 pub mod Placed
+pub mod PlacedSets
 pub mod Rebuilding
 pub mod Rebuilt
+pub mod SetBytes
 pub mod SetValues
 pub mod SetWriting
 pub mod Spells

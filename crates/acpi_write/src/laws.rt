@@ -4,6 +4,7 @@ ghost use Rattle.acpi_write.specs.Laws.{ContentsAreKept, EntriesAreKept, FadtsNa
 ghost use Rattle.acpi_write.specs.Placed.{PlacedUnlessRefused, RebuiltLeadsToTables};
 ghost use Rattle.acpi_write.specs.Rebuilding.{RebuiltSetsAreKept, RefusedSetsAreNotRebuilt};
 ghost use Rattle.acpi_write.specs.Rebuilt.{CleanPartsAreLaid, RebuiltHoldsParts};
+ghost use Rattle.acpi_write.specs.SetBytes.{AllBytesAreOne};
 ghost use Rattle.acpi_write.specs.SetValues.{OneSetValue};
 ghost use Rattle.acpi_write.specs.Spells.{OneValueSpelled};
 
@@ -78,4 +79,10 @@ pub fn refused_sets_are_not_rebuilt()
 /// caller that borrows an image gets the premise that its numbers fit from `Image::numbers_fit`.
 pub fn rebuilt_sets_are_kept()
     ensures { RebuiltSetsAreKept }
+{}
+
+/// An image has one list of all its bytes from an address on: so there is one result of `rebuild_bytes`.
+#[tactic(auto, using(crate::proofs::SetParts::PartsAppended::all_bytes_are_one))]
+pub fn all_bytes_are_one()
+    ensures { AllBytesAreOne }
 {}

@@ -6,7 +6,8 @@
 //! - `TableValue`: the contents of a table: of a `TableKind` by its contents, the FADT by its bytes after the header,
 //!   and any other table by all its bytes.
 //! - `encode_table`: the bytes of a table with a value, with the checksum that makes them sum to 0.
-//! - `rebuild`: the set of an image rebuilt at a base address, or why it cannot be.
+//! - `rebuild`: the set of an image rebuilt at a base address, or why it cannot be. `rebuild_bytes`: the same as the
+//!   bytes from that address on.
 //! - `laws`: what holds for the definitions: bytes encode at most one value of a kind, a table that is read and
 //!   written again has the same contents, and a clean set has one value.
 //!
@@ -33,6 +34,7 @@ pub mod laws;
 mod placing;
 mod rebuilding;
 mod rsdp_writing;
+mod set_bytes;
 mod set_reading;
 mod set_value;
 mod set_writing;
@@ -42,7 +44,7 @@ mod xsdt_writing;
 
 pub use encode::{WriteFault, encode_table};
 pub use placing::RebuildFault;
-pub use rebuilding::rebuild;
+pub use rebuilding::{rebuild, rebuild_bytes};
 pub use set_reading::values;
 pub use set_value::{SetValue, ValuesFault};
 pub use table_value::{Head, TableValue};

@@ -4,14 +4,43 @@ ghost use Rattle.std.specs.Prelude.{IfOk, IfErr};
 ghost use Rattle.acpi_base.specs.Memory.{IsImage};
 ghost use Rattle.acpi_base.specs.Policy.{with_rsdp};
 ghost use Rattle.acpi_base.specs.Statements.{IsClean};
+ghost use Rattle.acpi_write.specs.PlacedSets.{IsPlacedSet};
 ghost use Rattle.acpi_write.specs.Rebuilding.{IsRebuilt, IsRebuildRefusal};
+ghost use Rattle.acpi_write.specs.SetBytes.{AreRebuiltBytes};
 
 use crate::laws::rebuilt_sets_are_kept;
 use crate::placing::{RebuildFault, placed};
+use crate::set_bytes::set_bytes;
 use crate::set_reading::values;
+use crate::set_value::SetValue;
 use crate::set_writing::written_set;
-use acpi_base::{Image, Policy};
+use acpi_base::{Image, LentImage, Policy};
 use std::alloc::Global;
+
+/// The contents of a set, and the addresses of its parts from a base address on.
+#[derive(Drop)]
+struct PlacedSet<'a> {
+    value: SetValue<'a>,
+    places: Vec<u64>,
+}
+
+/// The set of the image, placed at the base address. Refuses as `rebuild` does.
+fn placed_set<'a>(
+    alloc: Global,
+    image: &'a LentImage<'_>,
+    policy: &Policy,
+    base: u64,
+) -> Result<PlacedSet<'a>, RebuildFault>
+    ensures placed { IfOk result (IsPlacedSet image.now policy.now base) }
+    ensures refused { IfErr result (IsRebuildRefusal image.now policy.now base) }
+{
+    if base % 64 != 0 {
+        return Err(RebuildFault::Unaligned);
+    }
+    let value = values(alloc, image, policy)?;
+    let places = placed(alloc, &value, base)?;
+    Ok(PlacedSet { value, places })
+}
 
 /// Rebuilds the set of an image at the address `base`: the RSDP at `base`, after it the XSDT, the FACS if there is
 /// one, and the listed tables in the order of their slots, each part at the lowest multiple of 64 not below the end
@@ -28,7 +57,7 @@ use std::alloc::Global;
 /// nothing. By the law `refused_sets_are_not_rebuilt` none of them but `Memory` applies if there is a rebuilt image.
 pub fn rebuild(
     alloc: Global,
-    image: &Image,
+    image: &LentImage<'_>,
     policy: &Policy,
     base: u64,
 ) -> Result<Image, RebuildFault>
@@ -37,15 +66,32 @@ pub fn rebuild(
     ensures clean { IfOk result (λ new. IsClean new (with_rsdp policy.now base)) }
     ensures refused { IfErr result (IsRebuildRefusal image.now policy.now base) }
 {
-    if base % 64 != 0 {
-        return Err(RebuildFault::Unaligned);
-    }
-    let value = values(alloc, image, policy)?;
-    let places = placed(alloc, &value, base)?;
+    let set = placed_set(alloc, image, policy, base)?;
     // For the proof: the three calls that return nothing do nothing at run time.
     image.numbers_fit();
     rebuilt_sets_are_kept();
-    let new = written_set(alloc, &value, base, &places)?;
+    let new = written_set(alloc, &set.value, base, &set.places)?;
     new.numbers_fit();
     Ok(new)
+}
+
+/// Rebuilds the set of an image at the address `base`, as `rebuild` does, and returns it as memory: the bytes from
+/// `base` on, up to the end of the last part, with zeros between the parts.
+///
+/// Refuses as `rebuild` does, and in the same order.
+pub fn rebuild_bytes(
+    alloc: Global,
+    image: &LentImage<'_>,
+    policy: &Policy,
+    base: u64,
+) -> Result<Vec<u8>, RebuildFault>
+    ensures rebuilt { IfOk result (λ bytes. AreRebuiltBytes image.now policy.now base bytes.items) }
+    ensures refused { IfErr result (IsRebuildRefusal image.now policy.now base) }
+{
+    let set = placed_set(alloc, image, policy, base)?;
+    // For the proof, as in `rebuild`.
+    image.numbers_fit();
+    rebuilt_sets_are_kept();
+    let bytes = set_bytes(alloc, &set.value, base, &set.places)?;
+    Ok(bytes)
 }

@@ -8,7 +8,7 @@ ghost use Rattle.acpi_write.specs.Views.{set_value, IsShaped, IsShort, IsValuesR
 
 use crate::set_value::{SetValue, ValuesFault};
 use crate::table_reading::{head_in, listed_tables, table_values};
-use acpi_base::{Image, Policy};
+use acpi_base::{LentImage, Policy};
 use acpi_check::check_set;
 use std::alloc::Global;
 
@@ -21,7 +21,7 @@ use std::alloc::Global;
 /// hold, since these allocate nothing.
 pub fn values<'a>(
     alloc: Global,
-    image: &'a Image,
+    image: &'a LentImage<'_>,
     policy: &Policy,
 ) -> Result<SetValue<'a>, ValuesFault>
     ensures clean { IfOk result (λ _. IsClean image.now policy.now) }

@@ -52,7 +52,7 @@ fn put(image: &mut Image, place: u64, bytes: &[u8]) -> Result<(), AllocError>
 }
 
 /// The bytes of the k-th part of a set: the RSDP, the XSDT, the FACS if there is one, or a table.
-fn part(
+pub(crate) fn part(
     alloc: Global,
     value: &SetValue<'_>,
     places: &[u64],
