@@ -9,6 +9,15 @@
 #include <stddef.h>
 #include <stdint.h>
 
+/* The library has the calling convention of x86-64 Linux, whatever the compiler's usual one is. */
+#if defined(_WIN64)
+#error "acpiset.h: the library has the calling convention of x86-64 Linux, and not that of Windows"
+#elif defined(__GNUC__) && defined(__x86_64__)
+#define ACPISET_CALL __attribute__((sysv_abi))
+#else
+#define ACPISET_CALL
+#endif
+
 #ifdef __cplusplus
 extern "C" {
 #endif
@@ -65,7 +74,7 @@ struct acpiset_finding {
 
 /* What an answer says. A kind is never renumbered; later versions may add some. */
 enum acpiset_kind {
-    ACPISET_YES = 0,                /* the tables are valid; the fault is in the image; the RSDP was found; there is no fault */
+    ACPISET_YES = 0,                /* there is no fault; the fault is in the image; the RSDP was found; the set is shown or rebuilt */
     ACPISET_NO = 1,                 /* there is a fault; the fault is not in the image; no RSDP was found */
     ACPISET_OUT_OF_MEMORY = 2,      /* malloc or realloc returned NULL */
     ACPISET_BAD_SIZE = 3,           /* settings.size is not sizeof(struct acpiset_settings) */
@@ -82,34 +91,40 @@ enum acpiset_kind {
     ACPISET_NO_ADDRESS = 13,        /* line `at` is data, and no address comes before it */
     ACPISET_TEXT_OVERLAP = 14,      /* the address `other` is given a second byte */
     ACPISET_TEXT_PAST_END = 15,     /* the data of line `at` passes the address 2^64 - 1 */
-    ACPISET_TEXT_TOO_LONG = 16      /* the text has more than 67,108,864 bytes, or a line more than 65,536 */
+    ACPISET_TEXT_TOO_LONG = 16,     /* the text has more than 67,108,864 bytes, or a line more than 65,536 */
+    /* of acpiset_rebuild alone: */
+    ACPISET_UNALIGNED = 17,         /* `base` is not a multiple of 64 */
+    ACPISET_TABLE_TOO_LONG = 18,    /* the XSDT would have more than 4,294,967,295 bytes */
+    ACPISET_PAST_END = 19,          /* a part of the set would pass the address 2^64 - 1 */
+    ACPISET_NEEDS_LOW = 20          /* the FADT has fewer than 140 bytes, and the FACS would be at 2^32 or above */
 };
 
 /* Numbers that a kind does not use are 0. */
 struct acpiset_answer {
     uint32_t kind;  /* enum acpiset_kind */
-    uint32_t stage; /* acpiset_check: the stage of the fault, 1 to 18 */
-    uint32_t code;  /* acpiset_check: enum acpiset_code */
-    uint64_t at;    /* acpiset_check: the fault's first number; acpiset_find: the RSDP's address; acpiset_lint: how many faults */
-    uint64_t other; /* acpiset_check: the fault's second number; acpiset_lint: how many findings of advice */
-    uint64_t point; /* acpiset_check: the fault's third number */
+    uint32_t stage; /* the stage of a fault, 1 to 18, as acpiset_check, acpiset_show and acpiset_rebuild report it */
+    uint32_t code;  /* its code: enum acpiset_code */
+    uint64_t at;    /* its first number; acpiset_find: the RSDP's address; acpiset_lint: how many faults; acpiset_show and
+                       acpiset_rebuild: how many bytes there are */
+    uint64_t other; /* its second number; acpiset_lint: how many findings of advice */
+    uint64_t point; /* its third number */
 };
 
 /* The verdict on the tables of the image that the pieces make up: ACPISET_YES, or ACPISET_NO with the first fault. Pieces may
  * come in any order. `pieces` may be NULL if `pieces_count` is 0, and `inputs` if `inputs_count` is 0. */
 struct acpiset_answer acpiset_check(const struct acpiset_piece *pieces, size_t pieces_count,
                                     const struct acpiset_inputs *inputs, size_t inputs_count,
-                                    const struct acpiset_settings *settings);
+                                    const struct acpiset_settings *settings) ACPISET_CALL;
 
 /* The same, of an image that is passed as image text, which need not end with a zero byte. `text` may be NULL if `length` is 0. */
 struct acpiset_answer acpiset_check_text(const char *text, size_t length,
                                          const struct acpiset_inputs *inputs, size_t inputs_count,
-                                         const struct acpiset_settings *settings);
+                                         const struct acpiset_settings *settings) ACPISET_CALL;
 
 /* Whether one fault is in the image: ACPISET_YES or ACPISET_NO. It need not be the first one. */
 struct acpiset_answer acpiset_confirm(const struct acpiset_piece *pieces, size_t pieces_count,
                                       const struct acpiset_inputs *inputs, size_t inputs_count,
-                                      const struct acpiset_settings *settings, const struct acpiset_finding *finding);
+                                      const struct acpiset_settings *settings, const struct acpiset_finding *finding) ACPISET_CALL;
 
 /* The most findings that acpiset_lint of this version reports. A shared library of a later version may count more. */
 /* begin: most, made by lists.py */
@@ -123,14 +138,40 @@ struct acpiset_answer acpiset_confirm(const struct acpiset_piece *pieces, size_t
 struct acpiset_answer acpiset_lint(const struct acpiset_piece *pieces, size_t pieces_count,
                                    const struct acpiset_inputs *inputs, size_t inputs_count,
                                    const struct acpiset_settings *settings,
-                                   struct acpiset_finding *findings, size_t findings_count);
+                                   struct acpiset_finding *findings, size_t findings_count) ACPISET_CALL;
 
 /* Where the RSDP is, if a BIOS put it where ACPI 6.5, 5.2.5.1 says: ACPISET_YES with its address in `at`, or ACPISET_NO. The
  * multiples of 16 from 0xe0000 to 0xffff0 are searched. */
-struct acpiset_answer acpiset_find(const struct acpiset_piece *pieces, size_t pieces_count);
+struct acpiset_answer acpiset_find(const struct acpiset_piece *pieces, size_t pieces_count) ACPISET_CALL;
+
+/* The contents of the set as text: the lines that `acpiset show` prints. ACPISET_YES with the number of their bytes in `at`, if the RSDP,
+ * the root table and the listed tables are valid (stages 1 to 3); else ACPISET_NO with the first fault, as acpiset_check has it. The
+ * bytes are written to `text`, as many as fit, without a final zero; the rest of it does not change. With any other answer than
+ * ACPISET_YES nothing is written. `text` may be NULL if `size` is 0. */
+struct acpiset_answer acpiset_show(const struct acpiset_piece *pieces, size_t pieces_count,
+                                   const struct acpiset_inputs *inputs, size_t inputs_count,
+                                   const struct acpiset_settings *settings, char *text, size_t size) ACPISET_CALL;
+
+/* The set at another address, as `acpiset rebuild` moves it: its memory from `base` on, where the new RSDP is. All addresses in it are
+ * those of the new place; between the parts are zeros. ACPISET_YES with the number of bytes in `at`; or ACPISET_NO with the first fault,
+ * if the set has one in any stage; or why it cannot be placed at `base`. The bytes are written to `bytes`, as many as fit; the rest of
+ * it does not change. With any other answer than ACPISET_YES nothing is written. `bytes` may be NULL if `size` is 0. */
+struct acpiset_answer acpiset_rebuild(const struct acpiset_piece *pieces, size_t pieces_count,
+                                      const struct acpiset_inputs *inputs, size_t inputs_count,
+                                      const struct acpiset_settings *settings,
+                                      uint64_t base, uint8_t *bytes, size_t size) ACPISET_CALL;
+
+/* What the number of a finding means, for languages that do not read this header: its stage, 0 for a rule of advice; its severity
+ * (enum acpiset_severity); its name; and a text for people: what is wrong, and how it is mended. Name and text are written to `room`,
+ * as many bytes as fit, without a final zero, and the number of their bytes is returned. For a number that is neither that of a code
+ * nor that of a rule all four return 0. `room` may be NULL if `room_count` is 0. */
+uint32_t acpiset_stage(uint32_t number) ACPISET_CALL;
+uint32_t acpiset_severity(uint32_t number) ACPISET_CALL;
+size_t acpiset_name(uint32_t number, char *room, size_t room_count) ACPISET_CALL;
+size_t acpiset_explain(uint32_t number, char *room, size_t room_count) ACPISET_CALL;
 
 /* The version of the functions and structs of the library that is linked; compare it with ACPISET_ABI. */
-uint32_t acpiset_abi(void);
+uint32_t acpiset_abi(void) ACPISET_CALL;
 
 /* ---- codes, rules and names */
 
@@ -597,6 +638,10 @@ static inline const char *acpiset_kind_name(uint32_t kind) {
     case ACPISET_TEXT_OVERLAP: return "TextOverlap";
     case ACPISET_TEXT_PAST_END: return "TextPastEnd";
     case ACPISET_TEXT_TOO_LONG: return "TextTooLong";
+    case ACPISET_UNALIGNED: return "Unaligned";
+    case ACPISET_TABLE_TOO_LONG: return "TableTooLong";
+    case ACPISET_PAST_END: return "PastEnd";
+    case ACPISET_NEEDS_LOW: return "NeedsLow";
     default: return "";
     }
 }

@@ -1,10 +1,10 @@
 #!/usr/bin/env python3
 """Writes the parts of acpiset.h that follow from the crates: the codes and the rules with their numbers, names and stages, the
 names of the kinds, how many findings there can be, and where the fields of each struct are; and the severities of the rules, which
-docs/FAULTS.md says.
+docs/FAULTS.md says. Writes crates/acpi_c/src/explained.rt too, the severities and texts that the library has from that page.
 
-usage: bindings/c/lists.py [HEADER]          writes these parts anew, each between its marks
-       bindings/c/lists.py --check [HEADER]  prints what differs from the crates, and ends with status 1 if anything does
+usage: bindings/c/lists.py [HEADER]          writes these parts anew, each between its marks, and that file
+       bindings/c/lists.py --check [HEADER]  prints what differs from the crates and the page, and ends with status 1 if anything does
 
 HEADER is bindings/c/acpiset.h if none is named. With --check the parts written by hand are compared too, as far as the crates say
 them: the numbers of the kinds, and ACPISET_ABI."""
@@ -13,6 +13,7 @@ import difflib
 import re
 import sys
 from dataclasses import dataclass
+from functools import cache
 from pathlib import Path
 
 TOP = Path(__file__).resolve().parent.parent.parent
@@ -23,6 +24,9 @@ FAULTS = TOP / "docs" / "FAULTS.md"
 
 # The source files whose comments say what each code, rule and stage is.
 SOURCES = {it: CRATES / crate / "src" / f"{it}.rt" for it, crate in (("code", "acpi_base"), ("rule", "acpi_lint"), ("stage", "acpi_base"))}
+
+# What the library says of each code and rule.
+EXPLAINED = CRATE / "src" / "explained.rt"
 
 # Enumerators that are spelled otherwise than their variants.
 SPELLED = {"BadHotPlug": "BAD_HOTPLUG"}
@@ -68,6 +72,7 @@ class Crates:
     names: dict
     stages: dict
     severities: dict
+    texts: dict
     sentences: dict
     stage_sentences: dict
     structs: dict
@@ -101,6 +106,7 @@ def read_crates():
         names={variant: row[-1] for variant, row in {**code_rows, **rule_rows}.items()},
         stages={code: stage_numbers[row[1]] for code, row in code_rows.items()},
         severities=severities(rule_rows),
+        texts=texts([*code_rows, *rule_rows]),
         sentences={**sentences("code"), **sentences("rule")},
         stage_sentences={number: stage_sentences.get(stage) for stage, number in stage_numbers.items()},
         structs=read_structs(),
@@ -108,9 +114,29 @@ def read_crates():
     )
 
 
+@cache
+def page_parts():
+    """The parts of docs/FAULTS.md by the name of the code or the rule."""
+    return dict(re.findall(r"^### \d+ (\w+)\n(.*?)(?=^##|\Z)", FAULTS.read_text(), re.M | re.S))
+
+
+def texts(names):
+    """What the page says of each: what is wrong or found, and how it is mended, as text without marks."""
+    return {name: "\n".join(said(name, word) for word in ("Wrong|Found", "Fix")) for name in names}
+
+
+def said(name, word):
+    """A point of a part of the page as one line."""
+    found = re.search(rf"^- (?:{word}): .*?(?=^- |^\n|\Z)", page_parts().get(name, ""), re.M | re.S)
+    if not found:
+        sys.exit(f"{FAULTS}: the part of {name} has no point {word}")
+    line = " ".join(found[0].removeprefix("- ").split())
+    return re.sub(r"\[([^]]*)\]\([^)]*\)", r"\1", line)
+
+
 def severities(rules):
     """The severity of each rule, by what its part of docs/FAULTS.md begins with."""
-    parts = dict(re.findall(r"^### \d+ (\w+)\n(.*?)(?=^##|\Z)", FAULTS.read_text(), re.M | re.S))
+    parts = page_parts()
     found = {rule: re.search(rf"^- Severity: ({'|'.join(SEVERITIES)})\b", parts.get(rule, ""), re.M) for rule in rules}
     missing = [rule for rule, severity in found.items() if not severity]
     if missing:
@@ -238,6 +264,38 @@ def with_parts(header, crates):
     return header
 
 
+# ---- what the library says
+
+
+def literal(text):
+    return '"' + text.replace("\\", "\\\\").replace('"', '\\"').replace("\n", "\\n") + '"'
+
+
+def explained(crates):
+    """The source file with what docs/FAULTS.md says."""
+    variants = {it: name.removeprefix("ACPISET_").title().replace("_", "") for it, name in SEVERITIES.items()}
+    yield "//! What docs/FAULTS.md says of the codes and the rules. bindings/c/lists.py writes this file."
+    yield ""
+    yield "use crate::meaning::Severity;"
+    yield "use acpi_base::Code;"
+    yield "use acpi_lint::Rule;"
+    yield ""
+    yield "/// What is wrong and how it is mended, by the number of the code."
+    yield "pub const CODES: [&str; Code::COUNT] = ["
+    yield from (f"    {literal(crates.texts[code])}," for code in crates.codes)
+    yield "];"
+    yield ""
+    yield "/// What is found and how it is mended, by the number of the rule."
+    yield "pub const RULES: [&str; Rule::COUNT] = ["
+    yield from (f"    {literal(crates.texts[rule])}," for rule in crates.rules)
+    yield "];"
+    yield ""
+    yield "/// The severity of each rule, by its number."
+    yield "pub const SEVERITIES: [Severity; Rule::COUNT] = ["
+    yield from (f"    Severity::{variants[crates.severities[rule]]}," for rule in crates.rules)
+    yield "];"
+
+
 # ---- the parts that are written by hand
 
 
@@ -265,6 +323,10 @@ def undescribed(crates):
     yield from (f"stage {it}: its comment has to be a sentence on one line" for it, told in crates.stage_sentences.items() if not told)
 
 
+def text_of(path):
+    return path.read_text() if path.exists() else ""
+
+
 def main():
     words = sys.argv[1:]
     is_check = words[:1] == ["--check"]
@@ -277,11 +339,12 @@ def main():
     if not wrong:
         header = path.read_text()
         right = with_parts(header, crates)
-        if is_check:
-            said = (header.splitlines(), right.splitlines(), str(path), "what the crates say")
-            wrong = list(difflib.unified_diff(*said, lineterm="", n=0))
-        else:
-            path.write_text(right)
+        for own, there, due in ((path, header, right), (EXPLAINED, text_of(EXPLAINED), "".join(f"{line}\n" for line in explained(crates)))):
+            if is_check:
+                both = (there.splitlines(), due.splitlines(), str(own), "what the crates and the page say")
+                wrong += difflib.unified_diff(*both, lineterm="", n=0)
+            elif there != due:
+                own.write_text(due)
         wrong += by_hand(header, crates)
     print(*wrong, sep="\n", end="\n" if wrong else "")
     sys.exit(1 if wrong else 0)

@@ -144,7 +144,10 @@ def lists():
 TYPES = {
     "size_t": "c_ulong",
     "uint32_t": "c_uint",
+    "uint64_t": "c_ulong",
     "struct acpiset_answer": "RawAnswer",
+    "char *": "c_char_p",
+    "uint8_t *": "c_char_p",
     "const char *": "c_char_p",
     **{f"const struct acpiset_{it} *": f"LP_Raw{capital(it)}" for it in ("inputs", "settings", "finding")},
     "const struct acpiset_piece *": "LP_RawPiece",
@@ -159,7 +162,7 @@ def declared_in_c():
     for struct, size in re.findall(r"^ACPISET_SIZE\(acpiset_(\w+), (\d+)\);", HEADER, re.M):
         yield struct, int(size)
     text = re.sub(r"/\*.*?\*/", "", HEADER, flags=re.S)
-    for result, name, parameters in re.findall(r"^(\w[\w ]*?) (acpiset_\w+)\(([^)]*)\);", text, re.M):
+    for result, name, parameters in re.findall(r"^(\w[\w ]*?) (acpiset_\w+)\(([^)]*)\) ACPISET_CALL;", text, re.M):
         told = [] if parameters == "void" else re.findall(r"((?:const )?(?:struct )?\w+ ?\*?) ?\w+(?:,|$)", parameters)
         yield name, [TYPES.get(kind.strip(), kind) for kind in (result, *told)]
     known = names("acpiset_kind_name")

@@ -54,9 +54,7 @@ fn folder_of_pkg_config() -> Result<PathBuf, String> {
         .output();
     let problem = match found {
         Ok(output) if output.status.success() => {
-            return Ok(PathBuf::from(
-                String::from_utf8_lossy(&output.stdout).trim(),
-            ));
+            return Ok(folder_in(&String::from_utf8_lossy(&output.stdout)));
         }
         Ok(output) => String::from_utf8_lossy(&output.stderr).trim().to_string(),
         Err(error) => format!("{program:?} does not run: {error}"),
@@ -66,4 +64,18 @@ fn folder_of_pkg_config() -> Result<PathBuf, String> {
          acpiset.pc. `make library` in the repository of acpiset builds the library, and `make install` \
          installs it.\npkg-config says: {problem}"
     ))
+}
+
+/// The folder that pkg-config prints. It writes a backslash before a blank and other marks.
+fn folder_in(printed: &str) -> PathBuf {
+    let mut name = String::new();
+    let mut letters = printed.trim_end_matches('\n').chars();
+    while let Some(letter) = letters.next() {
+        name.extend(if letter == '\\' {
+            letters.next()
+        } else {
+            Some(letter)
+        });
+    }
+    PathBuf::from(name)
 }

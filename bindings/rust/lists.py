@@ -148,6 +148,8 @@ TYPES = {
     "uint32_t": "u32",
     "size_t": "usize",
     "const uint8_t *": "*const u8",
+    "char *": "*mut u8",
+    "uint8_t *": "*mut u8",
     "const char *": "*const u8",
     "const struct acpiset_piece *": "*const Piece<'_>",
     "const struct acpiset_inputs *": "*const Inputs",
@@ -165,7 +167,7 @@ def declared_in_c():
     for name, body in re.findall(r"^struct acpiset_(\w+) \{(.*?)^\};", text, re.M | re.S):
         fields = re.findall(rf"^\s*{value};", body, re.M)
         yield name, [f"{field}: {TYPES[kind.strip()]}" for kind, field in fields]
-    for result, name, parameters in re.findall(r"^(\w[\w ]*?) (acpiset_\w+)\(([^)]*)\);", text, re.M):
+    for result, name, parameters in re.findall(r"^(\w[\w ]*?) (acpiset_\w+)\(([^)]*)\) ACPISET_CALL;", text, re.M):
         told = [] if parameters == "void" else re.findall(rf"{value}(?:,|$)", parameters)
         yield name, [*(f"{own}: {TYPES[kind.strip()]}" for kind, own in told), TYPES[result]]
     yield "ABI", re.findall(r"^#define ACPISET_ABI (\d+)$", text, re.M)
@@ -180,6 +182,10 @@ def declared_in_rust():
     yield "ABI", re.findall(r"^pub const ABI: \w+ = (\d+);", text, re.M)
 
 
+# What the crate has lists of its own for.
+OWN = {"acpiset_stage", "acpiset_severity", "acpiset_name"}
+
+
 def differences():
     if LISTS.read_text() != lists():
         yield "src/lists.rs is not what the definitions and docs/FAULTS.md say: run bindings/rust/lists.py"
@@ -188,7 +194,7 @@ def differences():
     for kind in sorted(kinds.items() ^ kinds_told().items()):
         yield f"src/refusal.rs and Kinds.antt differ in {kind[0]}, {kind[1]}"
     in_c, in_rust = dict(declared_in_c()), dict(declared_in_rust())
-    for name in sorted(in_c.keys() | in_rust.keys()):
+    for name in sorted((in_c.keys() | in_rust.keys()) - OWN):
         if in_c.get(name) != in_rust.get(name):
             yield f"{name}: {in_c.get(name)} in acpiset.h, {in_rust.get(name)} in src/sys.rs"
 

@@ -16,8 +16,9 @@ into the guest's memory.
 True
 
 `check`, `check_text`: the first fault, or None. `lint`: the first fault of each code, and advice. `confirm`: whether one fault is in the
-image. `find`: where a BIOS put the RSDP. A call without a verdict raises a `Refusal`; a fault of the tables is never one. Arguments of
-another type than the hints say raise `TypeError` or `ValueError`.
+image. `find`: where a BIOS put the RSDP. `show`: the contents of the tables as text. `rebuild`: the tables at another address. A call
+without a verdict raises a `Refusal`; a fault of the tables is never one. Arguments of another type than the hints say raise `TypeError`
+or `ValueError`.
 
 Calls share no state, so any thread that has 100 KiB of stack can make one at any time. Python's global lock is released while the
 library works.
@@ -28,9 +29,7 @@ The library is the file that the environment variable ``ACPISET_LIBRARY`` names,
 
 from __future__ import annotations
 
-from typing import NoReturn
-
-from ._calls import abi, check, check_text, confirm, find, lint
+from ._calls import abi, check, check_text, confirm, find, lint, rebuild, show
 from ._findings import Advice, Fault, Finding, Findings, Severity
 from ._library import ABI
 from ._lists import Code, Rule
@@ -45,15 +44,19 @@ from ._refusals import (
     BadSize,
     BadStage,
     LibraryNotFound,
+    NeedsLow,
     NoAddress,
     OtherVersion,
     OutOfMemory,
+    PastEnd,
     PiecePastEnd,
     PiecesOverlap,
     Refusal,
+    TableTooLong,
     TextOverlap,
     TextPastEnd,
     TextTooLong,
+    Unaligned,
     UnknownRefusal,
 )
 from ._settings import HotPlug, Processors, Settings
@@ -77,9 +80,11 @@ __all__ = [
     "Findings",
     "HotPlug",
     "LibraryNotFound",
+    "NeedsLow",
     "NoAddress",
     "OtherVersion",
     "OutOfMemory",
+    "PastEnd",
     "PiecePastEnd",
     "PiecesOverlap",
     "Processors",
@@ -87,9 +92,11 @@ __all__ = [
     "Rule",
     "Settings",
     "Severity",
+    "TableTooLong",
     "TextOverlap",
     "TextPastEnd",
     "TextTooLong",
+    "Unaligned",
     "UnknownRefusal",
     "abi",
     "check",
@@ -99,12 +106,6 @@ __all__ = [
     "image_text",
     "lint",
     "pieces_of_text",
+    "rebuild",
+    "show",
 ]
-
-
-def __getattr__(name: str) -> NoReturn:
-    """Says what to do in place of a command that the library does not have."""
-    told = f"module {__name__!r} has no attribute {name!r}"
-    if name in ("show", "rebuild"):
-        told += f": libacpiset has no such call. Write image_text(pieces) to a file, and run `acpiset {name}` on it"
-    raise AttributeError(told)

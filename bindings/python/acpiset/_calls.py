@@ -2,10 +2,23 @@
 
 from __future__ import annotations
 
-from typing import Any, Optional, Union
+from ctypes import c_char
+from typing import Any, Callable, Optional, Union
 
 from ._findings import Advice, Fault, Findings
-from ._library import PieceArray, Pieces, RawAnswer, RawFinding, ReadableBuffer, SettingsOfCall, bytes_of, library, raw_finding
+from ._library import (
+    LAST_64_BITS,
+    PieceArray,
+    Pieces,
+    RawAnswer,
+    RawFinding,
+    ReadableBuffer,
+    SettingsOfCall,
+    bytes_of,
+    library,
+    raw_finding,
+    within,
+)
 from ._lists import Code, Rule
 from ._refusals import OutOfMemory, refusal_of
 from ._settings import Settings
@@ -106,6 +119,39 @@ def find(pieces: Pieces) -> Optional[int]:
     return int(answer.at) if _is_yes(answer) else None
 
 
+def show(pieces: Pieces, settings: Settings) -> Union[str, Fault]:
+    """The contents of the tables as text: the lines that the program's command ``show`` prints. Or the first fault, if the RSDP, the root
+    table or a listed table has one (stages 1 to 3); rules of later stages need not hold.
+
+    Refusals: those of `check`, without `BadStage`.
+
+    >>> rsdp = b"RSD PTR \\x4bAAAAAA\\0\\0\\x10\\0\\0"
+    >>> rsdt = b"RSDT\\x24\\0\\0\\0\\x01\\x0aAAAAAAAAAAAAAA\\x01\\0\\0\\0AAAA\\x01\\0\\0\\0"
+    >>> print(show([(0xE0000, rsdp), (0x1000, rsdt)], Settings(0xE0000)), end="")
+    rsdp 0xe0000 revision 0
+    root 0x1000 RSDT length 36 slots 0
+    """
+    passed, chosen, loaded = PieceArray(pieces), SettingsOfCall(settings), library()
+    made = _made(lambda room: loaded.show(passed, chosen, room))
+    return made if isinstance(made, Fault) else made.decode("utf-8", "replace")
+
+
+def rebuild(pieces: Pieces, settings: Settings, base: int) -> Union[bytes, Fault]:
+    """The tables at another address: the bytes of memory from `base` on, where the new RSDP is, followed by the XSDT, the FACS if there is
+    one, and the other tables, each at a multiple of 64 with zeros before it. All addresses in the tables are those of the new place. Or
+    the first fault, if the tables have one in any stage.
+
+    Refusals: those of `check`, without `BadStage`; `BadNumber` also for the address; `Unaligned` if it is not a multiple of 64; for
+    tables without a fault `TableTooLong`, `PastEnd`, `NeedsLow`, if they cannot be placed there.
+
+    >>> rebuild([], Settings(0xE0000), 0x10000)
+    <Fault 1 RsdpOut 0xe0000 0x0 0x0>
+    """
+    passed, chosen, place = PieceArray(pieces), SettingsOfCall(settings), within("the base address", base, LAST_64_BITS)
+    loaded = library()
+    return _made(lambda room: loaded.rebuild(passed, chosen, place, room))
+
+
 def abi() -> int:
     """The version of the functions and structs of the library, which is `ABI`: another one raises `OtherVersion`, and no library
     `LibraryNotFound`."""
@@ -128,13 +174,32 @@ def _verdict(answer: RawAnswer) -> Optional[Fault]:
     return None if _is_yes(answer) else Fault(answer.code, answer.at, answer.other, answer.point)
 
 
+def _made(call: Callable[[Any], RawAnswer]) -> Union[bytes, Fault]:
+    """All bytes that a call writes, or the fault that it answers. It is first asked how many there are."""
+    answer = call(_bytes_room(0))
+    if not _is_yes(answer):
+        return Fault(answer.code, answer.at, answer.other, answer.point)
+    room = _bytes_room(answer.at)
+    _is_yes(call(room))
+    return bytes(room.raw)
+
+
 def _numbers(found: RawFinding) -> Any:
     return found.number, found.at, found.other, found.point
 
 
 def _room(count: int) -> Any:
     """Room for this many findings."""
+    return _array_of(RawFinding, count)
+
+
+def _bytes_room(count: int) -> Any:
+    """Room for this many bytes."""
+    return _array_of(c_char, count)
+
+
+def _array_of(kind: Any, count: int) -> Any:
     try:
-        return (RawFinding * count)()
+        return (kind * count)()
     except (MemoryError, OverflowError):
         raise OutOfMemory() from None

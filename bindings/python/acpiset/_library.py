@@ -82,6 +82,12 @@ FUNCTIONS = {
     "acpiset_confirm": (RawAnswer, *_PIECES, *_INPUTS, _SETTINGS, POINTER(RawFinding)),
     "acpiset_lint": (RawAnswer, *_PIECES, *_INPUTS, _SETTINGS, POINTER(RawFinding), c_size_t),
     "acpiset_find": (RawAnswer, *_PIECES),
+    "acpiset_show": (RawAnswer, *_PIECES, *_INPUTS, _SETTINGS, c_char_p, c_size_t),
+    "acpiset_rebuild": (RawAnswer, *_PIECES, *_INPUTS, _SETTINGS, c_uint64, c_char_p, c_size_t),
+    "acpiset_stage": (c_uint32, c_uint32),
+    "acpiset_severity": (c_uint32, c_uint32),
+    "acpiset_name": (c_size_t, c_uint32, c_char_p, c_size_t),
+    "acpiset_explain": (c_size_t, c_uint32, c_char_p, c_size_t),
     "acpiset_abi": (c_uint32,),
 }
 
@@ -172,6 +178,12 @@ class Library:
 
     def find(self, pieces: PieceArray) -> RawAnswer:
         return self._answer("acpiset_find", *pieces.arguments())
+
+    def show(self, pieces: PieceArray, settings: SettingsOfCall, room: Any) -> RawAnswer:
+        return self._answer("acpiset_show", *pieces.arguments(), *settings.arguments(), room, len(room))
+
+    def rebuild(self, pieces: PieceArray, settings: SettingsOfCall, base: int, room: Any) -> RawAnswer:
+        return self._answer("acpiset_rebuild", *pieces.arguments(), *settings.arguments(), base, room, len(room))
 
     def abi(self) -> int:
         return int(self.functions["acpiset_abi"]())

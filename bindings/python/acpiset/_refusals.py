@@ -183,6 +183,30 @@ class TextTooLong(Refusal):
     told = "the text has more than 67108864 bytes, or a line more than 65536"
 
 
+class Unaligned(Refusal):
+    """The address at which the set was to be rebuilt is not a multiple of 64."""
+
+    told = "the base address is not a multiple of 64"
+
+
+class TableTooLong(Refusal):
+    """The XSDT of the rebuilt set would have more than 4,294,967,295 bytes."""
+
+    told = "the XSDT would have more than 4294967295 bytes"
+
+
+class PastEnd(Refusal):
+    """A part of the rebuilt set would pass the address 2^64 - 1."""
+
+    told = "a part of the set would pass the address 2^64 - 1"
+
+
+class NeedsLow(Refusal):
+    """The FADT has fewer than 140 bytes, and the FACS would be at 2^32 or above."""
+
+    told = "the FADT has no field for the address of the FACS, which would be 2^32 or above"
+
+
 class UnknownRefusal(Refusal):
     """The library is of a later version, and refuses for a reason that this package does not know: ``kind``, with two numbers."""
 
@@ -211,6 +235,10 @@ OF_KIND: Dict[int, Tuple[Type[Refusal], Tuple[str, ...]]] = {
     14: (TextOverlap, ("other",)),
     15: (TextPastEnd, ("at",)),
     16: (TextTooLong, ()),
+    17: (Unaligned, ()),
+    18: (TableTooLong, ()),
+    19: (PastEnd, ()),
+    20: (NeedsLow, ()),
 }
 
 

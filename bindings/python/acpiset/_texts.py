@@ -38,8 +38,8 @@ def pieces_of_text(text: Union[str, ReadableBuffer]) -> List[Tuple[int, bytes]]:
 
 
 def image_text(pieces: Pieces) -> str:
-    """The image text of these pieces, which the program and its tools take: ``acpiset show``, ``acpiset rebuild``, and
-    ``acpiset-report`` for a page. Pieces that share addresses, or pass the last one, give a text that the program refuses.
+    """The image text of these pieces, which the program and its tools take, such as ``acpiset-report``, which makes a
+    page. Pieces that share addresses, or pass the last one, give a text that the program refuses.
 
     Refusals: `BadNumber` for an address outside 0 to 2^64 - 1.
 

@@ -4,13 +4,16 @@ import array
 import mmap
 import unittest
 from concurrent.futures import ThreadPoolExecutor
+from pathlib import Path
 
 import acpiset
-from acpiset import Code, Fault, HotPlug, Processors, Rule, Settings, check, check_text, confirm, find, lint
+from acpiset import Code, Fault, HotPlug, Processors, Rule, Settings, check, check_text, confirm, find, lint, rebuild, show
 from acpiset._library import PieceArray
 from images import FIRMWARE, MADT, RSDP, SLIT, SRAT, Image, example, mistakes, text
 
 SETTINGS = Settings(RSDP)
+# What show prints of images of firmware, as the tests of the program have it.
+SHOWN = Path(__file__).resolve().parents[3] / "tests" / "show" / "images"
 # What lint says of the example with mistakes.
 LINES = """\
 no 3 TableSum 0x3 0x5000 0x0
@@ -93,6 +96,43 @@ class Answers(unittest.TestCase):
         self.assertEqual(str(found), "yes\nadvice ListedTwice 0x3 0x2 0x47fc198e")
         advice = found.advice[0]
         self.assertEqual((advice.number, advice.at, advice.other, advice.point), (Rule.ListedTwice, 3, 2, 0x47FC198E))
+
+
+class Made(unittest.TestCase):
+    """Texts and bytes."""
+
+    def test_images_of_firmware_are_shown(self):
+        for name, (rsdp, _) in FIRMWARE.items():
+            told = show(Image.named(name).pieces(), Settings(rsdp))
+            self.assertEqual(told, (SHOWN / f"{name}.txt").read_text(), name)
+
+    def test_a_set_is_shown_if_stages_1_to_3_hold(self):
+        image = mistakes()
+        self.assertEqual(show(image.pieces(), SETTINGS), check(image.pieces(), SETTINGS))
+        image.fix_sum(SLIT)
+        self.assertEqual(line(check(image.pieces(), SETTINGS)), "10 Overlap 0x50 0x78 0x40000000")
+        self.assertTrue(show(image.pieces(), SETTINGS).startswith("rsdp 0xe0000 "))
+        self.assertEqual(show([], SETTINGS), Fault(Code.RsdpOut, RSDP))
+
+    def test_a_set_is_rebuilt(self):
+        pieces = example().pieces()
+        for base in (0, 0x10000000, 2**32):
+            memory = rebuild(pieces, SETTINGS, base)
+            there = [(base, memory)], Settings(base)
+            self.assertIsNone(check(*there))
+            self.assertEqual(rebuild(*there, base), memory)
+            entries = [[it for it in show(*of).splitlines() if it.startswith("0x")] for of in ((pieces, SETTINGS), there)]
+            self.assertGreater(len(entries[0]), 5)
+            self.assertEqual(*entries)
+        self.assertEqual(rebuild(mistakes().pieces(), SETTINGS, 0), check(mistakes().pieces(), SETTINGS))
+
+    def test_why_a_set_is_not_rebuilt(self):
+        pieces = example().pieces()
+        for base, refusal in ((32, acpiset.Unaligned), (2**64 - 64, acpiset.PastEnd), (2**64, acpiset.BadNumber), (-64, acpiset.BadNumber)):
+            with self.assertRaises(refusal):
+                rebuild(pieces, SETTINGS, base)
+        with self.assertRaises(TypeError):
+            rebuild(pieces, SETTINGS, "0")
 
 
 class Images(unittest.TestCase):

@@ -1,12 +1,14 @@
 """Findings: what follows from their numbers, and how they are shown."""
 
 import copy
+import ctypes
 import dataclasses
 import json
 import pickle
 import unittest
 
 from acpiset import Advice, Code, Fault, Finding, Findings, Rule, Severity
+from acpiset._library import library
 
 
 class Numbers(unittest.TestCase):
@@ -59,6 +61,27 @@ class Numbers(unittest.TestCase):
         self.assertIn("later library", fault.text)
         # A rule is no code.
         self.assertEqual((Fault(101).name, Advice(1).name), ("Unknown(101)", "Unknown(1)"))
+
+
+class TheLibrary(unittest.TestCase):
+    """The library says the same of a number, by its own lists."""
+
+    def written(self, function, number):
+        length = function(number, None, 0)
+        room = ctypes.create_string_buffer(length + 1)
+        self.assertEqual(function(number, room, length), length)
+        return room.raw[:length].decode()
+
+    def test_the_library_knows_each_number(self):
+        functions = library().functions
+        for finding in [*map(Fault, Code), *map(Advice, Rule)]:
+            number = int(finding.number)
+            self.assertEqual(functions["acpiset_stage"](number), finding.stage or 0)
+            self.assertEqual(functions["acpiset_severity"](number), finding.severity)
+            self.assertEqual(self.written(functions["acpiset_name"], number), finding.name)
+            found, _, fix = finding.text.splitlines()
+            told = self.written(functions["acpiset_explain"], number).removeprefix("Wrong: ").removeprefix("Found: ")
+            self.assertEqual(told[0].upper() + told[1:], f"{found}\n{fix}")
 
 
 class Values(unittest.TestCase):

@@ -32,6 +32,7 @@ fault, settings = acpiset.Fault(acpiset.Code.TableSum, 0, 0x1000), acpiset.Setti
 for call in (
     acpiset.abi, lambda: acpiset.check([], settings), lambda: acpiset.check_text("", settings),
     lambda: acpiset.confirm([], settings, fault), lambda: acpiset.lint([], settings), lambda: acpiset.find([]),
+    lambda: acpiset.show([], settings), lambda: acpiset.rebuild([], settings, 0),
 ):
     try:
         told = call()
@@ -68,11 +69,12 @@ class LaterLibraries(unittest.TestCase):
         return told_by(program, ACPISET_LIBRARY=str(self.folder / str(version)))
 
     def test_another_version_is_refused(self):
-        self.assertEqual(self.told_by(EACH_CALL, 2), ("OtherVersion(2)\n" * 6, ""))
+        self.assertEqual(self.told_by(EACH_CALL, 2), ("OtherVersion(2)\n" * 8, ""))
 
     def test_numbers_of_a_later_library_are_kept(self):
         told, problems = self.told_by(EACH_CALL.replace("lambda: acpiset.lint([], settings), ", ""), 1)
         lines = ["1", "<Fault ? Unknown(60) 0x1 0x2 0x3>", "UnknownRefusal(77, 5, 6)", "BadSize()", "OutOfMemory()"]
+        lines += ["UnknownRefusal(78, 7, 8)", lines[1]]
         self.assertEqual((told.splitlines(), problems), (lines, ""))
 
     def test_all_findings_of_a_later_library_are_reported(self):

@@ -139,10 +139,11 @@ class OfImages(Refused):
         self.assert_refused(PiecesOverlap(1, 0), check, two[1:], Settings(RSDP, **settings))
 
 
-# A process whose memory is limited to what it has and a little: Python has made the pieces, and the library has no room for the image.
+# A process whose memory is limited to what it has and a little: Python has made the pieces, and the library has no room for the image. The
+# pieces touch, so they are copied.
 LIMITED = """
 import resource, acpiset
-pieces = [(at << 32, bytes(1 << 24)) for at in range(8)]
+pieces = [(at << 24, bytes(1 << 24)) for at in range(8)]
 acpiset.abi()
 used = int(open("/proc/self/statm").read().split()[0]) * resource.getpagesize()
 resource.setrlimit(resource.RLIMIT_AS, (used + (1 << 25), resource.RLIM_INFINITY))
@@ -168,7 +169,8 @@ class OfMemory(unittest.TestCase):
 EACH = (
     LibraryNotFound("no file"), OtherVersion(2), BadNumber("settings.rsdp", -1, LAST), OutOfMemory(), acpiset.BadSize(), BadDefaultInputs(),
     BadHotPlug(), BadProcessors(), BadStage(), BadInputs(7), BadCode(), PiecePastEnd(7), PiecesOverlap(7, 8), BadLine(7), NoAddress(7),
-    TextOverlap(8), TextPastEnd(7), TextTooLong(), UnknownRefusal(17, 7, 8),
+    TextOverlap(8), TextPastEnd(7), TextTooLong(), acpiset.Unaligned(), acpiset.TableTooLong(),
+    acpiset.PastEnd(), acpiset.NeedsLow(), UnknownRefusal(21, 7, 8),
 )
 
 

@@ -38,14 +38,6 @@ class Texts(unittest.TestCase):
             self.assertEqual(dict(pieces), dict(Image.named(name).pieces()), name)
             self.assertEqual(pieces_of_text(image_text(pieces)), pieces, name)
 
-    def test_what_the_library_does_not_have_is_told(self):
-        for name in ("show", "rebuild"):
-            with self.assertRaisesRegex(AttributeError, f"has no attribute '{name}': libacpiset has no such call. .*`acpiset {name}`"):
-                getattr(acpiset, name)
-            self.assertFalse(hasattr(acpiset, name))
-        with self.assertRaisesRegex(AttributeError, "^module 'acpiset' has no attribute 'other'$"):
-            getattr(acpiset, "other")
-
     def test_the_text_of_an_example_is_taken(self):
         self.assertIsNone(acpiset.check_text(image_text(example().pieces()), acpiset.Settings(0xE0000)))
 

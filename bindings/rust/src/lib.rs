@@ -25,6 +25,7 @@
 //! ```
 //!
 //! `tests/tables_in_memory.rs` of this crate is a longer example: it builds the tables of a machine with two NUMA nodes.
+//! `examples/guest_memory.rs` checks and moves tables in a guest's memory.
 //!
 //! # What to call
 //!
@@ -34,15 +35,18 @@
 //! | [`lint`] | the first fault of each code, and advice |
 //! | [`confirm`] | whether one fault is in the image |
 //! | [`find_rsdp`] | where a BIOS put the RSDP |
+//! | [`show`] | the contents of the tables as text |
+//! | [`rebuild`] | the tables at another address |
 //!
 //! A call without a verdict returns a [`Refusal`]: a setting out of range, pieces that overlap, out of memory, or a
 //! library of another version. A fault of the tables is never a refusal.
 //!
 //! # Memory and threads
 //!
-//! No argument is kept, and no result has to be freed. Calls share no state, so any thread can make one at any time.
-//! The library allocates with `malloc`; this crate allocates from the global allocator, for a copy of the list of
-//! pieces (24 bytes for each, not their bytes). If either fails, the call returns [`Refusal::OutOfMemory`].
+//! No argument is kept, and no result has to be freed. Calls share no state, so any thread that has 100 KiB of stack can
+//! make one at any time. The library allocates with `malloc`; this crate allocates from the global allocator, for a
+//! copy of the list of pieces (24 bytes for each, not their bytes) and for what it returns. If either fails, the call returns
+//! [`Refusal::OutOfMemory`].
 //!
 //! # Linking
 //!
@@ -69,7 +73,8 @@ pub use lists::{Code, Rule, Stage};
 pub use refusal::Refusal;
 pub use settings::{HotPlug, Inputs, Processors, Settings};
 
-use alloc::vec::Vec;
+use alloc::string::String;
+use alloc::{vec, vec::Vec};
 use refusal::is_yes;
 use sys::Library;
 
@@ -193,12 +198,12 @@ fn lint_with_room(
     let library = linked()?;
     let (inputs, settings) = settings.raw();
     let pieces = raw_pieces(pieces)?;
-    let mut found = zeroed_findings(room)?;
+    let mut found = zeroed(room)?;
     let mut answer = library.lint(&pieces, inputs, &settings, &mut found);
     is_yes(&answer)?;
     let count = usize::try_from(answer.at.saturating_add(answer.other)).unwrap_or(usize::MAX);
     if count > found.len() {
-        found = zeroed_findings(count)?;
+        found = zeroed(count)?;
         answer = library.lint(&pieces, inputs, &settings, &mut found);
         is_yes(&answer)?;
     }
@@ -224,6 +229,86 @@ pub fn find_rsdp(pieces: &[Piece<'_>]) -> Result<Option<u64>, Refusal> {
     Ok(is_yes(&answer)?.then_some(answer.at))
 }
 
+/// The contents of the tables as text: the lines that the program's command `show` prints, or the first fault, if the RSDP,
+/// the root table or a listed table has one (stages 1 to 3). Rules of later stages need not hold.
+///
+/// ```
+/// use acpiset::{show, Piece, Settings};
+///
+/// let rsdp = *b"RSD PTR \x4bAAAAAA\0\0\x10\0\0";
+/// let rsdt = *b"RSDT\x24\0\0\0\x01\x0aAAAAAAAAAAAAAA\x01\0\0\0AAAA\x01\0\0\0";
+/// let image = [Piece::new(0xe0000, &rsdp), Piece::new(0x1000, &rsdt)];
+/// let text = show(&image, &Settings::new(0xe0000))?.expect("the RSDP and the RSDT are valid");
+/// assert_eq!(text, "rsdp 0xe0000 revision 0\nroot 0x1000 RSDT length 36 slots 0\n");
+/// # Ok::<(), acpiset::Refusal>(())
+/// ```
+///
+/// # Errors
+///
+/// Those of [`check`], except [`Refusal::BadStage`].
+pub fn show(
+    pieces: &[Piece<'_>],
+    settings: &Settings<'_>,
+) -> Result<Result<String, Fault>, Refusal> {
+    let library = linked()?;
+    let (inputs, settings) = settings.raw();
+    let pieces = raw_pieces(pieces)?;
+    let made = made_by(|room| library.show(&pieces, inputs, &settings, room))?;
+    let lossy = |bytes: &[u8]| String::from_utf8_lossy(bytes).into_owned();
+    Ok(made.map(|bytes| String::from_utf8(bytes).unwrap_or_else(|error| lossy(error.as_bytes()))))
+}
+
+/// The tables at another address: the bytes of memory from `base` on, where the new RSDP is, followed by the XSDT, the FACS if
+/// there is one, and the other tables, each at a multiple of 64 with zeros before it. All addresses in the tables are those of
+/// the new place. Or the first fault, if the tables have one in any stage.
+///
+/// ```
+/// use acpiset::{rebuild, Code, Settings};
+///
+/// let fault = rebuild(&[], &Settings::new(0xe0000), 0x10000)?.unwrap_err();
+/// assert_eq!(fault.code, Code::RsdpOut);
+/// # Ok::<(), acpiset::Refusal>(())
+/// ```
+///
+/// # Errors
+///
+/// Those of [`check`], except [`Refusal::BadStage`]. [`Refusal::Unaligned`] if `base` is not a multiple of 64. For tables
+/// without a fault [`Refusal::TableTooLong`], [`Refusal::PastEnd`] and [`Refusal::NeedsLow`], if they cannot be placed there.
+pub fn rebuild(
+    pieces: &[Piece<'_>],
+    settings: &Settings<'_>,
+    base: u64,
+) -> Result<Result<Vec<u8>, Fault>, Refusal> {
+    let library = linked()?;
+    let (inputs, settings) = settings.raw();
+    let pieces = raw_pieces(pieces)?;
+    made_by(|room| library.rebuild(&pieces, inputs, &settings, base, room))
+}
+
+/// All bytes that a call writes, or the fault that it answers. It is first asked how many there are.
+fn made_by(call: impl Fn(&mut [u8]) -> sys::Answer) -> Result<Result<Vec<u8>, Fault>, Refusal> {
+    let answer = call(&mut []);
+    if !is_yes(&answer)? {
+        return Ok(Err(Fault::from(&answer)));
+    }
+    let mut room = zeroed(usize::try_from(answer.at).unwrap_or(usize::MAX))?;
+    is_yes(&call(&mut room))?;
+    Ok(Ok(room))
+}
+
+/// What the number of a code or a rule means, for people, as the linked library says it: what is wrong, and how it is mended. Empty
+/// for a number that the library does not know.
+///
+/// # Errors
+///
+/// [`Refusal::OtherVersion`], if the linked library has other functions.
+pub fn explanation(number: u32) -> Result<String, Refusal> {
+    let library = linked()?;
+    let mut room = vec![0; library.explain(number, &mut [])];
+    library.explain(number, &mut room);
+    Ok(String::from_utf8_lossy(&room).into_owned())
+}
+
 /// The version of the functions and structs of the linked library. Each call compares it with [`ABI`].
 #[must_use]
 pub fn abi() -> u32 {
@@ -247,8 +332,8 @@ fn raw_pieces<'a>(pieces: &[Piece<'a>]) -> Result<Vec<sys::Piece<'a>>, Refusal> 
     collected(pieces.iter().map(raw))
 }
 
-fn zeroed_findings(count: usize) -> Result<Vec<sys::Finding>, Refusal> {
-    collected((0..count).map(|_| sys::Finding::default()))
+fn zeroed<T: Default>(count: usize) -> Result<Vec<T>, Refusal> {
+    collected((0..count).map(|_| T::default()))
 }
 
 /// The values in a vector, if there is memory for it.

@@ -6,7 +6,8 @@ use core::fmt::{Display, Formatter, Result as Formatted};
 /// Why a call has no verdict. Nothing is known about the tables then.
 ///
 /// If several apply, the first of these is returned: `OtherVersion`; what is wrong with the settings, in the order
-/// `BadDefaultInputs`, `BadInputs`, `BadStage` or `BadCode`; what is wrong with the image. `OutOfMemory` may be
+/// `BadDefaultInputs`, `BadInputs`, `BadStage`, `BadCode` or `Unaligned`; what is wrong with the image; why a set cannot
+/// be rebuilt. `OutOfMemory` may be
 /// returned instead of any of them except `OtherVersion`.
 #[derive(Clone, Copy, Debug, PartialEq, Eq, Hash)]
 #[non_exhaustive]
@@ -70,6 +71,14 @@ pub enum Refusal {
     },
     /// The image text has more than 67,108,864 bytes, or a line more than 65,536.
     TextTooLong,
+    /// The address at which the set was to be rebuilt is not a multiple of 64.
+    Unaligned,
+    /// The XSDT of the rebuilt set would have more than 4,294,967,295 bytes.
+    TableTooLong,
+    /// A part of the rebuilt set would pass the address 2^64 - 1.
+    PastEnd,
+    /// The FADT has fewer than 140 bytes, and the FACS would be at 2^32 or above.
+    NeedsLow,
     /// A refusal of a later library that this version of the crate does not know.
     #[non_exhaustive]
     Unknown {
@@ -105,6 +114,10 @@ pub(crate) fn is_yes(answer: &Answer) -> Result<bool, Refusal> {
         14 => Refusal::TextOverlap { address },
         15 => Refusal::TextPastEnd { line },
         16 => Refusal::TextTooLong,
+        17 => Refusal::Unaligned,
+        18 => Refusal::TableTooLong,
+        19 => Refusal::PastEnd,
+        20 => Refusal::NeedsLow,
         kind => Refusal::Unknown {
             kind,
             at: answer.at,
@@ -158,6 +171,13 @@ impl Display for Refusal {
             Refusal::TextTooLong => write!(
                 f,
                 "the text has more than 67108864 bytes, or a line more than 65536"
+            ),
+            Refusal::Unaligned => write!(f, "the base address is not a multiple of 64"),
+            Refusal::TableTooLong => write!(f, "the XSDT would have more than 4294967295 bytes"),
+            Refusal::PastEnd => write!(f, "a part of the set would pass the address 2^64 - 1"),
+            Refusal::NeedsLow => write!(
+                f,
+                "the FADT has no field for the address of the FACS, which would be 2^32 or above"
             ),
             Refusal::Unknown { kind, at, other } => write!(
                 f,

@@ -100,6 +100,26 @@ extern "C" {
         findings_count: usize,
     ) -> Answer;
     fn acpiset_find(pieces: *const Piece<'_>, pieces_count: usize) -> Answer;
+    fn acpiset_show(
+        pieces: *const Piece<'_>,
+        pieces_count: usize,
+        inputs: *const Inputs,
+        inputs_count: usize,
+        settings: *const Settings,
+        text: *mut u8,
+        size: usize,
+    ) -> Answer;
+    fn acpiset_rebuild(
+        pieces: *const Piece<'_>,
+        pieces_count: usize,
+        inputs: *const Inputs,
+        inputs_count: usize,
+        settings: *const Settings,
+        base: u64,
+        bytes: *mut u8,
+        size: usize,
+    ) -> Answer;
+    fn acpiset_explain(number: u32, room: *mut u8, room_count: usize) -> usize;
     fn acpiset_abi() -> u32;
 }
 
@@ -114,7 +134,8 @@ pub fn abi() -> u32 {
 ///
 /// What each call relies on for safety: the library has the functions and structs as declared here. Each pointer
 /// comes from a reference or a slice, which is borrowed until the call returns, and the length beside it is that of
-/// the slice. The library keeps no pointer, writes only to `findings`, and accepts any values.
+/// the slice. The library keeps no pointer, writes only to `findings`, `text`, `bytes` and
+/// `room`, and accepts any values.
 #[derive(Clone, Copy)]
 pub struct Library(());
 
@@ -197,5 +218,55 @@ impl Library {
     pub fn find(self, pieces: &[Piece<'_>]) -> Answer {
         // SAFETY: as `Library` says.
         unsafe { acpiset_find(pieces.as_ptr(), pieces.len()) }
+    }
+
+    pub fn show(
+        self,
+        pieces: &[Piece<'_>],
+        inputs: &[Inputs],
+        settings: &Settings,
+        text: &mut [u8],
+    ) -> Answer {
+        // SAFETY: as `Library` says. `text` is borrowed for only this call.
+        unsafe {
+            acpiset_show(
+                pieces.as_ptr(),
+                pieces.len(),
+                inputs.as_ptr(),
+                inputs.len(),
+                settings,
+                text.as_mut_ptr(),
+                text.len(),
+            )
+        }
+    }
+
+    pub fn rebuild(
+        self,
+        pieces: &[Piece<'_>],
+        inputs: &[Inputs],
+        settings: &Settings,
+        base: u64,
+        bytes: &mut [u8],
+    ) -> Answer {
+        // SAFETY: as `Library` says. `bytes` is borrowed for only this call.
+        unsafe {
+            acpiset_rebuild(
+                pieces.as_ptr(),
+                pieces.len(),
+                inputs.as_ptr(),
+                inputs.len(),
+                settings,
+                base,
+                bytes.as_mut_ptr(),
+                bytes.len(),
+            )
+        }
+    }
+
+    /// Writes as much of the text as fits, and returns how many bytes it has.
+    pub fn explain(self, number: u32, room: &mut [u8]) -> usize {
+        // SAFETY: as `Library` says. `room` is borrowed for only this call.
+        unsafe { acpiset_explain(number, room.as_mut_ptr(), room.len()) }
     }
 }

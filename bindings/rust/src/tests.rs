@@ -42,8 +42,12 @@ fn each_kind_says_something_else() {
         Err(Refusal::TextOverlap { address }),
         Err(Refusal::TextPastEnd { line }),
         Err(Refusal::TextTooLong),
+        Err(Refusal::Unaligned),
+        Err(Refusal::TableTooLong),
+        Err(Refusal::PastEnd),
+        Err(Refusal::NeedsLow),
         Err(Refusal::Unknown {
-            kind: 17,
+            kind: 21,
             at: 7,
             other: 8,
         }),

@@ -3,8 +3,8 @@
 mod common;
 
 use acpiset::{
-    abi, check, check_text, confirm, find_rsdp, lint, Advice, Code, Fault, Findings, HotPlug,
-    Inputs, Piece, Processors, Refusal, Rule, Settings, Stage, ABI,
+    abi, check, check_text, confirm, explanation, find_rsdp, lint, rebuild, show, Advice, Code,
+    Fault, Findings, HotPlug, Inputs, Piece, Processors, Refusal, Rule, Settings, Stage, ABI,
 };
 use common::{text, Image};
 use std::thread;
@@ -585,4 +585,79 @@ fn threads_call_at_the_same_time() {
             });
         }
     });
+}
+
+#[test]
+fn a_set_is_shown() {
+    let settings = Settings::new(0xf59e0);
+    let image = Image::named("sb-q35-default");
+    let path = concat!(
+        env!("CARGO_MANIFEST_DIR"),
+        "/../../tests/show/images/sb-q35-default.txt"
+    );
+    let expected = std::fs::read_to_string(path).unwrap();
+    assert_eq!(show(&image.pieces(), &settings), Ok(Ok(expected)));
+
+    // A stage after the listed tables has a fault; then the checksum of one of these is wrong.
+    let mut faulty = mistakes();
+    assert!(show(&faulty.pieces(), &Settings::new(RSDP))
+        .unwrap()
+        .is_err());
+    faulty.fix_sum(SLIT);
+    let first = check(&faulty.pieces(), &Settings::new(RSDP))
+        .unwrap()
+        .unwrap();
+    assert_eq!(first.code, Code::Overlap);
+    let text = show(&faulty.pieces(), &Settings::new(RSDP))
+        .unwrap()
+        .unwrap();
+    assert!(text.starts_with("rsdp 0xe0000 "), "{text}");
+}
+
+#[test]
+fn a_set_is_rebuilt() {
+    let image = example();
+    let settings = Settings::new(RSDP);
+    for base in [0, 0x1000_0000, 0x1_0000_0000] {
+        let bytes = rebuild(&image.pieces(), &settings, base).unwrap().unwrap();
+        let moved = [Piece::new(base, &bytes)];
+        let there = Settings::new(base);
+        assert_eq!(check(&moved, &there), Ok(None));
+        assert_eq!(rebuild(&moved, &there, base), Ok(Ok(bytes.clone())));
+        // The tables' addresses change, and nothing else that `show` prints of their entries.
+        let entries = |text: String| -> Vec<String> {
+            let lines = text.lines().filter(|line| line.starts_with("0x"));
+            lines.map(str::to_string).collect()
+        };
+        let before = entries(show(&image.pieces(), &settings).unwrap().unwrap());
+        assert!(before.len() > 5);
+        assert_eq!(entries(show(&moved, &there).unwrap().unwrap()), before);
+    }
+    let fault = rebuild(&mistakes().pieces(), &settings, 0).unwrap();
+    assert_eq!(
+        Some(fault.unwrap_err()),
+        check(&mistakes().pieces(), &settings).unwrap()
+    );
+    assert_eq!(
+        rebuild(&image.pieces(), &settings, 32),
+        Err(Refusal::Unaligned)
+    );
+    let last = 0xffff_ffff_ffff_ffc0;
+    assert_eq!(
+        rebuild(&image.pieces(), &settings, last),
+        Err(Refusal::PastEnd)
+    );
+}
+
+#[test]
+fn a_number_is_explained() {
+    let told = explanation(Code::Overlap.number()).unwrap();
+    assert!(
+        told.starts_with("Wrong: ") && told.contains("\nFix: "),
+        "{told}"
+    );
+    assert!(explanation(Rule::SlitDiffers.number())
+        .unwrap()
+        .starts_with("Found: "));
+    assert_eq!(explanation(60), Ok(String::new()));
 }

@@ -48,3 +48,42 @@ struct acpiset_answer acpiset_find(const struct acpiset_piece *pieces, size_t pi
     (void)pieces, (void)pieces_count;
     return (struct acpiset_answer){ACPISET_OUT_OF_MEMORY, 0, 0, 0, 0, 0};
 }
+
+struct acpiset_answer acpiset_show(const struct acpiset_piece *pieces, size_t pieces_count,
+                                   const struct acpiset_inputs *inputs, size_t inputs_count,
+                                   const struct acpiset_settings *settings, char *text, size_t size)
+{
+    (void)pieces, (void)pieces_count, (void)inputs, (void)inputs_count, (void)settings, (void)text, (void)size;
+    return (struct acpiset_answer){78, 0, 0, 7, 8, 0};
+}
+
+struct acpiset_answer acpiset_rebuild(const struct acpiset_piece *pieces, size_t pieces_count,
+                                      const struct acpiset_inputs *inputs, size_t inputs_count,
+                                      const struct acpiset_settings *settings,
+                                      uint64_t base, uint8_t *bytes, size_t size)
+{
+    (void)pieces, (void)pieces_count, (void)inputs, (void)inputs_count, (void)settings, (void)base, (void)bytes, (void)size;
+    return (struct acpiset_answer){ACPISET_NO, 19, 60, 1, 2, 3};
+}
+
+uint32_t acpiset_stage(uint32_t number)
+{
+    return number < 70 ? 1 : 0;
+}
+
+uint32_t acpiset_severity(uint32_t number)
+{
+    return number < 70 ? ACPISET_FAULT : ACPISET_LIKELY_WRONG;
+}
+
+size_t acpiset_name(uint32_t number, char *room, size_t room_count)
+{
+    (void)number, (void)room, (void)room_count;
+    return 0;
+}
+
+size_t acpiset_explain(uint32_t number, char *room, size_t room_count)
+{
+    (void)number, (void)room, (void)room_count;
+    return 0;
+}

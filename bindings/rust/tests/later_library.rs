@@ -2,7 +2,8 @@
 //! libraries (later_library.c), and runs each of these tests with the one that it names.
 
 use acpiset::{
-    abi, check, check_text, confirm, find_rsdp, lint, Code, Fault, Refusal, Rule, Settings, ABI,
+    abi, check, check_text, confirm, find_rsdp, lint, rebuild, show, Code, Fault, Refusal, Rule,
+    Settings, ABI,
 };
 
 const SETTINGS: Settings<'static> = Settings::new(0xe0000);
@@ -18,6 +19,8 @@ fn version_2_is_refused() {
     assert_eq!(confirm(&[], &SETTINGS, &FAULT), Err(refusal));
     assert_eq!(lint(&[], &SETTINGS), Err(refusal));
     assert_eq!(find_rsdp(&[]), Err(refusal));
+    assert_eq!(show(&[], &SETTINGS), Err(refusal));
+    assert_eq!(rebuild(&[], &SETTINGS, 0), Err(refusal));
     assert_eq!(
         refusal.to_string(),
         "the linked libacpiset has version 2 of its interface, not 1"
@@ -49,6 +52,11 @@ fn numbers_of_a_later_library_are_kept() {
 
     assert_eq!(confirm(&[], &SETTINGS, &FAULT), Err(Refusal::BadSize));
     assert_eq!(find_rsdp(&[]), Err(Refusal::OutOfMemory));
+    assert!(matches!(
+        show(&[], &SETTINGS),
+        Err(Refusal::Unknown { kind: 78, .. })
+    ));
+    assert_eq!(rebuild(&[], &SETTINGS, 0), Ok(Err(fault)));
 }
 
 #[test]

@@ -1,6 +1,9 @@
 //! Failed allocations of the crate itself. The library allocates with `malloc`, not from here.
 
-use acpiset::{check, check_text, confirm, find_rsdp, lint, Code, Fault, Piece, Refusal, Settings};
+use acpiset::{
+    check, check_text, confirm, find_rsdp, lint, rebuild, show, Code, Fault, Piece, Refusal,
+    Settings,
+};
 use std::alloc::{GlobalAlloc, Layout, System};
 use std::cell::Cell;
 use std::fmt::Debug;
@@ -63,6 +66,9 @@ fn refused_memory_is_a_refusal() {
     let rsdp = *b"RSD PTR \x4bAAAAAA\0\0\x10\0\0";
     let rsdt = *b"RSDT\x2c\0\0\0\x01\xc2AAAAAAAAAAAAAA\x01\0\0\0AAAA\x01\0\0\0\0\x20\0\0\0\x20\0\0";
     let image = [Piece::new(0xe0000, &rsdp), Piece::new(0x1000, &rsdt)];
+    // The same RSDP, and an RSDT that lists nothing.
+    let empty = *b"RSDT\x24\0\0\0\x01\x0aAAAAAAAAAAAAAA\x01\0\0\0AAAA\x01\0\0\0";
+    let whole = [Piece::new(0xe0000, &rsdp), Piece::new(0x1000, &empty)];
     let settings = Settings::new(0xe0000);
     let found = lint(&image, &settings).unwrap();
     assert_eq!((found.faults.len(), found.advice.len()), (2, 1));
@@ -72,6 +78,10 @@ fn refused_memory_is_a_refusal() {
         confirm(&image, &settings, &Fault::new(Code::NoFadt, 0, 0, 0))
     });
     assert_refused(1, || find_rsdp(&image));
+    assert_refused(1, || show(&image, &settings));
+    // the list of pieces and the text
+    assert_refused(2, || show(&whole, &settings));
+    assert_refused(1, || rebuild(&whole, &settings, 0));
     assert_refused(0, || check_text(b"@e0000\n52", &settings));
     // the list of pieces, the findings, the faults and the advice
     assert_refused(4, || lint(&image, &settings));

@@ -2,5 +2,8 @@
 mod AddedPieces
 mod Answers
 mod FindingsFit
+mod Meanings
+mod PermutedPieces
 mod PiecesMean
 mod RefusedPieces
+mod ShownOrRebuilt

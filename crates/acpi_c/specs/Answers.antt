@@ -35,6 +35,10 @@ refusal_answer (refusal.NoAddress line) = record (plain_answer kind.NoAddress) {
 refusal_answer (refusal.TextOverlap address) = record (plain_answer kind.TextOverlap) { other = address }
 refusal_answer (refusal.TextPastEnd line) = record (plain_answer kind.TextPastEnd) { at = line }
 refusal_answer refusal.TextTooLong = plain_answer kind.TextTooLong
+refusal_answer refusal.Unaligned = plain_answer kind.Unaligned
+refusal_answer refusal.TableTooLong = plain_answer kind.TableTooLong
+refusal_answer refusal.PastEnd = plain_answer kind.PastEnd
+refusal_answer refusal.NeedsLow = plain_answer kind.NeedsLow
 
 -- a fault's stage and code are numbers
 abbrev pub check_answer : Result Verdict Refusal → Answer
@@ -84,12 +88,25 @@ advice_finding a = record { number = rule_number a.rule; at = a.at; other = a.ot
 abbrev pub all_findings : List Witness → List Advice → List Finding
 all_findings faults advice = map fault_finding faults ++ map advice_finding advice
 
--- the caller's array: the first of these findings are written to it, as many as fit, and the rest of it does not
--- change
-abbrev pub written_over : List Finding → List Finding → List Finding
+-- the caller's array: the first of these are written to it, as many as fit, and the rest of it does not change
+abbrev pub written_over : {X : Type 0} → List X → List X → List X
 written_over found room = take (length room) found ++ drop (length found) room
 
 -- nothing is written if the call is refused
 abbrev pub written : Result (List Witness × List Advice) Refusal → List Finding → List Finding
 written (Ok found) room = written_over (all_findings found.0 found.1) room
 written (Err r) room = room
+
+-- ---- bytes that are made for the caller, unless the set has a fault
+
+-- `at` is the number of bytes; a fault is as in a check
+abbrev pub made_answer : Result (Result (List ℕ) Witness) Refusal → Answer
+made_answer (Ok (Ok bytes)) = record (plain_answer kind.Yes) { at = length bytes }
+made_answer (Ok (Err w)) = check_answer (Ok (No w))
+made_answer (Err r) = refusal_answer r
+
+-- nothing is written for a fault, nor if the call is refused
+abbrev pub made_written : Result (Result (List ℕ) Witness) Refusal → List ℕ → List ℕ
+made_written (Ok (Ok bytes)) room = written_over bytes room
+made_written (Ok (Err w)) room = room
+made_written (Err r) room = room

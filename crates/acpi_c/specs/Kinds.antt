@@ -22,3 +22,7 @@ kind_number kind.NoAddress = 13
 kind_number kind.TextOverlap = 14
 kind_number kind.TextPastEnd = 15
 kind_number kind.TextTooLong = 16
+kind_number kind.Unaligned = 17
+kind_number kind.TableTooLong = 18
+kind_number kind.PastEnd = 19
+kind_number kind.NeedsLow = 20

@@ -1,5 +1,5 @@
 -- The policy of settings and numbers of inputs.
-use Rattle.std.specs.Prelude.{ℕ, suc, ◌==◌, ◌&&◌, Bool, nat_le, List, [], ◌∷◌, length, Option, Some, None, Result, Ok, Err, if◌then◌else◌}
+use Rattle.std.specs.Prelude.{ℕ, suc, ◌==◌, ◌&&◌, ◌%◌, Bool, nat_le, List, [], ◌∷◌, length, Option, Some, None, Result, Ok, Err, if◌then◌else◌}
 use Rattle.acpi_base.specs.Codes.{all_codes}
 use Rattle.acpi_base.specs.Policy.{PolicyValue, new_policy, with_input}
 use Rattle.acpi_base.specs.Text.ImageText.{on_ok}
@@ -78,3 +78,7 @@ stage_refusal n = if nat_le 1 n && nat_le n 18 then None else Some refusal.Stage
 -- a fault code has a number from 1 on
 abbrev pub code_refusal : ℕ → Option Refusal
 code_refusal n = if nat_le 1 n && nat_le n (length all_codes) then None else Some refusal.Code
+
+-- a base address is a multiple of 64
+abbrev pub base_refusal : ℕ → Option Refusal
+base_refusal base = if base % 64 == 0 then None else Some refusal.Unaligned

@@ -1,7 +1,7 @@
 //! Results of calls as numbers.
 
 ghost use Rattle.std.specs.Prelude.{◌≡◌, Ok};
-ghost use Rattle.acpi_c.specs.Answers.{check_answer, confirm_answer, find_answer, plain_answer, refusal_answer};
+ghost use Rattle.acpi_c.specs.Answers.{check_answer, confirm_answer, find_answer, plain_answer, refusal_answer, written_over};
 
 use crate::kind::AnswerKind;
 use crate::refusal::Refusal;
@@ -27,13 +27,13 @@ pub struct Finding {
 pub struct Answer {
     /// The number of the kind.
     pub kind: u32,
-    /// For a fault that a check reports: the stage, 1 to 18.
+    /// For a fault, except in a confirmation: the stage, 1 to 18.
     pub stage: u32,
-    /// For a fault that a check reports: the number of its code, from 1 on.
+    /// For a fault, except in a confirmation: the number of its code, from 1 on.
     pub code: u32,
     /// For a fault: its first number. For a search: the RSDP's address. For all findings: how many faults there are.
-    /// For a refusal: the index of the piece or of the number of inputs, from 0 on, or the line of the text, from 1
-    /// on.
+    /// For a set that is shown or rebuilt: how many bytes there are. For a refusal: the index of the piece or of the
+    /// number of inputs, from 0 on, or the line of the text, from 1 on.
     pub at: u64,
     /// For a fault: its second number. For all findings: how many findings of advice there are. For an overlap: the
     /// lowest address that is covered twice.
@@ -105,6 +105,10 @@ impl From<Refusal> for Answer {
             ),
             Refusal::TextPastEnd { line } => Answer::with_at(AnswerKind::TextPastEnd, line),
             Refusal::TextTooLong => Answer::plain(AnswerKind::TextTooLong),
+            Refusal::Unaligned => Answer::plain(AnswerKind::Unaligned),
+            Refusal::TableTooLong => Answer::plain(AnswerKind::TableTooLong),
+            Refusal::PastEnd => Answer::plain(AnswerKind::PastEnd),
+            Refusal::NeedsLow => Answer::plain(AnswerKind::NeedsLow),
         }
     }
 }
@@ -146,4 +150,12 @@ pub fn found(address: Option<u64>) -> Answer
         Some(address) => Answer::with_at(AnswerKind::Yes, address),
         None => Answer::plain(AnswerKind::No),
     }
+}
+
+/// Copies these to the caller's room, as many as fit.
+pub fn copy_to<T: Copy>(room: &mut [T], all: &[T])
+    ensures { room.new ≡ written_over all.now room.old }
+{
+    let count = room.len().min(all.len());
+    room[..count].copy_from_slice(&all[..count]);
 }

@@ -11,6 +11,7 @@ use crate::answer::Answer;
 use crate::pieces::{Piece, image_of_pieces};
 use crate::refusal::Refusal;
 use crate::settings::{Inputs, Settings, add_inputs, last_stage, tested_policy};
+use crate::sums::add_sums;
 use crate::text::image_of_text;
 use acpi_base::Verdict;
 use acpi_check::check_to;
@@ -27,8 +28,9 @@ fn judged_pieces(
 {
     let mut policy = tested_policy(alloc, settings, inputs)?;
     let last = last_stage(settings)?;
-    let image = image_of_pieces(alloc, pieces)?;
+    let mut image = image_of_pieces(alloc, pieces)?;
     add_inputs(&mut policy, inputs)?;
+    add_sums(&mut image, pieces, settings.rsdp)?;
     let verdict = check_to(alloc, &image, &policy, last)?;
     Ok(verdict)
 }

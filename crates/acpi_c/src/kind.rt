@@ -6,7 +6,8 @@ ghost use Rattle.acpi_c.specs.Kinds.{kind_number};
 /// The kind of an answer. A kind's number never changes.
 #[derive(Clone, Copy, Debug, PartialEq, Eq)]
 pub enum AnswerKind {
-    /// All statements hold; or the image has the fault; or the RSDP was found; or there is no fault.
+    /// All statements hold; or the image has the fault; or the RSDP was found; or there is no fault; or the
+    /// set is shown or rebuilt.
     Yes,
     /// A statement does not hold; or the image does not have the fault; or no RSDP was found; or there are faults.
     No,
@@ -40,10 +41,18 @@ pub enum AnswerKind {
     TextPastEnd,
     /// The text, or a line of it, is too long.
     TextTooLong,
+    /// The base address is not a multiple of 64.
+    Unaligned,
+    /// The XSDT of the rebuilt set would have more than 4,294,967,295 bytes.
+    TableTooLong,
+    /// A part of the rebuilt set would pass the address 2^64 - 1.
+    PastEnd,
+    /// The FADT has no field for the FACS's address, which would be 2^32 or above.
+    NeedsLow,
 }
 
 impl AnswerKind {
-    /// The kind's number, from 0 to 16.
+    /// The kind's number, from 0 to 20.
     pub fn number(self) -> u32
         ensures { result ≡ kind_number self }
     {
@@ -65,6 +74,10 @@ impl AnswerKind {
             AnswerKind::TextOverlap => 14,
             AnswerKind::TextPastEnd => 15,
             AnswerKind::TextTooLong => 16,
+            AnswerKind::Unaligned => 17,
+            AnswerKind::TableTooLong => 18,
+            AnswerKind::PastEnd => 19,
+            AnswerKind::NeedsLow => 20,
         }
     }
 }

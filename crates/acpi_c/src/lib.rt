@@ -3,7 +3,9 @@
 //! An image is passed as pieces, each of them an address and the bytes from there on, or as image text.
 //! `acpiset_check` and `acpiset_check_text` return the verdict on its tables, `acpiset_confirm` whether it has one
 //! fault, `acpiset_lint` all findings, `acpiset_find` where the RSDP is, and `acpiset_abi` the version of these
-//! functions and structs. No argument is kept, and no result has to be freed.
+//! functions and structs. `acpiset_show` writes the lines of a set, `acpiset_rebuild` the bytes of a set rebuilt at
+//! another address. `acpiset_name`, `acpiset_stage`, `acpiset_severity` and `acpiset_explain` say what the number of
+//! a finding means. No argument is kept, and no result has to be freed.
 //!
 //! No function has a `requires`: whatever the addresses, bytes, counts and settings are, it returns an answer. A C
 //! caller must ensure what the types say: valid pointers and lengths. `bindings/c/acpiset.h` declares the functions
@@ -35,13 +37,19 @@
 mod answer;
 mod check;
 mod confirm;
+mod explained;
 mod find;
 mod kind;
 pub mod laws;
 mod lint;
+mod made;
+mod meaning;
 mod pieces;
+mod rebuild;
 mod refusal;
 mod settings;
+mod show;
+mod sums;
 #[cfg(test)]
 mod tests;
 mod text;

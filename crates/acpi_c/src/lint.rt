@@ -3,17 +3,18 @@
 ghost use Rattle.std.specs.Prelude.{◌≡◌, ◌≤◌, ◌++◌, List, Result, Ok, IfOk, MatchResult, OnOk, length, map};
 ghost use Rattle.acpi_lint.specs.declared.rule.Advice.{Advice};
 ghost use Rattle.acpi_base.specs.declared.witness.Witness.{Witness};
-ghost use Rattle.acpi_c.specs.Answers.{advice_finding, all_findings, fault_finding, lint_answer, written, written_over};
+ghost use Rattle.acpi_c.specs.Answers.{advice_finding, all_findings, fault_finding, lint_answer, written};
 ghost use Rattle.acpi_c.specs.Results.{Lints, Reports, IsRefusal};
 ghost use Rattle.acpi_c.specs.Settings.{policy_refusal};
 ghost use Rattle.acpi_c.specs.Sources.{pieces_source};
 ghost use Rattle.acpi_c.specs.declared.refusal.Refusal.{Refusal};
 
-use crate::answer::{Answer, Finding};
+use crate::answer::{Answer, Finding, copy_to};
 use crate::kind::AnswerKind;
 use crate::pieces::{Piece, image_of_pieces};
 use crate::refusal::Refusal;
 use crate::settings::{Inputs, Settings, add_inputs, tested_policy};
+use crate::sums::add_sums;
 use acpi_base::{Code, Witness};
 use acpi_lint::{Advice, Findings, Rule, lint};
 use std::alloc::{AllocError, Global};
@@ -37,8 +38,9 @@ fn searched(
         (IsRefusal (policy_refusal settings.now inputs.now) (pieces_source pieces.now)) }
 {
     let mut policy = tested_policy(alloc, settings, inputs)?;
-    let image = image_of_pieces(alloc, pieces)?;
+    let mut image = image_of_pieces(alloc, pieces)?;
     add_inputs(&mut policy, inputs)?;
+    add_sums(&mut image, pieces, settings.rsdp)?;
     let found = lint(alloc, &image, &policy)?;
     let all = numbers_of(alloc, &found)?;
     Ok((found, all))
@@ -91,14 +93,6 @@ fn add_advice(all: &mut Vec<Finding>, advice: &[Advice]) -> Result<(), AllocErro
     Ok(())
 }
 
-/// Copies the findings to the array, as many as fit.
-fn copy_findings(room: &mut [Finding], all: &[Finding])
-    ensures { room.new ≡ written_over all.now room.old }
-{
-    let count = room.len().min(all.len());
-    room[..count].copy_from_slice(&all[..count]);
-}
-
 /// How many findings there are.
 fn answer_of(found: &Findings) -> Answer
     ensures { result ≡ lint_answer (Ok (found.now.faults.items, found.now.advice.items)) }
@@ -137,7 +131,7 @@ pub extern "C" fn acpiset_lint(
 {
     match searched(alloc, pieces, inputs, settings) {
         Ok((found, all)) => {
-            copy_findings(findings, &all);
+            copy_to(findings, &all);
             answer_of(&found)
         }
         Err(refusal) => Answer::from(refusal),

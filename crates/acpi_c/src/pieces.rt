@@ -1,16 +1,19 @@
 //! Images that are passed as pieces.
 
-ghost use Rattle.std.specs.Prelude.{◌≡◌, ◌⊎◌, IfErr, Ok, OnOk, drop, false, length};
+ghost use Rattle.std.specs.Prelude.{◌≡◌, ◌⊎◌, ◌<◌, IfErr, IfOk, IfSome, None, Ok, OnOk, drop, false, length};
 ghost use Rattle.std.specs.FinMap.{empty};
+ghost use Rattle.std.specs.List.Sorted.{IsPermutation};
+ghost use Rattle.acpi_base.specs.Image.Adding.{add_refusal};
+ghost use Rattle.acpi_base.specs.Memory.{with_bytes};
 ghost use Rattle.acpi_c.specs.AddedPieces.{RefusesFirst, Stands, has_address, second_with};
-ghost use Rattle.acpi_c.specs.Pieces.{FirstFits};
+ghost use Rattle.acpi_c.specs.Pieces.{FirstFits, with_pieces};
 ghost use Rattle.acpi_c.specs.Sources.{Reads, pieces_source};
 
 use crate::refusal::Refusal;
-use acpi_base::{DraftImage, Image, ImageFault};
-use std::alloc::Global;
+use acpi_base::{DraftImage, Image, ImageFault, LentImage};
+use std::alloc::{AllocError, Global};
 
-/// Bytes of an image, and where they are.
+/// Bytes of an image, and where they are. Long ones are not copied, so they must not change while they are read.
 #[repr(C)]
 #[derive(Clone, Copy)]
 pub struct Piece<'a> {
@@ -18,6 +21,25 @@ pub struct Piece<'a> {
     pub address: u64,
     /// The bytes: for C a pointer, and then their number.
     pub bytes: &'a [u8],
+}
+
+/// From how many bytes on a piece is lent. A shorter one is copied in less time than it takes to look at two lists.
+const LONG: usize = 4096;
+
+/// Whether the piece has so many bytes that it is lent.
+fn is_long(piece: &Piece<'_>) -> bool {
+    piece.bytes.len() >= LONG
+}
+
+/// How many bytes the long pieces have, or 2^64 - 1 if they have more.
+pub fn long_bytes(pieces: &[Piece<'_>]) -> u64 {
+    let mut total: u64 = 0;
+    for piece in pieces {
+        if is_long(piece) {
+            total = total.saturating_add(piece.bytes.len() as u64);
+        }
+    }
+    total
 }
 
 /// Whether the piece has a byte at the address.
@@ -70,12 +92,8 @@ fn add_pieces(draft: &mut DraftImage, pieces: &[Piece<'_>]) -> Result<(), (usize
     Ok(())
 }
 
-/// The image that the pieces give.
-///
-/// Refuses, for the first piece that cannot be added to those before it, in this order: `PiecePastEnd` if it passes
-/// the address 2^64 - 1; `PiecesOverlap` if it shares addresses with those before it, with the lowest of them;
-/// `OutOfMemory`. A piece without bytes is always added.
-pub fn image_of_pieces(alloc: Global, pieces: &[Piece<'_>]) -> Result<Image, Refusal>
+/// The image of a copy of the pieces' bytes. Refuses as `image_of_pieces` does.
+fn image_by_copying(alloc: Global, pieces: &[Piece<'_>]) -> Result<Image, Refusal>
     ensures { Reads (pieces_source pieces.now) result }
 {
     let mut draft = DraftImage::new(alloc);
@@ -91,4 +109,90 @@ pub fn image_of_pieces(alloc: Global, pieces: &[Piece<'_>]) -> Result<Image, Ref
         Err(ImageFault::Twice { address }) => Err(overlap(pieces, address)),
         Err(_) => Err(Refusal::OutOfMemory),
     }
+}
+
+/// Whether the piece at the index is to be lent: it is long, and the next one does not touch it. The pieces are in the
+/// order of their addresses.
+fn is_lent(pieces: &[Piece<'_>], index: usize) -> bool
+    requires { index < length pieces.now }
+{
+    let piece = &pieces[index];
+    if !is_long(piece) {
+        return false;
+    }
+    match pieces.get(index + 1) {
+        Some(next) => {
+            piece.address < next.address && next.address - piece.address > piece.bytes.len() as u64
+        }
+        None => true,
+    }
+}
+
+/// Adds a piece, lent or copied.
+fn put<'a>(image: &mut LentImage<'a>, piece: &Piece<'a>, lent: bool) -> Result<(), ImageFault>
+    ensures { OnOk result ((add_refusal image.old piece.now.address piece.now.bytes.now ≡ None)
+        × (image.new ≡ with_bytes image.old piece.now.address piece.now.bytes.now)) }
+{
+    if lent {
+        image.lend(piece.address, piece.bytes)
+    } else {
+        image.add(piece.address, piece.bytes)
+    }
+}
+
+/// The image of pieces in the order of their addresses, of which long ones are lent. None if one cannot be added.
+fn image_in_order<'a>(alloc: Global, pieces: &[Piece<'a>]) -> Option<LentImage<'a>>
+    ensures { IfSome result (λ image. with_pieces 0 empty pieces.now ≡ Ok image) }
+{
+    let mut image = LentImage::new(alloc);
+    for (index, piece) in pieces.iter().enumerate() {
+        if let Err(_) = put(&mut image, piece, is_lent(pieces, index)) {
+            return None;
+        }
+    }
+    Some(image)
+}
+
+/// Whether each piece begins behind the one before it.
+fn are_rising(pieces: &[Piece<'_>]) -> bool {
+    pieces.is_sorted_by_key(|piece| piece.address)
+}
+
+/// The pieces in the order of their addresses.
+fn sorted<'a>(alloc: Global, pieces: &[Piece<'a>]) -> Result<Vec<Piece<'a>>, AllocError>
+    ensures { IfOk result (λ sorted. IsPermutation pieces.now sorted.items) }
+{
+    let mut sorted = Vec::from_slice(alloc, pieces)?;
+    sorted.sort_unstable_by_key(|piece| piece.address);
+    Ok(sorted)
+}
+
+/// The image of pieces in any order, of which long ones are lent. None if one cannot be added, or memory runs out.
+fn image_by_lending<'a>(alloc: Global, pieces: &[Piece<'a>]) -> Option<LentImage<'a>>
+    ensures { IfSome result (λ image. with_pieces 0 empty pieces.now ≡ Ok image) }
+{
+    if are_rising(pieces) {
+        return image_in_order(alloc, pieces);
+    }
+    let Ok(sorted) = sorted(alloc, pieces) else {
+        return None;
+    };
+    image_in_order(alloc, &sorted)
+}
+
+/// The image that the pieces give.
+///
+/// Refuses, for the first piece that cannot be added to those before it, in this order: `PiecePastEnd` if it passes
+/// the address 2^64 - 1; `PiecesOverlap` if it shares addresses with those before it, with the lowest of them;
+/// `OutOfMemory`. A piece without bytes is always added.
+pub fn image_of_pieces<'a>(alloc: Global, pieces: &[Piece<'a>]) -> Result<LentImage<'a>, Refusal>
+    ensures { Reads (pieces_source pieces.now) result }
+{
+    if long_bytes(pieces) > 0
+        && let Some(image) = image_by_lending(alloc, pieces)
+    {
+        return Ok(image);
+    }
+    // Of pieces that cannot all be added, this says which one comes first.
+    image_by_copying(alloc, pieces)
 }

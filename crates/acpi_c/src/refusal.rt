@@ -39,6 +39,14 @@ pub enum Refusal {
     TextPastEnd { line: u64 },
     /// The text has more than 67,108,864 bytes, or a line more than 65,536.
     TextTooLong,
+    /// The base address is not a multiple of 64.
+    Unaligned,
+    /// The XSDT of the rebuilt set would have more than 4,294,967,295 bytes.
+    TableTooLong,
+    /// A part of the rebuilt set would pass the address 2^64 - 1.
+    PastEnd,
+    /// The FADT has no field for the FACS's address, which would be 2^32 or above.
+    NeedsLow,
 }
 
 impl Refusal {

@@ -4,7 +4,7 @@ ghost use Rattle.std.specs.Prelude.{◌≡◌, IfOk, IsTrue, None, Ok, OnOk};
 ghost use Rattle.std.specs.Result.{result_err};
 ghost use Rattle.acpi_base.specs.Codes.{stage_number};
 ghost use Rattle.acpi_base.specs.Policy.{with_input};
-ghost use Rattle.acpi_c.specs.Settings.{count_of, hotplug_of, inputs_refusal, is_count, policy_of, policy_refusal, processors_of, settings_policy, stage_refusal, with_inputs};
+ghost use Rattle.acpi_c.specs.Settings.{base_refusal, count_of, hotplug_of, inputs_refusal, is_count, policy_of, policy_refusal, processors_of, settings_policy, stage_refusal, with_inputs};
 ghost use Rattle.acpi_c.specs.declared.refusal.Refusal.{Refusal};
 
 use crate::refusal::Refusal;
@@ -159,4 +159,14 @@ pub fn last_stage(settings: &Settings) -> Result<Stage, Refusal>
         .ok()
         .and_then(Stage::new)
         .ok_or(Refusal::Stage)
+}
+
+/// Refuses a base address that is not a multiple of 64. Allocates nothing.
+pub fn test_base(base: u64) -> Result<(), Refusal>
+    ensures { base_refusal base ≡ result_err result }
+{
+    if base % 64 != 0 {
+        return Err(Refusal::Unaligned);
+    }
+    Ok(())
 }

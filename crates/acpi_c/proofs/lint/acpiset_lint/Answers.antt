@@ -10,7 +10,7 @@ returns-in-Ok c =
       found.0,
       findings_fit found.0.image found.0.policy c.in-Ok.found.faults.items c.in-Ok.found.advice.items found.0.findings,
       c.answer_of.ensures,
-      c.copy_findings.ensures ∙ ap (λ l. written_over l c.args.findings.now) (c.deref.ensures.value ∙ found.1),
+      c.copy_to.ensures ∙ ap (λ l. written_over l c.args.findings.now) (c.deref.ensures.value ∙ found.1),
     )
 
 pub returns-in-Err : goal.returns-in-Err

@@ -2,7 +2,7 @@ use Rattle.std.proofs.Common.{subst, sym}
 use Rattle.acpi_c.specs.AddedPieces.{Stands}
 use Rattle.acpi_c.specs.Sources.{Fails, pieces_source}
 use Rattle.acpi_c.proofs.AddedPieces.{stopped}
-use Rattle.acpi_c.proofs.pieces.image_of_pieces.Goals as goal
+use Rattle.acpi_c.proofs.pieces.image_by_copying.Goals as goal
 
 pub returns-in-Err : goal.returns-in-Err
 returns-in-Err c =

@@ -1,0 +1,149 @@
+//! What the number of a finding means, for C: its stage, its severity, its name, and a text that explains it.
+
+ghost use Rattle.std.specs.Prelude.{◌≡◌, ◌≤◌, ℕ, IfSome, IsNone, List, [], length};
+ghost use Rattle.acpi_c.specs.Answers.{written_over};
+ghost use Rattle.acpi_c.specs.Meanings.{IsNumbered, IsStageOf, IsSeverityOf, IsNameOf, IsNoNumber, IsWrittenTo};
+
+use crate::answer::copy_to;
+use crate::explained::{CODES, RULES, SEVERITIES};
+use acpi_base::Code;
+use acpi_lint::Rule;
+
+/// What a number is that of.
+#[derive(Clone, Copy)]
+pub enum Numbered {
+    /// A fault code.
+    Code(Code),
+    /// A rule of advice.
+    Rule(Rule),
+}
+
+/// What has this number, if anything has it.
+fn with_number(number: u32) -> Option<Numbered>
+    ensures { IsNumbered number result }
+{
+    let number = u8::try_from(number).ok()?;
+    if let Some(code) = Code::new(number) {
+        return Some(Numbered::Code(code));
+    }
+    let rule = Rule::new(number)?;
+    Some(Numbered::Rule(rule))
+}
+
+/// How sure it is that a rule of advice points out a mistake.
+#[derive(Clone, Copy)]
+pub enum Severity {
+    /// Nothing is known to be wrong, but no rule looks at what is there.
+    NotLookedAt,
+    /// Unusual, but there may be such hardware, or a later standard may define the value.
+    LookAtIt,
+    /// Almost always a mistake.
+    LikelyWrong,
+}
+
+impl Severity {
+    /// The severity's number for C.
+    fn number(self) -> u32
+        ensures { (1 ≤ result) × (result ≤ 3) }
+    {
+        match self {
+            Severity::NotLookedAt => 1,
+            Severity::LookAtIt => 2,
+            Severity::LikelyWrong => 3,
+        }
+    }
+}
+
+/// The severity of a fault for C.
+const FAULT: u32 = 4;
+
+/// The stage of the code with this number, 1 to 18. 0 for the number of a rule of advice, and for a number that is
+/// neither that of a code nor that of a rule.
+#[unsafe(no_mangle)]
+pub extern "C" fn acpiset_stage(number: u32) -> u32
+    ensures { IsStageOf number result }
+{
+    match with_number(number) {
+        Some(Numbered::Code(code)) => u32::from(code.stage().number()),
+        _ => 0,
+    }
+}
+
+/// The severity of the code or the rule with this number: 4 for a fault; for a rule of advice 3, almost always a
+/// mistake, 2, unusual, or 1, not looked at. 0 for a number that is neither that of a code nor that of a rule.
+#[unsafe(no_mangle)]
+pub extern "C" fn acpiset_severity(number: u32) -> u32
+    ensures { IsSeverityOf number result }
+{
+    match with_number(number) {
+        Some(Numbered::Code(_)) => FAULT,
+        Some(Numbered::Rule(rule)) => rule_severity(rule).number(),
+        None => 0,
+    }
+}
+
+/// The severity of a rule.
+fn rule_severity(rule: Rule) -> Severity {
+    let rows = SEVERITIES.as_slice();
+    match rows.get(usize::from(rule.number() - 101)) {
+        Some(severity) => *severity,
+        None => Severity::LikelyWrong,
+    }
+}
+
+/// The text that explains a code.
+fn code_text(code: Code) -> &'static str {
+    let rows = CODES.as_slice();
+    match rows.get(usize::from(code.number() - 1)) {
+        Some(text) => *text,
+        None => "",
+    }
+}
+
+/// The text that explains a rule.
+fn rule_text(rule: Rule) -> &'static str {
+    let rows = RULES.as_slice();
+    match rows.get(usize::from(rule.number() - 101)) {
+        Some(text) => *text,
+        None => "",
+    }
+}
+
+/// Writes a text to the room, as much of it as fits, and returns how many bytes it has.
+fn write_to(room: &mut [u8], text: &str) -> usize
+    ensures { IsWrittenTo text.now room.old room.new result }
+{
+    let bytes = text.as_bytes();
+    copy_to(room, bytes);
+    bytes.len()
+}
+
+/// Writes the name of the code or the rule with this number to the room, as many bytes of it as fit, without a final
+/// zero; the rest of the room does not change. Returns how many bytes the name has: 0 for a number that is neither that
+/// of a code nor that of a rule.
+#[unsafe(no_mangle)]
+pub extern "C" fn acpiset_name(number: u32, room: &mut [u8]) -> usize
+    ensures { (name : List ℕ) × IsNameOf number name × IsWrittenTo name room.old room.new result }
+{
+    let name = match with_number(number) {
+        Some(Numbered::Code(code)) => code.name(),
+        Some(Numbered::Rule(rule)) => rule.name(),
+        None => "",
+    };
+    write_to(room, name)
+}
+
+/// Writes a text that explains the code or the rule with this number to the room, as many bytes of it as fit, without a
+/// final zero; the rest of the room does not change. Returns how many bytes the text has: 0 for a number that is neither
+/// that of a code nor that of a rule. The text is for people, and may differ in another version.
+#[unsafe(no_mangle)]
+pub extern "C" fn acpiset_explain(number: u32, room: &mut [u8]) -> usize
+    ensures { (text : List ℕ) × IsWrittenTo text room.old room.new result }
+{
+    let text = match with_number(number) {
+        Some(Numbered::Code(code)) => code_text(code),
+        Some(Numbered::Rule(rule)) => rule_text(rule),
+        None => "",
+    };
+    write_to(room, text)
+}
