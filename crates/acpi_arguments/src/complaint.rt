@@ -6,6 +6,7 @@ use crate::number_words::hex_number;
 use crate::policy_words::{default_count, hotplug_setting, inputs_of_word, processors_setting};
 use crate::printable::printable_arguments;
 use crate::tips::{allow_tip, clap_tip, decimal_tip, hex_tip, inputs_address_tip, word_tip};
+use crate::topic::Topic;
 use crate::witness_fault::WitnessFault;
 use crate::words::{given_witness, last_stage};
 use acpi_base::Stage;
@@ -35,7 +36,11 @@ impl Complaint {
     /// What is wrong with the arguments `words`. `None` if the command is missing, or the program is out of memory.
     pub fn new(alloc: Global, words: &[String]) -> Option<Complaint> {
         let printed = printable_arguments(alloc, words).ok()?;
-        let words = printed.as_slice();
+        if let Some(word) = further_word(&printed) {
+            let message = format!(in alloc; "unexpected argument '{word}' found").ok()?;
+            return Some(Complaint { message, tip: None });
+        }
+        let words = without_help(&printed);
         match parse(alloc, words) {
             Ok(matches) => {
                 let (name, options) = matches.subcommand()?;
@@ -43,6 +48,24 @@ impl Complaint {
             }
             Err(_) => clap_complaint(alloc, words),
         }
+    }
+}
+
+/// The first argument after `version`, or after `help` and a command.
+fn further_word(words: &[String]) -> Option<&str> {
+    let place = match words.get(1)?.as_str() {
+        "version" => 2,
+        "help" if Topic::named(words.get(2)?.as_str()).is_some() => 3,
+        _ => return None,
+    };
+    Some(words.get(place)?.as_str())
+}
+
+/// The arguments without the program's name if the first one is `help`: then `clap` judges the next one as a command.
+fn without_help(words: &[String]) -> &[String] {
+    match words {
+        [_, first, ..] if first.as_str() == "help" => &words[1..],
+        _ => words,
     }
 }
 

@@ -26,10 +26,12 @@ mod policy_words;
 mod printable;
 mod reply;
 mod tips;
+mod topic;
 mod usage;
 mod witness_fault;
 mod words;
 
 pub use policy_words::Inputs;
 pub use reply::Reply;
+pub use topic::Topic;
 pub use words::{Job, WordFault, read_words};

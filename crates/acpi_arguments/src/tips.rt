@@ -12,6 +12,10 @@ const STANDARD_INPUT: &str = "the image is read from standard input: acpiset che
 const REPORT: &str =
     "acpiset has no JSON output: pipe it to acpiset-report --format json (in the sources tools/report)";
 
+/// What the tools are called, which are no commands.
+const TOOLS: &str =
+    "the tools are programs of their own: acpiset-explain, acpiset-report, acpiset-tables2image, acpiset-memory2image, acpiset-acpidump2image";
+
 /// The options of the commands.
 const OPTIONS: [&str; 9] = [
     "--rsdp",
@@ -54,11 +58,12 @@ fn usual_tip(words: &[String], argument: &str) -> Option<&'static str> {
     }
     match argument {
         "--json" | "--sarif" | "--junit" | "--tap" | "--format" | "json" => Some(REPORT),
+        "explain" | "report" | "tables2image" | "memory2image" | "acpidump2image" => Some(TOOLS),
         "--all" | "-a" | "all" => Some("lint lists all findings: acpiset lint < IMAGE"),
         "--verbose" | "-v" => Some(
-            "acpiset-explain says what a line means; acpiset --version prints the version",
+            "acpiset-explain says what a line means; acpiset version prints the version",
         ),
-        "--version" | "-V" | "version" => Some("acpiset --version prints the version"),
+        "--version" | "-V" => Some("acpiset version prints the version"),
         "--quiet" | "-q" => Some(
             "the exit status has the verdict: acpiset check < IMAGE > /dev/null",
         ),

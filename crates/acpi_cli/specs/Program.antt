@@ -4,12 +4,14 @@ use Rattle.std.specs.Io.KnownBytes.{Keeps}
 use Rattle.acpi_base.specs.Memory.{Memory}
 use Rattle.acpi_base.specs.Codes.{stage_number}
 use Rattle.acpi_base.specs.declared.stage.Stage.{Stage}
+use Rattle.acpi_arguments.specs.Topics.{topic_text}
+use Rattle.acpi_arguments.specs.declared.topic.Topic.{Topic}
 use Rattle.acpi_arguments.specs.CommandLine.{Asked, check, confirm, find, lint, rebuild, show}
 use Rattle.acpi_cli.specs.declared.outcome.Outcome.{Outcome}
 use Rattle.acpi_cli.specs.declared.outcome.Outcome.TheVariants as outcome
 use Rattle.acpi_cli.specs.declared.outcome.RunFault.{RunFault}
 use Rattle.acpi_cli.specs.declared.outcome.RunFault.TheVariants as run
-use Rattle.acpi_cli.specs.Commands.{Device, HasNotFailed, ReportsCheck, ReportsConfirm, ReportsFound, ReportsLint, ReportsRebuild, ReportsShown, Runs}
+use Rattle.acpi_cli.specs.Commands.{Device, HasNotFailed, ReportsCheck, ReportsConfirm, ReportsFound, ReportsLint, ReportsRebuild, ReportsShown, Runs, WritesOutput}
 
 -- ---- the exit status for what a command function returns
 
@@ -42,3 +44,13 @@ abbrev pub Obeys : Option Asked → Device → Device → ℕ → Type 0
 Obeys (Some what) input output status =
     (result : Result Outcome RunFault) × Runs (ReportsAsked what) input output result × (status ≡ exit_status result)
 Obeys None input output status = IsUntouched input × IsUntouched output × ((status ≡ 2) ⊎ (status ≡ 4))
+
+-- a text is written, with its exit status, unless memory runs out or the writer fails
+abbrev pub Prints : Topic → Device → ℕ → Type 0
+Prints topic output status =
+    (result : Result Outcome RunFault) × WritesOutput output (topic_text topic) outcome.Yes result × (status ≡ exit_status result)
+
+-- What the program does, whatever its arguments ask for. If it is a text, it reads nothing and writes the text.
+abbrev pub Serves : Option Topic → Option Asked → Device → Device → ℕ → Type 0
+Serves (Some topic) asked input output status = IsUntouched input × Prints topic output status
+Serves None asked input output status = Obeys asked input output status

@@ -3,10 +3,12 @@
 //! for the RSDP.
 #![tactic(auto)]
 
+mod beginning;
 mod check;
 mod confirm;
 mod devices;
 mod find;
+mod hint;
 mod laws;
 mod lint;
 mod outcome;
@@ -19,8 +21,10 @@ mod uninterrupted;
 
 use acpi_arguments::{Reply, WordFault};
 use acpi_base::Tally;
+use beginning::Beginning;
+use hint::{Ended, hint};
 use program::{obey, refuse, refuse_memory};
-use std::io::ErrorKind;
+use std::io::{ErrorKind, Write};
 use std::process::ExitCode;
 use uninterrupted::Uninterrupted;
 
@@ -33,10 +37,10 @@ fn arguments(rt: &HostRuntime) -> Result<Vec<String>, WordFault> {
     }
 }
 
-/// Passes the arguments and the standard streams to `obey`.
+/// Passes the arguments and the standard streams to `obey`, and writes a hint after it if there is one.
 fn main(rt: HostRuntime) -> std::io::Result<ExitCode> {
-    let mut reader = Tally::new(Uninterrupted::new(rt.stdin()));
-    let mut writer = Tally::new(Uninterrupted::new(rt.stdout()));
+    let mut reader = Tally::new(Beginning::new(Uninterrupted::new(rt.stdin())));
+    let mut writer = Tally::new(Beginning::new(Uninterrupted::new(rt.stdout())));
     let mut errors = rt.stderr();
     let status = match arguments(&rt) {
         Ok(words) => obey(
@@ -49,5 +53,16 @@ fn main(rt: HostRuntime) -> std::io::Result<ExitCode> {
         Err(WordFault::Words) => refuse(&mut errors, &Reply::NotUtf8),
         Err(WordFault::Memory) => refuse_memory(&mut errors),
     };
+    let has_failed_read = reader.failures() > 0;
+    let (input, output) = (reader.into_inner(), writer.into_inner());
+    let ended = Ended {
+        status,
+        has_failed_read,
+        read: input.bytes(),
+        written: output.bytes(),
+    };
+    if let Some(text) = hint(&ended) {
+        let _ = writeln!(errors, "acpiset: hint: {text}");
+    }
     Ok(ExitCode::from(status))
 }

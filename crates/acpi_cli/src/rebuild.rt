@@ -37,7 +37,7 @@ fn rebuilt_output(
     policy: &Policy,
     base: u64,
 ) -> Result<Output, AllocError>
-    ensures { IfOk result (λ output. TellsRebuilt image policy.now base output.bytes.items
+    ensures { IfOk result (λ output. TellsRebuilt image.entry policy.now base output.bytes.items
         output.outcome) }
 {
     let rebuilt = rebuild(alloc, &image, policy, base);
@@ -60,7 +60,7 @@ fn rebuild_output(
     mut policy: Policy,
     base: u64,
 ) -> Result<Output, AllocError>
-    ensures { IfOk result (λ output. ReportsRebuild given policy base image output.bytes.items
+    ensures { IfOk result (λ output. ReportsRebuild given policy base image.entry output.bytes.items
         output.outcome) }
 {
     let Some(address) = rsdp_address(&image, given) else {

@@ -1,16 +1,5 @@
 //! The command `show`.
 
-mod entries;
-mod fadt;
-mod fields;
-mod madt;
-mod pptt;
-mod root;
-mod set;
-mod slit;
-mod srat;
-mod unread;
-
 ghost use Rattle.std.specs.Prelude.{IfOk};
 ghost use Rattle.acpi_base.specs.Faults.{IsVerdict};
 ghost use Rattle.acpi_base.specs.Policy.{with_rsdp};
@@ -19,10 +8,10 @@ ghost use Rattle.acpi_cli.specs.Commands.{device, shown_policy, Runs, ReportsSho
 use crate::check::{no_rsdp, rsdp_address};
 use crate::devices::{Output, read_input, write_output};
 use crate::outcome::{Outcome, RunFault};
-use crate::show::set::{complete_tables, set_text};
 use acpi_base::{Image, Stage, Tally, Verdict, verdict_text};
 use acpi_check::read_set;
 use acpi_read::Root;
+use acpi_show::{complete_tables, set_text};
 use std::alloc::{AllocError, Global};
 use std::io::{Read, Write};
 

@@ -1,6 +1,6 @@
 use Rattle.std.proofs.Common.{refl}
 use Rattle.acpi_cli.proofs.Statuses.{keeps_all, obeyed, starved}
-use Rattle.acpi_cli.proofs.program.obey.Goals as goal
+use Rattle.acpi_cli.proofs.program.obey_job.Goals as goal
 
 pub returns-in-Ok : goal.returns-in-Ok
 returns-in-Ok g c =
