@@ -4,7 +4,7 @@ use Rattle.std.specs.Prelude.{◌-◌, ◌^◌, ◌⊎◌, ◌==◌, Some}
 use Rattle.std.proofs.lemmas.Bool.Decides.{nat_tests}
 use Rattle.std.proofs.lemmas.Option.{none-some, cond_some}
 use Rattle.acpi_base.specs.Number.{field, has_bit}
-use Rattle.acpi_lint.specs.Rules.ApicAdvice.{plain_apic_id, low_x2apic_id, broadcast_id, both_flags, hart_id_on, level_timer, other_lint, source_for}
+use Rattle.acpi_lint.specs.Rules.ApicAdvice.{plain_apic_id, low_x2apic_id, broadcast_id, both_flags, usable_hart_id, level_timer, other_lint, source_for}
 use Rattle.acpi_lint.specs.Rules.Numbered.{NamesAt}
 use Rattle.acpi_examples.specs.Advice.{one_entry, two_entries, processor, gicc}
 use Rattle.acpi_examples.specs.AdviceApic.{apic, x2apic, override, local_nmi, x2apic_nmi, nmi_source, three_overrides, AreLowIds, AreProcessorNumbers, AreInterrupts, AreTwoSources, AreIoApics, IsApicAdvised}
@@ -36,8 +36,8 @@ processor_numbers = record {
   capable = silent both_flags 8 (processor 2) refl;
   gicc_both = says both_flags 40 (gicc 3 9) 9 refl;
   gicc_other = silent both_flags 40 (gicc 3 3) refl;
-  same_hart = both_say hart_id_on 44 _ 64 _ 7 refl refl (omega arith);
-  hart_off = two_differ hart_id_on 44 _ 64 _ (λ n one two. none-some n two);
+  same_hart = both_say usable_hart_id 44 _ 64 _ 7 refl refl (omega arith);
+  hart_off = two_differ usable_hart_id 44 _ 64 _ (λ n one two. none-some n two);
 }
 
 interrupts : AreInterrupts
@@ -105,7 +105,7 @@ unfolding has_bit
 io_apics = record {
   none = (
     record {
-      on = (5, (44, (_, (0, omega arith, refl), refl)));
+      usable = (5, (44, (_, (0, omega arith, refl), refl)));
       named = inr (52, (_, (1, omega arith, refl), refl));
       no_apic = has_none (two_entries 8 (apic 5) 8 nmi_source) 1
           ((λ is. omega (arith, is)), ((λ is. omega (arith, is)), tt));

@@ -10,6 +10,7 @@ use Rattle.acpi_base.specs.Entries.{Stands, StandsWith}
 use Rattle.acpi_base.specs.Fadt.{has_flag, gas_at}
 use Rattle.acpi_base.specs.Madt.{Override, MadtContents, ServesFrom}
 use Rattle.acpi_base.specs.Policy.{PolicyValue, inputs_of}
+use Rattle.acpi_lint.specs.Rules.FadtBlocks.{structure_at}
 use Rattle.acpi_lint.specs.Rules.FadtAdvice.{DoFieldsDiffer, IsBlockDiffers, IsOverrideOf, IsGsiOf}
 use Rattle.acpi_lint.specs.Rules.WellFormed.{HasOtherMadtLength, IsWellFormedMadt}
 use Rattle.acpi_examples.specs.Advice.{one_entry, processor}
@@ -90,10 +91,10 @@ first_block : (whole : List ℕ) (at other point : ℕ) → length whole < 172 �
 first_block whole at other point short it =
     let k : it.k ≡ 0 = omega (arith, it.differ.wide_there) in
     let place : at ≡ 56 = omega (arith, it.place) in
-    let wide : 152 + 12 * it.k ≡ 152 = omega arith in
-    let gas : 148 + 12 * it.k ≡ 148 = omega arith in (
+    let wide : structure_at it.k + 4 ≡ 152 = omega arith in
+    let gas : structure_at it.k ≡ 148 = omega arith in (
       subst (λ (x : ℕ). DoFieldsDiffer whole 56 x other point) wide
-          (subst (λ (x : ℕ). DoFieldsDiffer whole x (152 + 12 * it.k) other point) place it.differ),
+          (subst (λ (x : ℕ). DoFieldsDiffer whole x (structure_at it.k + 4) other point) place it.differ),
       subst (λ (x : ℕ). (gas_at whole x).space ≡ 1) gas it.space,
     )
 

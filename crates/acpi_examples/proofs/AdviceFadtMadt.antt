@@ -7,7 +7,7 @@ use Rattle.std.proofs.lemmas.Option.{none-some, same_Some}
 use Rattle.acpi_base.specs.Number.{field, has_bit}
 use Rattle.acpi_base.specs.Fadt.{has_flag}
 use Rattle.acpi_lint.specs.Rules.EntryTypes.{type_of}
-use Rattle.acpi_lint.specs.Rules.FadtWithMadt.{IsTooEarly, IsPastIsa, IsGiccOn, IsParking}
+use Rattle.acpi_lint.specs.Rules.FadtWithMadt.{IsTooEarly, IsPastIsa, IsUsableGicc, IsParking}
 use Rattle.acpi_lint.specs.Rules.WellFormed.{HasOtherMadtLength, IsWellFormedMadt}
 use Rattle.acpi_examples.specs.Advice.{one_entry, two_entries, processor, gicc, rintc}
 use Rattle.acpi_examples.specs.AdviceFadtMadt.{versioned, override_of, two_giccs, AreArchesOdd, AreCapablesEarly, AreOverridesPastIsa, AreBootsMissing, AreFadtMadtsAdvised}
@@ -87,11 +87,11 @@ overrides_past_isa = record {
 
 -- ---- how processors are started
 
--- of an enabled GICC and one that is off only the first is on
-one_on : (p : ℕ) → StandsWith (two_entries 40 (gicc 1 1) 40 (gicc 2 2)).entries p IsGiccOn → p ≡ 44
+-- of an enabled GICC and one that is not usable only the first is usable
+one_on : (p : ℕ) → StandsWith (two_entries 40 (gicc 1 1) 40 (gicc 2 2)).entries p IsUsableGicc → p ≡ 44
 unfolding field has_bit
 one_on p (e, stands, on) =
-    each_entry (two_entries 40 (gicc 1 1) 40 (gicc 2 2)).entries (λ o e. IsGiccOn e → o ≡ 44)
+    each_entry (two_entries 40 (gicc 1 1) 40 (gicc 2 2)).entries (λ o e. IsUsableGicc e → o ≡ 44)
     ((λ on. refl), ((λ on. absurd (both_ways _ refl on)), tt)) p e stands on
 
 well_formed : IsWellFormedMadt (two_giccs 0)

@@ -3,7 +3,7 @@ use Rattle.std.proofs.Common.{◌≡◌, ℕ, refl, sym, ◌∙◌, inl, inr, ar
 use Rattle.std.specs.Prelude.{Some}
 use Rattle.std.proofs.lemmas.Option.{none-some, same_Some}
 use Rattle.acpi_base.specs.Number.{field, has_bit}
-use Rattle.acpi_lint.specs.Rules.Gic.{mpidr_on, msi_frame_id, its_id, gicc_base, gicd_version, gicr_base, gicr_length, own_redistributor}
+use Rattle.acpi_lint.specs.Rules.Gic.{usable_mpidr, msi_frame_id, its_id, gicc_base, gicd_version, gicr_base, gicr_length, own_redistributor}
 use Rattle.acpi_lint.specs.Rules.GicAdvice.{reserved_mpidr, empty_gicr, other_gicr}
 use Rattle.acpi_lint.specs.Rules.Numbered.{NamesAt}
 use Rattle.acpi_examples.specs.Advice.{one_entry, two_entries, gicc}
@@ -19,11 +19,11 @@ mpidrs = record {
   affinity = silent reserved_mpidr 76 (interface zeros zeros (fifth 1)) refl;
   past = says reserved_mpidr 76 (interface zeros zeros (sixth 1)) 0x10000000000 refl;
   highest = silent reserved_mpidr 76 (interface zeros zeros (fifth 0x80)) refl;
-  same = both_say mpidr_on 44 _ 120 _ 0x100000000 refl refl (omega arith);
-  differ = two_differ mpidr_on 44 _ 120 _
+  same = both_say usable_mpidr 44 _ 120 _ 0x100000000 refl refl (omega arith);
+  differ = two_differ usable_mpidr 44 _ 120 _
       (λ n one two. omega (arith, same_Some 0x100000000 n one, same_Some 0x200000000 n two));
-  short = two_differ mpidr_on 44 _ 119 _ (λ n one two. none-some n one);
-  off = two_differ mpidr_on 44 _ 120 _ (λ n one two. none-some n two);
+  short = two_differ usable_mpidr 44 _ 119 _ (λ n one two. none-some n one);
+  off = two_differ usable_mpidr 44 _ 120 _ (λ n one two. none-some n two);
 }
 
 parts : AreGicParts

@@ -6,7 +6,7 @@ use Rattle.acpi_base.specs.Number.{field, has_bit}
 use Rattle.acpi_base.specs.Madt.{Opaque}
 use Rattle.acpi_lint.specs.Rules.MadtAdvice.{nmi_uid, io_apic_id, nonzero_io_apic_address, gicd, IsIoApicAtZero, IsReadForm, IsMadtUnread}
 use Rattle.acpi_lint.specs.Rules.Numbered.{IsNamed, NamesAt}
-use Rattle.acpi_lint.specs.Rules.Processors.{uid_of, uid_on, apic_id_on}
+use Rattle.acpi_lint.specs.Rules.Processors.{uid_of, usable_uid, usable_apic_id}
 use Rattle.acpi_examples.specs.Madts.{said_madt}
 use Rattle.acpi_examples.specs.Advice.{one_entry, processor}
 use Rattle.acpi_examples.specs.AdviceMadt.{three_processors, local_nmi, x2apic_nmi, with_nmi, io_apics, distributor, read_entries, AreSameProcessors, AreNoProcessors, AreNmisNowhere, AreControllers, AreMadtUnread, IsMadtAdvised}
@@ -16,7 +16,7 @@ use Rattle.acpi_examples.proofs.Advice.{both_say, two_differ, unnamed, other_num
 same_processors : AreSameProcessors
 unfolding has_bit field
 same_processors = record {
-  uid = both_say uid_on 44 _ 52 _ 3 refl refl (omega arith);
+  uid = both_say usable_uid 44 _ 52 _ 3 refl refl (omega arith);
   third = record {
     here = (_, (2, omega arith, refl), refl);
     earlier = (_, (0, omega arith, refl), refl);
@@ -25,18 +25,18 @@ same_processors = record {
         (omega arith, (omega arith, (omega arith, tt))) p names.0 names.1;
   };
   not_second = λ it. omega (arith, it.first 44 (_, (0, omega arith, refl), refl));
-  uids_differ = two_differ uid_on 44 _ 52 _ (λ n one two. omega (arith, same_Some 3 n one, same_Some 4 n two));
-  uid_off = two_differ uid_on 44 _ 52 _ (λ n one two. none-some n two);
-  gicc_uid = both_say uid_on 44 _ 52 _ 3 refl refl (omega arith);
-  gicc_capable = both_say uid_on 44 _ 52 _ 3 refl refl (omega arith);
-  gicc_off = two_differ uid_on 44 _ 52 _ (λ n one two. none-some n two);
-  rintc_uid = both_say uid_on 44 _ 52 _ 3 refl refl (omega arith);
-  rintc_off = two_differ uid_on 44 _ 52 _ (λ n one two. none-some n two);
-  core_id = both_say apic_id_on 44 _ 52 _ 5 refl refl (omega arith);
-  core_off = two_differ apic_id_on 44 _ 52 _ (λ n one two. none-some n two);
-  id = both_say apic_id_on 44 _ 52 _ 5 refl refl (omega arith);
-  ids_differ = two_differ apic_id_on 44 _ 52 _ (λ n one two. omega (arith, same_Some 5 n one, same_Some 6 n two));
-  id_off = two_differ apic_id_on 44 _ 52 _ (λ n one two. none-some n two);
+  uids_differ = two_differ usable_uid 44 _ 52 _ (λ n one two. omega (arith, same_Some 3 n one, same_Some 4 n two));
+  uid_off = two_differ usable_uid 44 _ 52 _ (λ n one two. none-some n two);
+  gicc_uid = both_say usable_uid 44 _ 52 _ 3 refl refl (omega arith);
+  gicc_capable = both_say usable_uid 44 _ 52 _ 3 refl refl (omega arith);
+  gicc_off = two_differ usable_uid 44 _ 52 _ (λ n one two. none-some n two);
+  rintc_uid = both_say usable_uid 44 _ 52 _ 3 refl refl (omega arith);
+  rintc_off = two_differ usable_uid 44 _ 52 _ (λ n one two. none-some n two);
+  core_id = both_say usable_apic_id 44 _ 52 _ 5 refl refl (omega arith);
+  core_off = two_differ usable_apic_id 44 _ 52 _ (λ n one two. none-some n two);
+  id = both_say usable_apic_id 44 _ 52 _ 5 refl refl (omega arith);
+  ids_differ = two_differ usable_apic_id 44 _ 52 _ (λ n one two. omega (arith, same_Some 5 n one, same_Some 6 n two));
+  id_off = two_differ usable_apic_id 44 _ 52 _ (λ n one two. none-some n two);
 }
 
 no_processors : AreNoProcessors
@@ -44,18 +44,18 @@ unfolding has_bit field
 no_processors = record {
   off = (
     all_known (one_entry 8 (processor 0)) refl (never, tt) (never, tt),
-    (λ uid. unnamed uid_on (one_entry 8 (processor 0)).entries uid (none-some uid, tt)),
+    (λ uid. unnamed usable_uid (one_entry 8 (processor 0)).entries uid (none-some uid, tt)),
     refl,
     (refl, refl),
   );
   empty = (
     all_known (said_madt 44 []) refl tt tt,
-    (λ uid. unnamed uid_on (said_madt 44 []).entries uid tt),
+    (λ uid. unnamed usable_uid (said_madt 44 []).entries uid tt),
     refl,
     (refl, refl),
   );
   capable = λ at other point it. it.1 3 (44, (_, (0, omega arith, refl), refl));
-  gicc_on = λ at other point it. it.1 3 (44, (_, (0, omega arith, refl), refl));
+  usable_gicc = λ at other point it. it.1 3 (44, (_, (0, omega arith, refl), refl));
   not_read = λ at other point it. it.0.0 44 (_, (0, omega arith, refl), inl refl);
   cut = λ at other point it. none-some 44 (sym it.0.1.0);
   wrong_length = λ at other point it. it.0.1.1 44 (_, (0, omega arith, refl), inl refl);

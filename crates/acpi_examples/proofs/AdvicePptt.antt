@@ -7,7 +7,7 @@ use Rattle.std.proofs.lemmas.Nat.{pow_pos}
 use Rattle.std.proofs.lemmas.Option.{none-some, same_Some}
 use Rattle.acpi_base.specs.Number.{field, has_bit}
 use Rattle.acpi_base.specs.Pptt.{Node, CacheValue, Cache, parent_of, HasOtherPpttLength}
-use Rattle.acpi_lint.specs.Rules.Processors.{uid_of, uid_on, IsOpaqueProcessor, IsParent, IsLeafAt, IsLeafId}
+use Rattle.acpi_lint.specs.Rules.Processors.{uid_of, usable_uid, IsOpaqueProcessor, IsParent, IsLeafAt, IsLeafId}
 use Rattle.acpi_lint.specs.Rules.Numbered.{IsNamed}
 use Rattle.acpi_lint.specs.Rules.PpttAdvice.{IsPowerOfTwo, HasOddShape, IsCacheShape, cache_id, IsNode}
 use Rattle.acpi_lint.specs.Rules.WellFormed.{IsWellFormedPptt}
@@ -204,10 +204,10 @@ no_leaves = record {
     refl,
   );
   has =
-      λ at other point it. none_stands (one_entry 8 (processor 2)).entries at (λ o e. uid_on e ≡ Some point)
+      λ at other point it. none_stands (one_entry 8 (processor 2)).entries at (λ o e. usable_uid e ≡ Some point)
       ((λ is. it.4 (subst (IsLeafId (one_node 10 3)) (same_Some 3 point is) (36, leaf 3))), tt) it.3;
   off =
-      λ at other point it. none_stands (one_entry 8 (processor 0)).entries at (λ o e. uid_on e ≡ Some point)
+      λ at other point it. none_stands (one_entry 8 (processor 0)).entries at (λ o e. usable_uid e ≡ Some point)
       (none-some point, tt) it.3;
   no_leaf = (
     all_read (one_entry 8 (processor 2)) (never, tt),

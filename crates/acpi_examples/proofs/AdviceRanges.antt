@@ -6,7 +6,7 @@ use Rattle.std.proofs.lemmas.Option.{same_Some}
 use Rattle.acpi_base.specs.Fadt.{has_flag, block_value, wide_address}
 use Rattle.acpi_base.specs.Madt.{MadtEntry}
 use Rattle.acpi_base.specs.Number.{field}
-use Rattle.acpi_lint.specs.Rules.FadtBlocks.{block_address, port_bytes}
+use Rattle.acpi_lint.specs.Rules.FadtBlocks.{block_at, block_address, port_bytes}
 use Rattle.acpi_lint.specs.Rules.GicRanges.{registers_of, IsGicRange}
 use Rattle.acpi_lint.specs.Rules.Ports.{IsBlockRange}
 use Rattle.acpi_examples.specs.Advice.{two_entries}
@@ -24,7 +24,7 @@ block_ranges : (low : ℕ) → block_address (ports_fadt low 0) 2 ≡ 0x400 + lo
 unfolding field block_value wide_address
 block_ranges low first bytes o s n (k, inside, is, start, count) = of k inside is start count
   where
-    of : (k : ℕ) → k < 8 → o ≡ 56 + 4 * k → s ≡ block_address (ports_fadt low 0) k
+    of : (k : ℕ) → k < 8 → o ≡ block_at k → s ≡ block_address (ports_fadt low 0) k
         → n ≡ port_bytes (ports_fadt low 0) k
         → IsValue (range 56 0x400 4) o s n ⊎ IsValue (range 64 (0x400 + low) 2) o s n
         ⊎ ((o ≡ 0) × (s + n ≤ 0x400)) ⊎ ((o ≡ 0) × (0x400 + low + 2 ≤ s)) ⊎ (n ≡ 0)
@@ -45,7 +45,7 @@ wide_ranges : (space width size : ℕ) → block_address (wide_fadt space width)
 unfolding field block_value wide_address
 wide_ranges space width size first bytes o s n (k, inside, is, start, count) = of k inside is start count
   where
-    of : (k : ℕ) → k < 8 → o ≡ 56 + 4 * k → s ≡ block_address (wide_fadt space width) k
+    of : (k : ℕ) → k < 8 → o ≡ block_at k → s ≡ block_address (wide_fadt space width) k
         → n ≡ port_bytes (wide_fadt space width) k
         → IsValue (range 64 0x3ff size) o s n ⊎ IsValue (range 56 0x400 4) o s n
         ⊎ ((o ≡ 0) × (s + n ≤ 0x3ff)) ⊎ ((o ≡ 0) × (0x400 + 4 ≤ s)) ⊎ (n ≡ 0)

@@ -437,35 +437,37 @@ headers_advised = record {
     used = λ same. (let here : 0x7f ≡ 0 = same in omega (arith, here));
   };
   text = λ it. plain it.i it.j it.order it.inside it.odd it.used;
-  second = record {
-    signature = 0x4746434d;
-    once = refl;
-    here = (
-      root_slot (root (plain_header (codes "MCFG")) (plain_header (codes "MCFG")))
-          (root_table (plain_header (codes "MCFG")) (plain_header (codes "MCFG"))) slot_1,
-      (
-        plain_header (codes "MCFG"),
-        bytes_of_runs (plain_header (codes "MCFG")) (plain_header (codes "MCFG")) 0x3000 36,
-        refl,
-      ),
-    );
-    a = 0x2000;
-    there = (
-      root_slot (root (plain_header (codes "MCFG")) (plain_header (codes "MCFG")))
-          (root_table (plain_header (codes "MCFG")) (plain_header (codes "MCFG"))) slot_0,
-      (
-        plain_header (codes "MCFG"),
-        bytes_of_runs (plain_header (codes "MCFG")) (plain_header (codes "MCFG")) 0x2000 36,
-        refl,
-      ),
-    );
-    first = λ k b lists. omega arith;
-    differs = λ same. omega (arith, same);
-  };
-  same = λ at other point it.
+  second = (
+    0x4746434d,
+    refl,
+    record {
+      here = (
+        root_slot (root (plain_header (codes "MCFG")) (plain_header (codes "MCFG")))
+            (root_table (plain_header (codes "MCFG")) (plain_header (codes "MCFG"))) slot_1,
+        (
+          plain_header (codes "MCFG"),
+          bytes_of_runs (plain_header (codes "MCFG")) (plain_header (codes "MCFG")) 0x3000 36,
+          refl,
+        ),
+      );
+      a = 0x2000;
+      there = (
+        root_slot (root (plain_header (codes "MCFG")) (plain_header (codes "MCFG")))
+            (root_table (plain_header (codes "MCFG")) (plain_header (codes "MCFG"))) slot_0,
+        (
+          plain_header (codes "MCFG"),
+          bytes_of_runs (plain_header (codes "MCFG")) (plain_header (codes "MCFG")) 0x2000 36,
+          refl,
+        ),
+      );
+      first = λ k b lists. omega arith;
+      differs = λ same. omega (arith, same);
+    },
+  );
+  same = λ at other point (signature, once, it).
       it.differs (same_slot (plain_header (codes "MCFG")) other it.a it.there.0
       ∙ sym (same_slot (plain_header (codes "MCFG")) at point it.here.0));
-  several = λ at other point it. no_once it.signature (ssdts at point it.signature it.here) it.once;
+  several = λ at other point (signature, once, it). no_once signature (ssdts at point signature it.here) once;
 }
 
 -- ---- what the FADT names

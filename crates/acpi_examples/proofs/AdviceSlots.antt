@@ -100,14 +100,14 @@ two_kinds kind.Madt one other = both_ways _ refl other
 two_kinds _ one other = both_ways _ refl one
 
 no_second : (at other point : ℕ) → ¬ IsSecondTable leaf_set rsdp_at at other point
-no_second at other point it =
+no_second at other point (kind, it) =
     elim (leaf_slot at point it.here.0) [
       | inl here ↦ omega (arith, here, leaf_slot other it.a it.there.0, it.first at point it.here, it.differs)
       | inr here ↦
           elim (leaf_slot other it.a it.there.0) [
             | inl there ↦
-                two_kinds it.kind (first_signed (signature_of it.kind) it.a there.1 it.there.1)
-                (second_signed (signature_of it.kind) point here.1 it.here.1)
+                two_kinds kind (first_signed (signature_of kind) it.a there.1 it.there.1)
+                (second_signed (signature_of kind) point here.1 it.here.1)
             | inr there ↦ omega (arith, here, there, it.differs)
           ]
     ]
@@ -136,20 +136,22 @@ slots_advised = record {
     leaf_slot at point it.here,
     leaf_slot other point it.earlier,
   );
-  second = record {
-    kind = kind.Madt;
-    here = (
-      root_slot (root named_bytes two_io_apics_bytes) (root_table named_bytes two_io_apics_bytes) slot_1,
-      record { header = _; header_present = madt_tables.second.header_present; signed = refl },
-    );
-    a = 0x2000;
-    there = (
-      root_slot (root named_bytes two_io_apics_bytes) (root_table named_bytes two_io_apics_bytes) slot_0,
-      record { header = _; header_present = madt_tables.first.header_present; signed = refl },
-    );
-    first = λ k b _. omega arith;
-    differs = λ same. omega arith;
-  };
+  second = (
+    kind.Madt,
+    record {
+      here = (
+        root_slot (root named_bytes two_io_apics_bytes) (root_table named_bytes two_io_apics_bytes) slot_1,
+        record { header = _; header_present = madt_tables.second.header_present; signed = refl },
+      );
+      a = 0x2000;
+      there = (
+        root_slot (root named_bytes two_io_apics_bytes) (root_table named_bytes two_io_apics_bytes) slot_0,
+        record { header = _; header_present = madt_tables.first.header_present; signed = refl },
+      );
+      first = λ k b _. omega arith;
+      differs = λ same. omega arith;
+    },
+  );
   no_second = no_second;
   dsdt = (
     inl (

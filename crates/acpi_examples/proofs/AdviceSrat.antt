@@ -8,7 +8,7 @@ use Rattle.acpi_base.specs.Madt.{MadtEntry, MadtContents}
 use Rattle.acpi_base.specs.Srat.{SratEntry, Opaque, SratContents}
 use Rattle.acpi_base.specs.Slit.{distance}
 use Rattle.acpi_lint.specs.Rules.Numbered.{NamesAt, IsNamed}
-use Rattle.acpi_lint.specs.Rules.Processors.{uid_of, apic_id_of, apic_id_on, uid_on_without_id, placed_apic_id, placed_uid, processor_domain}
+use Rattle.acpi_lint.specs.Rules.Processors.{uid_of, apic_id_of, usable_apic_id, usable_uid_without_id, placed_apic_id, placed_uid, processor_domain}
 use Rattle.acpi_lint.specs.Rules.WellFormed.{HasOtherSratLength, IsWellFormedSrat}
 use Rattle.acpi_lint.specs.Rules.SratAdvice.{IsTwoUidDomains, IsAffinityNowhere, IsNoDomain, IsDomainPastSlit, IsReadForm, IsSratUnread}
 use Rattle.acpi_examples.specs.Slits.{low_diagonal}
@@ -139,16 +139,16 @@ affinities_nowhere = record {
 
 -- if the numbers of a processor are those of affinities, the rule is kept
 processor_placed : (size : ℕ) (e : MadtEntry) (srat : SratContents)
-    → ((n : ℕ) → apic_id_on e ≡ Some n → IsNamed placed_apic_id srat.entries n)
-    → ((n : ℕ) → uid_on_without_id e ≡ Some n → IsNamed placed_uid srat.entries n)
+    → ((n : ℕ) → usable_apic_id e ≡ Some n → IsNamed placed_apic_id srat.entries n)
+    → ((n : ℕ) → usable_uid_without_id e ≡ Some n → IsNamed placed_uid srat.entries n)
     → IsKept (IsNoDomain (one_entry size e) srat)
 processor_placed size e srat ids uids at other point it =
     elim it.3 [
       | inl (here, none) ↦
-          none_stands (one_entry size e).entries at (λ o e. apic_id_on e ≡ Some point)
+          none_stands (one_entry size e).entries at (λ o e. usable_apic_id e ≡ Some point)
           ((λ is. none (ids point is)), tt) here
       | inr (here, none) ↦
-          none_stands (one_entry size e).entries at (λ o e. uid_on_without_id e ≡ Some point)
+          none_stands (one_entry size e).entries at (λ o e. usable_uid_without_id e ≡ Some point)
           ((λ is. none (uids point is)), tt) here
     ]
 

@@ -2,7 +2,7 @@
 -- 5.2.12.13).
 use Rattle.std.specs.Prelude.{ℕ, ◌+◌, ◌-◌, ◌^◌, [], ◌∷◌, replicate}
 use Rattle.acpi_base.specs.Madt.{MadtEntry, LocalApic, Override, NmiSource, LocalNmi, X2apic, X2apicNmi, Opaque, MadtContents}
-use Rattle.acpi_lint.specs.Rules.ApicAdvice.{broadcast_id, both_flags, hart_id_on, level_timer, other_lint, IsX2ApicBelow255, IsTwoSourcesOneGsi, IsNoIoApic}
+use Rattle.acpi_lint.specs.Rules.ApicAdvice.{broadcast_id, both_flags, usable_hart_id, level_timer, other_lint, IsX2ApicBelow255, IsTwoSourcesOneGsi, IsNoIoApic}
 use Rattle.acpi_lint.specs.Rules.Numbered.{OnEntry, HasNumber, Repeats}
 use Rattle.acpi_examples.specs.Tables.{placed_entry}
 use Rattle.acpi_examples.specs.Madts.{said_madt}
@@ -56,7 +56,7 @@ three_overrides first second third =
 
 -- ---- what they state
 
--- a local x2APIC of an ID that a local APIC could have, beside one that is on; not so from 255 on, or if the ID of the
+-- a local x2APIC of an ID that a local APIC could have, beside a usable local APIC; not so from 255 on, or if the ID of the
 -- local APIC is 255
 pub record AreLowIds : Type 0 where
   pub low : IsX2ApicBelow255 (two_entries 8 (apic 5) 16 (x2apic 254)) 0x34 0 254
@@ -74,8 +74,8 @@ pub record AreProcessorNumbers : Type 0 where
   pub capable : IsKept (OnEntry (HasNumber both_flags) (one_entry 8 (processor 2)).entries)
   pub gicc_both : OnEntry (HasNumber both_flags) (one_entry 40 (gicc 3 9)).entries 0x2c 0 9
   pub gicc_other : IsKept (OnEntry (HasNumber both_flags) (one_entry 40 (gicc 3 3)).entries)
-  pub same_hart : Repeats hart_id_on (two_entries 20 (hart 7 1) 20 (hart 7 2)).entries 0x40 0x2c 7
-  pub hart_off : IsKept (Repeats hart_id_on (two_entries 20 (hart 7 1) 20 (hart 7 0)).entries)
+  pub same_hart : Repeats usable_hart_id (two_entries 20 (hart 7 1) 20 (hart 7 2)).entries 0x40 0x2c 7
+  pub hart_off : IsKept (Repeats usable_hart_id (two_entries 20 (hart 7 1) 20 (hart 7 0)).entries)
 
 -- an override that makes the timer level-triggered; not so if it is of another source, or one bit is clear; NMIs at
 -- LINT0 and LINT2, not so at LINT1

@@ -1,7 +1,7 @@
 -- Examples of further advice on the MADT: the parts of a GIC (ACPI 6.5, 5.2.12.14 to 5.2.12.18).
 use Rattle.std.specs.Prelude.{ℕ, ◌+◌, List, [], ◌∷◌, ◌++◌, replicate}
 use Rattle.acpi_base.specs.Madt.{MadtEntry, Opaque, MadtContents}
-use Rattle.acpi_lint.specs.Rules.Gic.{mpidr_on, msi_frame_id, its_id}
+use Rattle.acpi_lint.specs.Rules.Gic.{usable_mpidr, msi_frame_id, its_id}
 use Rattle.acpi_lint.specs.Rules.GicAdvice.{reserved_mpidr, empty_gicr, IsNoDistributor, IsNoRedistributor, IsGicrTooSmall, IsGiccBaseDiffers, IsRedistributorTwice}
 use Rattle.acpi_lint.specs.Rules.Numbered.{OnEntry, HasNumber, Repeats}
 use Rattle.acpi_examples.specs.Tables.{placed_entry}
@@ -86,10 +86,10 @@ pub record AreMpidrs : Type 0 where
   pub affinity : IsKept (OnEntry (HasNumber reserved_mpidr) (one_entry 76 (interface zeros zeros (fifth 1))).entries)
   pub past : OnEntry (HasNumber reserved_mpidr) (one_entry 76 (interface zeros zeros (sixth 1))).entries 0x2c 0 0x10000000000
   pub highest : IsKept (OnEntry (HasNumber reserved_mpidr) (one_entry 76 (interface zeros zeros (fifth 0x80))).entries)
-  pub same : Repeats mpidr_on (two_entries 76 (interface zeros zeros (fifth 1)) 76 (interface zeros zeros (fifth 1))).entries 0x78 0x2c 0x100000000
-  pub differ : IsKept (Repeats mpidr_on (two_entries 76 (interface zeros zeros (fifth 1)) 76 (interface zeros zeros (fifth 2))).entries)
-  pub short : IsKept (Repeats mpidr_on (two_entries 75 (sized_interface 75 15) 75 (sized_interface 75 15)).entries)
-  pub off : IsKept (Repeats mpidr_on (two_entries 76 (interface zeros zeros (fifth 1)) 76 (off_interface (fifth 1))).entries)
+  pub same : Repeats usable_mpidr (two_entries 76 (interface zeros zeros (fifth 1)) 76 (interface zeros zeros (fifth 1))).entries 0x78 0x2c 0x100000000
+  pub differ : IsKept (Repeats usable_mpidr (two_entries 76 (interface zeros zeros (fifth 1)) 76 (interface zeros zeros (fifth 2))).entries)
+  pub short : IsKept (Repeats usable_mpidr (two_entries 75 (sized_interface 75 15) 75 (sized_interface 75 15)).entries)
+  pub off : IsKept (Repeats usable_mpidr (two_entries 76 (interface zeros zeros (fifth 1)) 76 (off_interface (fifth 1))).entries)
 
 -- a range of no bytes, not so of one; two services and two frames of one ID
 pub record AreGicParts : Type 0 where

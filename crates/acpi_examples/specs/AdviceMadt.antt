@@ -3,7 +3,7 @@ use Rattle.std.specs.Prelude.{ℕ, ◌+◌, ◌-◌, ◌^◌, [], ◌∷◌, rep
 use Rattle.acpi_base.specs.Madt.{MadtEntry, IoApic, LocalNmi, X2apic, X2apicNmi, Opaque, MadtContents}
 use Rattle.acpi_lint.specs.Rules.MadtAdvice.{io_apic_id, nonzero_io_apic_address, gicd, IsIoApicAtZero, IsNmiNowhere, IsNoProcessor, IsMadtUnread}
 use Rattle.acpi_lint.specs.Rules.Numbered.{OnEntry, Repeats}
-use Rattle.acpi_lint.specs.Rules.Processors.{uid_on, apic_id_on}
+use Rattle.acpi_lint.specs.Rules.Processors.{usable_uid, usable_apic_id}
 use Rattle.acpi_examples.specs.Tables.{placed_entry}
 use Rattle.acpi_examples.specs.Madts.{said_madt}
 use Rattle.acpi_examples.specs.Advice.{IsKept, one_entry, two_entries, processor, gicc, rintc, core_pic, short_gicc, sapic, cut_madt}
@@ -75,21 +75,21 @@ read_entries =
 -- core has no such bit; not so if the second is not usable, or has another. Of three the first is named, not the
 -- second.
 pub record AreSameProcessors : Type 0 where
-  pub uid : Repeats uid_on (two_processors 3 6 2).entries 0x34 0x2c 3
-  pub third : Repeats uid_on three_processors.entries 0x44 0x2c 3
-  pub not_second : ¬ Repeats uid_on three_processors.entries 0x44 0x34 3
-  pub uids_differ : IsKept (Repeats uid_on (two_processors 4 5 2).entries)
-  pub uid_off : IsKept (Repeats uid_on (two_processors 3 5 0).entries)
-  pub gicc_uid : Repeats uid_on (two_entries 8 (processor 1) 40 (gicc 3 1)).entries 0x34 0x2c 3
-  pub gicc_capable : Repeats uid_on (two_entries 8 (processor 1) 40 (gicc 3 8)).entries 0x34 0x2c 3
-  pub gicc_off : IsKept (Repeats uid_on (two_entries 8 (processor 1) 40 (gicc 3 6)).entries)
-  pub rintc_uid : Repeats uid_on (two_entries 8 (processor 1) 20 (rintc 3 2)).entries 0x34 0x2c 3
-  pub rintc_off : IsKept (Repeats uid_on (two_entries 8 (processor 1) 20 (rintc 3 12)).entries)
-  pub core_id : Repeats apic_id_on (two_entries 8 (processor 1) 15 (core_pic 4 5 1)).entries 0x34 0x2c 5
-  pub core_off : IsKept (Repeats apic_id_on (two_entries 8 (processor 1) 15 (core_pic 4 5 2)).entries)
-  pub id : Repeats apic_id_on (two_processors 4 5 2).entries 0x34 0x2c 5
-  pub ids_differ : IsKept (Repeats apic_id_on (two_processors 3 6 2).entries)
-  pub id_off : IsKept (Repeats apic_id_on (two_processors 3 5 0).entries)
+  pub uid : Repeats usable_uid (two_processors 3 6 2).entries 0x34 0x2c 3
+  pub third : Repeats usable_uid three_processors.entries 0x44 0x2c 3
+  pub not_second : ¬ Repeats usable_uid three_processors.entries 0x44 0x34 3
+  pub uids_differ : IsKept (Repeats usable_uid (two_processors 4 5 2).entries)
+  pub uid_off : IsKept (Repeats usable_uid (two_processors 3 5 0).entries)
+  pub gicc_uid : Repeats usable_uid (two_entries 8 (processor 1) 40 (gicc 3 1)).entries 0x34 0x2c 3
+  pub gicc_capable : Repeats usable_uid (two_entries 8 (processor 1) 40 (gicc 3 8)).entries 0x34 0x2c 3
+  pub gicc_off : IsKept (Repeats usable_uid (two_entries 8 (processor 1) 40 (gicc 3 6)).entries)
+  pub rintc_uid : Repeats usable_uid (two_entries 8 (processor 1) 20 (rintc 3 2)).entries 0x34 0x2c 3
+  pub rintc_off : IsKept (Repeats usable_uid (two_entries 8 (processor 1) 20 (rintc 3 12)).entries)
+  pub core_id : Repeats usable_apic_id (two_entries 8 (processor 1) 15 (core_pic 4 5 1)).entries 0x34 0x2c 5
+  pub core_off : IsKept (Repeats usable_apic_id (two_entries 8 (processor 1) 15 (core_pic 4 5 2)).entries)
+  pub id : Repeats usable_apic_id (two_processors 4 5 2).entries 0x34 0x2c 5
+  pub ids_differ : IsKept (Repeats usable_apic_id (two_processors 3 6 2).entries)
+  pub id_off : IsKept (Repeats usable_apic_id (two_processors 3 5 0).entries)
 
 -- no processor is usable, or there is none; not so if one is Online Capable, if a local SAPIC is not read, or if the
 -- MADT is cut or has an entry of a wrong length
@@ -97,7 +97,7 @@ pub record AreNoProcessors : Type 0 where
   pub off : IsNoProcessor (one_entry 8 (processor 0)) 0 0 0
   pub empty : IsNoProcessor (said_madt 44 []) 0 0 0
   pub capable : IsKept (IsNoProcessor (one_entry 8 (processor 2)))
-  pub gicc_on : IsKept (IsNoProcessor (one_entry 40 (gicc 3 1)))
+  pub usable_gicc : IsKept (IsNoProcessor (one_entry 40 (gicc 3 1)))
   pub not_read : IsKept (IsNoProcessor (one_entry 16 sapic))
   pub cut : IsKept (IsNoProcessor (cut_madt (said_madt 44 [])))
   pub wrong_length : IsKept (IsNoProcessor (one_entry 4 (small_entry 0)))

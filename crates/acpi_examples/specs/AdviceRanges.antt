@@ -7,7 +7,7 @@ use Rattle.acpi_base.specs.Madt.{MadtEntry, Opaque, MadtContents}
 use Rattle.acpi_base.specs.Memory.{Memory, with_bytes}
 use Rattle.acpi_base.specs.Signature.{rsdt_signature}
 use Rattle.acpi_lint.specs.Rules.GicRanges.{IsGicOverlap}
-use Rattle.acpi_lint.specs.Rules.Ports.{IsBlockOverlap}
+use Rattle.acpi_lint.specs.Rules.Ports.{IsPortsOverlap}
 use Rattle.acpi_lint.specs.Rules.Structures.{IsTablesOverlap}
 use Rattle.acpi_examples.specs.Tables.{table}
 use Rattle.acpi_examples.specs.Sets.{rsdp_at, rsdp_bytes}
@@ -79,12 +79,12 @@ pub record AreStructuresOverlapping : Type 0 where
 -- the last port of one block is the first of the next, also if the first has 9 bits and no length; not so if the next
 -- begins a port later, on reduced hardware, with 8 bits, or if the first is in memory
 pub record ArePortsOverlapping : Type 0 where
-  pub shared : IsBlockOverlap (ports_fadt 3 0) 0x38 0x40 0x403
-  pub apart : IsKept (IsBlockOverlap (ports_fadt 4 0))
-  pub reduced : IsKept (IsBlockOverlap (ports_fadt 3 0x10))
-  pub bits : IsBlockOverlap (wide_fadt 1 9) 0x40 0x38 0x400
-  pub byte : IsKept (IsBlockOverlap (wide_fadt 1 8))
-  pub memory : IsKept (IsBlockOverlap (wide_fadt 0 9))
+  pub shared : IsPortsOverlap (ports_fadt 3 0) 0x38 0x40 0x403
+  pub apart : IsKept (IsPortsOverlap (ports_fadt 4 0))
+  pub reduced : IsKept (IsPortsOverlap (ports_fadt 3 0x10))
+  pub bits : IsPortsOverlap (wide_fadt 1 9) 0x40 0x38 0x400
+  pub byte : IsKept (IsPortsOverlap (wide_fadt 1 8))
+  pub memory : IsKept (IsPortsOverlap (wide_fadt 0 9))
 
 -- a service in redistributors, and one in the wide registers of a distributor of version 4; not so if it begins where
 -- they end, or beside a distributor of version 2

@@ -2,6 +2,7 @@
 
 mod field;
 mod image;
+mod lent;
 mod policy;
 mod table_kind;
 mod tally;

@@ -6,7 +6,7 @@ use crate::samples::{
     PLAIN, extended_rsdp, facs, fadt_body, header_before, policy, reduced_body, set_of_fadt,
 };
 use acpi_base::Image;
-use acpi_write::{RebuildFault, rebuild};
+use acpi_write::{RebuildFault, rebuild, rebuild_bytes};
 use std::alloc::Global;
 use std::test::Fail;
 
@@ -69,6 +69,21 @@ fn a_set_at_a_high_address(rt: HostRuntime) -> Result<(), Fail> {
     let image = set_of_fadt(rt.alloc(), &reduced_body())?;
     let new = rebuilt(rt.alloc(), image, 0x0123_4567_89ab_cdc0)?;
     assert!(rt; holds_parts(&new) && is_clear_at(&new, &AROUND));
+    Ok(())
+}
+
+// The parts have 36, 44 and 116 bytes; zeros are between them, and nothing comes after the last one.
+#[test]
+fn a_set_as_memory(rt: HostRuntime) -> Result<(), Fail> {
+    let image = set_of_fadt(rt.alloc(), &reduced_body())?;
+    let policy = policy(rt.alloc())?;
+    let bytes = rebuild_bytes(rt.alloc(), &image, &policy, 0x0123_4567_89ab_cdc0)?;
+    assert!(rt; bytes.len() == 64 + 64 + 116);
+    let mut memory = Image::new(rt.alloc());
+    memory.add(0x0123_4567_89ab_cdc0, &bytes)?;
+    assert!(rt; holds_parts(&memory));
+    assert!(rt; holds(&memory, 0x0123_4567_89ab_cde4, &[0; 28]));
+    assert!(rt; holds(&memory, 0x0123_4567_89ab_ce2c, &[0; 20]));
     Ok(())
 }
 
