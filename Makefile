@@ -31,8 +31,9 @@ override N := $(value N)
 override SEED := $(value SEED)
 export IMAGE PREFIX DESTDIR LIBDIR PC_PREFIX BINARY LIBRARY N SEED
 
-# A second make in this checkout waits until the first one has ended.
-alone := scripts/alone
+# A second make in this checkout waits until the first one has ended; what is run `beside` others does not. Both end with make.
+alone := exec scripts/alone
+beside := $(alone) --beside
 
 # Ends make with one line if the toolchain is missing. It is expanded at the beginning of a recipe.
 needs_toolchain = $(if $(shell command -v rt || :),,$(error the Rattle toolchain is missing: put the folder of its command `rt` on the PATH, or take the archive of a release, which needs no toolchain (README.md)))
@@ -49,7 +50,7 @@ link_library = { ! command -v cc >/dev/null || scripts/library $(archive); }
 
 # Builds the program without a proof, and runs it on the example and on IMAGE.
 try:
-	$(needs_toolchain)@scripts/try $(if $(IMAGE),"$$IMAGE" $(ARGUMENTS))
+	$(needs_toolchain)@$(beside) scripts/try $(if $(IMAGE),"$$IMAGE" $(ARGUMENTS))
 
 # Proves and builds the program, and checks the smallest set of tables.
 run: build
@@ -59,16 +60,15 @@ run: build
 build:
 	$(needs_toolchain)@$(alone) scripts/prove program
 
-# Continues from what `build` or `gate` left: proves and builds the rest, and runs all tests. They replace the shell, so that a
-# signal to make reaches them.
+# Continues from what `build` or `gate` left: proves and builds the rest, and runs all tests.
 test:
-	$(needs_toolchain)@$(alone) sh -c 'scripts/prove tests && $(link_library) && exec tests/all.sh $(program) crates/*/out/*_tests'
+	$(needs_toolchain)@$(alone) sh -c 'scripts/prove tests && $(link_library) && tests/all.sh $(program) crates/*/out/*_tests'
 
 # Proves everything that this machine has not passed with the same sources, tries each wrong body that must be refused, and builds what
 # `test` then runs the scripts on. `make gate acpi_base acpi_read` only passes these crates and those below them, on a copy, so that the
 # gate need not prove them again; `make kept` says which are passed.
 gate:
-	$(needs_toolchain)@$(if $(named),,$(alone)) scripts/prove gate $(named)
+	$(needs_toolchain)@$(if $(named),$(beside),$(alone)) scripts/prove gate $(named)
 
 # Nothing is made of the words themselves.
 $(if $(named),$(eval $(named): ; @:))
@@ -80,8 +80,8 @@ kept:
 library:
 	$(needs_toolchain)@$(alone) sh -c 'scripts/prove library && scripts/library $(archive)'
 
-# Prints speed and memory, compared with other programs; not part of the tests.
-bench: build
+# Prints speed and memory beside other programs, and ends with an error if a limit is exceeded; not part of the tests.
+bench: build library
 	bench/run ./acpiset
 
 # Compares ./acpiset, or BINARY, with second programs on N random cases; `make test` does it on a few. It prints the seed, which

@@ -5,10 +5,15 @@ import hashlib
 import os
 import re
 import shutil
+import signal
 import subprocess
+import sys
 from dataclasses import dataclass
 from functools import lru_cache
 from pathlib import Path
+
+# A caller may ignore SIGCHLD. Then Python takes status 0 for every child, so also for a prover that refuses; and so does `rt`.
+signal.signal(signal.SIGCHLD, signal.SIG_DFL)
 
 TOP = Path(__file__).resolve().parent.parent
 PARTS = ("src", "specs", "proofs")
@@ -27,6 +32,7 @@ MINUTES = {
     "acpi_confirm": 3.6,
     "acpi_check": 5,
     "acpi_write": 4.5,
+    "acpi_show": 1.5,
     "acpi_lint": 6,
     "acpi_examples": 1,
     "acpi_c": 4,
@@ -35,11 +41,33 @@ MINUTES = {
 }
 MINUTES_OF_TESTS = {"acpi_c": 3, "acpi_cli": 6, "acpi_tests": 20}
 
+# Asks the kernel for SIGTERM when the thread that started this process ends, with PR_SET_PDEATHSIG, and becomes the command. Where Python has
+# no ctypes, it is only the command.
+BECOMES = """import os, sys
+try:
+    import ctypes
+    ctypes.CDLL(None).prctl(1, 15)
+except (ImportError, OSError, AttributeError):
+    pass
+if os.getppid() == int(sys.argv[1]):
+    os.execvp(sys.argv[2], sys.argv[2:])
+"""
+
+
+def ending_with_this(*words):
+    """The words of a command that is ended when this process ends, however that is. The thread that starts it has to wait for it."""
+    return [sys.executable, "-ISc", BECOMES, str(os.getpid()), *words]
+
 
 @lru_cache(maxsize=None)
 def kit():
     """The folder of the toolchain."""
     return Path(subprocess.run(["rt", "doc"], stdout=subprocess.PIPE, check=True, text=True).stdout.strip()).parent
+
+
+def says_proved(printed):
+    """Whether what the toolchain printed of a crate says at its end that it was proved."""
+    return re.findall(r"^logic=\S+", printed, re.M)[-1:] == ["logic=proved"]
 
 
 @dataclass(frozen=True)
