@@ -1,6 +1,6 @@
 """Writes the generated image texts.
 
-usage: inputs.py run TEXT FILE         one run, just below TEXT MiB of text
+usage: inputs.py FORM TEXT FILE        one run, just below TEXT MiB of text; FORM is one of FORMS below
        inputs.py ORDER SIZE COUNT FILE COUNT rows of SIZE bytes, each with its own address; ORDER is one of
                                        ORDERS below
        inputs.py one-table COUNT FILE  COUNT slots that list one table of 16 MiB
@@ -8,16 +8,34 @@ usage: inputs.py run TEXT FILE         one run, just below TEXT MiB of text
        inputs.py KIND COUNT FILE       a set with COUNT entries of a KIND, one of KINDS below
        inputs.py CHAIN COUNT FILE      a set with COUNT nodes or caches in a CHAIN, one of CHAINS below; prints a witness
        inputs.py SHAPE COUNT FILE      a set with COUNT entries or slots of a SHAPE, one of SHAPES below
+       inputs.py region FILE           memory of a machine, which real firmware wrote
+       inputs.py real-sets COUNT FILE  no text: an RSDP's address and a file of tests/images in each line, in turn
        inputs.py counts FILE           no text: the counts of inputs, ADDRESS=COUNT, that go with the shape io-apics-with-counts
 """
 
+import gzip
+import itertools
 import random
 import struct
 import sys
+from pathlib import Path
 
 BASE = 0x100000
-ROW = 16
 RSDT = 64  # its offset in the run
+TESTS = Path(__file__).resolve().parent.parent / "tests"
+
+# the lines of a run: how many pairs each has, what is between them, and what is after them
+FORMS = {
+    "run": (16, " ", "\n"),
+    "rows-of-32": (32, " ", "\n"),
+    "cr-lf": (16, " ", "\r\n"),
+    "blank-at-the-end": (16, " ", " \n"),
+    "lines-of-xxd": (30, "", "\n"),
+    "dense": (1 << 14, "", "\n"),
+    "empty-lines": (16, " ", "\n\n"),
+    "comments": (16, " ", "\n# a row\n"),
+    "one-byte": (1, "", "\n"),
+}
 
 
 def with_checksum(table, at):
@@ -26,21 +44,25 @@ def with_checksum(table, at):
     return bytes(table)
 
 
-def rows(memory):
-    """The lines of a run in the written form, without the address."""
-    return "".join(memory[at : at + ROW].hex(" ") + "\n" for at in range(0, len(memory), ROW))
+def lines(memory, form):
+    """The lines of a run, without the address."""
+    size, blank, end = FORMS[form]
+    if not blank:
+        return memory.hex(end, -size) + end
+    return "".join(memory[at : at + size].hex(blank) + end for at in range(0, len(memory), size))
 
 
-def long_run(mebibytes):
+def long_run(mebibytes, form="run"):
     """Random bytes after an RSDP and an RSDT that lists no table."""
     address = f"@{BASE:x}\n"
-    size = ((mebibytes << 20) - 1 - len(address)) // (3 * ROW) * ROW
+    pairs = FORMS[form][0]
+    size = ((mebibytes << 20) - 1 - len(address)) // len(lines(bytes(pairs), form)) * pairs
     rsdp = struct.pack("<8sB6sBI", b"RSD PTR ", 0, b"BENCH ", 0, BASE + RSDT)
     rsdt = struct.pack("<4sIBB6s8sI4sI", b"RSDT", 36, 1, 0, b"BENCH ", b"BENCHRUN", 1, b"NONE", 1)
     memory = bytearray(random.Random(1).randbytes(size))
     memory[: len(rsdp)] = with_checksum(rsdp, 8)
     memory[RSDT : RSDT + len(rsdt)] = with_checksum(rsdt, 9)
-    return address + rows(memory)
+    return address + lines(memory, form)
 
 
 def shuffled(count):
@@ -164,18 +186,19 @@ def scattered_references(count):
     return pptt(*entries, *nodes)
 
 
-def machine(count):
-    """A machine with this many processors: 64 domains, and a PPTT with a package and two caches for every 64 processors."""
+def topology(count):
+    """A PPTT with a package and two caches for every 64 processors."""
     packages = range(36, 36 + 68 * (count // 64), 68)
     entries = [node(0) + cache(at + 44) + cache(0) for at in packages]
     leaves = [node(36 + 68 * (number // 64 % len(packages)), flags=0b1010, uid=number) for number in range(count)]
+    return pptt(*entries, *leaves)
+
+
+def machine(count):
+    """A machine with this many processors in 64 domains."""
     numbers = range(count)
-    return [
-        madt(io_apic(0), *map(x2apic, numbers)),
-        srat(*map(x2apic_affinity, numbers), *map(memory_range, range(64))),
-        slit(64),
-        pptt(*entries, *leaves),
-    ]
+    affinities = srat(*map(x2apic_affinity, numbers), *map(memory_range, range(64)))
+    return [madt(io_apic(0), *map(x2apic, numbers)), affinities, slit(64), topology(count)]
 
 
 # the tables of a kind, by the number of entries, which are in random order if they differ
@@ -315,18 +338,14 @@ def with_rsdp(pieces):
     return ((0xE0000, rsdp), *pieces)
 
 
-def pieces_text(pieces):
-    """Bytes without blanks: an RSDP that names the first piece, and the pieces."""
-    line = 1 << 14
-    return "".join(
-        f"@{address:x}\n" + "".join(data[at : at + line].hex() + "\n" for at in range(0, len(data), line))
-        for address, data in with_rsdp(pieces)
-    )
+def pieces_text(pieces, form="dense"):
+    """An RSDP that names the first piece, and the pieces."""
+    return "".join(f"@{address:x}\n{lines(data, form)}" for address, data in with_rsdp(pieces))
 
 
 def rows_text(pieces):
     """The same in rows of 16 pairs, which are read sooner than as many bytes without blanks."""
-    return "".join(f"@{address:x}\n{rows(data)}" for address, data in with_rsdp(pieces))
+    return pieces_text(pieces, "run")
 
 
 LISTED_AT = 0x20000000
@@ -375,6 +394,43 @@ def set_of(tables, inside=(), text=pieces_text):
     addresses = [address for address, _ in pieces]
     root = rsdt(addresses + [addresses[-1] + offset for offset in inside])
     return text([(after(pieces), root), *pieces])
+
+
+# ---- guests, as a monitor writes their tables
+
+
+def local_apic(number):
+    """An enabled processor, and its UID and APIC ID, which are the same."""
+    return struct.pack("<BBBBI", 0, 8, number, number, 1)
+
+
+def affinity(number):
+    """Puts the processor into a domain of 16."""
+    return struct.pack("<BBBBI8x", 0, 16, number // 16, number, 1)
+
+
+def guest(count, slots=0):
+    """A guest with this many processors. From 64 on they are in domains, with distances and a topology. So many further slots of its
+    RSDT list a table at LISTED_AT, which is no piece of the text."""
+    timer, sci = bytes((2, 10, 0, 0, 2, 0, 0, 0, 0, 0)), bytes((2, 10, 0, 9, 9, 0, 0, 0, 13, 0))
+    tables = [FADT, madt(*map(local_apic, range(count)), io_apic(0), timer, sci)]
+    if count >= 64:
+        domains = count // 16
+        ranges = map(memory_range, range(domains))
+        tables += [srat(*map(affinity, range(count)), *ranges), slit(domains), topology(count)]
+    places = itertools.accumulate((len(data) + 63 & ~63 for data in tables), initial=0xE1000)
+    pieces = list(zip(places, tables))
+    root = rsdt([address for address, _ in pieces] + [LISTED_AT] * slots)
+    return pieces_text([(LISTED_AT // 2, root) if slots else (0xE0040, root), *pieces])
+
+
+def real_sets(count):
+    """The images of real firmware, in turn."""
+    sys.path.insert(0, str(TESTS))
+    from acpi_images.program import FIRMWARE, IMAGES
+
+    sets = itertools.cycle(f"{rsdp} {FIRMWARE / name}.img.txt\n" for name, rsdp in IMAGES.items())
+    return "".join(itertools.islice(sets, count))
 
 
 # ---- shapes that take long beside the reading of their text
@@ -564,6 +620,9 @@ SHAPES = {
     "x2apics-last-repeated": lambda count: x2apics_of(last_repeated(bad_order(count))),
     "slots-in-a-bad-order": lambda count: slots_of(bad_order(count)),
     "io-apics-with-counts": io_apics_with_counts,
+    "guest": guest,
+    "guest-with-slots": lambda slots: guest(4, slots),
+    "real-sets": real_sets,
 }
 
 
@@ -571,8 +630,10 @@ def text_of(what):
     if what == ["counts"]:
         return counts()
     kind, *numbers = what
-    if kind == "run":
-        return long_run(*map(int, numbers))
+    if kind == "region":
+        return gzip.decompress((TESTS / "images" / "sb-q35-default.region.img.txt.gz").read_bytes()).decode()
+    if kind in FORMS:
+        return long_run(*map(int, numbers), kind)
     if kind in SHAPES:
         return SHAPES[kind](*map(int, numbers))
     if kind in SETS:

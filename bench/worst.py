@@ -2,11 +2,7 @@
 `confirm` and `find` may take 40 times, and `lint` 80 times, what a plain program takes to read one run of the same size
 (`reader --one-run`, in turn with them). `show` and `rebuild` have no limit, since they may write many times what they read.
 
-usage: worst.py PROGRAM READER
-       worst.py --write NUMBER DIVISOR FILE   the text of a shape with this part of its entries; prints the commands, a line each
-
-Prints a line for each command: its processor time in seconds, that of the plain program, the first divided by the second, the limit, the
-peak memory in MiB and divided by the text's size, and how many MB it writes. The status is 1 if a command is beyond its limit."""
+usage: worst.py NUMBER DIVISOR FILE   the text of a shape with this part of its entries; prints the commands, a line each"""
 
 import os
 import shlex
@@ -146,7 +142,7 @@ def write(number, divisor, path):
 
 def written_elsewhere(number, divisor, path):
     """The same in another process: what is measured as the memory of a program is at least that of the process that starts it."""
-    words = [sys.executable, __file__, "--write", str(number), str(divisor), path]
+    words = [sys.executable, __file__, str(number), str(divisor), path]
     return subprocess.run(words, stdout=subprocess.PIPE, check=True, text=True).stdout.splitlines()
 
 
@@ -170,20 +166,22 @@ def measured(program, reader, shapes, divisor, scratch):
             yield Measured(shape.name, command.split()[0], ours.processor, model.processor, ours.memory, ours.size, written)
 
 
-def main():
-    if sys.argv[1] == "--write":
-        number, divisor, path = sys.argv[2:]
-        print(*write(number, int(divisor), path), sep="\n")
-        return
-    program, reader = sys.argv[1:]
-    print(f"{'':<48}{'cpu s':>8}{'model':>8}{'times':>8}{'most':>6}{'MiB':>9}{'/ text':>8}{'MB out':>9}")
+def report(program, reader):
+    """Prints a line for each command: its processor time in seconds, that of the plain program, the first divided by the second, the
+    limit, the peak memory in MiB and divided by the text's size, and how many MB it writes. Returns 1 if one is beyond its limit."""
+    print(f"\n{'':<48}{'cpu s':>8}{'model':>8}{'times':>8}{'most':>6}{'MiB':>9}{'/ text':>8}{'MB out':>9}")
     beyond = 0
     with tempfile.TemporaryDirectory() as scratch:
-        for it in measured(shlex.quote(program), shlex.quote(reader), WORST, 1, scratch):
+        for it in measured(shlex.quote(str(program)), shlex.quote(str(reader)), WORST, 1, scratch):
             print(it, flush=True)
             beyond += it.is_beyond
-    print(f"{beyond} beyond their limits")
-    sys.exit(1 if beyond else 0)
+    print(f"\n{beyond} beyond their limits")
+    return 1 if beyond else 0
+
+
+def main():
+    number, divisor, path = sys.argv[1:]
+    print(*write(number, int(divisor), path), sep="\n")
 
 
 if __name__ == "__main__":

@@ -1,12 +1,10 @@
 //! A plain reader of image text: what an engineer would write who proves nothing. It reads the text on standard input
-//! as `acpiset` does, with the same refusals, and prints how much it holds. `reader` sorts the rows at the end;
-//! `reader --map` keeps them in an ordered map. `reader --one-run` and `reader --rows-alone` are models of reading a
-//! text that is one run, and refuse all others.
+//! as `acpiset` does, with the same refusals, and prints how much it holds. `reader --one-run` and `reader --rows-alone`
+//! are models of reading a text that is one run, and refuse all others.
 
 mod one_run;
 
 use one_run::{read_one_run, LineFeed};
-use std::collections::BTreeMap;
 use std::fmt;
 use std::io::{self, Read};
 use std::process::ExitCode;
@@ -38,18 +36,9 @@ impl fmt::Display for Refusal {
             Refusal::PastEnd(line) => write!(out, "line {line}: past the end"),
             Refusal::TooLong => write!(out, "too long"),
             Refusal::Device => write!(out, "device"),
-            Refusal::Option => write!(out, "usage: reader [--map | --one-run | --rows-alone]"),
+            Refusal::Option => write!(out, "usage: reader [--one-run | --rows-alone]"),
         }
     }
-}
-
-/// Rows as they come, and at the end an image.
-trait Rows: Default {
-    /// Puts bytes in at an address. On an `Err` an address is present already.
-    fn add(&mut self, base: u64, bytes: &[u8]) -> Result<(), u64>;
-
-    /// The runs of bytes between which an address is not present, in rising order. On an `Err` an address is there twice.
-    fn finish(self) -> Result<Image, u64>;
 }
 
 /// The bytes in the order of their addresses, and where each run begins: its address, and its place among the bytes.
@@ -75,22 +64,22 @@ impl Image {
 
 /// Rows in the order in which they come, which are sorted at the end: what is there twice is found only then.
 #[derive(Default)]
-struct SortedAtTheEnd {
+struct Rows {
     bytes: Vec<u8>,
     /// Address, place among the bytes, length.
     rows: Vec<(u64, usize, usize)>,
 }
 
-impl Rows for SortedAtTheEnd {
-    fn add(&mut self, base: u64, bytes: &[u8]) -> Result<(), u64> {
+impl Rows {
+    fn add(&mut self, base: u64, bytes: &[u8]) {
         match self.rows.last_mut() {
             Some((last, _, length)) if *last as u128 + *length as u128 == base as u128 => *length += bytes.len(),
             _ => self.rows.push((base, self.bytes.len(), bytes.len())),
         }
         self.bytes.extend_from_slice(bytes);
-        Ok(())
     }
 
+    /// The image. On an `Err` an address is there twice.
     fn finish(mut self) -> Result<Image, u64> {
         if let [(base, 0, _)] = self.rows[..] {
             return Ok(Image { bytes: self.bytes, runs: vec![(base, 0)] });
@@ -99,43 +88,6 @@ impl Rows for SortedAtTheEnd {
         let mut image = Image { bytes: Vec::with_capacity(self.bytes.len()), runs: Vec::new() };
         for (base, start, length) in self.rows {
             image.append(base, &self.bytes[start..start + length])?;
-        }
-        Ok(image)
-    }
-}
-
-/// Runs in an ordered map by their addresses, joined where they touch.
-#[derive(Default)]
-struct Mapped {
-    runs: BTreeMap<u64, Vec<u8>>,
-}
-
-impl Rows for Mapped {
-    fn add(&mut self, base: u64, bytes: &[u8]) -> Result<(), u64> {
-        let end = base as u128 + bytes.len() as u128;
-        let next = self.runs.range(base..).next().map(|(next, _)| *next);
-        if let Some(next) = next.filter(|next| (*next as u128) < end) {
-            return Err(next);
-        }
-        let before = self.runs.range_mut(..base).next_back();
-        let before_end = before.as_ref().map(|(first, run)| **first as u128 + run.len() as u128);
-        match before {
-            Some(_) if before_end > Some(base as u128) => Err(base),
-            Some((_, run)) if before_end == Some(base as u128) => {
-                run.extend_from_slice(bytes);
-                Ok(())
-            }
-            _ => {
-                self.runs.insert(base, bytes.to_vec());
-                Ok(())
-            }
-        }
-    }
-
-    fn finish(self) -> Result<Image, u64> {
-        let mut image = Image::default();
-        for (base, bytes) in self.runs {
-            image.append(base, &bytes)?;
         }
         Ok(image)
     }
@@ -198,8 +150,8 @@ fn parse_line(line: &[u8], bytes: &mut Vec<u8>) -> Option<Line> {
     }
 }
 
-fn read_image<R: Rows>(text: &[u8]) -> Result<Image, Refusal> {
-    let mut rows = R::default();
+fn read_image(text: &[u8]) -> Result<Image, Refusal> {
+    let mut rows = Rows::default();
     let mut bytes = Vec::new();
     let mut next = None;
     let mut through = 0;
@@ -218,7 +170,7 @@ fn read_image<R: Rows>(text: &[u8]) -> Result<Image, Refusal> {
                     return Err(Refusal::PastEnd(number));
                 }
                 let base = (end - bytes.len() as u128) as u64;
-                rows.add(base, &bytes).map_err(Refusal::Twice)?;
+                rows.add(base, &bytes);
                 next = Some(end);
             }
         }
@@ -235,8 +187,7 @@ fn whole_text(input: impl Read) -> Result<Vec<u8>, Refusal> {
 fn run() -> Result<Image, Refusal> {
     let input = io::stdin().lock();
     match std::env::args().nth(1).as_deref() {
-        None => read_image::<SortedAtTheEnd>(&whole_text(input)?),
-        Some("--map") => read_image::<Mapped>(&whole_text(input)?),
+        None => read_image(&whole_text(input)?),
         Some("--one-run") => read_one_run(input, LineFeed::Searched),
         Some("--rows-alone") => read_one_run(input, LineFeed::Expected),
         Some(_) => Err(Refusal::Option),
