@@ -9,7 +9,9 @@
 # Instead of the scripts of the folder tests, it runs those of the folder TESTS_FOLDER if that is set, and only those that
 # TESTS_ONLY names, if that is set: this is how it is tested itself.
 set -u
-cd "$(dirname "$0")/.." || exit
+# shellcheck source=scripts/prelude.sh
+. "$(dirname -- "$0")/../scripts/prelude.sh"
+cd -- "$(dirname -- "$0")/.." || exit
 program=${1:?usage: tests/all.sh PROGRAM TESTS..}
 shift
 tests=("$@")
@@ -49,7 +51,7 @@ ran() {
   echo $? >"$log.status"
 }
 
-scripts=(refusals.py lint/run.py rows/many_slots.py recipes.sh fuzz/run.py show/run.py rows/texts.py lint/second.py program.sh valgrind.sh explain/run.py tools/run.py install.sh package.sh refused_calls.py rebuild/run.py rows/confirm.py documents.sh rows/run.py rows/words.py rows/examples.py scripts.sh)
+scripts=(refusals.py lint/run.py rows/many_slots.py recipes.sh fuzz/run.py show/run.py rows/texts.py lint/second.py program.sh valgrind.sh explain/run.py tools/run.py tools/pythons.sh tools/fuzz.py install.sh package.sh refused_calls.py rebuild/run.py rows/confirm.py documents.sh rows/run.py rows/words.py rows/hints.py rows/examples.py scripts.sh)
 timed=(times.py limits.py)
 # The library is tested if `make library` has left it.
 [ ! -e library/libacpiset.a ] || scripts=(library/run.py library/rust.sh library/python.sh "${scripts[@]}")

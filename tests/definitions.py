@@ -61,11 +61,11 @@ def imports(text):
 
 
 def private_types(path):
-    """The types that it imports and that their library does not export."""
+    """The types that it imports and that their library does not export. A constant is no type: it is the text that it has."""
     for crate, module, _, _ in IMPORT.findall(path.read_text()):
         if crate in CRATES and crate not in FOR_C and module.startswith("declared.") and library_of(crate).exists():
             name = re.search(r"\.([A-Z]\w*)", module)[1]
-            if name not in exported(crate):
+            if name not in ("TheConstants", *exported(crate)):
                 yield name
 
 

@@ -5,7 +5,7 @@
 # shellcheck disable=SC2016 # backquotes in patterns are those of Markdown
 # shellcheck disable=SC2013,SC2046 # no name of a file here has blanks in it
 # shellcheck source=tests/prelude.sh
-. "$(dirname "$0")/prelude.sh"
+. "$(dirname -- "$0")/prelude.sh"
 
 # Each awk that runs from here on prints warnings about its program.
 if has gawk; then
@@ -303,7 +303,7 @@ wide() { LC_ALL=C.UTF-8 grep -E "^[^:]*:[0-9]+:.{$(($1 + 1)),}$"; }
 count 'lines of proofs with more than 120 columns that are no imports' "$(grep -rn '' crates/*/proofs --include='*.antt' | wide 120 | grep -vE '^[^:]*:[0-9]+:(pub )?use ')"
 count 'clauses with more than 100 columns' "$(grep -rnE '^ *(requires|ensures) ' crates/*/src --include='*.rt' | wide 100)"
 
-version=$(sed -n 's/^const VERSION: &str = "\(.*\)";$/\1/p' crates/acpi_arguments/src/reply.rt)
+version=$(sed -n 's/^const VERSION: &str = "\(.*\)";$/\1/p' crates/acpi_arguments/src/usage.rt)
 agree 'the version of the program (<) and the last one in CHANGELOG.md (>)' "$version" "$(sed -n 's/^## \([0-9.]*\).*/\1/p' CHANGELOG.md | head -n 1)"
 # page SECTION: the lines of a section of the manual page, with plain hyphens.
 page() { sed -n "/^\.SH $1\$/,/^\.SH /p" man/acpiset.1 | sed 's/\\-/-/g'; }
@@ -315,6 +315,8 @@ within 'options that the synopsis of man/acpiset.1 does not name' "$options" "$(
 within 'options that man/acpiset.1 does not explain' "$options" "$(terms OPTIONS | option_names)"
 count 'options of man/acpiset.1 that are not those of the help' "$(tests/manual.py 2>&1)"
 commands=$(sed -n 's/.*Command::new(alloc, "\([a-z]*\)").*/\1/p' crates/acpi_arguments/src/command_line.rt | grep -vx acpiset)
+commands+=$'\nhelp\nversion'
+agree 'commands (<) and those that have a help (>)' "$commands" "$(sed -n 's/^ *"\([a-z]*\)" => Some(Topic::.*/\1/p' crates/acpi_arguments/src/topic.rt)"
 agree 'commands (<) and those in the synopsis of man/acpiset.1 (>)' "$commands" "$(page SYNOPSIS | sed -n 's/^\.B acpiset //p')"
 agree 'commands (<) and those that man/acpiset.1 explains (>)' "$commands" "$(terms DESCRIPTION | sed -n 's/^\.B //p')"
 
@@ -327,7 +329,7 @@ agree 'refusals in acpiset.h (<) and in LIBRARY.md (>)' "$refusals" "$(sed -n 's
 agree 'refusals in acpiset.h (<) and in man/acpiset.3 (>)' "$refusals" "$(sed -n 's/^\.BR \(ACPISET_[A-Z_]*\) " (\([0-9]*\))"$/\1 \2/p' man/acpiset.3)"
 within 'refusals that the order in LIBRARY.md leaves out' "$(sed 's/^ACPISET_//; s/ .*//' <<<"$refusals")" \
   "$(sed -n '/first one in this order/,/^## /p' docs/LIBRARY.md | grep -o '`[A-Z_]*`' | tr -d '`')"
-declared=$(sed -n 's/^struct acpiset_answer \(acpiset_[a-z_]*\)(.*/\1/p; s/^uint32_t \(acpiset_[a-z_]*\)(.*/\1/p' "$header")
+declared=$(sed -n 's/^struct acpiset_answer \(acpiset_[a-z_]*\)(.*/\1/p; s/^[a-z0-9]*_t \(acpiset_[a-z_]*\)(.*/\1/p' "$header")
 agree 'functions of acpiset.h (<) and those that LIBRARY.md lists (>)' "$declared" "$(sed -n '/^## The calls$/,/^## /p' docs/LIBRARY.md | sed -n '/^| `acpiset_/p' | cut -d '|' -f 2 | grep -o 'acpiset_[a-z_]*')"
 agree 'functions of acpiset.h (<) and those that man/acpiset.3 explains (>)' "$declared" "$(sed -n '/^\.SH DESCRIPTION$/,/^\.SH SETTINGS$/s/^\.B \(acpiset_[a-z_]*\)$/\1/p' man/acpiset.3)"
 # members STRUCT: the names of its fields.
@@ -339,6 +341,13 @@ within 'settings that LIBRARY.md does not explain' "$(members acpiset_settings |
 count 'the Rust crate, and what its lists are written from' "$(bindings/rust/lists.py --check 2>&1)"
 count 'the Python package, and what its lists are written from' "$(bindings/python/lists.py --check 2>&1)"
 
+# What a call needs of the stack is said wherever the library is described, with one number.
+said=$(for page in bindings/c/acpiset.h man/acpiset.3 bindings/rust/src/lib.rs bindings/rust/README.md bindings/python/README.md \
+  bindings/python/acpiset/__init__.py docs/LIBRARY.md SECURITY.md; do
+  tr '\n' ' ' <"$page" | sed 's| //! | |g; s| \* | |g' | grep -o '[0-9]* KiB of stack' || echo "$page does not say it"
+done | sort -u)
+same 'how much of the stack a call needs' "$said" '100 KiB of stack'
+
 # ---- a release: what is installed, and what the program and the library have inside
 
 tools=$(sed -n "s/^tools='\(.*\)'$/\1/p" scripts/install | tr ' ' '\n')
@@ -346,6 +355,13 @@ agree 'tools that scripts/install lists (<) and those that are here (>)' "$tools
 agree 'tools (<) and those with a manual page (>)' "$tools" "$(printf '%s\n' man/acpiset-*.1 | sed 's/.*acpiset-//; s/\.1$//')"
 within 'tools that the README of an archive does not name' "$tools" "$(grep -o '`bin/acpiset-[a-z0-9]*`' release/README.md | sed 's/^.*-//; s/`//')"
 count 'an install' "$(BINARY=/bin/sh LIBRARY=none DESTDIR=$scratch/root PREFIX=/usr scripts/install install 2>&1)"
+if [ -z "$(git rev-parse --show-cdup 2>&1)" ]; then
+  packed=$(git ls-files -- LICENSE README.md CHANGELOG.md CONTRIBUTING.md SECURITY.md bench/README.md docs 'man/*.[0-9]' share tests/images examples \
+    bindings/rust bindings/python | grep -v '/lists.py$\|/\.[^/]*$\|^bindings/rust/tests/[^t]')
+  agree 'files that release/files.txt lists (<) and those that git has (>)' "$(grep -v '^#' release/files.txt)" "$packed"
+else
+  echo 'left out: the files that release/files.txt lists: this folder is not the top of a repository'
+fi
 linked=$(sed -n 's/^[a-z_]*\( staticlib\)\{0,1\}: *//p' crates.txt | tr ' ' '\n' | grep -vxF "$crates")
 within 'libraries of the toolchain in crates.txt that release/parts.txt does not have' "$linked" "$(sed -n 's/^\([a-z_]*\) | .*/\1/p' release/parts.txt)"
 agree 'libraries in release/parts.txt (<) and those with a notice in release/NOTICES.md (>)' "$(sed -n 's/^\([a-z_]*\) | .*/\1/p' release/parts.txt)" \
@@ -365,6 +381,13 @@ fi
 asked() { command -v "$1" >/dev/null || { printf 'left out: %s is not installed\n' "$1" && false; }; }
 
 mapfile -t scripts < <(grep -lIE '^#! ?/(usr/)?bin/(env )?(ba|da)?sh$' .ci/* bench/* bindings/*/* examples/* man/* release/* scripts/* tests/* tests/*/* tools/* 2>/dev/null)
+# Each sources a prelude before it goes anywhere; but the preludes, and what the packages run after they are installed.
+count 'scripts that do not begin with the prelude' "$(for script in "${scripts[@]}"; do
+  case $script in
+    */prelude.sh | release/debian/tests/* | docs/*) ;;
+    *) grep -E '^([A-Za-z_]+=[^ ]*\()?\(?(cd|pushd) |^\. ' "$script" | head -n 1 | grep -qE '^\. "\$\(dirname -- "\$0"\)/[a-z./]*prelude\.sh"$' || echo "$script" ;;
+  esac
+done)"
 if asked shellcheck; then
   count 'shellcheck' "$(shellcheck --severity=info --format=gcc "${scripts[@]}" 2>&1)"
 fi

@@ -6,18 +6,19 @@
 # shellcheck disable=SC2016 # dollar signs and backquotes in names of folders and in pages are no commands
 program=$(realpath -- "${1:?usage: tests/install.sh PROGRAM}")
 # shellcheck source=tests/prelude.sh
-. "$(dirname "$0")/prelude.sh"
+. "$(dirname -- "$0")/prelude.sh"
 # `make` passes its own settings on to the programs that it starts.
 unset DESTDIR PREFIX LIBDIR PC_PREFIX BINARY LIBRARY SOURCE_DATE_EPOCH
 mkdir "$scratch/a tmp"
 export TMPDIR="$scratch/a tmp"
 
-# copy_tree FOLDER: copies this tree without what was built, so that no archive is left here.
+# copy_tree FOLDER: copies this tree without what was built, so that no archive is left here, and without a licence.
 copy_tree() {
   local all
   mkdir "$1"
-  mapfile -t all < <(ls -d Makefile ./*.md LICENSE bindings crates crates.txt docs examples man release scripts share bench/README.md tests/images tools 2>/dev/null)
+  mapfile -t all < <(ls -d Makefile ./*.md bindings crates crates.txt docs examples man release scripts share bench/README.md tests/images tools)
   tar -cf - --exclude=out --exclude=target "${all[@]}" | tar -xf - -C "$1"
+  sed -i '/^LICENSE$/d' "$1/release/files.txt"
 }
 
 tree="$scratch/a tree"
@@ -28,6 +29,15 @@ run() { make -s -C "$tree" "$@" >"$scratch/log" 2>&1; }
 
 # with_program TARGET SETTING..: the same, for the program that is tested.
 with_program() { run BINARY="$program" "$@"; }
+
+# of_tree PATTERN..: the files of this tree with such names: those that git has, if this is its folder.
+of_tree() {
+  if [ -z "$(git rev-parse --show-cdup 2>&1)" ]; then
+    git ls-files -- "$@"
+  else
+    find . -type f -printf '%P\n' | grep -x "$(printf '%s\n' "$@" | sed 's|[.]|[.]|g; s|[*]|.*|g')"
+  fi
+}
 
 # sorted: lines in one order on every machine.
 sorted() { LC_ALL=C sort; }
@@ -52,17 +62,16 @@ hardened() {
 tools=$(sed -n "s/^tools='\(.*\)'$/\1/p" scripts/install | tr ' ' '\n')
 there=$(cd tools && find . -type f -printf '%P\n' | grep -x '[a-z0-9]*' | sorted)
 same 'tools that scripts/install lists, and those that are here' "$tools" "$there"
-[ -e LICENSE ] && licence=share/doc/acpiset/LICENSE || licence=
 wanted=$({
   echo bin/acpiset
   for tool in $there; do echo "bin/acpiset-$tool"; done
-  for page in man/*.1; do echo "share/man/man1/${page#man/}"; done
+  of_tree 'man/*.1' | sed 's|^|share/man/man1/|; s|/man/|/|2'
   echo share/man/man7/acpiset-faults.7
-  for document in README.md CHANGELOG.md CONTRIBUTING.md NOTICES.md SECURITY.md bench/README.md docs/*.md docs/*.png; do echo "share/doc/acpiset/$document"; done
-  [ -z "$licence" ] || echo "$licence"
-  find share -name '*.py' 2>/dev/null
+  of_tree README.md CHANGELOG.md CONTRIBUTING.md SECURITY.md bench/README.md 'docs/*' | sed 's|^|share/doc/acpiset/|'
+  echo share/doc/acpiset/NOTICES.md
+  of_tree 'share/*'
   echo share/acpiset/FAULTS.md
-  for image in tests/images/*; do echo "share/acpiset/images/${image##*/}"; done
+  of_tree 'tests/images/*' | sed 's|^tests|share/acpiset|'
 } | sorted)
 
 # open_links FOLDER: the links in its pages that lead nowhere; not in the copy of FAULTS.md that only tools read.
@@ -77,15 +86,20 @@ open_links() {
 
 # ---- install and uninstall
 
-# Files that an editor leaves beside the tools and pages are not installed.
-for name in tools/explain~ tools/explain.orig tools/.explain.swp man/acpiset.1~ docs/.hidden.md docs/FAULTS.md~; do echo x >"$tree/$name"; done
+# Files that an editor or anyone else leaves beside the tools and pages are not installed, nor packed.
+others=(LICENSE tools/explain~ tools/explain.orig tools/.explain.swp man/acpiset.1~ docs/.hidden.md docs/FAULTS.md~ docs/other.md docs/other.png
+  man/other.1 man/other.3 share/acpiset/explain/other.py tests/images/other.img.txt examples/other.c bindings/rust/src/other.rs
+  bindings/python/acpiset/other.py)
+add_others() { for name in "${others[@]}"; do echo x >"$tree/$name"; done; }
+remove_others() { (cd "$tree" && rm -f "${others[@]}"); }
+add_others
 with_program install DESTDIR="$scratch/root" PREFIX=/usr
 same 'make install' "$? $(cat "$scratch/log")" '0 '
 usr="$scratch/root/usr"
 same 'files that are installed' "$(files_in "$usr")" "$wanted"
 same 'links in the installed pages that lead nowhere' "$(open_links "$usr")" ''
 same 'an installed image' "$("$usr/bin/acpiset" check <"$usr/share/acpiset/images/example.img.txt")" yes
-rm "$tree"/tools/*[~.]* "$tree"/tools/.[a-z]* "$tree"/man/*~ "$tree"/docs/.[a-z]* "$tree"/docs/*~
+remove_others
 same 'lines of acpiset-faults(7)' "$(wc -l <"$usr/share/man/man7/acpiset-faults.7")" "$(awk -f man/faults.awk docs/FAULTS.md | wc -l)"
 same 'the program' "$("$usr/bin/acpiset" check <tests/images/example.img.txt)" yes
 same 'acpiset-explain' "$(echo yes | "$usr/bin/acpiset-explain" | head -n 1)" yes
@@ -99,6 +113,36 @@ same 'acpiset-acpidump2image' "$("$usr/bin/acpiset-acpidump2image" tests/images/
 ln -s "$usr/bin/acpiset-explain" "$scratch/link"
 same 'acpiset-explain by a link' "$(echo 'no rsdp' | "$scratch/link" | head -n 1)" 'no rsdp'
 same 'acpiset-tables2image without files' "$("$usr/bin/acpiset-tables2image" 2>&1 | grep -c '^acpiset-tables2image: usage: acpiset-tables2image ')" 1
+# A tool whose own name has control characters: the usage and the refusals have none.
+mkdir "$scratch/named" "$scratch/named/bin"
+cp -r "$usr/share" "$scratch/named"
+cp "$usr"/bin/* "$scratch/named/bin"
+for tool in $tools; do
+  mv "$scratch/named/bin/acpiset-$tool" "$scratch/named/bin/acpiset-$tool"$'\e]0;x\a\r'
+  for words in '' '--none' '/nothing/there' '--help'; do
+    # shellcheck disable=SC2086 # no word, or one
+    same "control characters of its own name that $tool $words prints" \
+      "$("$scratch/named/bin/acpiset-$tool"$'\e]0;x\a\r' $words </dev/null 2>&1 | LC_ALL=C tr -d '\n\40-\176' | od -An -c)" ''
+  done
+done
+rm -r "$scratch/named"
+# A tool of another owner beside them, and a caller that ignores SIGCHLD.
+for tool in $tools; do printf 'open("%s", "w")\n' "$scratch/called" >"$usr/bin/$tool"; done
+same 'acpiset-acpidump2image beside a tool of another owner' \
+  "$("$usr/bin/acpiset-acpidump2image" tests/images/example.acpidump.txt 2>/dev/null | "$usr/bin/acpiset" check) $(find "$scratch/called" 2>/dev/null)" 'yes '
+same 'acpiset-report on a text of acpidump, beside a tool of another owner' \
+  "$("$usr/bin/acpiset-report" --format tap tests/images/example.acpidump.txt 2>&1 | grep -c '^ok ') $(find "$scratch/called" 2>/dev/null)" '1 '
+for tool in $tools; do rm "$usr/bin/$tool"; done
+same 'acpiset-report on a fault, with SIGCHLD ignored' "$(trap '' CHLD; "$usr/bin/acpiset-report" --format tap tests/images/sb-pc-nvdimm-numa.img.txt >"$scratch/log"; echo "$? $(grep -c '^not ok ' "$scratch/log")")" '1 1'
+mv "$usr/bin/acpiset" "$scratch/acpiset"
+printf '#!/bin/sh\nexit 4\n' >"$usr/bin/acpiset"
+chmod +x "$usr/bin/acpiset"
+for tool in 'report --format tap' 'explain no 10 Overlap 0x90 0xb8 0x100000000'; do
+  # shellcheck disable=SC2086 # a tool and its words
+  same "acpiset-$tool with a program that fails, with SIGCHLD ignored" \
+    "$(trap '' CHLD; "$usr/bin/acpiset-"$tool tests/images/sb-pc-nvdimm-numa.img.txt 2>&1; echo $?)" "$("$usr/bin/acpiset-"$tool tests/images/sb-pc-nvdimm-numa.img.txt 2>&1; echo $?)"
+done
+mv "$scratch/acpiset" "$usr/bin/acpiset"
 same 'files after the tools ran' "$(files_in "$usr")" "$wanted"
 names=$(paste -s -d '|' <<<"$tools")
 same 'names of a checkout in what is installed' "$(grep -rnE "(^|[^A-Za-z0-9_./-])(\./acpiset|(\./)?tools/($names)([^A-Za-z0-9_]|$))" "$usr/share/doc" "$usr/share/man")" ''
@@ -130,6 +174,40 @@ for name in x p; do echo mine >"$scratch/foreign/$name"; done
 with_program uninstall DESTDIR="$scratch/foreign/x y" PREFIX=/usr
 with_program uninstall DESTDIR="$scratch/foreign" PREFIX='/p q'
 same 'files of others that make uninstall leaves' "$(files_in "$scratch/foreign")" $'p\nx'
+
+# ---- each shell that is here, and the commands of busybox
+
+# by_shell PATH SHELL..: what scripts/install does by this shell, with the commands of this PATH: it installs, refuses a prefix, and removes.
+by_shell() {
+  local root="$scratch/by a shell" prefix='/u $(touch made) %'
+  (
+    cd "$tree" || exit
+    export BINARY=$program LIBRARY=none DESTDIR=$root
+    PATH=$1 PREFIX=$prefix "${@:2}" scripts/install install
+    echo "status $?"
+    (cd "$root$prefix" && find . ! -type d -exec sha256sum {} + | sed 's|^\([0-9a-f]*\)  \./|\1 |' | sorted)
+    PATH=$1 PREFIX=usr "${@:2}" scripts/install install
+    echo "status $?"
+    PATH=$1 PREFIX=$prefix "${@:2}" scripts/install uninstall
+    echo "status $?"
+  ) 2>&1
+  files_in "$root"
+  rm -rf "$root"
+}
+by_sh=$(by_shell "$PATH" sh)
+# shellcheck disable=SC2001 # a pattern of each line
+same 'scripts/install by sh' "$(sed 's/^[0-9a-f]\{64\} //' <<<"$by_sh" | sorted)" "$(sorted <<<"$wanted"$'\nscripts/install: PREFIX is no absolute path: usr\nstatus 0\nstatus 0\nstatus 2')"
+for shell in dash 'bash' 'bash --posix' 'busybox sh' mksh ksh yash zsh\ --emulate\ sh; do
+  # shellcheck disable=SC2086 # a shell and its options
+  if has ${shell%% *}; then same "scripts/install by $shell" "$(by_shell "$PATH" $shell)" "$by_sh"; else left_out "scripts/install by $shell" 'it is not installed'; fi
+done
+if has busybox; then
+  mkdir "$scratch/applets"
+  for applet in $(busybox --list); do ln -s "$(command -v busybox)" "$scratch/applets/$applet"; done
+  # Debian's has none of this name.
+  [ -e "$scratch/applets/install" ] || ln -s "$(command -v install)" "$scratch/applets"
+  same 'scripts/install by busybox with its commands' "$(by_shell "$scratch/applets" "$scratch/applets/sh")" "$by_sh"
+fi
 
 # refused WHAT TEXT TARGET SETTING..: make says why in one line, and installs nothing.
 refused() {
@@ -167,6 +245,13 @@ mkdir -p "$scratch/filed/usr"
 echo mine >"$scratch/filed/usr/bin"
 run install "$given" DESTDIR="$scratch/filed" PREFIX=/usr
 same 'a file in the place of a folder' "$? $(grep -c '/filed/usr/bin is no folder$' "$scratch/log") $(files_in "$scratch/filed")" '2 1 usr/bin'
+for name in share/doc/acpiset/docs/TABLES.md share/acpiset; do
+  mkdir -p "$scratch/linked/usr/${name%/*}"
+  ln -s /nothing/there "$scratch/linked/usr/$name"
+  run install "$given" DESTDIR="$scratch/linked" PREFIX=/usr
+  same "a link to nothing in the place of $name" "$? $(grep -c "/linked/usr/$name is \\(a link to nothing: remove it\\|no folder$\\)" "$scratch/log") $(files_in "$scratch/linked")" "2 1 usr/$name"
+  rm -r "$scratch/linked"
+done
 mkdir -p "$scratch/kept/usr/bin/acpiset"
 run uninstall DESTDIR="$scratch/kept" PREFIX=/usr
 same 'uninstall where there is a folder' "$? $(grep -c '/kept/usr/bin/acpiset is a folder: it stays$' "$scratch/log") $(find "$scratch/kept" -name acpiset)" "2 1 $scratch/kept/usr/bin/acpiset"
@@ -181,12 +266,16 @@ echo "$*" >>"$FOLDER/calls"
 case $1 in
   version) echo rattle-kit-stand-in ;;
   doc) echo "$FOLDER/kit/START-HERE.md" ;;
-  run) mkdir -p out && cp "$PROGRAM" out/acpi_cli ;;
+  run) mkdir -p out && cp "$PROGRAM" out/acpi_cli && echo logic=proved ;;
   try)
     printf '== 1\nyes\n== 2\n' && cat "$3/2.args"
     printf 'case=1 run=ended\ncase=2 run=ended\n' >&2
     ;;
-  lib) mkdir -p out && [ "${PWD##*/}" != acpi_c ] || cp "$FOLDER/libacpi_c.a" out/libacpi_c.a ;;
+  lib)
+    rlib=out/rlib/${PWD##*/}.rlib
+    mkdir -p "$rlib" && echo "$PWD" >"$rlib/format" && echo logic=proved
+    [ "${PWD##*/}" != acpi_c ] || cp "$FOLDER/libacpi_c.a" out/libacpi_c.a
+    ;;
 esac
 END
 chmod +x "$stand_in/bin/rt"
@@ -241,6 +330,20 @@ same 'make try of an image of many marks' "$? $(tail -n 4 "$scratch/log")" "0 $i
 run fuzz N=1
 same 'make fuzz without a program' "$? $(grep -c '`make build` first' "$scratch/log")" '2 1'
 
+# ---- what a caller set changes nothing
+
+# Where `cd` would look first: another checkout, with what make removes or runs there. An alias that bash would know.
+other=$scratch/elsewhere
+mkdir -p "$other/scripts" "$other/dist" "$other/tests" "$other/crates" "$other/bench"
+echo mine >"$other/dist/mine"
+printf 'shopt -s expand_aliases\nalias mkdir="touch %q; mkdir"\n' "$scratch/aliased" >"$scratch/aliases"
+for target in dist try; do
+  CDPATH=$other BASH_ENV=$scratch/aliases PATH="$stand_in/bin:$PATH" with_program $target IMAGE="$image"
+  same "make $target with another checkout in CDPATH" "$? $(files_in "$other") $(find "$scratch/aliased" 2>/dev/null)" '0 dist/mine '
+done
+same 'the folder of the archive then' "$(find "$tree/dist" -name '*.tar.gz' | wc -l)" 1
+rm -rf "$tree/dist"
+
 # ---- a full disk, simulated by a limit on the size of files
 
 printf '#!/bin/sh\n' >"$scratch/small"
@@ -278,8 +381,9 @@ rm -rf "$tree/dist" "$scratch/short"
 # archived SETTING..: makes the archive; its standard error is in the file `notes`.
 archived() { make -s -C "$tree" BINARY="$program" dist "$@" >"$scratch/log" 2>"$scratch/notes"; }
 
-rm -f "$tree/LICENSE"
+add_others
 archived
+remove_others
 same 'make dist' "$? $(sed 's/-[0-9.]*-/-VERSION-/' "$scratch/log")" '0 dist/acpiset-VERSION-x86_64-linux.tar.gz'
 same 'make dist on a licence that is missing' "$(grep -c '^scripts/archive: acpiset has no licence yet: ' "$scratch/notes")" 1
 version=$(sed -n 's/^## \([0-9.]*\).*/\1/p' CHANGELOG.md | head -n 1)
@@ -288,7 +392,6 @@ archive=$tree/dist/$name.tar.gz
 same 'the sum of the archive' "$(cd "$tree/dist" && sha256sum -c "$name.tar.gz.sha256")" "$name.tar.gz: OK"
 same 'files beside the archive' "$(cd "$tree/dist" && echo *)" "$name $name.tar.gz $name.tar.gz.sha256"
 copy_tree "$scratch/another"
-rm -f "$scratch/another/LICENSE"
 mkdir "$scratch/tmp" "$scratch/lint"
 : >"$scratch/awk"
 if has gawk; then
@@ -314,8 +417,7 @@ unpacked=$scratch/unpacked/$name
 # packed FILES..: the files of an archive, except its list of checksums, if these files are installed.
 packed() {
   {
-    printf '%s\n' README.md PROVED.md acpiset.spdx.json "$@" | grep -vx share/doc/acpiset/LICENSE
-    echo images
+    printf '%s\n' README.md PROVED.md acpiset.spdx.json "$@" images
     [ ! -e "$unpacked/lib/acpiset.o" ] || printf '%s\n' lib/acpiset.o licences/LGPL-2.1.txt licences/glibc.txt
   } | sorted
 }
@@ -336,11 +438,73 @@ same 'its list of parts' "$(tests/parts_list.py "$unpacked" 2>&1)" ''
 mkdir "$scratch/kept archive"
 cp "$archive" "$archive.sha256" "$scratch/kept archive"
 echo 'a licence' >"$tree/LICENSE"
+echo LICENSE >>"$tree/release/files.txt"
 archived SOURCE_DATE_EPOCH=1700000000
 same 'times in an archive of a given time' "$(TZ=UTC tar --full-time -tvzf "$archive" | awk '{ print $4, $5 }' | sort -u)" '2023-11-14 22:13:20'
 same 'make dist with a licence' "$? $(grep -c 'no licence' "$scratch/notes") $(tar -tzf "$archive" | grep -c '/share/doc/acpiset/LICENSE$')" '0 0 1'
 same 'a licence in the README of the archive' "$(tar -xzOf "$archive" "$name/README.md" | grep -c 'Its licence is in `share/doc/acpiset/LICENSE`')" 1
 rm -rf "$tree/LICENSE" "$tree/dist"
+sed -i '/^LICENSE$/d' "$tree/release/files.txt"
+
+# ---- which sources an archive names, and the program in it
+
+# sources_of FOLDER: what the archive of a folder names as its sources, a hash as HASH.
+sources_of() {
+  make -s -C "$1" BINARY="$program" dist >"$scratch/log" 2>&1
+  tar -xzOf "$1/dist/$name.tar.gz" "$name/PROVED.md" | sed -n 's/^| sources | `\(.*\)` |$/\1/p' | sed 's/[0-9a-f]\{40\}/HASH/'
+}
+# git_in FOLDER WORD..: git in this folder, whoever runs this.
+git_in() { git -C "$1" -c user.name=someone -c user.email=someone@example.org -c core.excludesFile=/dev/null "${@:2}" >>"$scratch/log" 2>&1; }
+same 'sources without git' "$(sources_of "$tree")" unknown
+if has git; then
+  repository=$scratch/repository
+  copy_tree "$repository"
+  printf 'out/\n/dist/\n' >"$repository/.gitignore"
+  git_in "$repository" init && git_in "$repository" add -A && git_in "$repository" commit -m all
+  same 'sources of a commit' "$(sources_of "$repository")" HASH
+  git_in "$repository" tag -a -m tagged 'v1&@SUM@'
+  same 'sources of a tag of many marks' "$(sources_of "$repository")" 'v1&@SUM@'
+  echo x >"$repository/docs/other.md"
+  same 'sources beside a file that is not packed' "$(sources_of "$repository")" 'v1&@SUM@'
+  echo '// other' >"$repository/crates/acpi_graph/src/other.rt"
+  same 'sources with a file that git does not have' "$(sources_of "$repository")" 'v1&@SUM@-dirty'
+  rm "$repository/crates/acpi_graph/src/other.rt"
+  echo x >>"$repository/docs/TABLES.md"
+  same 'sources of which one was changed' "$(sources_of "$repository")" 'v1&@SUM@-dirty'
+  copy_tree "$repository/inside"
+  same 'sources inside of another repository' "$(sources_of "$repository/inside")" unknown
+  # A file that git does not have is packed neither where nothing lists it, nor where the list has it.
+  git_in "$repository" checkout -- docs/TABLES.md
+  echo 'a licence' >"$repository/LICENSE"
+  same 'sources beside a licence that git does not have' "$(sources_of "$repository") $(tar -tzf "$repository/dist/$name.tar.gz" | grep LICENSE)" 'v1&@SUM@ '
+  echo LICENSE >>"$repository/release/files.txt"
+  git_in "$repository" commit -m listed release/files.txt
+  rm -r "$repository/dist"
+  make -s -C "$repository" BINARY="$program" dist >"$scratch/log" 2>&1
+  same 'make dist of a licence that git does not have' "$? $(grep -c '^scripts/archive: git does not have LICENSE: ' "$scratch/log") $(ls "$repository/dist" 2>/dev/null)" '2 1 '
+  git_in "$repository" add LICENSE && git_in "$repository" commit -m licensed
+  same 'make dist of a licence that git has' "$(sources_of "$repository" | grep -c dirty) $(tar -tzf "$repository/dist/$name.tar.gz" | grep -o 'share/.*LICENSE$')" '0 share/doc/acpiset/LICENSE'
+  rm -rf "$repository"
+else
+  left_out 'the commit in an archive' 'no git'
+fi
+
+# A linker that gives another program: no archive has it.
+mkdir "$scratch/linking"
+cp "$program" "$scratch/linking/program"
+echo object >"$scratch/linking/program.o"
+printf '#!/bin/sh\nwhile [ "$1" != -o ]; do shift; done\necho object >"$2"\n' >"$stand_in/bin/ld"
+printf '#!/bin/sh\nwhile [ "$1" != -o ]; do shift; done\n{ echo "#!/bin/sh"; echo "$LINKED"; } >"$2" && chmod +x "$2"\n' >"$stand_in/bin/cc"
+chmod +x "$stand_in/bin/ld" "$stand_in/bin/cc"
+if [ -r /usr/share/doc/libc6-dev/copyright ] || [ -r /usr/share/licenses/glibc/LICENSES ]; then
+  for linked in 'echo no 1 NoRsdp 0x0 0x0 0x0' "exec '$program' \"\$@\" | sed s/yes/no/" "'$program' \"\$@\"; exit 4"; do
+    LINKED=$linked PATH="$stand_in/bin:$PATH" make -s -C "$tree" BINARY="$scratch/linking/program" dist >"$scratch/log" 2>&1
+    same "make dist with a linked program that answers otherwise: $linked" "$? $(grep -c 'answers otherwise than' "$scratch/log") $(ls "$tree/dist" 2>/dev/null)" '2 1 '
+  done
+else
+  left_out 'a linked program that answers otherwise' 'no notices of the C library'
+fi
+rm -rf "$stand_in/bin/ld" "$stand_in/bin/cc" "$tree/dist"
 
 # Each command of its README prints what the page says.
 page=$unpacked/README.md
@@ -348,6 +512,27 @@ sed -n '/^```console$/,/^```$/p' "$page" | sed -n 's/^\$ //p' >"$scratch/command
 (cd "$unpacked" && env -i PATH=/usr/bin:/bin sh "$scratch/commands") >"$scratch/printed" 2>&1
 same 'the commands of its README' "$(cat "$scratch/printed")" "$(sed -n '/^```console$/,/^```$/p' "$page" | grep -v '^\$ \|^```')"
 same 'commands in its README' "$([ "$(wc -l <"$scratch/commands")" -ge 5 ] && echo yes)" yes
+# Each of its commands for tables of one's own makes a page of such files. The table has a wrong checksum, and the dump no RSDT.
+mkdir "$scratch/own"
+{ printf 'HPET8\0\0\0' && head -c 48 /dev/zero; } >"$scratch/own/hpet.dat"
+{ head -c 16 /dev/zero && printf 'RSD PTR KAAAAAA\0\0\020\0\0' && head -c 40 /dev/zero; } >"$scratch/own/dump.bin"
+# page_of COMMAND: what a page says of the files, which the command names by the names in README.
+page_of() {
+  local command=${1//'/sys/firmware/acpi/tables/*'/"'$scratch'/own/*.dat"}
+  command=${command//' *.dat'/" '$scratch'/own/*.dat"}
+  (cd "$unpacked" && eval "${command%>*}") 2>"$scratch/log" | grep -o '<strong>[A-Za-z]*</strong>' | sort -u
+}
+mapfile -t own < <(grep -o '`bin/acpiset-report --format html [^i][^`]*`' "$page" | tr -d '`')
+same 'commands for own tables in its README' "${#own[@]}" 3
+for command in "${own[@]}"; do
+  case $command in
+    *FILE*)
+      same 'a page of text of acpidump' "$(page_of "${command/FILE/images/example.acpidump.txt}" | grep -x '<strong>yes</strong>')" '<strong>yes</strong>'
+      same 'a page of a dump of memory' "$(page_of "${command/FILE/"'$scratch'/own/dump.bin"}" | grep Root)" '<strong>RootHeaderOut</strong>'
+      ;;
+    *) same "a page of raw tables: $command" "$(page_of "$command" | grep TableSum)" '<strong>TableSum</strong>' ;;
+  esac
+done
 # So does the first use in the complete README.
 whole=$unpacked/share/doc/acpiset/README.md
 blocks=$(awk '/^<!-- recipe first-use/ { on = 1 } on && /^```/ { inside = !inside; if (!inside) on = 0; next } on && inside' "$whole")
@@ -451,14 +636,22 @@ fi
 with_program uninstall PREFIX="$prefix" LIBDIR="$prefix/li b"
 same 'files that are left under it' "$? $(cat "$scratch/log") $(files_in "$prefix")" '0  '
 
+# A name is filled in as it is, also if it has places to fill itself.
+prefix=/opt/@LIBDIR@/@VERSION@
+with_program install DESTDIR="$scratch/places" PREFIX="$prefix"
+same 'acpiset.pc under a prefix with places to fill' "$(fields "$scratch/places$prefix/lib/pkgconfig/acpiset.pc")" \
+  "$(printf '%s\n' "$prefix" '${prefix}/lib' '${prefix}/include' "$version" '-L${libdir} -lacpiset')"
+
+add_others
 archived
+remove_others
 same 'make dist with the library' "$? $(sed 's/-[0-9.]*-/-VERSION-/' "$scratch/log")" '0 dist/acpiset-VERSION-x86_64-linux.tar.gz'
 rm -rf "$unpacked"
 tar -xzf "$archive" -C "$scratch/unpacked"
 beside=$({
   printf '%s\n' bindings/rust/Cargo.lock bindings/rust/Cargo.toml bindings/rust/README.md bindings/rust/build.rs bindings/rust/tests/tables_in_memory.rs
-  for file in bindings/rust/src/*.rs examples/*.*; do echo "$file"; done
-  [ ! -d bindings/python ] || find bindings/python -type f | grep -v '/__pycache__/\|/build/\|\.egg-info/\|/lists.py$\|/\.[^/]*$'
+  of_tree 'bindings/rust/src/*' 'examples/*'
+  of_tree 'bindings/python/*' | grep -v '/lists.py$\|/\.[^/]*$'
 } | sorted)
 mapfile -t installed <<<"$with_library"$'\n'"$beside"
 same 'files in the archive with the library' "$(files_in "$unpacked" | grep -v SHA256SUMS)" "$(packed "${installed[@]}")"
@@ -493,6 +686,21 @@ else
     same 'a program with libacpiset.so' "$? $(tail -n 1 "$scratch/log" | grep -c ' 0 failed$')" '0 1'
     cc examples/unit_test.c "${flags[@]}" -Wl,-rpath,"$PWD/lib" -o unit_test && ./unit_test >"$scratch/log" 2>&1
     same 'a program with the folder of the library' "$? $(tail -n 1 "$scratch/log" | grep -c ' 0 failed$')" '0 1'
+    # The quick starts of the documents, after the line of README that sets the folders.
+    export_line=$(grep '^export SOURCE=' README.md)
+    guide=share/doc/acpiset/docs/LIBRARY.md
+    for kind in c:quick.c python:quick.py; do
+      awk -v file="<!-- file ${kind#*:} -->" '$0 == file { on = 1; next } on && /^```/ { if (inside) exit; inside = 1; next } inside' $guide >"${kind#*:}"
+    done
+    # shellcheck disable=SC2046 # the flags are words, as on the page
+    (eval "$export_line" && cc -Wall -o quick quick.c $(pkg-config --cflags --libs acpiset) && ./quick | acpiset-explain) >"$scratch/log" 2>&1
+    same 'the quick start in C, explained' "$? $(head -n 1 "$scratch/log") $(grep -c '^- Fix: list the FADT' "$scratch/log")" '0 no 4 NoFadt 0x0 0x0 0x0 1'
+    cp quick.c program.c
+    (eval "$(awk '/^cc -I include program.c/ { on = 1 } /^```/ { on = 0 } on' README.md)") >"$scratch/log" 2>&1
+    same 'the commands of README for a program in C' "$? $(head -n 1 "$scratch/log") $(grep -c '<strong>NoFadt</strong>' page.html)" '1 no 4 NoFadt 0x0 0x0 0x0 1'
+    # shellcheck disable=SC2153 # README sets SOURCE
+    (eval "$export_line" && PYTHONPATH=$SOURCE/bindings/python ACPISET_LIBRARY=$LD_LIBRARY_PATH python3 -B quick.py) >"$scratch/log" 2>&1
+    same 'the quick start in Python' "$? $(head -n 1 "$scratch/log") $(grep -c '^Fix: list the FADT' "$scratch/log")" '0 no 4 NoFadt 0x0 0x0 0x0 1'
     same 'the library that it asks for' "$(readelf -d unit_test | grep -c 'NEEDED.*\[libacpiset.so.1\]')" 1
   fi
   cd - >"$scratch/log" || exit

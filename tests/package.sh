@@ -5,13 +5,13 @@
 # usage: tests/package.sh PROGRAM; the last line is 'package: N passed, M failed'.
 program=$(realpath -- "${1:?usage: tests/package.sh PROGRAM}")
 # shellcheck source=tests/prelude.sh
-. "$(dirname "$0")/prelude.sh"
+. "$(dirname -- "$0")/prelude.sh"
 unset DESTDIR PREFIX LIBDIR PC_PREFIX BINARY LIBRARY SOURCE_DATE_EPOCH
 debian=release/debian
 sorted() { LC_ALL=C sort; }
 
 # ---- what needs no tools: the functions, the version, and each installed file in one package
-functions=$(sed -n 's/^struct acpiset_answer \(acpiset_[a-z_]*\)(.*/\1/p; s/^\(uint32_t\|const char \*\) *\(acpiset_[a-z_]*\)(.*/\2/p' bindings/c/acpiset.h | sorted)
+functions=$(sed -n 's/^struct acpiset_answer \(acpiset_[a-z_]*\)(.*/\1/p; s/^\(uint32_t\|size_t\|const char \*\) *\(acpiset_[a-z_]*\)(.*/\2/p' bindings/c/acpiset.h | sorted)
 same 'functions in the list of symbols' "$(sed -n 's/^ \(acpiset_[a-z_]*\)@.*/\1/p' $debian/libacpiset1.symbols | sorted)" "$functions"
 same 'the version' "$(sed -n '1s/^acpiset (\([0-9.]*\)-[0-9]*) .*/\1/p' $debian/changelog)" "$(sed -n 's/^## \([0-9.]*\).*/\1/p' CHANGELOG.md | head -n 1)"
 if ! has dh || ! has dpkg-buildpackage || ! has cc; then

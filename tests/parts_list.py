@@ -13,6 +13,8 @@ import subprocess
 import sys
 from pathlib import Path
 
+import acpi_images  # noqa: F401
+
 TOP = Path(__file__).resolve().parent.parent
 IDENTIFIER = re.compile(r"SPDXRef-[A-Za-z0-9.-]+")
 LICENCES = {"MIT", "Apache-2.0", "LGPL-2.1-or-later", "GPL-3.0-or-later", "GCC-exception-3.1"}

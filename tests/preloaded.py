@@ -4,6 +4,8 @@ import shutil
 import subprocess
 from pathlib import Path
 
+import acpi_images  # noqa: F401
+
 HERE = Path(__file__).parent
 
 

@@ -4,7 +4,9 @@
 # shellcheck disable=SC2034 # the scripts use them
 set -u
 umask 022
-CDPATH='' cd -- "$(dirname -- "${BASH_SOURCE[0]}")/.." || exit
+# shellcheck source=scripts/prelude.sh
+. "$(dirname -- "${BASH_SOURCE[0]}")/../scripts/prelude.sh"
+cd -- "$(dirname -- "${BASH_SOURCE[0]}")/.." || exit
 [ -z "${program-}" ] || [ -x "$program" ] || { printf '%s: no program\n' "$program" >&2; exit 1; }
 scratch=$(mktemp -d)
 trap 'rm -rf "$scratch"' EXIT
@@ -26,6 +28,16 @@ same() { count "$1" "$([ "$2" = "$3" ] || printf '%s\nnot: %s' "$2" "$3")"; }
 
 # has COMMAND: whether it is installed.
 has() { command -v "$1" >/dev/null; }
+
+# other_pythons: the Pythons from 3.9 on that are on the PATH or that pyenv has, one of each version that python3 is not.
+other_pythons() {
+  local python version seen=
+  seen=" $(python3 -c 'import sys; print(*sys.version_info[:2])') "
+  while read -r python; do
+    version=$("$python" -c 'import sys; sys.version_info < (3, 9) or print(*sys.version_info[:2])' 2>/dev/null)
+    [[ -z $version || $seen = *" $version "* ]] || { seen+="$version " && printf '%s\n' "$python"; }
+  done < <(compgen -c | grep -x 'python3\.[0-9]*' | sort -u; printf '%s\n' "${PYENV_ROOT:-$HOME/.pyenv}"/versions/*/bin/python3)
+}
 
 # left_out WHAT WHY: says that cases were left out.
 left_out() { printf 'left out: %s: %s\n' "$1" "$2"; }

@@ -1,9 +1,9 @@
 #!/usr/bin/env bash
 # Runs the built program on image texts, and tests its output, its status and its error messages.
 # usage: tests/program.sh PROGRAM; the last line is 'N passed, M failed'.
-program=$(realpath "${1:?usage: tests/program.sh PROGRAM}")
+program=$(realpath -- "${1:?usage: tests/program.sh PROGRAM}")
 # shellcheck source=tests/prelude.sh
-. "$(dirname "$0")/prelude.sh"
+. "$(dirname -- "$0")/prelude.sh"
 cd tests || exit
 
 # told STATUS INPUT ARGUMENTS..: runs the program on the file INPUT, and sets `wrong` where it has another status.
@@ -36,6 +36,9 @@ text() {
 smallest=../crates/acpi_cli/stdin
 # The number of the last stage.
 last=18
+# The hints beside `no rsdp`: tests/rows/hints.py has all hints.
+empty='acpiset: hint: the input is empty: is it the wrong file, or did the command before the pipe fail?\n'
+elsewhere="acpiset: hint: with UEFI firmware the RSDP is elsewhere: give its address by --rsdp, from the image's first line, dmesg or /sys/firmware/efi/systab\n"
 
 # ---- verdicts
 runs "the smallest set" 0 'yes\n' '' "$smallest" check --rsdp e0000 --through 3
@@ -75,8 +78,8 @@ runs "a number that the fault does not use" 1 'false\n' '' "$smallest" confirm -
 runs "an RSDP whose sum is wrong, confirmed" 0 'true\n' '' "$scratch/sum" confirm --rsdp e0000 --witness '1 RsdpSum 0xe0000 0x0 0x0'
 runs "a later fault of the same set, confirmed" 0 'true\n' '' "$scratch/sum" confirm --rsdp e0000 --witness '4 NoFadt 0x0 0x0 0x0'
 runs "an empty text, confirmed" 0 'true\n' '' /dev/null confirm --rsdp e0000 --witness '1 RsdpOut 0xe0000 0x0 0x0'
-runs "no RSDP to confirm a fault of" 1 'no rsdp\n' '' /dev/null confirm --witness '1 RsdpOut 0xe0000 0x0 0x0'
-runs "no RSDP with a right sum to confirm a fault of" 1 'no rsdp\n' '' "$scratch/sum" confirm --witness '1 RsdpSum 0xe0000 0x0 0x0'
+runs "no RSDP to confirm a fault of" 1 'no rsdp\n' "$empty" /dev/null confirm --witness '1 RsdpOut 0xe0000 0x0 0x0'
+runs "no RSDP with a right sum to confirm a fault of" 1 'no rsdp\n' "$elsewhere" "$scratch/sum" confirm --witness '1 RsdpSum 0xe0000 0x0 0x0'
 runs "all numbers at their highest" 1 'false\n' '' "$smallest" confirm --rsdp e0000 --witness '14 ParentCycle 0xffffffffffffffff 0xffffffffffffffff 0xffffffffffffffff'
 overlap='10 Overlap 0x90 0xb8 0x100000000'
 runs "firmware sb-pc-nvdimm-numa, its overlap" 0 'true\n' '' images/sb-pc-nvdimm-numa.img.txt confirm --rsdp f59d0 --witness "$overlap"
@@ -88,14 +91,14 @@ shown='rsdp 0xe0000 revision 0\nroot 0x1000 RSDT length 36 slots 0\n'
 runs "the smallest set, shown" 0 "$shown" '' "$smallest" show --rsdp e0000
 runs "the smallest set, shown where it is found" 0 "$shown" '' "$smallest" show
 runs "an RSDP whose sum is wrong, shown" 1 'no 1 RsdpSum 0xe0000 0x0 0x0\n' '' "$scratch/sum" show --rsdp e0000
-runs "no RSDP with a right sum to show" 1 'no rsdp\n' '' "$scratch/sum" show
-runs "nothing to show" 1 'no rsdp\n' '' /dev/null show
+runs "no RSDP with a right sum to show" 1 'no rsdp\n' "$elsewhere" "$scratch/sum" show
+runs "nothing to show" 1 'no rsdp\n' "$empty" /dev/null show
 runs "firmware sb-q35-default, its whole region, shown" 0 "$(cat show/images/sb-q35-default.txt)\n" '' "$scratch/region" show
 
 # ---- all findings: tests/lint has those of each set
 runs "the smallest set, all findings" 1 'no 4 NoFadt 0x0 0x0 0x0\n' '' "$smallest" lint
 runs "the smallest set, all findings, strictly" 1 'no 4 NoFadt 0x0 0x0 0x0\n' '' "$smallest" lint --strict --rsdp e0000
-runs "nothing to look through" 1 'no rsdp\n' '' /dev/null lint
+runs "nothing to look through" 1 'no rsdp\n' "$empty" /dev/null lint
 runs "no RSDP at the address, all findings" 1 'no 1 RsdpOut 0x1000f 0x0 0x0\n' '' /dev/null lint --rsdp 1000f
 runs "firmware sb-q35-default, all findings" 0 'yes\n' '' images/sb-q35-default.img.txt lint --strict --rsdp f59e0
 runs "firmware q10-efi-virt-smp4, all findings" 0 'yes\n' '' images/q10-efi-virt-smp4.img.txt lint --strict --rsdp 4f0b0018
@@ -109,7 +112,7 @@ runs "firmware q11-efi-virt-caches, all findings but another" 1 "$twice" '' "$ca
 # ---- sets that are rebuilt: tests/rebuild has the result of each
 runs "the smallest set, rebuilt" 1 'no 4 NoFadt 0x0 0x0 0x0\n' '' "$smallest" rebuild --rsdp e0000 --base e0000
 runs "the smallest set, a wrong base address" 1 'refused Unaligned\n' '' "$smallest" rebuild --rsdp e0000 --base e0020
-runs "no RSDP with a right sum to rebuild, and a wrong base address" 1 'no rsdp\n' '' "$scratch/sum" rebuild --base e0020
+runs "no RSDP with a right sum to rebuild, and a wrong base address" 1 'no rsdp\n' "$elsewhere" "$scratch/sum" rebuild --base e0020
 "$program" rebuild --rsdp f59e0 --base 7ffe0000 <images/sb-q35-default.img.txt >"$scratch/rebuilt"
 runs "firmware sb-q35-default, rebuilt and checked" 0 'yes\n' '' "$scratch/rebuilt" check --rsdp 7ffe0000
 runs "firmware sb-q35-default, its whole region, rebuilt" 0 "$(cat "$scratch/rebuilt")\n" '' "$scratch/region" rebuild --base 7ffe0000
@@ -119,8 +122,8 @@ runs "the smallest set, found" 0 "rsdp 0xe0000\n" "" "$smallest" find
 runs "the smallest set, checked where it is found" 0 "yes\n" "" "$smallest" check --through 3
 runs "the smallest set, checked where it is found, all stages" 1 'no 4 NoFadt 0x0 0x0 0x0\n' "" "$smallest" check
 runs "nothing to find" 1 "rsdp none\n" "" /dev/null find
-runs "nothing to check" 1 "no rsdp\n" "" /dev/null check
-runs "no RSDP with a right sum to check" 1 "no rsdp\n" "" "$scratch/sum" check
+runs "nothing to check" 1 "no rsdp\n" "$empty" /dev/null check
+runs "no RSDP with a right sum to check" 1 "no rsdp\n" "$elsewhere" "$scratch/sum" check
 
 # ---- texts that are refused
 runs "half a pair" 3 '' 'acpiset: line 2: bad line\n' "$(text half '@0\n1')" check --rsdp e0000
@@ -148,7 +151,7 @@ runs "half a pair, a fault to confirm, and no RSDP" 3 '' 'acpiset: line 2: bad l
 # ---- arguments that are refused
 usage="usage: acpiset check [OPTION].. [ADDRESS=COUNT].. < IMAGE
        acpiset lint|confirm|rebuild|show|find [OPTION].. < IMAGE
-For more: acpiset --help, man acpiset, or docs/TROUBLESHOOTING.md#words"
+For more: acpiset help, man acpiset, or TROUBLESHOOTING.md of the documentation"
 
 # says TEXT ARGUMENTS..: the arguments are refused with this text.
 says() {
@@ -179,8 +182,6 @@ helps check --help
 helps show -h
 helps rebuild --help
 helps lint --strict --help
-helps help
-helps help check
 says "version 0.1.0, $last stages" --version
 says "version 0.1.0, $last stages" -V
 says "$usage"
@@ -212,16 +213,19 @@ done
 hints "unexpected argument '--json' found" "$report" check --json=pretty --rsdp e0000
 hints "unexpected argument '--json' found" "$report" --json
 hints "unrecognized subcommand 'json'" "$report" json
+tools='the tools are programs of their own: acpiset-explain, acpiset-report, acpiset-tables2image, acpiset-memory2image, acpiset-acpidump2image'
+for word in explain report tables2image memory2image acpidump2image; do
+  hints "unrecognized subcommand '$word'" "$tools" $word image.txt
+done
 hints "unexpected argument '--all' found" "$all" check --all
 hints "unexpected argument '-a' found" "$all" check -a
 hints "unrecognized subcommand 'all'" "$all" all
 for word in --verbose -v; do
-  hints "unexpected argument '$word' found" 'acpiset-explain says what a line means; acpiset --version prints the version' check "$word"
+  hints "unexpected argument '$word' found" 'acpiset-explain says what a line means; acpiset version prints the version' check "$word"
 done
 for word in --version -V; do
-  hints "unexpected argument '$word' found" 'acpiset --version prints the version' check "$word"
+  hints "unexpected argument '$word' found" 'acpiset version prints the version' check "$word"
 done
-hints "unrecognized subcommand 'version'" 'acpiset --version prints the version' version
 for word in --quiet -q; do
   hints "unexpected argument '$word' found" 'the exit status has the verdict: acpiset check < IMAGE > /dev/null' check "$word"
 done

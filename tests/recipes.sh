@@ -14,9 +14,9 @@
 # PATH, IMAGES names the folder of images, and SOURCE one that has what the archive has of the sources, and nothing else. The folder
 # has ./acpiset and bench, for the one recipe that runs in the repository alone. The kernel is the one that the variable KERNEL names, or
 # that of /boot.
-program=$(realpath "${1:?usage: tests/recipes.sh PROGRAM}")
+program=$(realpath -- "${1:?usage: tests/recipes.sh PROGRAM}")
 # shellcheck source=tests/prelude.sh
-. "$(dirname "$0")/prelude.sh"
+. "$(dirname -- "$0")/prelude.sh"
 top=$PWD
 SOURCE=$scratch/source
 IMAGES=$scratch/images
@@ -29,7 +29,7 @@ ln -s "$top/bench" "$scratch/work"
 ln -s "$program" "$scratch/bin/acpiset"
 for tool in tools/*; do ln -s "$top/$tool" "$scratch/bin/acpiset-${tool#tools/}"; done
 PATH="$scratch/bin:$PATH"
-library=$(realpath "${LIBRARY:-library}")
+library=$(realpath -- "${LIBRARY:-library}")
 if [ -r "$library/libacpiset.a" ]; then
   mkdir "$scratch/library"
   ln -s "$library/libacpiset.a" "$library/libacpiset.so.1" "$scratch/library"

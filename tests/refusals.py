@@ -28,7 +28,7 @@ sys.path.insert(0, str(HERE))
 from acpi_images.advice import linted
 from acpi_images.known.linted import EXPECTED
 from acpi_images.known.rows import COMPLETE, OVERLAP, ROWS, SMALLEST
-from acpi_images.program import Cases, finish, firmware_text
+from acpi_images.program import UNREADABLE, Cases, finish, firmware_text
 from acpi_images.rebuilt import rebuilt
 from acpi_images.shown import shown
 from acpi_images.tables import *
@@ -57,8 +57,13 @@ class Run:
 
 
 def device(out=""):
-    """The answer where a read failed, or a write after this output."""
+    """The answer where a write failed after this output."""
     return (4, out, "acpiset: device\n")
+
+
+def unread():
+    """The answer where a read failed."""
+    return (4, "", f"acpiset: device\n{UNREADABLE}")
 
 
 # ---- what the program is asked
@@ -168,6 +173,12 @@ def wordy_runs():
     yield Run("confirm with all options", text, ["confirm", "--rsdp", "e0000", "--witness", NO_FADT, *settings], 0, "true\n")
     yield Run("rebuild with all options, refused", text, ["rebuild", "--base", "40", *settings], 1, f"no {NO_FADT}\n")
     yield Run("check with 400 counts of inputs", text, [*check, *many], 0, "yes\n")
+
+
+def text_runs():
+    """Texts that arguments ask for; the input is not read."""
+    yield Run("help", b"", ["help"], 0, (HERE / "help.txt").read_text())
+    yield Run("version", b"", ["version"], 0, "acpiset: version 0.1.0, 18 stages\n")
 
 
 def scattered_runs():
@@ -335,7 +346,6 @@ SAMPLED = {
     "rebuild, sb-q35-numa4-dist",
     "rebuild, q11-efi-virt-caches",
     "check with 400 counts of inputs",
-    "lint, q11-efi-virt-caches",
 }
 
 
@@ -418,7 +428,7 @@ WRITE_SIZE = 3
 def failing_reads(program, run, fault_at=None, most=READ_SIZE):
     """Each read fails in its turn. The text has its fault as soon as this many bytes have come, or has none."""
     faulty = lambda number: fault_at is not None and most * (number - 1) >= fault_at
-    return failing(program, run, "READ_FAILS", most, lambda number: run.answer() if faulty(number) else device())
+    return failing(program, run, "READ_FAILS", most, lambda number: run.answer() if faulty(number) else unread())
 
 
 def failing_writes(program, run, failure):
@@ -439,7 +449,7 @@ def interrupted(program, run, call, limit, most):
         told = program.told(run.words, text, **{f"{call}_INTERRUPTED": number, limit: most})
         yield f"{run.name}, {call} {number} is interrupted", wrong_answer(told.answer, run.answer())
     told = program.told(run.words, text, **{f"{call}_INTERRUPTED_FROM": 1})
-    yield f"{run.name}, each {call} is interrupted", wrong_answer(told.answer, device())
+    yield f"{run.name}, each {call} is interrupted", wrong_answer(told.answer, unread() if call == "READ" else device())
 
 
 # A text, the number of its bytes after which it has its fault, if it ever has one before the end, and what is said of it.
@@ -471,12 +481,12 @@ def bad_text_tasks():
 
 def failing_input(program, run):
     """An input that is closed, a folder, or open for writing alone."""
-    yield "an input that is closed", program.runs(run.words, None, preexec_fn=lambda: os.close(0)), device()
+    yield "an input that is closed", program.runs(run.words, None, preexec_fn=lambda: os.close(0)), unread()
     folder = os.open(HERE, os.O_RDONLY)
-    yield "an input that is a folder", program.runs(run.words, folder), device()
+    yield "an input that is a folder", program.runs(run.words, folder), unread()
     os.close(folder)
     writing = os.open("/dev/null", os.O_WRONLY)
-    yield "an input that is open for writing alone", program.runs(run.words, writing), device()
+    yield "an input that is open for writing alone", program.runs(run.words, writing), unread()
     os.close(writing)
 
 
@@ -563,9 +573,9 @@ def little_memory(program, run):
 
 def tasks():
     """The tests that need the object, each as a function and its arguments."""
-    for run in [*CLEAN_RUNS, *faulty_runs(), *wordy_runs(), *scattered_runs(), shuffled_run()]:
+    for run in [*CLEAN_RUNS, *faulty_runs(), *wordy_runs(), *text_runs(), *scattered_runs(), shuffled_run()]:
         yield starved, run, "REFUSE_AT"
-    for run in [*CLEAN_RUNS, *scattered_runs()]:
+    for run in [*CLEAN_RUNS, *text_runs(), *scattered_runs()]:
         yield starved, run, "REFUSE_FROM"
     for message, words in WRONG_WORDS:
         yield starved_refusal, message, words
@@ -579,6 +589,8 @@ def tasks():
         yield failing_writes, run, "WRITE_EMPTY"
         yield interrupted, run, "READ", "READ_MOST", READ_SIZE
         yield interrupted, run, "WRITE", "WRITE_MOST", WRITE_SIZE
+    *_, version = text_runs()
+    yield failing_writes, version, "WRITE_FAILS"
     yield from bad_text_tasks()
 
 

@@ -1,10 +1,10 @@
 #!/usr/bin/env bash
 # Tests the scripts that build and test: that tests/all.sh ends what it started when it is ended, and counts what failed; what
-# scripts/wrong_bodies says of wrong bodies, by what the compiler printed of them; and what scripts/prove builds in the gate. Scripts
-# and a toolchain that do nothing replace the real ones.
+# scripts/wrong_bodies says of wrong bodies, by what the compiler printed of them; what scripts/prove builds in the gate, and what it
+# refuses as no proof; and that a make, or a scripts/prove, that is ended leaves no prover. Scripts and a toolchain that do nothing replace the real ones.
 # usage: tests/scripts.sh; the last line is 'build scripts: N passed, M failed'.
 # shellcheck source=tests/prelude.sh
-. "$(dirname "$0")/prelude.sh"
+. "$(dirname -- "$0")/prelude.sh"
 
 # ---- tests/all.sh
 
@@ -159,12 +159,30 @@ echo "${PWD##*/}: $*" | sed 's/ --jobs [0-9]*//' >>"$FOLDER/calls"
 case $1 in
   version) echo rattle-kit-stand-in ;;
   doc) echo "$FOLDER/kit/START-HERE.md" ;;
-  ci) mkdir -p crates/acpi_cli/out && echo 'for x86-64-v2' >crates/acpi_cli/out/acpi_cli && cat "$FOLDER/said" ;;
-  run) mkdir -p out && echo 'for x86-64' >out/acpi_cli ;;
-  lib) mkdir -p out && echo library >out/libacpi_c.a ;;
-  test) mkdir -p out && echo tests >"out/${PWD##*/}_tests" ;;
+  ci)
+    mkdir -p crates/acpi_cli/out && echo 'for x86-64-v2' >crates/acpi_cli/out/acpi_cli
+    if [ -d crates/acpi_graph ]; then
+      mkdir -p crates/acpi_graph/out/rlib/acpi_graph.rlib && echo 'for rt ci' >crates/acpi_graph/out/rlib/acpi_graph.rlib/format
+    fi
+    cat "$FOLDER/said"
+    ;;
+  run) mkdir -p out && echo 'for x86-64' >out/acpi_cli && echo "$PROVED" ;;
+  lib)
+    if [ "${PWD##*/}" = acpi_c ]; then
+      mkdir -p out && echo library >out/libacpi_c.a && echo "$PROVED"
+    elif [ ! -e out/rlib/acpi_graph.rlib ]; then
+      # It says nothing of a library that it keeps.
+      mkdir -p out/rlib/acpi_graph.rlib && echo library >out/rlib/acpi_graph.rlib/format && echo "${PROVED_LIB-$PROVED}"
+    fi
+    ;;
+  check) echo "$CHECKED" ;;
+  test) mkdir -p out && echo tests >"out/${PWD##*/}_tests" && echo "$PROVED" ;;
 esac
 END
+# What the toolchain prints of a crate that it has proved.
+export PROVED='logic=proved functions=1 sum=0'
+# What `rt check` prints.
+export CHECKED=
 # The compiler and the linker of the toolchain: they note what they build, for which processor, and write it.
 cat >"$scratch/kit/bin/rattle" <<'END'
 #!/bin/sh
@@ -179,6 +197,7 @@ while [ $# -gt 1 ]; do
 done
 echo "rattle: ${made##*/} for $processor" >>"$FOLDER/calls"
 echo "for $processor" >"$made"
+echo "$PROVED"
 END
 cat >"$scratch/kit/bin/rattle-link" <<'END'
 #!/bin/sh
@@ -221,8 +240,150 @@ PATH="$scratch/bin:$PATH" "$scratch/tree/scripts/prove" gate acpi_c acpi_graph >
 same 'scripts/prove gate acpi_c acpi_graph' "$? $(cat "$scratch/calls") $(cat "$scratch/log")" "0 tree: ci acpi_c acpi_graph $(cat "$scratch/said")"
 PATH="$scratch/bin:$PATH" "$scratch/tree/scripts/prove" program acpi_c >"$scratch/log" 2>&1
 same 'scripts/prove program acpi_c' "$? $(head -n 1 "$scratch/log" | cut -c 1-28)" '1 usage: scripts/prove program'
-same 'make gate acpi_c acpi_graph' "$(PATH="$scratch/bin:$PATH" make --no-print-directory -n gate acpi_c acpi_graph 2>&1 | head -n 1)" 'scripts/prove gate acpi_c acpi_graph'
-same 'make gate test' "$(PATH="$scratch/bin:$PATH" make --no-print-directory -n gate test 2>&1 | sed -n 's/^\(scripts.alone \(scripts.prove gate\|sh -c .scripts.prove tests\)\).*/\1/p')" $'scripts/alone scripts/prove gate\nscripts/alone sh -c \'scripts/prove tests'
+same 'make gate acpi_c acpi_graph' "$(PATH="$scratch/bin:$PATH" make --no-print-directory -n gate acpi_c acpi_graph 2>&1 | head -n 1)" 'exec scripts/alone --beside scripts/prove gate acpi_c acpi_graph'
+same 'make gate test' "$(PATH="$scratch/bin:$PATH" make --no-print-directory -n gate test 2>&1 | sed -n 's/^exec \(scripts.alone \(scripts.prove gate\|sh -c .scripts.prove tests\)\).*/\1/p')" $'scripts/alone scripts/prove gate\nscripts/alone sh -c \'scripts/prove tests'
+
+# ---- what is no proof
+
+# A library below another is kept by its own checksum, and proved again if it is not as it was made.
+of_graph=$scratch/tree/crates/acpi_graph/out
+of_c=$scratch/tree/crates/acpi_c/out
+# library_proved WANTED WHAT: `scripts/prove library` ends well, and `rt` says as often as wanted that it proved the library below.
+library_proved() {
+  rm -f "$of_c"/*.made
+  PATH="$scratch/bin:$PATH" "$scratch/tree/scripts/prove" library >"$scratch/log" 2>&1
+  same "scripts/prove library, $2" "$? $(grep -c '^logic=proved' "$of_graph/lib.log") $(cat "$of_graph/rlib/acpi_graph.rlib/format")" "0 $1 library"
+}
+mkdir -p "$of_graph/rlib/acpi_graph.rlib"
+echo other >"$of_graph/rlib/acpi_graph.rlib/format"
+library_proved 1 'over a library of which nothing is recorded'
+library_proved 0 'over a kept library'
+echo other >"$of_graph/rlib/acpi_graph.rlib/format"
+library_proved 1 'over a library that was changed'
+printf 'rt: acpi_graph proved\n2 passed, 0 failed\n' >"$scratch/said"
+PATH="$scratch/bin:$PATH" "$scratch/tree/scripts/prove" gate >"$scratch/log" 2>&1
+library_proved 0 'over a library that was kept before the gate'
+echo other >"$of_graph/rlib/acpi_graph.rlib/format"
+PATH="$scratch/bin:$PATH" "$scratch/tree/scripts/prove" gate >"$scratch/log" 2>&1
+library_proved 1 'over a library that was changed before the gate'
+
+# A library of which `rt lib` says nothing, as a check of the same sources was kept on this machine: `rt check` says what was proved.
+# checked CHECKED WANTED
+checked() {
+  rm -rf "$of_c"/*.made "$of_graph"
+  CHECKED=$1 PROVED_LIB='' PATH="$scratch/bin:$PATH" "$scratch/tree/scripts/prove" library >"$scratch/log" 2>&1
+  same "scripts/prove library, rt check says '$1'" "$? $(find "$of_c" "$of_graph" -name '*.made' | wc -l)" "$2"
+}
+checked "$PROVED" '0 2'
+checked 'logic=not-proved' '1 0'
+checked '' '1 0'
+
+mkdir "$scratch/other"
+of_cli=$scratch/tree/crates/acpi_cli/out
+# other_rt COMMAND SCRIPT: from now on `rt COMMAND` does this, and the other commands what they did.
+other_rt() {
+  # shellcheck disable=SC2016 # the script that is written has these variables
+  printf '#!/bin/sh\ncase $1 in\n  %s) %s ;;\n  *) exec "$FOLDER/bin/rt" "$@" ;;\nesac\n' "$1" "$2" >"$scratch/other/rt"
+  chmod +x "$scratch/other/rt"
+}
+# no_proof WHAT TARGET: scripts/prove fails, and records nothing as built from these sources; a program from earlier is there.
+no_proof() {
+  mkdir -p "$of_cli"
+  echo stale | tee "$of_cli/acpi_cli" >"$scratch/tree/acpiset"
+  rm -f "$of_cli"/*.made "$of_cli"/*.sources
+  PATH="$scratch/other:$PATH" "$scratch/tree/scripts/prove" "$2" >"$scratch/log" 2>&1
+  same "$1" "$? $(find "$scratch/tree/crates" -path '*acpi_cli*' \( -name '*.made' -o -name '*.sources' \)) $(cat "$scratch/tree/acpiset")" '1  stale'
+}
+# shellcheck disable=SC2016 # the same
+builds='mkdir -p out && echo new >out/acpi_cli'
+other_rt run "$builds; exit 1"
+no_proof 'rt run that refuses' program
+(
+  trap '' CHLD
+  no_proof 'rt run that refuses, with SIGCHLD ignored' program
+  # shellcheck disable=SC2016 # the same
+  other_rt ci 'cat "$FOLDER/said"; exit 1'
+  no_proof 'rt ci that refuses, with SIGCHLD ignored' gate
+  echo "$passed $failed" >"$scratch/counts"
+)
+read -r passed failed <"$scratch/counts"
+# shellcheck disable=SC2016 # the same
+other_rt run 'echo "$PROVED"'
+no_proof 'rt run that builds nothing' program
+other_rt run "$builds"
+no_proof 'rt run that does not say that it proved anything' program
+# shellcheck disable=SC2016 # the same
+other_rt run "$builds"'; echo "$PROVED"; echo logic=not-proved'
+no_proof 'rt run that says that it proved one crate, and not the last' program
+for last in '' '0 passed, 0 failed' '2 passed, 1 failed'; do
+  other_rt ci "echo '$last'"
+  no_proof "rt ci that ends well, and says '$last'" gate
+done
+# shellcheck disable=SC2016 # the same
+other_rt doc 'printf "%s\n" "$FOLDER/none/START-HERE.md"'
+no_proof 'a gate that builds nothing' gate
+
+# Each script in Python gives SIGCHLD its default, whatever its caller did, by what it imports; except those that start no others.
+modules='acpi_images|crates|measure|preloaded|worst'
+mapfile -t scripts < <(find scripts tests bench -path '*/target' -prune -o -type f -perm -u+x -exec grep -l '^#!/usr/bin/env python3' {} + | LC_ALL=C sort)
+same 'scripts that import nothing which gives SIGCHLD its default' "$(grep -LE "^(import|from) ($modules)\\b|SIGCHLD, signal.SIG_DFL" "${scripts[@]}")" 'scripts/parts
+tests/definitions.py
+tests/links.py
+tests/manual.py'
+for module in ${modules//|/ }; do
+  same "SIGCHLD after an import of $module" \
+    "$(trap '' CHLD && PYTHONPATH=scripts:tests:bench python3 -B -c "import $module, subprocess; print(subprocess.run('false').returncode)" 2>&1)" 1
+done
+
+# ---- a make that is ended
+
+cp Makefile "$scratch/tree"
+cp scripts/alone "$scratch/tree/scripts"
+# shellcheck disable=SC2016 # the same
+other_rt 'lib | run | test' 'echo $$ >"$FOLDER/prover"; sleep 987 & echo $! >"$FOLDER/child"; wait'
+# stays NAME: whether this process is still running after some seconds.
+stays() {
+  for _ in {1..50}; do is_there "$1" && sleep 0.1 || return 1; done
+}
+# end_make SIGNAL WHOM TARGET: starts make, or scripts/prove alone, and ends it, or its whole group, once a prover is at work.
+end_make() {
+  rm -f "$scratch/prover" "$scratch/child" "$of_cli"/*.made
+  PATH="$scratch/other:$PATH" python3 - "$@" "$scratch" >"$scratch/status" 2>"$scratch/log" <<'END'
+import os, signal, subprocess, sys, time
+
+def as_usual():
+    for it in (signal.SIGINT, signal.SIGHUP):
+        signal.signal(it, signal.SIG_DFL)
+
+name, whom, target, scratch = sys.argv[1:]
+tree = os.path.join(scratch, "tree")
+words = [os.path.join(tree, "scripts", "prove"), target] if whom == "prove" else ["make", "-s", "-C", tree, target]
+started = subprocess.Popen(words, stdout=sys.stderr, preexec_fn=as_usual, start_new_session=True)
+child = os.path.join(scratch, "child")
+until = time.monotonic() + 60
+while time.monotonic() < until and not (os.path.exists(child) and os.path.getsize(child)):
+    time.sleep(0.1)
+(os.killpg if whom == "group" else os.kill)(started.pid, getattr(signal, "SIG" + name))
+print(signal.Signals(-started.wait(timeout=60)).name)
+END
+  same "$1 to $2 at $3: how it ends" "$(cat "$scratch/status")" "SIG$1"
+  same "$1 to $2 at $3: what it leaves" "$(for name in prover child; do stays $name && echo $name; done)" ''
+}
+if has ps; then
+  for signal in TERM INT HUP; do
+    for whom in make group; do end_make $signal $whom build; done
+  done
+  end_make TERM make test
+  end_make KILL make library
+  # A prover that is told to end ends what it started, as `rt` does. Of what started it, scripts/prove alone is told so.
+  # shellcheck disable=SC2016 # the same
+  other_rt 'lib | run | test | ci' 'echo $$ >"$FOLDER/prover"; sleep 987 & echo $! >"$FOLDER/child"; trap "kill $!; exit 1" TERM; wait'
+  for signal in TERM INT HUP KILL; do
+    for target in program gate; do end_make $signal prove $target; done
+  done
+else
+  left_out 'what an ended make leaves' 'no ps'
+fi
 
 # ---- scripts/kept
 

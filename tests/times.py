@@ -1,9 +1,12 @@
 #!/usr/bin/env python3
-"""Measures how the processor's time of the tools grows: on an input that is twice as large, a tool takes at most three times as long.
-That holds on a slow machine too, which a number of seconds, or a number of times that of `acpiset`, does not.
+"""Measures how the processor's time of the tools in user mode grows: on an input that is twice as large, a tool takes at most 2.5 times as
+long. That holds on a slow machine too, which a number of seconds, or a number of times that of `acpiset`, does not. On each input of
+tests/tools/hostile.py a tool also keeps the bounds of SECURITY.md: of time, which is some three times what the slowest one takes on
+the machine of bench/README.md, of memory, and of what it writes.
 
-usage: times.py PROGRAM; the last line is 'times of the tools: N passed, M failed'. tests/all.sh runs this alone: a processor that other
-programs keep busy is slower, and not by the same factor for each run."""
+usage: times.py PROGRAM [--long]; the last line is 'times of the tools: N passed, M failed'. tests/all.sh runs this alone: a processor that
+other programs keep busy is slower, and not by the same factor for each run. A hostile input is doubled until a tool takes a third of a
+second for half of it; with --long, more than a second, which takes some minutes."""
 
 import os
 import re
@@ -15,6 +18,7 @@ from pathlib import Path
 TESTS = Path(__file__).resolve().parent
 sys.path[:0] = [str(TESTS), str(TESTS / "explain"), str(TESTS / "tools")]
 
+import hostile
 import sets
 from acpi_images.program import finish, timed
 from acpi_images.tables import *
@@ -23,9 +27,54 @@ from files import dump_of
 from memory_dumps import small_set
 
 TOOLS = TESTS.parent / "tools"
-MOST_TIMES = 3
+MOST_TIMES = 2.5
 # Of so many runs the fastest counts: what else a machine does makes a run slower, never faster.
 RUNS = 3
+# What a tool takes for half of an input whose growth is measured, if an input that large can be made.
+MEASURED, MEASURED_LONG = 0.33, 1.0
+FIRST_SIZE, LAST_SIZE = 250_000, 16_000_000
+
+# The bounds on an input of some bytes: those of no bytes, and those of each one.
+SECONDS, SECONDS_OF_A_BYTE = 0.3, 3e-6
+MEMORY, MEMORY_OF_A_BYTE = 64e6, 20
+WRITTEN, WRITTEN_OF_A_BYTE = 256e3, 12
+SIZE = 1_000_000
+# Runs a program, and writes its status, its processor time in user mode and in the kernel, and its memory to a file. It is small: the memory
+# of a program counts that of the one that started it.
+HELPER = """import os, subprocess, sys
+child = subprocess.Popen(sys.argv[2:])
+_, status, used = os.wait4(child.pid, 0)
+print(os.waitstatus_to_exitcode(status), used.ru_utime, used.ru_stime, used.ru_maxrss * 1024, file=open(sys.argv[1], "w"))
+"""
+
+
+class Hostile:
+    """A hostile input in a folder: a tool, its words, and the bytes of standard input."""
+
+    def __init__(self, make, size):
+        self.tool, words, self.data = make(size)
+        self.name, self.size = f"{self.tool}, {make.__name__}", len(self.data)
+        self.folder = tempfile.TemporaryDirectory()
+        for name, contents in (word for word in words if isinstance(word, tuple)):
+            Path(self.folder.name, name).write_bytes(contents)
+            self.size += len(contents)
+        self.words = [word if isinstance(word, str) else word[0] for word in words]
+
+    def __enter__(self):
+        return self
+
+    def __exit__(self, *_):
+        self.folder.cleanup()
+
+    def run(self, environment):
+        """A run of the tool: its status, its times in user mode and in the kernel, its memory, and what it wrote."""
+        words = [sys.executable, "-S", "-c", HELPER, "used", sys.executable, TOOLS / self.tool, *self.words]
+        run = subprocess.run(words, input=self.data, capture_output=True, cwd=self.folder.name, timeout=600, env=environment)
+        return (*map(float, Path(self.folder.name, "used").read_text().split()), run)
+
+    def fastest(self, environment, runs):
+        """The time in user mode of the fastest of so many runs."""
+        return min(self.run(environment)[1] for _ in range(runs))
 
 
 def image_of_pieces(count):
@@ -88,6 +137,41 @@ class Times(Tests):
         assert said.stdout == b"yes\n", (made.stderr, said)
         return seconds
 
+    def environment(self):
+        return {**os.environ, "PATH": f"{self.scratch}/whole:{self.path}"}
+
+    def is_bounded(self, make):
+        """A tool keeps the bounds on a hostile input, and has an answer."""
+        with Hostile(make, SIZE) as given:
+            status, user, system, memory, run = given.run(self.environment())
+        size, seconds, written = given.size, user + system, len(run.stdout) + len(run.stderr)
+        wrong = ["" if status in (0, 1, 2, 3) and b"Traceback" not in run.stderr else f"status {status}, {run.stderr[-300:]}"]
+        wrong += ["" if seconds <= SECONDS + SECONDS_OF_A_BYTE * size else f"{seconds:.2f} s"]
+        wrong += ["" if memory <= MEMORY + MEMORY_OF_A_BYTE * size else f"{memory / 1e6:.0f} MB of memory"]
+        wrong += ["" if written <= WRITTEN + WRITTEN_OF_A_BYTE * size else f"{written} bytes written"]
+        told = "; ".join(filter(None, wrong))
+        self.count(given.name, told and f"{told}, on {size / 1e6:.1f} MB")
+
+    def measured_size(self, make, seconds):
+        """The first size for which a tool takes as long, or the half of the largest one."""
+        size, last = hostile.FIRST_SIZES.get(make, FIRST_SIZE), hostile.LAST_SIZES.get(make, LAST_SIZE)
+        while 4 * size <= last:
+            with Hostile(make, size) as given:
+                if given.run(self.environment())[1] >= seconds:
+                    break
+            size *= 2
+        return size
+
+    def doubles(self, make, seconds):
+        """The time on a hostile input beside that on one of half its size, of the fastest of some runs where one is not enough."""
+        size = self.measured_size(make, seconds)
+        with Hostile(make, size) as one, Hostile(make, 2 * size) as other:
+            half, whole = one.fastest(self.environment(), 2), other.fastest(self.environment(), 1)
+            if whole > MOST_TIMES * half:
+                half, whole = one.fastest(self.environment(), RUNS), other.fastest(self.environment(), RUNS)
+        told = f"{half:.2f} s, and {whole:.2f} s on {other.size / 1e6:.1f} MB, which are twice as much"
+        self.count(f"growth of {one.name}", whole > MOST_TIMES * half and told)
+
     def grows(self, name, time, make, size):
         """The time on what is made of twice this size, beside that on what is made of it."""
         half, whole = time(make(size)), time(make(2 * size))
@@ -103,6 +187,9 @@ def main():
         times.grows("acpidump2image", lambda data: times.convert("acpidump2image", data), dump_of_tables, 10_000)
         times.grows("acpidump2image, addresses of 0", lambda data: times.convert("acpidump2image", data), dump_of_zeros, 10_000)
         times.grows("memory2image", lambda data: times.convert("memory2image", data), memory_of, 64 << 20)
+        for make in hostile.INPUTS:
+            times.is_bounded(make)
+            times.doubles(make, MEASURED_LONG if "--long" in sys.argv[2:] else MEASURED)
     finish("times of the tools", times)
 
 

@@ -4,7 +4,7 @@
 # usage: tests/valgrind.sh PROGRAM; the last line is 'valgrind: N passed, M failed', or 'left out: ..'.
 program=$(realpath -- "${1:?usage: tests/valgrind.sh PROGRAM}")
 # shellcheck source=tests/prelude.sh
-. "$(dirname "$0")/prelude.sh"
+. "$(dirname -- "$0")/prelude.sh"
 has valgrind || { echo 'left out: valgrind is not installed'; exit 0; }
 
 # A status that the program itself never has.

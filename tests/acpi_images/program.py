@@ -32,9 +32,28 @@ def status_of(line):
     return 0 if line.startswith(GOOD) else 1
 
 
-def answer(line):
-    """What the program answers if it writes only this line."""
-    return status_of(line), f"{line}\n", ""
+def hinted(text):
+    """The line of a hint."""
+    return f"acpiset: hint: {text}\n"
+
+
+EMPTY = hinted("the input is empty: is it the wrong file, or did the command before the pipe fail?")
+NO_RSDP = hinted(
+    "with UEFI firmware the RSDP is elsewhere: give its address by --rsdp, from the image's first line, dmesg or /sys/firmware/efi/systab"
+)
+UNREADABLE = hinted("the input cannot be read: is it a folder, or closed? acpiset-tables2image FOLDER/* takes the tables in a folder")
+
+
+def beside(out, text):
+    """What standard error has beside the output for a text that is read: a hint if there is no RSDP to start from."""
+    if out != "no rsdp\n":
+        return ""
+    return EMPTY if len(text) < 64 and not text.strip() else NO_RSDP
+
+
+def answer(line, text=b""):
+    """What the program answers if it writes only this line, for this text."""
+    return status_of(line), f"{line}\n", beside(f"{line}\n", text)
 
 
 def refusal(line):
@@ -75,9 +94,10 @@ class Cases:
         return run.returncode, run.stdout.decode(), run.stderr.decode()
 
     def writes(self, name, words, pieces, expected, status=None):
-        """The program writes these lines, or this text, with this status or that of the first line, and reports nothing else."""
+        """The program writes these lines, or this text, with this status or that of the first line, and reports no more than a hint."""
         text = "".join(f"{line}\n" for line in expected) if isinstance(expected, list) else expected
-        self.same(name, self.run(words, pieces), (status_of(text) if status is None else status, text, ""))
+        hint = beside(text, text_of(pieces))
+        self.same(name, self.run(words, pieces), (status_of(text) if status is None else status, text, hint))
 
     def in_parallel(self, found, cases):
         """Runs the cases in parallel, and counts each (name, what is wrong) that `found` gives."""

@@ -121,6 +121,17 @@ def refused_lines(tests):
     tests.refuses(2, "\\x1b[2J", "--\x1b[2J")
 
 
+def terminal(tests):
+    """On a terminal it says what it waits for."""
+    master, slave = os.openpty()
+    os.write(master, b"yes\n\x04")
+    run = subprocess.run([tests.tool], stdin=slave, capture_output=True, timeout=60)
+    is_told = b"reading lines of acpiset from the terminal, up to Ctrl-D; usual is acpiset check < IMAGE | explain IMAGE\n" in run.stderr
+    tests.count("a terminal", "" if is_told and run.returncode == 0 and run.stdout.startswith(b"yes\n") else f"{run}")
+    os.close(master)
+    os.close(slave)
+
+
 # Lines on wrong lengths, what is said of the structure, and of the one before it.
 LENGTHS = [
     ("no 6 MadtEntryLength 0x34", sets.MADT_LENGTH, "type 0 has a length of 8, but byte 1 is 12", "  0x2c lapic uid 3 id 7 flags 0x1"),
@@ -209,6 +220,9 @@ def fields(tests):
     for line, (image, text) in sets.SUMS.items():
         tests.says(line, f"..{text}", image, without=[MISMATCH])
     tests.says("no 3 TableSum 0x1 0x3000 0x0", "signature HPET, Length 56", sets.SUMS["no 3 TableSum 0x1 0x3000 0x0"][0])
+    told = "but the checksum, byte {}, is not among them: is this the image that the line is of?"
+    tests.says(f"no 2 RootSum {sets.XSDT_AT:#x} 0x0 0x0", f"XSDT: the 5 bytes sum to 0x48, not 0, {told.format(9)}", sets.SHORT_ROOT)
+    tests.says("no 1 RsdpExtendedSum 0xe0000 0x0 0x0", f"RSDP: the 24 bytes sum to 0x18, not 0, {told.format(32)}", sets.SHORT_RSDP)
     tests.says("no 3 TableSum 0x0 0x10000 0x0", "..sum to 0: is this the image that the line is of?", sets.LEAF)
     tests.says("no 3 TableOut 0x0 0x10000 0x0", "..all 116 bytes are in the image: is this the image", sets.LEAF)
     told = "of the 116 bytes that must be in the image the first 68 are; the next one, at 0x2044, is not"
@@ -298,7 +312,7 @@ def unread(tests):
     tests.says("yes", f"  type 13 (GIC MSI frame): 1 at offset 0x184 (388): {by_advice}", arm, "--rsdp", "4f0b0018")
     tests.says("yes", f"  type 11 (GICC): 4, the first at offset 0x44 (68): {by_advice}", arm)
     tests.says("yes", f"  type 15 (GIC ITS): 1 at offset 0x2d4 (724): {by_advice}", caches, "--rsdp", "47fe0000")
-    tests.says("yes", "yes", "sb-q35-default.img.txt", without=["In the image:"])
+    tests.says("yes", "its MADT and SRAT have no structures of types that the stages do not check", "sb-q35-default.img.txt")
     tests.says("yes", "no RSDP is found in it: give its address with --rsdp HEX", b"@2000\n41\n")
     texts = ["  type 3 (GICC affinity): 1 at offset 0x30 (48): not looked at", "  type 11 (GICC): 1 at offset 0x2c (44): not looked at"]
     texts += [f"  type 3 (GICC affinity): 2, the first at offset 0x3e (62): {by_advice}"]
@@ -337,7 +351,8 @@ def judged(tests):
     asked = "(acpiset is neither beside this tool nor on PATH, so it was not asked whether the image has this)"
     tests.says("no 10 Overlap 0x50 0x78 0x0", [asked, f"..no address is in both: i{MISMATCH}"], "example.img.txt", tool=alone)
     tests.says(OVERLAP, [asked, "both cover 0x100000000 to 0x107ffffff"], "sb-pc-nvdimm-numa.img.txt", tool=alone, without=[MISMATCH])
-    tests.says("yes", "yes", "sb-q35-default.img.txt", tool=alone, without=["In the image:"])
+    nothing_else = "its MADT and SRAT have no structures of types that the stages do not check"
+    tests.says("yes", nothing_else, "sb-q35-default.img.txt", tool=alone, without=["acpiset is neither"])
     tests.path = os.path.join(tests.scratch, "whole") + ":" + tests.path
     tests.says("no 10 Overlap 0x50 0x78 0x0", f"..{DOUBT}", "example.img.txt", tool=alone)
 
@@ -460,10 +475,18 @@ def many(tests):
     tests.refuses(1, "a line has more than 65,536 bytes", tests.file(long_line), text=b"yes\n")
     chain = ["..and 99000 more, up to the one at 0x1e8490", "it names the one at 0x24 again: 100000 of these 100000 are the cycle"]
     tests.says("no 14 ParentCycle 0x24 0x0 0x186a0", chain, sets.image_of(sets.long_pptt(100_000)))
+    # Of two chains 1,000 structures are listed together, and of each one the first.
+    lines = "no 14 ParentCycle 0x24 0x0 0x3e8\nno 14 ParentCycle 0x38 0x0 0x3e8"
+    tests.says(lines, ["..node 1000 of the chain", "and 999 more, up to the one at 0x24"], sets.image_of(sets.long_pptt(1000)), without=["node 2 of the chain at offset 0x4c"])
+    # Many overrides of SCI_INT, which is 0 in this FADT.
+    overrides = sets.madt(*[sets.override(0, 2)] * 40)
+    tests.says("advice SciNowhere 0x2e 0x0 0x0", "and 8 more overrides of SCI_INT", sets.image_of(overrides))
+    for words in (["no"] * 50_000, ["no", "rsdp"] * 4, [f"{place:x}=24" for place in range(1000)] + ["a", "b"]):
+        tests.refuses(2, "one line, name or code, and one image at most", *words)
 
 
 PARTS = [lines_without_image, refused_lines, structures, chains, numbers, fields, advised, unread, judged, other_programs]
-PARTS += [shown, image_texts, streams, places, many]
+PARTS += [shown, image_texts, streams, places, many, terminal]
 
 
 def main():

@@ -79,6 +79,9 @@ for line, address, place in (
 ):
     wrong = changed(CLEAN[address], {place: 0x5A})
     SUMS[line] = text_of({**CLEAN, address: wrong}), f"now 0x5a, must be {CLEAN[address][place]:#x}."
+# Lengths that end before the byte that closes the sum.
+SHORT_ROOT = text_of({**CLEAN, XSDT_AT: changed(CLEAN[XSDT_AT], {4: 5})})
+SHORT_RSDP = text_of({**CLEAN, RSDP_AT: extended_rsdp(length=24)})
 CUT = text_of({**CLEAN, 0x2000: FADT[:68]})
 
 

@@ -28,8 +28,11 @@ static const char set_text[] =
 
 /* ---- the calls */
 
-enum call { CHECK, CHECK_TEXT, CONFIRM, LINT, FIND };
-static const char *const names[] = {"check", "check_text", "confirm", "lint", "find"};
+enum call { CHECK, CHECK_TEXT, CONFIRM, LINT, SHOW, REBUILD, FIND };
+static const char *const names[] = {"check", "check_text", "confirm", "lint", "show", "rebuild", "find"};
+
+/* What docs/SHOW.md says of the set. */
+static const char shown[] = "rsdp 0xe0000 revision 0\nroot 0x1000 RSDT length 36 slots 0\n";
 
 struct request {
     const struct acpiset_piece *pieces;
@@ -40,11 +43,12 @@ struct request {
     size_t inputs_count;
     struct acpiset_settings settings;
     struct acpiset_finding finding;
+    uint64_t base;
 };
 
 /* The set, and the fault that is in it. */
 static struct request request_of_set(void) {
-    struct request request = {set, 2, set_text, strlen(set_text), NULL, 0, ACPISET_SETTINGS(RSDP_AT), {ACPISET_NO_FADT, 0, 0, 0}};
+    struct request request = {set, 2, set_text, strlen(set_text), NULL, 0, ACPISET_SETTINGS(RSDP_AT), {ACPISET_NO_FADT, 0, 0, 0}, 0};
     return request;
 }
 
@@ -55,6 +59,9 @@ static struct acpiset_answer ask(enum call call, const struct request *it) {
     case CONFIRM:
         return acpiset_confirm(it->pieces, it->pieces_count, it->inputs, it->inputs_count, &it->settings, &it->finding);
     case LINT: return acpiset_lint(it->pieces, it->pieces_count, it->inputs, it->inputs_count, &it->settings, NULL, 0);
+    case SHOW: return acpiset_show(it->pieces, it->pieces_count, it->inputs, it->inputs_count, &it->settings, NULL, 0);
+    case REBUILD:
+        return acpiset_rebuild(it->pieces, it->pieces_count, it->inputs, it->inputs_count, &it->settings, it->base, NULL, 0);
     default: return acpiset_find(it->pieces, it->pieces_count);
     }
 }
@@ -64,6 +71,7 @@ static struct acpiset_answer answer_on_set(enum call call) {
     switch (call) {
     case CONFIRM: return answer_of(ACPISET_YES, 0, 0);
     case LINT: return answer_of(ACPISET_NO, 1, 0);
+    case SHOW: return answer_of(ACPISET_YES, strlen(shown), 0);
     case FIND: return answer_of(ACPISET_YES, RSDP_AT, 0);
     default: return fault_of(ACPISET_NO_FADT, 0, 0, 0);
     }
@@ -85,7 +93,7 @@ static struct acpiset_answer refused(uint32_t kind) { return answer_of(kind, 0, 
 
 /* Calls that are given settings: all but FIND. */
 static void expect_settings(const struct request *request, uint32_t kind, const char *setting, uint64_t number) {
-    for (int call = CHECK; call <= LINT; call++) {
+    for (int call = CHECK; call <= REBUILD; call++) {
         struct acpiset_answer wanted = kind == ACPISET_YES ? answer_on_set((enum call)call) : refused(kind);
         expect(ask((enum call)call, request), wanted, "%s, %s %llu", names[call], setting, (unsigned long long)number);
     }
@@ -141,7 +149,7 @@ static void through(void) {
     struct request request = request_of_set();
     for (size_t i = 0; i < COUNTS(bad); i++) {
         request.settings.through = bad[i];
-        for (int call = CHECK; call <= LINT; call++) {
+        for (int call = CHECK; call <= REBUILD; call++) {
             struct acpiset_answer wanted = call <= CHECK_TEXT ? refused(ACPISET_BAD_STAGE) : answer_on_set((enum call)call);
             expect(ask((enum call)call, &request), wanted, "%s, through %lu", names[call], (unsigned long)bad[i]);
         }
@@ -168,7 +176,7 @@ static void inputs(void) {
                 own[j].address = 0xfec00000 + 0x1000 * (uint32_t)j;
                 own[j].count = j == at ? bad_counts[i] : 24;
             }
-            for (int call = CHECK; call <= LINT; call++)
+            for (int call = CHECK; call <= REBUILD; call++)
                 expect(ask((enum call)call, &request), answer_of(ACPISET_BAD_INPUTS, at, 0), "%s, inputs %lu at %zu", names[call],
                        (unsigned long)bad_counts[i], at);
         }
@@ -203,7 +211,7 @@ static void late_inputs(void) {
     expect_settings(&request, ACPISET_YES, "inputs", COUNT);
     for (size_t i = 0; i < COUNTS(bad_counts); i++) {
         own[LATE].count = bad_counts[i];
-        for (int call = CHECK; call <= LINT; call++)
+        for (int call = CHECK; call <= REBUILD; call++)
             expect(ask((enum call)call, &request), answer_of(ACPISET_BAD_INPUTS, LATE, 0), "%s, inputs %lu at %d", names[call],
                    (unsigned long)bad_counts[i], LATE);
     }
@@ -229,6 +237,32 @@ static void codes(void) {
         request.finding.other = number == 1 ? 1 : 0;
         request.finding.point = number == 2 ? LAST : 0;
         expect(ask(CONFIRM, &request), answer_of(ACPISET_NO, 0, 0), "confirm, a number that the code does not use");
+    }
+}
+
+/* ---- base addresses */
+
+static void bases(void) {
+    static const uint64_t bad[] = {1, 2, 32, 63, 65, 0xfffff, ((uint64_t)1 << 32) + 8, LAST - 62, LAST};
+    static const struct acpiset_piece twice[] = {{RSDP_AT, rsdp, 1}, {RSDP_AT, rsdp, 1}};
+    static const struct acpiset_inputs none = {1, 0};
+    for (size_t i = 0; i < COUNTS(bad); i++) {
+        struct request request = request_of_set();
+        request.base = bad[i];
+        expect(ask(REBUILD, &request), refused(ACPISET_UNALIGNED), "rebuild, base %llx", (unsigned long long)bad[i]);
+        /* before the pieces, and after the numbers of inputs */
+        request.pieces = twice;
+        expect(ask(REBUILD, &request), refused(ACPISET_UNALIGNED), "rebuild, base %llx and an overlap", (unsigned long long)bad[i]);
+        request.inputs = &none;
+        request.inputs_count = 1;
+        expect(ask(REBUILD, &request), refused(ACPISET_BAD_INPUTS), "rebuild, base %llx and inputs", (unsigned long long)bad[i]);
+    }
+    for (int bit = 6; bit < 64; bit++) {
+        struct request request = request_of_set();
+        request.base = (uint64_t)1 << bit;
+        expect(ask(REBUILD, &request), answer_on_set(REBUILD), "rebuild, base 2^%d", bit);
+        request.base = LAST << bit;
+        expect(ask(REBUILD, &request), answer_on_set(REBUILD), "rebuild, base 2^64 - 2^%d", bit);
     }
 }
 
@@ -477,7 +511,7 @@ static void nulls(void) {
 static void order(void) {
     static const struct acpiset_piece overlapping[] = {{0x1000, zeros, 16}, {0x1008, zeros, 16}};
     static const struct acpiset_inputs wrong_inputs[] = {{1, 1}, {2, 0}};
-    struct request it = {overlapping, 2, "zz", 2, wrong_inputs, 2, {31, RSDP_AT, 0, 2, 2, 0}, {0, 0, 0, 0}};
+    struct request it = {overlapping, 2, "zz", 2, wrong_inputs, 2, {31, RSDP_AT, 0, 2, 2, 0}, {0, 0, 0, 0}, 1};
     const struct acpiset_answer overlap = answer_of(ACPISET_PIECES_OVERLAP, 1, 0x1008);
     const struct acpiset_answer bad_line = answer_of(ACPISET_BAD_LINE, 1, 0);
 
@@ -489,13 +523,17 @@ static void order(void) {
     it.settings.hotplug = 0;
     expect_settings(&it, ACPISET_BAD_PROCESSORS, "wrong, and processors", it.settings.processors);
     it.settings.processors = 0;
-    for (int call = CHECK; call <= LINT; call++)
+    for (int call = CHECK; call <= REBUILD; call++)
         expect(ask((enum call)call, &it), answer_of(ACPISET_BAD_INPUTS, 1, 0), "%s, inputs and more are wrong", names[call]);
     it.inputs_count = 1;
     expect(ask(CHECK, &it), refused(ACPISET_BAD_STAGE), "check, the last stage and the pieces are wrong");
     expect(ask(CHECK_TEXT, &it), refused(ACPISET_BAD_STAGE), "check_text, the last stage and the text are wrong");
     expect(ask(CONFIRM, &it), refused(ACPISET_BAD_CODE), "confirm, the code and the pieces are wrong");
     expect(ask(LINT, &it), overlap, "lint, the pieces are wrong");
+    expect(ask(SHOW, &it), overlap, "show, the pieces are wrong");
+    expect(ask(REBUILD, &it), refused(ACPISET_UNALIGNED), "rebuild, the base and the pieces are wrong");
+    it.base = 64;
+    expect(ask(REBUILD, &it), overlap, "rebuild, the pieces are wrong");
     it.settings.through = 18;
     it.finding.number = ACPISET_NO_FADT;
     expect(ask(CHECK, &it), overlap, "check, the pieces are wrong");
@@ -518,6 +556,7 @@ int main(void) {
     inputs();
     late_inputs();
     codes();
+    bases();
     pieces();
     pieces_without_bytes();
     pieces_of_one_byte();

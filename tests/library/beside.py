@@ -5,8 +5,28 @@ import subprocess
 from concurrent.futures import ThreadPoolExecutor
 from dataclasses import replace
 
+from acpi_images.text import read, text_of
 from builds import SECONDS
-from jobs import all_findings, at_random, confirmations, of_faults, of_sets, region, rows, texts
+from jobs import (
+    all_findings,
+    at_random,
+    confirmations,
+    lines_of_sets,
+    of_faults,
+    of_sets,
+    region,
+    rows,
+    shown_and_rebuilt,
+    texts,
+)
+
+
+def filled(text):
+    """The same image as one run, with zeros between its runs."""
+    image, memory = read(text.encode()), bytearray()
+    for start, run in zip(image.starts, image.runs):
+        memory += bytes(start - image.starts[0] - len(memory)) + run
+    return text_of({image.starts[0]: bytes(memory)}).decode()
 
 
 def answered(program, job):
@@ -14,7 +34,10 @@ def answered(program, job):
     if job.lines is not None:
         return job
     ended = subprocess.run([program, *job.words], input=job.text, capture_output=True, timeout=60)
-    told = ended.stdout.decode() or ended.stderr.decode().removeprefix("acpiset: ")
+    # A hint may come after the refusal's line.
+    told = ended.stdout.decode() or ended.stderr.decode().removeprefix("acpiset: ").partition("acpiset: hint: ")[0]
+    if job.words[0] == "rebuild" and ended.returncode == 0:
+        told = filled(told)
     return replace(job, lines=told, status=ended.returncode)
 
 
@@ -22,7 +45,8 @@ def all_jobs(program):
     """All that is asked, with answers."""
     with ThreadPoolExecutor() as pool:
         ask = lambda jobs: list(pool.map(lambda job: answered(program, job), jobs))
-        asked = ask([*rows(), *confirmations(), *all_findings(), *of_sets(), *region(), *at_random(), *texts()])
+        known = [*rows(), *confirmations(), *all_findings(), *lines_of_sets()]
+        asked = ask([*known, *of_sets(), *shown_and_rebuilt(), *region(), *at_random(), *texts()])
         return asked + ask(of_faults([job for job in asked if not job.is_faulty]))
 
 

@@ -24,6 +24,8 @@ SOURCES = {
     "through_pieces": ["through_pieces.c", "common.c"],
     "many_pieces": ["many_pieces.c", "common.c"],
     "findings": ["findings.c", *CALLS],
+    "made": ["made.c", *CALLS],
+    "meanings": ["meanings.c", "common.c"],
     "guarded": ["guarded.c", *CALLS],
     "refused_memory": ["refused_memory.c", "counted_memory.c", *CALLS],
     "threads": ["threads.c", "counted_memory.c", *CALLS],

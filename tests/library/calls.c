@@ -2,7 +2,7 @@
 
 #include <stdlib.h>
 
-const char *const call_names[CALLS] = {"check", "check_text", "confirm", "lint", "find"};
+const char *const call_names[CALLS] = {"check", "check_text", "confirm", "lint", "show", "rebuild", "find"};
 
 /* None of them changes an answer: the addresses are those of no I/O APIC, or the number is the usual one. */
 static const struct acpiset_inputs some_inputs[] = {
@@ -11,7 +11,7 @@ static const struct acpiset_inputs some_inputs[] = {
 
 static struct subject subject_of(const char *rsdp, const char *path) {
     struct subject subject = {path,        NULL, 0, {NULL, 0}, some_inputs, sizeof some_inputs / sizeof some_inputs[0],
-                              ACPISET_SETTINGS(0), {ACPISET_NO_FADT, 0, 0, 0}, NULL, 0};
+                              ACPISET_SETTINGS(0), {ACPISET_NO_FADT, 0, 0, 0}, NULL, 0, NULL, 0, NULL, 0};
     subject.text = read_file(path, &subject.length);
     subject.image = read_image(subject.text, subject.length);
     subject.settings.rsdp = number_of(rsdp, 16);
@@ -51,6 +51,9 @@ struct acpiset_answer ask(enum call call, const struct subject *it) {
     case CONFIRM: return acpiset_confirm(pieces, count, it->inputs, it->inputs_count, &it->settings, &it->fault);
     case LINT:
         return acpiset_lint(pieces, count, it->inputs, it->inputs_count, &it->settings, it->findings, it->findings_count);
+    case SHOW: return acpiset_show(pieces, count, it->inputs, it->inputs_count, &it->settings, it->shown, it->shown_size);
+    case REBUILD:
+        return acpiset_rebuild(pieces, count, it->inputs, it->inputs_count, &it->settings, BASE, it->rebuilt, it->rebuilt_size);
     default: return acpiset_find(pieces, count);
     }
 }

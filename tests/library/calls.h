@@ -4,7 +4,10 @@
 
 #include "common.h"
 
-enum call { CHECK, CHECK_TEXT, CONFIRM, LINT, FIND, CALLS };
+enum call { CHECK, CHECK_TEXT, CONFIRM, LINT, SHOW, REBUILD, FIND, CALLS };
+
+/* Where a set is rebuilt. */
+#define BASE 0x200000
 
 extern const char *const call_names[CALLS];
 
@@ -20,6 +23,10 @@ struct subject {
     struct acpiset_finding fault; /* the first one; of a clean image NO_FADT, which is not in it */
     struct acpiset_finding *findings;
     size_t findings_count;
+    char *shown;
+    size_t shown_size;
+    uint8_t *rebuilt;
+    size_t rebuilt_size;
 };
 
 /* The subjects that the arguments name: an RSDP's address in hex and a file of image text, for each. */

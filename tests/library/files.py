@@ -6,10 +6,10 @@ import shutil
 
 from builds import HEADER, difference, run
 
-FUNCTIONS = {"acpiset_check", "acpiset_check_text", "acpiset_confirm", "acpiset_lint", "acpiset_find", "acpiset_abi"}
+FUNCTIONS = {f"acpiset_{it}" for it in "check check_text confirm lint find show rebuild stage severity name explain abi".split()}
 FROM_OUTSIDE = {"malloc", "realloc", "free", "memcpy", "memmove", "memset", "memcmp", "bcmp"}
 # The most bytes of the shared object.
-MOST_BYTES = 220_000
+MOST_BYTES = 340_000
 
 
 def symbols(path, *options):
@@ -31,7 +31,7 @@ def files(cases, folder, scratch):
         print("left out: what the files export and need: no nm")
         return
     archive, shared = folder / "libacpiset.a", folder / "libacpiset.so.1"
-    declared = set(re.findall(r"^(?:struct acpiset_answer|uint32_t) (acpiset_\w+)\(", HEADER.read_text(), re.M))
+    declared = set(re.findall(r"^(?:struct acpiset_answer|uint32_t|size_t) (acpiset_\w+)\(", HEADER.read_text(), re.M))
     cases.count("functions of the header", difference(declared, FUNCTIONS))
     exported = set(symbols(archive, "--defined-only", "--extern-only"))
     cases.count("functions of the archive", difference({name for name in exported if name.startswith("acpiset_")}, FUNCTIONS))

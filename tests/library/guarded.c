@@ -1,5 +1,5 @@
 /* All that is passed lies between pages that nobody may touch, at the start of a page and then at the end of one, and all but the
- * array of findings may not be written to: a read or write outside ends the program.
+ * rooms for results may not be written to: a read or write outside ends the program.
  * usage: guarded RSDP FILE [RSDP FILE].. */
 #define _DEFAULT_SOURCE
 #include "calls.h"
@@ -78,11 +78,37 @@ static struct acpiset_answer ask_guarded(enum call call, const struct subject *i
     case CHECK_TEXT: return acpiset_check_text(it->text, it->length, it->inputs, it->inputs_count, settings);
     case CONFIRM: return acpiset_confirm(pieces, count, it->inputs, it->inputs_count, settings, fault);
     case LINT: return acpiset_lint(pieces, count, it->inputs, it->inputs_count, settings, it->findings, it->findings_count);
+    case SHOW: return acpiset_show(pieces, count, it->inputs, it->inputs_count, settings, it->shown, it->shown_size);
+    case REBUILD:
+        return acpiset_rebuild(pieces, count, it->inputs, it->inputs_count, settings, BASE, it->rebuilt, it->rebuilt_size);
     default: return acpiset_find(pieces, count);
     }
 }
 
-/* Each call, and acpiset_lint with arrays of every size up to one more than is needed. */
+/* A room for this many bytes, which are 0. */
+static void *guarded_room(size_t size) {
+    void *zeros = block_of(size);
+    memset(zeros, 0, size);
+    void *room = guarded(zeros, size, PROT_READ | PROT_WRITE);
+    free(zeros);
+    return room;
+}
+
+/* acpiset_show and acpiset_rebuild with rooms for none of the bytes, for some, for all, and for one more. */
+static void ask_for_bytes(struct subject *it) {
+    size_t shown = (size_t)ask(SHOW, it).at, rebuilt = (size_t)ask(REBUILD, it).at;
+    struct acpiset_answer wanted[2] = {ask(SHOW, it), ask(REBUILD, it)};
+    for (int size = -2; size <= 1; size++) {
+        it->shown_size = size == -2 ? 1 : shown + (size_t)(size + 1) - (shown ? 1 : 0);
+        it->rebuilt_size = size == -2 ? 1 : rebuilt + (size_t)(size + 1) - (rebuilt ? 1 : 0);
+        it->shown = (char *)guarded_room(it->shown_size);
+        it->rebuilt = (uint8_t *)guarded_room(it->rebuilt_size);
+        expect(ask_guarded(SHOW, it), wanted[0], "%s: show, a guarded room of %zu", it->name, it->shown_size);
+        expect(ask_guarded(REBUILD, it), wanted[1], "%s: rebuild, a guarded room of %zu", it->name, it->rebuilt_size);
+    }
+}
+
+/* Each call, and those with rooms of several sizes: acpiset_lint with every size up to one more than is needed. */
 static void ask_all(const struct subject *subject) {
     struct subject it = guarded_subject(subject);
     for (int call = 0; call < CALLS; call++)
@@ -95,6 +121,7 @@ static void ask_all(const struct subject *subject) {
         it.findings_count = room;
         expect(ask_guarded(LINT, &it), answer, "%s: lint, a guarded array of %zu", subject->name, room);
     }
+    ask_for_bytes(&it);
     unmap_all();
 }
 
@@ -103,7 +130,7 @@ static void ask_short(const struct subject *subject) {
     struct subject it = guarded_subject(subject);
     for (size_t size = sizeof it.settings.size; size < sizeof it.settings; size += sizeof it.settings.size) {
         it.settings.size = size;
-        for (int call = CHECK; call <= LINT; call++)
+        for (int call = CHECK; call <= REBUILD; call++)
             expect(ask_guarded((enum call)call, &it), answer_of(ACPISET_BAD_SIZE, 0, 0), "%s, settings of %zu bytes", call_names[call], size);
     }
     unmap_all();

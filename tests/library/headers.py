@@ -46,7 +46,7 @@ def header(cases, scratch):
         ("a wider field", "    uint32_t through;", "    uint64_t through;"),
         ("a narrower field", "struct acpiset_finding {\n    uint32_t number;", "struct acpiset_finding {\n    uint16_t number;"),
         ("a field in another place", "    uint32_t kind;  /* enum acpiset_kind */\n", ""),
-        ("a field after the others", "    uint64_t point; /* acpiset_check: the fault's third number */", "    uint64_t point, more;"),
+        ("a field after the others", "    uint64_t point; /* its third number */", "    uint64_t point, more;"),
         ("two fields exchanged", "    const uint8_t *bytes;\n    size_t length;\n", "    size_t length;\n    const uint8_t *bytes;\n"),
     )
     for name, command in syntaxes():
@@ -61,7 +61,7 @@ def header(cases, scratch):
 
 
 KINDS = """Yes No OutOfMemory BadSize BadDefaultInputs BadHotPlug BadProcessors BadStage BadInputs BadCode PiecePastEnd PiecesOverlap
-BadLine NoAddress TextOverlap TextPastEnd TextTooLong""".split()
+BadLine NoAddress TextOverlap TextPastEnd TextTooLong Unaligned TableTooLong PastEnd NeedsLow""".split()
 
 
 # The rules of which nothing is known to be wrong, and those whose findings may be right; those of all others are likely wrong.

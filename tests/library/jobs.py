@@ -62,6 +62,11 @@ def all_findings():
         yield known(name, ["lint", "--rsdp", IMAGES[name], *words.split()], firmware_text(name), lines)
 
 
+def lines_of_sets():
+    for it in SHOWN:
+        yield known(it.name, ["show", *it.words.split()], text_of(it.pieces), it.text.splitlines())
+
+
 # ---- the same sets under other settings
 
 SETTINGS = [
@@ -117,6 +122,22 @@ def of_sets():
             yield Job(name, ("lint", *rsdp, *settings), text)
             for stage in STAGES:
                 yield Job(name, ("check", *rsdp, *settings, "--through", str(stage)), text)
+
+
+# Below 1 MiB, below and above 4 GiB, no multiple of 64, and near the last address.
+BASES = ("e0000", "7ffe0000", "ffffff80", "123456780", "e0020", "fffffffffffffc00", "ffffffffffffffc0")
+
+
+def shown_and_rebuilt():
+    """Each set shown, and rebuilt at one of the addresses; and each image of firmware rebuilt at each. The program is asked."""
+    for place, (name, rsdp, text) in enumerate(sets()):
+        yield Job(name, ("show", *rsdp), text)
+        yield Job(name, ("rebuild", *rsdp, "--base", BASES[place % len(BASES)], *SETTINGS[place % len(SETTINGS)]), text)
+    for name, rsdp, text in firmware():
+        yield Job(name, ("show", *rsdp), text)
+        for base in BASES:
+            yield Job(name, ("rebuild", *rsdp, "--base", base), text)
+            yield Job(name, ("rebuild", *rsdp, "--base", base, "--hotplug", "apart"), text)
 
 
 def region():

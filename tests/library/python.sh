@@ -4,17 +4,14 @@
 # if it has them.
 # usage: tests/library/python.sh LIBRARY_FOLDER, the folder of libacpiset.so.1; the last line is 'python package: N passed, M failed', or
 # 'left out: ..' if there is no Python that is new enough. Nothing is downloaded, and nothing is written into the tree.
-library=$(realpath "${1:?usage: tests/library/python.sh LIBRARY_FOLDER}")
+library=$(realpath -- "${1:?usage: tests/library/python.sh LIBRARY_FOLDER}")
 [ -r "$library/libacpiset.so.1" ] || { printf '%s: no libacpiset.so.1\n' "$library" >&2; exit 1; }
 # shellcheck source=tests/prelude.sh
-. "$(dirname "$0")/../prelude.sh"
+. "$(dirname -- "$0")/../prelude.sh"
 SOURCE=$PWD
 package=$SOURCE/bindings/python
 export ACPISET_LIBRARY="$library" PYTHONPATH="$package" PYTHONDONTWRITEBYTECODE=1
 unset PYTHONHOME PYTHONSTARTUP PYTHONOPTIMIZE
-
-# is_new PYTHON: whether it is there, and 3.9 or later.
-is_new() { "$1" -c 'import sys; sys.exit(sys.version_info < (3, 9))' 2>/dev/null; }
 
 # counts LOG: how many tests ran and how many failed, by what unittest, pytest or a script here prints.
 counts() {
@@ -50,16 +47,12 @@ tests() {
 # ran WHAT COMMAND..: counts a command that has to end well.
 ran() { count "$1" "$("${@:2}" >"$scratch/log" 2>&1 || { echo "status $?"; cat "$scratch/log"; })"; }
 
-is_new python3 || { echo 'left out: no Python 3.9 or later'; exit 0; }
+python3 -c 'import sys; sys.exit(sys.version_info < (3, 9))' 2>/dev/null || { echo 'left out: no Python 3.9 or later'; exit 0; }
 cd "$scratch" || exit
 tests 'python3: unit tests' python3 -m unittest discover -s "$package/tests"
-versions=" $(python3 -c 'import sys; print(*sys.version_info[:2], sep=".")') "
-for minor in 9 10 11 12 13 14 15; do
-  if [[ $versions != *" 3.$minor "* ]] && is_new "python3.$minor"; then
-    tests "python3.$minor: unit tests" "python3.$minor" -m unittest discover -s "$package/tests"
-    versions+="3.$minor "
-  fi
-done
+while read -r python; do
+  tests "$python: unit tests" "$python" -m unittest discover -s "$package/tests"
+done < <(other_pythons)
 tests 'sets of the other tests' python3 "$SOURCE/tests/library/python_sets.py"
 
 # The example is for pytest; its tests are functions without arguments.

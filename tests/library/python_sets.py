@@ -8,6 +8,7 @@ failed'"""
 
 import re
 import sys
+from dataclasses import replace
 from pathlib import Path
 
 HERE = Path(__file__).resolve().parent
@@ -18,7 +19,7 @@ from acpi_images.known.judged import JUDGED
 from acpi_images.program import FIRMWARE, Cases, finish
 from acpi_images.text import read
 from examples import ADVICE, EXAMPLE, FIRST_RULE, PART, TOP, changed
-from jobs import all_findings, confirmations, firmware, rows
+from jobs import all_findings, confirmations, firmware, lines_of_sets, rows
 
 CHOICES = {"--hotplug": {"counted": 0, "apart": 1}, "--processors": {"enabled": 0, "usable": 1}}
 NUMBERS = {"--default-inputs": "default_inputs", "--through": "through"}
@@ -71,6 +72,9 @@ def lines_of(command, pieces, settings, witness):
         return "yes" if fault is None else f"no {fault}"
     if command == "lint":
         return str(acpiset.lint(pieces, settings))
+    if command == "show":
+        shown = acpiset.show(pieces, settings)
+        return f"no {shown}" if isinstance(shown, acpiset.Fault) else shown.rstrip("\n")
     return str(acpiset.confirm(pieces, settings, fault_of(witness))).lower()
 
 
@@ -95,8 +99,30 @@ def broken_promises(text, pieces, settings):
     for it in found.faults:
         if not acpiset.confirm(pieces, settings, it):
             yield f"{it} is not confirmed"
+    shown, first = acpiset.show(pieces, settings), acpiset.check(pieces, replace(settings, through=3))
+    if (shown if isinstance(shown, acpiset.Fault) else None) != first:
+        yield f"show says {shown}, and a check through stage 3 {first}"
+    yield from broken_moves(pieces, settings, fault)
     if fault is not None and found.faults and fault.stage != min(it.stage for it in found.faults):
         yield f"{fault} is no fault of the first stage"
+
+
+# A base address below 2^32, so that each FADT has room for that of the FACS.
+BASE = 0x10000
+
+
+def broken_moves(pieces, settings, fault):
+    """What is wrong with a set that is rebuilt, whose first fault through all stages is this one."""
+    moved = acpiset.rebuild(pieces, settings, BASE)
+    if isinstance(moved, acpiset.Fault) or fault is not None:
+        if moved != fault:
+            yield f"rebuild says {moved}, and check {fault}"
+        return
+    there = [(BASE, moved)], replace(settings, rsdp=BASE)
+    if acpiset.check(*there) is not None:
+        yield f"what is rebuilt has the fault {acpiset.check(*there)}"
+    if acpiset.rebuild(*there, BASE) != moved:
+        yield "what is rebuilt is another set when it is rebuilt again"
 
 
 # ---- the cases
@@ -104,7 +130,7 @@ def broken_promises(text, pieces, settings):
 
 def of_rows(cases):
     """The rows, from several threads at the same time."""
-    jobs = [*rows(), *confirmations(), *all_findings()]
+    jobs = [*rows(), *confirmations(), *all_findings(), *lines_of_sets()]
 
     def wrong(job):
         pieces = list(read(job.text).pieces().items())

@@ -1,5 +1,5 @@
 /* Each request for memory of each call is refused in its turn, alone and with all that follow: the answer is OUT_OF_MEMORY, no block
- * is left, and nothing is written to the caller's array. Only numbers that are out of range, and a fault of a text up to its first line
+ * is left, and nothing is written to the caller's rooms. Only numbers that are out of range, and a fault of a text up to its first line
  * of data, are told all the same.
  * usage: refused_memory RSDP FILE [RSDP FILE].. */
 #include "calls.h"
@@ -9,18 +9,23 @@
 
 #define FILLER 0xa5
 
-static struct acpiset_finding findings[ACPISET_MOST_FINDINGS];
+/* The rooms that the calls write to. */
+static struct {
+    struct acpiset_finding findings[ACPISET_MOST_FINDINGS];
+    char shown[4096];
+    uint8_t rebuilt[4096];
+} rooms;
 
 static bool is_untouched(void) {
-    for (size_t i = 0; i < sizeof findings; i++)
-        if (((const unsigned char *)findings)[i] != FILLER) return false;
+    for (size_t i = 0; i < sizeof rooms; i++)
+        if (((const unsigned char *)&rooms)[i] != FILLER) return false;
     return true;
 }
 
 /* A call with this request refused. */
 static void refuse(enum call call, const struct subject *subject, long number, bool and_later) {
     const char *name = call_names[call], *how = and_later ? " and later ones" : "";
-    memset(findings, FILLER, sizeof findings);
+    memset(&rooms, FILLER, sizeof rooms);
     long before = live_blocks();
     refuse_request(number, and_later);
     struct acpiset_answer answer = ask(call, subject);
@@ -28,7 +33,7 @@ static void refuse(enum call call, const struct subject *subject, long number, b
     expect(answer, answer_of(ACPISET_OUT_OF_MEMORY, 0, 0), "%s: %s, request %ld%s", subject->name, name, number, how);
     count_case(live_blocks() == before, "%s: %s, request %ld%s: %ld blocks are left", subject->name, name, number, how,
                live_blocks() - before);
-    count_case(is_untouched(), "%s: %s, request %ld%s: the array was written to", subject->name, name, number, how);
+    count_case(is_untouched(), "%s: %s, request %ld%s: a room was written to", subject->name, name, number, how);
 }
 
 /* How many requests a call makes. */
@@ -59,7 +64,7 @@ static void refuse_inputs(const struct subject *subject) {
         inputs[i].address = i;
         inputs[i].count = 24;
     }
-    for (int call = CHECK; call <= LINT; call++) {
+    for (int call = CHECK; call <= REBUILD; call++) {
         refuse_request(0, false);
         ask((enum call)call, &it);
         long requests = requests_made();
@@ -109,8 +114,12 @@ int main(int argc, char **argv) {
     struct subject *subjects = subjects_of(argc, argv, &count);
     long requests[CALLS] = {0};
     for (size_t i = 0; i < count; i++) {
-        subjects[i].findings = findings;
+        subjects[i].findings = rooms.findings;
         subjects[i].findings_count = ACPISET_MOST_FINDINGS;
+        subjects[i].shown = rooms.shown;
+        subjects[i].shown_size = sizeof rooms.shown;
+        subjects[i].rebuilt = rooms.rebuilt;
+        subjects[i].rebuilt_size = sizeof rooms.rebuilt;
         for (int call = 0; call < CALLS; call++) requests[call] += refuse_each((enum call)call, &subjects[i]);
     }
     refuse_inputs(&subjects[0]);

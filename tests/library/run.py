@@ -10,6 +10,8 @@ usage: run.py PROGRAM LIBRARY_FOLDER; the last line is 'library: N passed, M fai
 import functools
 import os
 import re
+import shutil
+import signal
 import sys
 import tempfile
 from concurrent.futures import ThreadPoolExecutor
@@ -26,7 +28,7 @@ from acpi_images.program import FIRMWARE, IMAGES, Cases, finish
 from acpi_images.tables import *
 from acpi_images.text import text_of
 from beside import all_jobs, compared
-from builds import SOURCES, builds_of, counted, run
+from builds import HEADER, SOURCES, builds_of, counted, refused_by, run, syntaxes, works_with
 from example_runs import examples, fuzzer
 from files import files
 from headers import header, lists, printed
@@ -148,8 +150,8 @@ def compiled(cases, builds, scratch):
 def tested(cases, build, place, built, scratch, jobs, some):
     """Runs what was built in one way."""
     usual = words_of(some)
-    wanted = [("bad_input", []), ("many_pieces", [str(MANY_PIECES)])]
-    wanted += [(program, usual) for program in ("findings", "guarded", "refused_memory", "threads")]
+    wanted = [("bad_input", []), ("meanings", []), ("many_pieces", [str(MANY_PIECES)])]
+    wanted += [(program, usual) for program in ("findings", "made", "guarded", "refused_memory", "threads")]
     wanted.append(("stack", [str(MOST_STACK), "12", *usual, *words_of([large_subject(scratch)])]))
     if place == 0:
         wanted.append(("stack", [str(MOST_STACK), str(MANY_COUNTS), *words_of(worst_for_the_stack(scratch))]))
@@ -164,6 +166,41 @@ def tested(cases, build, place, built, scratch, jobs, some):
         compared(cases, build, scratch, [job for job in jobs if place == 0 or len(job.text) < LARGE])
     if not build.is_shared:
         examples(cases, build, scratch)
+
+
+def sees_a_block(cases, build, scratch, words):
+    """The program that measures the stack sees a block of 128 KiB on it, and its thread with a small stack ends by a signal."""
+    block = 128 << 10
+    refused = build.compile(scratch, "stack_planted", [HERE / it for it in SOURCES["stack"]], f"-DPLANTED={block}")
+    told, status = run([build.path(scratch, "stack_planted"), str(MOST_STACK), "12", *words])
+    found = [int(it) for it in re.findall(r"takes (\d+) bytes", told)]
+    is_seen = len(found) >= 5 and min(found) > block and status == -signal.SIGSEGV
+    cases.count("a block on the stack", refused or ("" if is_seen else f"status {status}: {told[-3000:]}"))
+
+
+def under_valgrind(cases, build, scratch, words):
+    """What is written to rooms of several sizes, and freed, as valgrind sees it."""
+    valgrind = shutil.which("valgrind")
+    if not valgrind:
+        print("left out: valgrind is not installed")
+        return
+    options = ["--quiet", "--leak-check=full", "--show-leak-kinds=all", "--errors-for-leak-kinds=all", "--error-exitcode=99"]
+    told, status = run([valgrind, *options, build.path(scratch, "made"), *words])
+    is_clean = re.fullmatch(r"made: [1-9]\d* passed, 0 failed\n", told) and status == 0
+    cases.count("made.c under valgrind", "" if is_clean else f"status {status}: {told[-3000:]}")
+
+
+def other_convention(cases, build, scratch):
+    """The header's functions are called as the library wants it, whatever convention the compiler has; or the header is refused."""
+    if works_with([*build.command, "-mabi=ms"], [], scratch):
+        refused = build.compile(scratch, "other_convention", [HERE / "other_convention.c"], "-mabi=ms")
+        told, status = ("", None) if refused else run([build.path(scratch, "other_convention")])
+        cases.count("a program with another calling convention", refused or ("" if status == 0 else f"status {status}: {told}"))
+    else:
+        print("left out: no compiler with another calling convention")
+    for name, command in syntaxes():
+        is_refused = "calling convention" in refused_by([*command, "-D_WIN64"], HERE / "header.c", HEADER.parent)
+        cases.count(f"the header for Windows, {name}", "" if is_refused else "accepted")
 
 
 def main():
@@ -183,6 +220,10 @@ def main():
         some = list(subjects(scratch))
         for place, build in enumerate(builds):
             tested(cases, build, place, built, scratch, jobs, some)
+        if builds:
+            sees_a_block(cases, builds[0], scratch, words_of(some[:3]))
+            under_valgrind(cases, builds[0], scratch, words_of(some))
+            other_convention(cases, builds[0], scratch)
         fuzzer(cases, folder, scratch)
         if builds and (builds[0].name, "speed") in built:
             speeds(builds[0], scratch)

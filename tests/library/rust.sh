@@ -2,10 +2,10 @@
 # Builds the Rust crate of bindings/rust with the built library, and runs its tests.
 # usage: tests/library/rust.sh LIBRARY_FOLDER, the folder of libacpiset.a; the last line is 'rust bindings: N passed, M failed',
 # or 'left out: ..' if there is no cargo, or one that is too old. Nothing is downloaded, and nothing is written into the tree.
-library=$(realpath "${1:?usage: tests/library/rust.sh LIBRARY_FOLDER}")
+library=$(realpath -- "${1:?usage: tests/library/rust.sh LIBRARY_FOLDER}")
 [ -r "$library/libacpiset.a" ] || { printf '%s: no libacpiset.a\n' "$library" >&2; exit 1; }
 # shellcheck source=tests/prelude.sh
-. "$(dirname "$0")/../prelude.sh"
+. "$(dirname -- "$0")/../prelude.sh"
 cd bindings/rust || exit
 if ! has cargo || ! has rustc; then
   echo 'left out: no cargo'
@@ -54,6 +54,12 @@ else
 fi
 ran 'its documentation' env RUSTDOCFLAGS='-D warnings' cargo doc --offline --locked --quiet --no-deps
 
+# ---- its example: the fault, the slot and the parts of 64, 64, 320 and 128 bytes are worked out by hand
+told=$(cargo run --offline --locked --quiet --example guest_memory 2>&1)
+for line in 'no 10 Overlap 0x30 0x58 0x80000000' yes 'slot 1 0x9f140 SRAT length 128 revision 3' '576 bytes at 0x7fff0000, valid: true'; do
+  count "examples/guest_memory.rs: $line" "$(grep -qxF -- "$line" <<<"$told" || printf 'it prints:\n%s\n' "$told")"
+done
+
 # ---- its build script
 build() { env "$@" cargo build --offline --locked --quiet; }
 mkdir "$scratch/empty" "$scratch/installed"
@@ -65,6 +71,14 @@ says 'no library' 'Set ACPISET_LIB_DIR to the folder that has it' build -u ACPIS
 says 'no library and no pkg-config' 'Set ACPISET_LIB_DIR to the folder that has it' build -u ACPISET_LIB_DIR PKG_CONFIG="$scratch/none"
 if has pkg-config; then
   ran 'the library of pkg-config' build -u ACPISET_LIB_DIR PKG_CONFIG_PATH="$scratch/installed"
+  # As `make install` writes it; only such a file has the folder in pkg-config's quoting.
+  prefix="$scratch/a 'prefix' with blanks & marks#"
+  PREFIX="$prefix" LIBRARY="$library" ../../scripts/install install-library >"$scratch/log" 2>&1
+  if [ -e "$prefix/lib/libacpiset.a" ]; then
+    ran 'the library of pkg-config, in a folder of many marks' build -u ACPISET_LIB_DIR PKG_CONFIG_PATH="$prefix/lib/pkgconfig"
+  else
+    echo "left out: a library in a folder of many marks: $(cat "$scratch/log")"
+  fi
 else
   echo 'left out: pkg-config'
 fi

@@ -21,6 +21,17 @@ struct question {
     const struct subject *subject;
 };
 
+#ifdef PLANTED
+/* A mistake that this program has to see: so many bytes of the stack are taken around each call. */
+static void ask_with_more(enum call call, const struct subject *subject) {
+    volatile unsigned char block[PLANTED];
+    block[0] = 1;
+    ask(call, subject);
+    block[PLANTED - 1] = block[0];
+}
+#define ask ask_with_more
+#endif
+
 static void *ask_one(void *argument) {
     const struct question *question = (const struct question *)argument;
     if (question->subject) ask(question->call, question->subject);

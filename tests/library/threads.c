@@ -15,12 +15,14 @@ static size_t subjects_count;
 /* The answers of one thread, by subject and call. */
 static struct acpiset_answer *answers;
 
-/* What a thread found: how many answers were right and how many wrong. Each has an array of its own for findings. */
+/* What a thread found: how many answers were right and how many wrong. Each has rooms of its own. */
 struct work {
     pthread_t thread;
     unsigned seed;
     unsigned long right, wrong;
     struct acpiset_finding findings[ACPISET_MOST_FINDINGS];
+    char shown[4096];
+    uint8_t rebuilt[4096];
 };
 
 static void *ask_again_and_again(void *argument) {
@@ -31,6 +33,10 @@ static void *ask_again_and_again(void *argument) {
         struct subject subject = subjects[place / CALLS];
         subject.findings = work->findings;
         subject.findings_count = ACPISET_MOST_FINDINGS;
+        subject.shown = work->shown;
+        subject.shown_size = sizeof work->shown;
+        subject.rebuilt = work->rebuilt;
+        subject.rebuilt_size = sizeof work->rebuilt;
         struct acpiset_answer answer = ask((enum call)(place % CALLS), &subject);
         if (same_answers(answer, answers[place])) work->right++;
         else work->wrong++;

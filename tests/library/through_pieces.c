@@ -2,7 +2,8 @@
  * usage: through_pieces COMMAND [OPTION].. [ADDRESS=COUNT].. < TEXT
  *        through_pieces --batch < JOBS
  *
- * COMMAND is check, lint, confirm or find, with the options that it has there. It reads image text; the data after each address
+ * COMMAND is check, lint, confirm, find, show or rebuild, with the options that it has there; what is rebuilt is printed as one run of
+ * image text, with the zeros between the parts. It reads image text; the data after each address
  * is a piece. Two options more say how the image is passed:
  *   --text         as text (check alone; the RSDP is still looked for among the pieces)
  *   --pieces SEED  as pieces that are cut at random places, mixed with pieces without bytes, and in another order
@@ -15,7 +16,7 @@
 #include <stdlib.h>
 #include <string.h>
 
-enum command { CHECK, LINT, CONFIRM, FIND };
+enum command { CHECK, LINT, CONFIRM, FIND, SHOW, REBUILD };
 
 struct request {
     enum command command;
@@ -25,6 +26,7 @@ struct request {
     struct acpiset_inputs *inputs;
     size_t inputs_count;
     struct acpiset_finding witness;
+    uint64_t base;
 };
 
 static void fail(const char *what, const char *word) {
@@ -63,15 +65,15 @@ static void add_inputs(struct request *request, const char *word) {
 }
 
 static enum command command_of(const char *word) {
-    static const char *const commands[] = {"check", "lint", "confirm", "find"};
-    for (int command = CHECK; command <= FIND; command++)
+    static const char *const commands[] = {"check", "lint", "confirm", "find", "show", "rebuild"};
+    for (int command = CHECK; command <= REBUILD; command++)
         if (strcmp(word, commands[command]) == 0) return (enum command)command;
     fail("no command", word);
     return CHECK;
 }
 
 static struct request request_of(char **words, size_t count) {
-    struct request request = {CHECK, false, false, false, 0, ACPISET_SETTINGS(0), NULL, 0, {0, 0, 0, 0}};
+    struct request request = {CHECK, false, false, false, 0, ACPISET_SETTINGS(0), NULL, 0, {0, 0, 0, 0}, 0};
     if (count == 0) fail("no command", "");
     request.command = command_of(words[0]);
     for (size_t i = 1; i < count; i++) {
@@ -99,6 +101,8 @@ static struct request request_of(char **words, size_t count) {
             request.settings.processors = choice(value, "enabled", "usable");
         } else if (strcmp(word, "--witness") == 0) {
             request.witness = witness_of(value);
+        } else if (strcmp(word, "--base") == 0) {
+            request.base = number_of(value, 16);
         } else if (strcmp(word, "--pieces") == 0) {
             request.is_shuffled = true;
             request.seed = number_of(value, 10);
@@ -225,6 +229,36 @@ static int print_find(struct acpiset_answer answer) {
     return (int)answer.kind;
 }
 
+/* ---- bytes that are written */
+
+static struct acpiset_answer made(const struct request *it, const struct image *image, uint8_t *room, size_t size) {
+    const struct acpiset_piece *pieces = image->pieces;
+    if (it->command == SHOW)
+        return acpiset_show(pieces, image->count, it->inputs, it->inputs_count, &it->settings, (char *)room, size);
+    return acpiset_rebuild(pieces, image->count, it->inputs, it->inputs_count, &it->settings, it->base, room, size);
+}
+
+static void print_run(uint64_t address, const uint8_t *bytes, size_t length) {
+    printf("@%" PRIx64 "\n", address);
+    for (size_t i = 0; i < length; i++) printf("%02x%c", bytes[i], i % 16 == 15 || i + 1 == length ? '\n' : ' ');
+}
+
+static int print_made(const struct request *it, const struct image *image) {
+    struct acpiset_answer answer = made(it, image, NULL, 0);
+    if (answer.kind >= ACPISET_UNALIGNED) {
+        printf("refused %s\n", acpiset_kind_name(answer.kind));
+        return 1;
+    }
+    if (answer.kind != ACPISET_YES) return print_check(answer);
+    size_t length = (size_t)answer.at;
+    uint8_t *bytes = (uint8_t *)block_of(length);
+    if (!same_answers(made(it, image, bytes, length), answer)) fail("another answer", "with a room");
+    if (it->command == SHOW) fwrite(bytes, 1, length, stdout);
+    else print_run(it->base, bytes, length);
+    free(bytes);
+    return 0;
+}
+
 static int answer_on(struct request *it, const struct image *image, const char *text, size_t length) {
     const struct acpiset_piece *pieces = image->pieces;
     size_t count = image->count;
@@ -246,6 +280,7 @@ static int answer_on(struct request *it, const struct image *image, const char *
             acpiset_lint(pieces, count, it->inputs, it->inputs_count, &it->settings, findings, ACPISET_MOST_FINDINGS);
         return print_lint(answer, findings);
     }
+    if (it->command == SHOW || it->command == REBUILD) return print_made(it, image);
     if (it->is_text) return print_check(acpiset_check_text(text, length, it->inputs, it->inputs_count, &it->settings));
     return print_check(acpiset_check(pieces, count, it->inputs, it->inputs_count, &it->settings));
 }

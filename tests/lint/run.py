@@ -18,7 +18,7 @@ from acpi_images.faults import STAGE_OF
 from acpi_images.known.judged import JUDGED
 from acpi_images.known.linted import EXPECTED
 from acpi_images.known.mistakes import MISTAKES, UNCHANGED
-from acpi_images.program import firmware_text, main, refusal
+from acpi_images.program import beside, firmware_text, main, refusal
 from acpi_images.text import read, text_of
 from large import many_entries, many_slots, many_slots_of_two_roots
 from sets import AT_SEED, by_hand, of_other_tests
@@ -75,7 +75,8 @@ def lints(cases, case):
     lines, _ = linted(case.words, read(case.text))
     yield from case.differences(lines)
     told = cases.run(["lint", *case.words], case.text)
-    right = (lint_status(lines), "".join(line + "\n" for line in lines), "")
+    text = "".join(line + "\n" for line in lines)
+    right = (lint_status(lines), text, beside(text, case.text))
     yield "" if told == right else f"{case.words}: {told}, not {right}"
     checked = case.checked or cases.run(["check", *case.words], case.text)[1].removesuffix("\n")
     faults = [line for line in lines if not line.startswith("advice ")]

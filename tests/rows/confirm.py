@@ -21,7 +21,7 @@ def confirmed(cases):
     texts = {id(it.pieces): text_of(it.pieces) for it in questions}
 
     def told(it):
-        found, due = cases.run(["confirm", "--witness", it.witness, *it.words], texts[id(it.pieces)]), answer(it.answer)
+        found, due = cases.run(["confirm", "--witness", it.witness, *it.words], texts[id(it.pieces)]), answer(it.answer, texts[id(it.pieces)])
         yield f"{it.name}: {it.witness} {it.words}", "" if found == due else f"{found}, not {due}"
 
     cases.in_parallel(told, questions)

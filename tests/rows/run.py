@@ -1,5 +1,5 @@
 #!/usr/bin/env python3
-"""Runs the built program on the rows: the line, the status, and nothing on standard error.
+"""Runs the built program on the rows: the line, the status, and nothing but a hint on standard error.
 
 usage: run.py PROGRAM; the last line is 'rows: N passed, M failed'."""
 

@@ -1,11 +1,15 @@
 #!/usr/bin/env python3
 """Runs the built program on command lines: what each gives is seen in what the program answers for sets made for it, and
-what each refused one is refused for in the error message.
+what each refused one is refused for in the error message; and the texts of help and version.
 
 usage: words.py PROGRAM; the last line is 'words: N passed, M failed'."""
 
+import os
+import re
 import subprocess
 import sys
+import tempfile
+from itertools import takewhile
 from pathlib import Path
 
 sys.path.insert(0, str(Path(__file__).resolve().parents[1]))
@@ -151,7 +155,7 @@ def lint_cases():
 # Lines that are refused: of each command the words after it, with bars between two lines.
 REFUSED_WORDS = {
     "acpiset": (
-        "--help | -h | help | judge --rsdp e0000 | Check --rsdp e0000 | chec --rsdp e0000 | --rsdp e0000 | fec00000=24 | Lint | "
+        "--help | -h | help --help | help check -h | version -h | judge --rsdp e0000 | Check --rsdp e0000 | chec --rsdp e0000 | --rsdp e0000 | fec00000=24 | Lint | "
         "--strict lint | confirm --strict | show --strict | --allow SameUid lint | find --allow SameUid | show --allow SameUid | "
         "--anyway show | check --anyway | find --anyway | lint --anyway"
     ),
@@ -178,12 +182,14 @@ REFUSED_WORDS = {
         "--allow 109 | --allow=SameUid,109 | --allow SameUid;SameLeaf | --allow= | -allow SameUid"
     ),
     "acpiset show": "--anyway --anyway | --anyway=true | --anyway true | -anyway | --anywa | --anyway --rsdp | --anyway --strict | fec00000=24",
+    "acpiset help": "chek | check lint | check --rsdp | help help | version version | version version version | --rsdp | -V | Check",
+    "acpiset version": "version | check | help | --version | 1",
     "acpiset rebuild": "--rsdp e0000 | --base | --base 10000000000000000 | --base e0000 --base e0000 | --base e0000 --through 3",
 }
 REFUSED = ["acpiset", *(f"{command} {words}" for command, lines in REFUSED_WORDS.items() for words in lines.split(" | "))]
 # Lines whose last argument is empty.
 WITHOUT_VALUE = ("check --rsdp", "check --rsdp e0000 --through", "check --hotplug", "lint --allow")
-REFUSED += ["acpiset ", *(f"acpiset {line} " for line in WITHOUT_VALUE)]
+REFUSED += ["acpiset ", "acpiset help ", "acpiset version ", "acpiset Help", "acpiset versions", *(f"acpiset {line} " for line in WITHOUT_VALUE)]
 
 ADDRESS = "1 to 16 hex digits, with or without 0x before them, as in f59e0"
 COUNT = "from 1 to 256, in at most 3 decimal digits"
@@ -213,8 +219,69 @@ MESSAGES = [
     # The first wrong word is named, and an option before any word.
     ("acpiset check fec00000=24 fec01000=0 fec02000", f"'fec01000=0': expected a COUNT {COUNT}"),
     ("acpiset check fec00000 --rsdp g", f"--rsdp 'g': expected {ADDRESS}"),
+    ("acpiset help judge", "unrecognized subcommand 'judge'"), ("acpiset help --rsdp", "unexpected argument '--rsdp' found"),
+    ("acpiset help check lint", "unexpected argument 'lint' found"), ("acpiset help version 1", "unexpected argument '1' found"),
+    ("acpiset version 1 2", "unexpected argument '1' found"), ("acpiset version help", "unexpected argument 'help' found"),
     ("acpiset", "usage: acpiset check [OPTION].. [ADDRESS=COUNT].. < IMAGE"),
 ]
+
+
+# ---- help and version
+HELP = (Path(__file__).resolve().parents[1] / "help.txt").read_text()
+POLICY = ["--default-inputs N", "ADDRESS=COUNT", "--hotplug counted|apart", "--processors enabled|usable"]
+# Of each command: the text between which words of the complete help says what it does, and its options.
+HELPED = {
+    "check": ("check judges", " confirm judges", ["--rsdp HEX", "--through N", *POLICY]),
+    "lint": ("lint prints everything", "\n\nrebuild moves", ["--rsdp HEX", "--allow NAMES", "--strict", *POLICY]),
+    "confirm": ("confirm judges", " show prints", ["--witness FAULT", "--rsdp HEX", *POLICY]),
+    "rebuild": ("rebuild moves", "\n\n  --witness", ["--base HEX", "--rsdp HEX", *POLICY]),
+    "show": ("show prints what", "\n\nlint prints", ["--rsdp HEX", "--anyway"]),
+    "find": ("find searches", "\n\nhelp prints", []),
+    "help": ("help prints", " version prints", []),
+    "version": ("version prints", "\n\nIn the image", []),
+}
+
+
+def between(first, after):
+    """The text of the complete help from these words up to those after it."""
+    begin = HELP.index(first)
+    return HELP[begin:HELP.index(after, begin + len(first))]
+
+
+def option_part(name):
+    """The lines of an option: those after its name's that begin further to the right."""
+    lines = iter(HELP[HELP.index(f"\n  {name}") + 1:].splitlines(keepends=True))
+    return next(lines) + "".join(takewhile(lambda line: line.startswith(" " * 14), lines))
+
+
+def help_of(command):
+    """What is printed on one command: its usage, where the image comes from if it reads one, what it does, and its options."""
+    first, after, names = HELPED[command]
+    usage = re.search(rf"  acpiset {command}\b.*\n(?: {{10}}.*\n)*", HELP)[0]
+    parts = ["usage:\n\n" + usage]
+    parts += [between("All commands but", "\n\ncheck judges") + "\n"] * (command not in ("help", "version"))
+    parts += [between(first, after) + "\n", *(["".join(map(option_part, names))] if names else [])]
+    return "\n".join([*parts, *([between("No ACPI table says", "\n\nfind") + "\n"] if POLICY[0] in names else [])])
+
+
+# The lines that ask for a text, with the text.
+PRINTED = [
+    ("acpiset help", HELP), ("acpiset version", "acpiset: version 0.1.0, 18 stages\n"),
+    *((f"a help {command}", help_of(command)) for command in HELPED),
+]
+
+
+def helps(cases):
+    """The text is on standard output, and nothing is read; a failed write is reported as for all commands."""
+    for line, text in PRINTED:
+        with tempfile.TemporaryFile() as stdin:
+            stdin.write(b"zz\n")
+            stdin.seek(0)
+            run = subprocess.run(line.split(), executable=cases.program, stdin=stdin, capture_output=True, timeout=SECONDS)
+            cases.same(line, (run.returncode, run.stdout.decode(), run.stderr, os.lseek(stdin.fileno(), 0, os.SEEK_CUR)), (0, text, b"", 0))
+        with open("/dev/full", "wb") as full:
+            run = subprocess.run(line.split(), executable=cases.program, stdout=full, stderr=subprocess.PIPE, timeout=SECONDS)
+        cases.same(f"{line}, /dev/full", (run.returncode, run.stderr), (4, b"acpiset: device\n"))
 
 
 # ---- control characters, and long arguments
@@ -228,7 +295,7 @@ PLACES = [
     ["check", "--hotplug", "{}"], ["check", "--processors", "{}"], ["lint", "--strict={}"], ["lint", "--allow", "{}"],
     ["lint", "--allow", "SameUid,{}"], ["rebuild", "--base", "{}"],
     ["confirm", "--witness", "{}"], ["confirm", "--witness", "10 {} 0x30 0x58 0x0"], ["confirm", "--witness", "{} Overlap 0x30 0x58 0x0"],
-    ["confirm", "--witness", "10 Overlap 0x30 0x58 {}"], ["find", "{}"],
+    ["confirm", "--witness", "10 Overlap 0x30 0x58 {}"], ["find", "{}"], ["help", "{}"], ["help", "find", "{}"], ["version", "{}"],
 ]
 
 
@@ -295,4 +362,4 @@ def refusals(cases):
         cases.same(line, first_line(told(cases, line.split(" "), smallest)), (2, f"acpiset: {message}"))
 
 
-main("words", answers, refusals, printed_words)
+main("words", answers, refusals, helps, printed_words)

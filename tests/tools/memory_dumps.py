@@ -3,6 +3,8 @@
 import os
 import re
 import struct
+import subprocess
+import sys
 
 from acpi_images.known.many import MANY
 from acpi_images.known.rows import ROWS
@@ -167,6 +169,12 @@ def of_the_search(cases):
     halves = {**tables, 0x700000: bytes(16) + new[:5], 0x700015: new[5:]}
     cases.write("halves", core_of(halves))
     cases.makes("RSDP at 0x700010", "yes", "memory2image", "halves")
+    # One that begins in a part of a few bytes after a gap, and one of which each byte is a part.
+    for name, at in (("one byte", [1]), ("three bytes", [3]), ("seven bytes", [7, 30]), ("each byte", range(1, 36))):
+        pieces = {**tables, **{0x700010 + begin: new[begin:end] for begin, end in zip([0, *at], [*at, 36])}}
+        cases.write("parts", core_of(pieces))
+        run = cases.makes("RSDP at 0x700010", "yes", "memory2image", "parts")
+        cases.count(f"an RSDP that begins in a part of {name}", b"another" in run.stderr and run.stderr.decode())
     told = "no RSDP found: its signature is at 2 places, none with a valid checksum"
     cases.refuses(told, "memory2image", raw_dump(cases, "ram.bin", {0x20: wrong, 0x60: broken}))
     cases.refuses("no RSDP found: its signature is at 0 places", "memory2image", raw_dump(cases, "ram.bin", tables))
@@ -200,11 +208,39 @@ def of_lengths(cases):
     cases.makes("the RSDP names no root table: check will say NoRoot", "no 2 NoRoot 0xf0010 0x0 0x0", "memory2image", dump("none.bin", _F0010=extended_rsdp(0, 0)))
 
 
+SHRINKING = """
+import os, sys
+sys.path.insert(0, sys.argv[2])
+from tool_cases import module_of
+tool = module_of("memory2image")
+
+def job(arguments):
+    memory = tool.Memory(tool.parts_of(arguments[0], None))
+    os.truncate(arguments[0], 800)
+    return tool.image_of(memory, None)
+
+tool.run(job)
+"""
+
+
+def of_a_shrinking_dump(cases):
+    """A file that becomes shorter while it is read is a failed read."""
+    folder = os.path.dirname(os.path.abspath(__file__))
+    for name, data in (("raw", bytes(1 << 21)), ("core", core_of(small_set()[1]))):
+        cases.write("shrinking", data)
+        words = [sys.executable, "-c", SHRINKING, "shrinking", os.path.dirname(folder)]
+        environment = {**os.environ, "PYTHONPATH": folder}
+        run = subprocess.run(words, capture_output=True, cwd=cases.folder, timeout=60, env=environment)
+        told = b"shrinking: the file has shrunk while it was read\n"
+        cases.count(f"a {name} that shrinks", (run.returncode, run.stdout) != (4, b"") and f"status {run.returncode}", told not in run.stderr and run.stderr.decode())
+
+
 def refused(cases):
     read, whole = small_set()
     refuses, write = cases.refuses, cases.write
     for words in ([], ["--help"], ["--base", "0"], ["ram.bin", "--base", "0"], [""]):
         refuses("usage: memory2image [--rsdp HEX] [--base HEX] FILE", "memory2image", *words, status=2)
+    refuses("FILE is a dump of memory: an ELF core, as QEMU's dump-guest-memory writes it, or bytes from the address --base on", "memory2image", status=2)
     for word in ("", "g", "0x", "1" * 17, "-1", "1_0", " 1"):
         refuses("expected 1 to 16 hex digits", "memory2image", "--rsdp", word, "ram.bin", status=2)
     refuses("absent.bin: cannot be read: No such file or directory", "memory2image", "absent.bin")
@@ -253,7 +289,7 @@ def parts_of_none():
 
 
 def all_cases(cases):
-    for part in (of_a_set, of_real_images, of_all_rows, of_the_search, of_lengths, refused):
+    for part in (of_a_set, of_real_images, of_all_rows, of_the_search, of_lengths, of_a_shrinking_dump, refused):
         part(cases)
     for name in os.listdir(cases.folder):
         if os.path.isfile(cases.path(name)) and os.path.getsize(cases.path(name)) > 1 << 24:

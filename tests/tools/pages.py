@@ -365,6 +365,7 @@ def bad_files(cases):
         ("usage: report --format", 2, ["--rsdp", "e0000"]),
         ("usage: report --format", 2, ["--status", "1", "image.txt"]),
         ("usage: report --format", 2, ["--json", "image.txt"]),
+        ("FILE is image text, a dump of memory, or text of acpidump; FILE.. are raw tables.", 2, ["--help"]),
     ):
         cases.refuses(told, "report", "--format", "html", *words, status=status)
     told = "standard input is image text: give its file, or - for standard input, as in report --format html IMAGE"
@@ -375,6 +376,24 @@ def bad_files(cases):
         run = cases.run("report", "--format", "html", name)
         found = verdict_of(Page(run.stdout.decode()))
         cases.count(f"the page of {name}", run.returncode != status and f"{run}", told not in found and found)
+
+
+# Inputs from which no set is drawn: the status, and the way on.
+WAYS_ON = (
+    ("none.txt", b"", 1, "hint: the input is empty"),
+    ("blank.txt", b"# nothing\n" * 10, 1, "hint: with UEFI firmware the RSDP is elsewhere"),
+    ("uefi.txt", text_of({0x2000: rsdp()}), 1, "the image's RSDP is at 0x2000: give it with --rsdp 0x2000"),
+    ("marked.txt", b"\xef\xbb\xbf@0\n00\n", 3, "hint: the input begins with a byte order mark"),
+)
+
+
+def ways_on(cases):
+    """The page and standard error have the hint of acpiset on an input, or the address of its RSDP."""
+    for name, data, status, told in WAYS_ON:
+        run = cases.run("report", "--format", "html", cases.write(name, data))
+        found = notes_of(Page(run.stdout.decode()))
+        said = run.stderr.decode()
+        cases.count(f"the way on from {name}", run.returncode != status and f"{run}", told not in found and found, told not in said and said)
 
 
 def alone(cases):
@@ -437,7 +456,7 @@ def opened(cases):
 
 
 PARTS = (
-    read_back, from_bytes, findings, cards_have, pictures_have, from_lines, dumps, bad_files, alone, hostile, large, opened,
+    read_back, from_bytes, findings, cards_have, pictures_have, from_lines, dumps, bad_files, ways_on, alone, hostile, large, opened,
 )
 
 

@@ -143,6 +143,10 @@ def of_a_log(cases):
     refuses("HPET at 0x2040 overlaps reduced.dat at 0x2000", "tables2image", "--dmesg", "other.log", "reduced.dat", "hpet.dat")
     write("past.log", log_of((0x2000, fadt()), (2**63 - 8, HPET)))
     makes("slot 1: HPET at 0x7ffffffffffffff8", "yes", "tables2image", "--dmesg", "past.log", "reduced.dat", "hpet.dat")
+    # An RSDT is below 2^32, also if the log has it above, with the RSDP just below.
+    write("high.log", log_of((0xFFFFFFE0, rsdp(), "RSDP"), (0x100000000, rsdt(0x2000)), (0x2000, fadt())))
+    image = text_of({0xFFFFFFE0: rsdp(0x100000), 0x100000: rsdt(0x2000), 0x2000: fadt()})
+    makes("RSDT at 0x100000, 1 slot", "yes", "tables2image", "--dmesg", "high.log", "reduced.dat", image=image)
     refuses("no line such as 'ACPI: FACP", "tables2image", "--dmesg", "hpet.dat", "reduced.dat")
     refuses("absent.log: no such file", "tables2image", "--dmesg", "absent.log", "reduced.dat")
     refuses("usage: ", "tables2image", "--dmesg", status=2)

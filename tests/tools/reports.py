@@ -204,6 +204,14 @@ def refused(cases):
         cases.refuses("usage: report --format json|tap|junit|sarif|html", "report", *words, data=b"yes\n", status=2)
     for word in ("256", "-1", "", "1e1", "0x1", "\x1b[2J"):
         cases.refuses("no status from 0 to 255", "report", "--format", "tap", "--status", word, data=b"yes\n", status=2)
+    many = b"yes\n" + (LISTED.encode() + b"\n") * 1000
+    for form in FORMATS:
+        cases.refuses("1001 lines of a verdict, and acpiset lint writes fewer than 1000", "report", "--format", form, data=many, status=3)
+    for body in ("madt 0x3000\n0x2c ioapic id 0", "madt 0x3000\n0x2c lapic uid x id 0 flags 0x1", "slit 0x5000 count 2\nrow 0 10 20\nrow 1 20"):
+        cases.refuses("of which no page can be drawn", "report", "--format", "html", data=f"rsdp 0xe0000 revision 2\n{body}\n".encode(), status=3)
+    for body in (f"slot {'1' * 21} empty", f"slit 0x5000 count 2\nrow 0 {'1' * 21}", "slit 0x5000 count 2\nrow 0 1_0"):
+        told = f"'{body.splitlines()[-1]}': not a line of acpiset show"
+        cases.refuses(told, "report", "--format", "json", data=f"rsdp 0xe0000 revision 2\n{body}\n".encode(), status=3)
     cases.refuses("more than 67108864 bytes of lines", "report", "--format", "tap", data=b"y" * (1 << 26 | 1), status=3)
 
 

@@ -13,6 +13,7 @@ sys.path.insert(0, str(Path(__file__).resolve().parents[1]))
 import dumped_texts
 import files
 import memory_dumps
+import other_forms
 import pages
 import raw_tables
 import reports
@@ -28,7 +29,7 @@ def main():
         cases = ToolCases(os.path.abspath(program), folder)
         cases.put_on_path()
         files.write_into(folder)
-        for part in (raw_tables, dumped_texts, memory_dumps, told_addresses, reports, pages):
+        for part in (raw_tables, dumped_texts, memory_dumps, other_forms, told_addresses, reports, pages):
             part.all_cases(cases)
     finish("tools", cases)
 

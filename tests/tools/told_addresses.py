@@ -65,6 +65,16 @@ def given(cases):
     cases.count("explain --rsdp without a head", b"the table of slot 1 at 0x3000:" not in run.stdout and f"{run}")
 
 
+def wrong(cases):
+    """Explain says where an RSDP is if a line finds none at another address."""
+    alone = text_of({RSDP_AT: changed(rsdp(), {9: 0x42})})
+    for line, text, at in (("RsdpOut 0x123", TEXT, 0xE0000), ("RsdpSignature 0xe0000", TEXT, OTHER_AT), ("RsdpSum 0xe0000", alone, None)):
+        cases.write("wrong.txt", text)
+        run = cases.run("explain", "wrong.txt", data=f"no 1 {line} 0x0 0x0\n".encode())
+        said = [row for row in run.stdout.decode().split("\n") if row.startswith("an RSDP is at ")]
+        cases.same(f"explain {line}", said, [] if at is None else [f"an RSDP is at {at:#x}: acpiset check --rsdp {at:#x} < IMAGE"])
+
+
 def told(cases):
     """The page says where the address is from, and explain that there is another RSDP."""
     cases.write("head.txt", b"# rsdp 0x700000\n" + TEXT)
@@ -83,5 +93,5 @@ def bad_texts(cases):
 
 
 def all_cases(cases):
-    for part in (of_heads, given, told, bad_texts):
+    for part in (of_heads, given, wrong, told, bad_texts):
         part(cases)

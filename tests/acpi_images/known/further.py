@@ -470,7 +470,7 @@ entries_broken(SMALL, "0x44 0x1 0x2", "one for two GICCs", distributor(3), redis
 entries_broken(SMALL, "0x44 0x1 0x2", "two but for a byte", distributor(4), redistributor(0, 0x3FFFF), cpu(), cpu(flags=8))
 entries_broken(SMALL, "0x44 0x0 0x1", "none for a GICC", distributor(3), redistributor(0, 0x1FFFF), redistributor(0x20000, 0x1FFFF), cpu())
 entries_kept(SMALL, "two for two GICCs", distributor(3), redistributor(0, 0x20000), cpu(), redistributor(0x20000, 0x20000), cpu())
-entries_kept(SMALL, "one for a GICC that is on", distributor(3), redistributor(0, 0x20000), cpu(), cpu(flags=0))
+entries_kept(SMALL, "one for a usable GICC", distributor(3), redistributor(0, 0x20000), cpu(), cpu(flags=0))
 entries_kept(SMALL, "a structure of 17 bytes", distributor(3), redistributor(0, 0), redistributor(0, 0, 17), cpu())
 entries_kept(SMALL, "version 2", distributor(2), redistributor(0, 0), cpu())
 entries_kept(SMALL, "no structure", distributor(3), cpu())

@@ -298,7 +298,7 @@ processors("one UID of two GICCs, one of them off", [gicc(7), gicc(7, 2)])
 processors("one UID of two GICCs, one of them online capable", [gicc(7), gicc(7, 8)], "SameUid 0x7c 0x2c 0x7", "SameMpidr 0x7c 0x2c 0x7")
 for name, entries, *advice in (
     ("an RINTC and a GICC", [rintc(7), gicc(7)], "SameUid 0x50 0x2c 0x7"),
-    ("a GICC and an RINTC of 20 bytes that is on by bit 1", [gicc(7), rintc(7, 2, 20)], "SameUid 0x7c 0x2c 0x7"),
+    ("a GICC and an RINTC of 20 bytes that is usable by bit 1", [gicc(7), rintc(7, 2, 20)], "SameUid 0x7c 0x2c 0x7"),
     ("two RINTCs, one of them off", [rintc(7), rintc(7, 0xFFFFFFFC)]),
     ("two RINTCs, one of them too short", [rintc(7), rintc(7, length=19)], "MadtUnread 0x50 0x18"),
     ("a CORE PIC and an x2APIC", [core_pic(7, 1), x2apic(7, 2)], "SameUid 0x3b 0x2c 0x7"),
@@ -408,7 +408,7 @@ processors("a GICC that is online capable", [gicc(0, 8)])
 processors("a GICC with all flags but two", [gicc(0, 0xFFFFFFF6)], "NoProcessor")
 processors("a GICC of 40 bytes alone", [gicc(0, length=40)])
 for name, entry, *advice in (
-    ("an RINTC", rintc(0)), ("an RINTC that is on by bit 1", rintc(0, 2)), ("an RINTC of 20 bytes", rintc(0, length=20)),
+    ("an RINTC", rintc(0)), ("a usable RINTC by bit 1", rintc(0, 2)), ("an RINTC of 20 bytes", rintc(0, length=20)),
     ("an RINTC with all flags but two", rintc(0, 0xFFFFFFFC), "NoProcessor"), ("a CORE PIC", core_pic(0, 0)),
     ("a CORE PIC with all flags but one", core_pic(0, 0, 0xFFFFFFFE), "NoProcessor"),
     ("a CORE PIC of 14 bytes", core_pic(0, 0, length=14), "MadtUnread 0x2c 0x11"),
@@ -512,7 +512,7 @@ for name, entries, affinities, *advice in (
     ("an RINTC in a domain, by the entry of a GICC", [rintc(5)], [uid_domain(5, 0)]),
     ("a GICC in a domain, by the entry of an RINTC", [gicc(5)], [HART_5]),
     ("an RINTC in no domain", [rintc(5), rintc(6)], [HART_5], "NoDomain 0x50 0x0 0x6"),
-    ("an RINTC in no domain that is on by bit 1", [rintc(5), rintc(6, 2)], [HART_5], "NoDomain 0x50 0x0 0x6"),
+    ("a usable RINTC in no domain, by bit 1", [rintc(5), rintc(6, 2)], [HART_5], "NoDomain 0x50 0x0 0x6"),
     ("an RINTC in no domain that is off", [rintc(5), rintc(6, 4)], [HART_5]),
     ("an RINTC and its affinity, not enabled", [rintc(5), rintc(6)], [HART_5, hart_domain(6, 0, 2)], "NoDomain 0x50 0x0 0x6"),
     (
@@ -674,7 +674,7 @@ hierarchy("processors that are parents in Revision 1", [named(0), named(1, 36)],
 for name, entries, *advice in (
     ("a GICC that is no leaf, and is online capable", (gicc(0), gicc(6, 8)), "NoLeaf 0x7c 0x0 0x6"),
     ("an RINTC that is no leaf", (rintc(0), rintc(6)), "NoLeaf 0x50 0x0 0x6"),
-    ("an RINTC that is no leaf, and is on by bit 1", (rintc(0), rintc(6, 2)), "NoLeaf 0x50 0x0 0x6"),
+    ("an RINTC that is no leaf, and is usable by bit 1", (rintc(0), rintc(6, 2)), "NoLeaf 0x50 0x0 0x6"),
     ("an RINTC that is no leaf, and is off", (rintc(0), rintc(6, 4))),
     ("a CORE PIC that is no leaf", (core_pic(0, 1), core_pic(6, 0)), "NoLeaf 0x3b 0x0 0x6"),
     ("a CORE PIC that is no leaf, and is off", (core_pic(0, 1), core_pic(6, 0, 2))),
@@ -792,7 +792,7 @@ caches("a Cache ID and a cache of 24 bytes", [shaped_cache(CACHE_ID_VALID, lengt
 
 # ---- entries that nothing reads
 for kind in (0, 1, 2, 3, 4, 5, 9, 10):
-    # of a length that is none of their type: there may be a processor that is on
+    # of a length that is none of their type: there may be a usable processor
     expected(f"an entry of type {kind} of 200 bytes", sound(madt_of(lapic(0, 0, 0), other(kind, 200))), "no 6 MadtEntryLength 0x34")
 for kind, read, unread in (
     (11, (40, 80, 255), (2, 39)), (12, (24,), (2, 16, 20, 23, 25)), (13, (24,), (2, 16, 20, 23, 25)), (14, (16,), (2, 15, 17, 20, 24)),
@@ -1133,7 +1133,7 @@ expected(
     "two domains of a processor that is online capable, usable", TWO_DOMAINS, "no 16 TwoDomains 0x40 0x30 0x5",
     words="--rsdp e0000 --processors usable",
 )
-advised("a processor that is on, whatever the policy", sound(madt_of(lapic(0, 5, 0b10))), words="--rsdp e0000 --processors enabled")
+advised("a usable processor, whatever the policy", sound(madt_of(lapic(0, 5, 0b10))), words="--rsdp e0000 --processors enabled")
 
 # ---- many entries
 COUNT = 1000

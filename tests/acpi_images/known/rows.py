@@ -61,6 +61,17 @@ row("an RSDP at no multiple of 16", {0xE0008: rsdp()}, "rsdp none", command="fin
 row("two RSDPs", {0xF0000: rsdp(), 0xE0010: rsdp()}, "rsdp 0xe0010", command="find")
 row("an RSDP at the last place", {0xFFFF0: rsdp()}, "rsdp 0xffff0", command="find")
 row("nothing to find", b"", "rsdp none", command="find")
+row("an RSDP just before the first place", {0xDFFF0: rsdp() + bytes(64)}, "rsdp none", command="find")
+row("an RSDP just after the last place", {0xFFFF0: bytes(16) + rsdp()}, "rsdp none", command="find")
+row("an RSDP at the last place, in a run that goes on", {0xFFFF0: rsdp() + bytes(64)}, "rsdp 0xffff0", command="find")
+row("an RSDP in a run from below the first place", {0xDFFE5: bytes(27 + 64) + rsdp()}, "rsdp 0xe0040", command="find")
+row("an RSDP in a run from between two places", {0xE0001: bytes(15) + rsdp()}, "rsdp 0xe0010", command="find")
+row("an RSDP of 20 pieces", {0xE0010 + at: rsdp()[at : at + 1] for at in range(20)}, "rsdp 0xe0010", command="find")
+row("19 bytes of an RSDP before one", {0xE0010: rsdp()[:19], 0xE0030: rsdp()}, "rsdp 0xe0030", command="find")
+row("an RSDP of all its bytes but one", {0xE0010: rsdp()[:9], 0xE001A: rsdp()[10:]}, "rsdp none", command="find")
+SPARSE = {address: b"R" for address in range(0xE0000, 0xE1000, 2)}
+row("an RSDP after a byte at every second address", {**SPARSE, 0xE1000: rsdp()}, "rsdp 0xe1000", command="find")
+row("a byte at every second address", SPARSE, "rsdp none", command="find")
 row("nothing to check", b"", "no rsdp", command="check")
 
 # ---- listed tables
@@ -223,6 +234,10 @@ row("two numbers of one source", listed(madt(override(9, 9), override(9, 20))), 
 SIX_OVERRIDES = [override(9, 20), override(0, 2), override(9, 20), override(9, 9), override(0, 2), override(9, 9)]
 row("the first of six overrides", listed(madt(*SIX_OVERRIDES)), "no 8 OverrideClash 0x4a 0x2c 0x9")
 row("one override twice", listed(madt(override(9, 9), override(9, 9))), "yes")
+EACH_SOURCE = [override(source, 1) for source in range(255, -1, -1)]
+row("an override of each source, in falling order", listed(madt(*EACH_SOURCE)), "yes")
+row("the last source in two of them", listed(madt(*EACH_SOURCE, override(0, 2))), "no 8 OverrideClash 0xa2c 0xa22 0x0")
+row("the first source in two of them", listed(madt(*EACH_SOURCE, override(255, 2))), "no 8 OverrideClash 0xa2c 0x2c 0xff")
 
 # ---- the SRAT's entries
 RANGES = (memory(0, 0xA0000), memory(0x50000, 0), memory(0x100000, 0x3FF00000))

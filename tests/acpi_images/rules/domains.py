@@ -31,11 +31,11 @@ def nowhere_affinities(facts):
 
 @rule(119, "NoDomain", has_complete_srat)
 def no_domains(facts):
-    """A processor that is on is in no domain, and others are (5.2.16)."""
+    """A usable processor is in no domain, and others are (5.2.16)."""
     if not facts.affinities or facts.is_mixed:
         return
     named = {(it.is_of_uid, it.number) for it in facts.affinities}
-    for it in facts.on:
+    for it in facts.usable:
         is_of_uid = it.apic_id is None
         number = it.uid if is_of_uid else it.apic_id
         if (is_of_uid, number) not in named:

@@ -1,5 +1,5 @@
-"""What the rules of advice ask of a set, read once: its tables, which entries describe processors and which of these are on, which
-entries put something into a domain, and the parts of a GIC. By docs/TABLES.md and the sections of ACPI 6.5 that are named below."""
+"""What the rules of advice ask of a set, read once: its tables, which entries describe processors and which of these are usable,
+which entries put something into a domain, and the parts of a GIC. By docs/TABLES.md and the sections of ACPI 6.5 that are named below."""
 
 from __future__ import annotations
 
@@ -43,7 +43,7 @@ class Processor:
     kind: int
     uid: int
     apic_id: int | None
-    is_on: bool
+    is_usable: bool
 
 
 @dataclass(frozen=True)
@@ -65,9 +65,9 @@ def processor_of(entry):
     """The processor that an entry of the MADT describes, or None."""
     if entry.kind not in PROCESSORS or not has_length(entry, MADT_LENGTHS):
         return None
-    uid, apic_id, flags, on = PROCESSORS[entry.kind]
+    uid, apic_id, flags, usable = PROCESSORS[entry.kind]
     n = entry.number
-    return Processor(entry.offset, entry.kind, n(*uid), n(*apic_id) if apic_id else None, n(*flags) & on != 0)
+    return Processor(entry.offset, entry.kind, n(*uid), n(*apic_id) if apic_id else None, n(*flags) & usable != 0)
 
 
 def is_unread_processor(entry):
@@ -100,8 +100,8 @@ class Facts:
         self.madt_kinds = {entry.kind for entry in madt_entries}
         read = [(entry, processor_of(entry)) for entry in madt_entries]
         self.processors = [it for _, it in read if it]
-        self.on = [it for it in self.processors if it.is_on]
-        self.entries_on = [entry for entry, it in read if it and it.is_on]
+        self.usable = [it for it in self.processors if it.is_usable]
+        self.usable_entries = [entry for entry, it in read if it and it.is_usable]
         self.with_domain = [entry for entry in srat_entries if has_domain(entry)]
         self.affinities = [it for it in map(affinity_of, self.with_domain) if it]
         self.nodes = self.pptt.typed(0) if self.pptt else []
@@ -117,9 +117,9 @@ class Facts:
         """The same of the SRAT."""
         return [entry for entry in self.srat.entries if entry.kind == kind and has_length(entry, SRAT_LENGTHS)] if self.srat else []
 
-    def on_of(self, *kinds):
-        """The entries of processors of these types that are on."""
-        return [entry for entry in self.entries_on if entry.kind in kinds]
+    def usable_of(self, *kinds):
+        """The entries of usable processors of these types."""
+        return [entry for entry in self.usable_entries if entry.kind in kinds]
 
     @cached_property
     def gicds(self):

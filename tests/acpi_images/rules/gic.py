@@ -28,23 +28,23 @@ def no_distributor(facts):
 
 
 def own_redistributors(facts):
-    """The GICCs that are on and name a redistributor of their own, with its address (5.2.12.14)."""
-    return [(entry, field(entry, 60, 8)) for entry in facts.on_of(GICC) if field(entry, 60, 8)]
+    """The usable GICCs that name a redistributor of their own, with its address (5.2.12.14)."""
+    return [(entry, field(entry, 60, 8)) for entry in facts.usable_of(GICC) if field(entry, 60, 8)]
 
 
 @rule(160, "NoRedistributor", has_complete_madt)
 def no_redistributor(facts):
-    """The GIC has redistributors by its version, and neither a structure of them nor a GICC that is on names one (5.2.12.17)."""
+    """The GIC has redistributors by its version, and neither a structure of them nor a usable GICC names one (5.2.12.17)."""
     if facts.gic_version in WITH_REDISTRIBUTORS and GICR not in facts.madt_kinds and not own_redistributors(facts):
         yield facts.gicds[0].offset, facts.gic_version
 
 
 @rule(161, "GicrTooSmall", has_complete_madt)
 def small_redistributors(facts):
-    """The ranges of redistributors have less of them than there are processors that are on (5.2.12.17)."""
+    """The ranges of redistributors have less of them than there are usable processors (5.2.12.17)."""
     if facts.gic_version not in WITH_REDISTRIBUTORS or not facts.gicrs or is_of_another_length(facts, GICR):
         return
-    count, due = sum(entry.number(12, 4) // REDISTRIBUTOR_SIZE for entry in facts.gicrs), len(facts.on_of(GICC))
+    count, due = sum(entry.number(12, 4) // REDISTRIBUTOR_SIZE for entry in facts.gicrs), len(facts.usable_of(GICC))
     if count < due:
         yield facts.gicrs[0].offset, count, due
 
@@ -61,19 +61,19 @@ def differing_bases(facts):
 
 
 def with_mpidr(facts):
-    """The GICCs that are on and have an MPIDR."""
-    return [entry for entry in facts.on_of(GICC) if field(entry, 68, 8) is not None]
+    """The usable GICCs that have an MPIDR."""
+    return [entry for entry in facts.usable_of(GICC) if field(entry, 68, 8) is not None]
 
 
 @rule(163, "SameMpidr", has_madt)
 def same_mpidrs(facts):
-    """Two GICCs that are on have one MPIDR (5.2.12.14)."""
+    """Two usable GICCs have one MPIDR (5.2.12.14)."""
     yield from same_field(with_mpidr(facts), 68, 8)
 
 
 @rule(164, "MpidrReserved", has_madt)
 def reserved_in_mpidr(facts):
-    """The MPIDR of a GICC that is on has a bit that is none of an affinity (5.2.12.14)."""
+    """The MPIDR of a usable GICC has a bit that is none of an affinity (5.2.12.14)."""
     for entry in with_mpidr(facts):
         if entry.number(68, 8) & ~AFFINITY_BITS:
             yield entry.offset, 0, entry.number(68, 8)
@@ -120,15 +120,15 @@ def overlapping_gic(facts):
 
 @rule(169, "RedistributorTwice", has_madt)
 def redistributors_twice(facts):
-    """There are ranges of redistributors, and a GICC that is on names one of its own too (5.2.12.17)."""
+    """There are ranges of redistributors, and a usable GICC names one of its own too (5.2.12.17)."""
     for entry, base in own_redistributors(facts) if facts.gicrs else ():
         yield entry.offset, facts.gicrs[0].offset, base
 
 
 @rule(170, "NoBootMethod", lambda facts: has_fadt(facts) and has_complete_madt(facts))
 def no_boot_method(facts):
-    """Of several GICCs that are on none has a parking protocol, and the FADT says that there is no PSCI (5.2.12.14)."""
-    others = facts.on_of(GICC)
+    """Of several usable GICCs none has a parking protocol, and the FADT says that there is no PSCI (5.2.12.14)."""
+    others = facts.usable_of(GICC)
     has_field = len(facts.fadt.bytes) >= 131
     if len(others) < 2 or not has_field or any(entry.number(16, 4) for entry in others):
         return

@@ -27,37 +27,37 @@ BROADCAST = {LAPIC: 0xFF, X2APIC: 0xFFFFFFFF}
 
 @rule(109, "SameUid", has_madt)
 def same_uids(facts):
-    """Two processors that are on have one UID (5.2.12)."""
-    yield from same((it.offset, it.uid) for it in facts.on)
+    """Two usable processors have one UID (5.2.12)."""
+    yield from same((it.offset, it.uid) for it in facts.usable)
 
 
 @rule(110, "SameApicId", has_madt)
 def same_apic_ids(facts):
-    """Two processors that are on have one APIC ID (5.2.12)."""
-    yield from same((it.offset, it.apic_id) for it in facts.on if it.apic_id is not None)
+    """Two usable processors have one APIC ID (5.2.12)."""
+    yield from same((it.offset, it.apic_id) for it in facts.usable if it.apic_id is not None)
 
 
 @rule(116, "NoProcessor", has_madt)
 def no_processor(facts):
-    """No processor is on (5.2.12)."""
-    if facts.knows_processors and not facts.on:
+    """No processor is usable (5.2.12)."""
+    if facts.knows_processors and not facts.usable:
         yield ()
 
 
 @rule(150, "X2ApicBelow255", has_madt)
 def low_x2apics(facts):
-    """An x2APIC that is on has an ID that a local APIC can have, beside a local APIC that is on (5.2.12.12)."""
-    if all(entry.number(3, 1) == 0xFF for entry in facts.on_of(LAPIC)):
+    """A usable x2APIC has an ID that a local APIC can have, beside a usable local APIC (5.2.12.12)."""
+    if all(entry.number(3, 1) == 0xFF for entry in facts.usable_of(LAPIC)):
         return
-    for entry in facts.on_of(X2APIC):
+    for entry in facts.usable_of(X2APIC):
         if entry.number(4, 4) < 0xFF:
             yield entry.offset, 0, entry.number(4, 4)
 
 
 @rule(151, "BroadcastId", has_madt)
 def broadcast_ids(facts):
-    """A local APIC or an x2APIC that is on has the ID that means all of them (5.2.12.2, 5.2.12.12)."""
-    for entry in facts.on_of(LAPIC, X2APIC):
+    """A usable local APIC or x2APIC has the ID that means all of them (5.2.12.2, 5.2.12.12)."""
+    for entry in facts.usable_of(LAPIC, X2APIC):
         apic_id = entry.number(*APIC_ID[entry.kind])
         if apic_id == BROADCAST[entry.kind]:
             yield entry.offset, 0, apic_id
@@ -76,23 +76,23 @@ def capable(facts):
 def too_early_capable(facts):
     """A processor is not enabled and is Online Capable, by a FADT older than that flag (5.2.12.2, 5.2.12.12, 5.2.12.14)."""
     version = version_of(facts.fadt)
-    for entry, _, is_on, is_capable in capable(facts):
-        if is_capable and not is_on and version < CAPABLE_SINCE.get(entry.kind, version):
+    for entry, _, is_enabled, is_capable in capable(facts):
+        if is_capable and not is_enabled and version < CAPABLE_SINCE.get(entry.kind, version):
             yield entry.offset, *version
 
 
 @rule(153, "EnabledAndCapable", has_madt)
 def enabled_and_capable(facts):
     """A processor is Enabled and Online Capable, of which at most one may be said (5.2.12.2, 5.2.12.12, 5.2.12.14)."""
-    for entry, flags, is_on, is_capable in capable(facts):
-        if is_on and is_capable:
+    for entry, flags, is_enabled, is_capable in capable(facts):
+        if is_enabled and is_capable:
             yield entry.offset, 0, flags
 
 
 @rule(171, "SameHart", has_madt)
 def same_harts(facts):
-    """Two harts that are on have one hart ID (after ACPI 6.5)."""
-    yield from same_field(facts.on_of(RINTC), 8, 8)
+    """Two usable harts have one hart ID (after ACPI 6.5)."""
+    yield from same_field(facts.usable_of(RINTC), 8, 8)
 
 
 # ---- I/O APICs, overrides and NMIs (5.2.12.3 to 5.2.12.7)
@@ -168,9 +168,9 @@ def other_lints(facts):
 
 @rule(158, "NoIoApic", has_complete_madt)
 def no_io_apic(facts):
-    """There are local APICs that are on, and overrides or NMI sources, and no I/O APIC or I/O SAPIC (5.2.12.3)."""
+    """There are usable local APICs, and overrides or NMI sources, and no I/O APIC or I/O SAPIC (5.2.12.3)."""
     is_told_of = facts.madt_kinds & {OVERRIDE, NMI_SOURCE} and not facts.madt_kinds & {IO_APIC, IO_SAPIC}
-    if is_told_of and facts.on_of(LAPIC, X2APIC):
+    if is_told_of and facts.usable_of(LAPIC, X2APIC):
         yield ()
 
 

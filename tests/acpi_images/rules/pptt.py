@@ -21,11 +21,11 @@ def same_leaves(facts):
 
 @rule(125, "NoLeaf", has_pptt)
 def no_leaves(facts):
-    """A processor that is on is no leaf, and there are nodes (5.2.30.1)."""
+    """A usable processor is no leaf, and there are nodes (5.2.30.1)."""
     if not facts.nodes or not facts.pptt.is_well_formed() or facts.is_mixed:
         return
     ids = {node.number(12, 4) for node in facts.leaves}
-    for it in facts.on:
+    for it in facts.usable:
         if it.uid not in ids:
             yield it.offset, 0, it.uid
 
