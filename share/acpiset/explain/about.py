@@ -34,10 +34,12 @@ def about(line, tables, settings):
 
 
 def of_yes(report):
-    """The structures that a `yes` does not cover."""
+    """The structures that a `yes` does not cover, or that there are none."""
     if report.has_root():
         entries.unread(report, "APIC")
         entries.unread(report, "SRAT")
+        if not report.lines:
+            report.say("its MADT and SRAT have no structures of types that the stages do not check")
 
 
 def of_fault(report, stage, code, at, other, point):

@@ -66,12 +66,12 @@ class Document:
 
     def joined(self, words):
         """The words, those of a line that was given without quotes joined to one."""
-        words, joined = list(words), []
-        while words:
-            counts = (count for count in range(min(MOST_WORDS, len(words)), 1, -1) if self.line(" ".join(words[:count])))
-            count = next(counts, 1)
-            joined.append(" ".join(words[:count]))
-            del words[:count]
+        at, joined = 0, []
+        while at < len(words):
+            ends = range(min(at + MOST_WORDS, len(words)), at + 1, -1)
+            end = next((end for end in ends if self.line(" ".join(words[at:end]))), at + 1)
+            joined.append(" ".join(words[at:end]))
+            at = end
         return joined
 
     def line(self, text):

@@ -1,5 +1,8 @@
 """What lines on the structures of the MADT, the SRAT and the PPTT are about."""
 
+from functools import lru_cache
+from itertools import islice
+
 from .fadt import field, found_fadt
 from .image import ADDRESSES
 from .program import MISMATCH
@@ -7,7 +10,6 @@ from .report import both, known
 from .tables import FIRST, LENGTHS, UNREAD, layout_of, little
 
 MOST_LISTED = 32
-MOST_OF_CHAIN = 1000
 # Codes whose second number is the offset of another structure.
 PAIRS = {37, 39, 40, 45, 57, 109, 110, 112, 113, 115, 117, 122, 124, 156, 162, 163, 166, 167, 168, 169, 171, 181}
 # Rules whose second number is an offset in the structure, of a byte that is reserved.
@@ -81,22 +83,35 @@ def say_served(report, io_apic):
     report.say(f"  {io_apic.offset:#x} serves {first} to {end - 1} (0x{first:x} to 0x{end - 1:x}), with {end - first} inputs")
 
 
-def listing(report, what, structures, say_more=None):
-    """The first structures of some, as `show` writes them, and how many more there are."""
-    count = 0
+# What has to look at each structure of a table is kept, since a hundred lines may ask for it.
+kept = lru_cache(maxsize=None)
+
+
+@kept
+def offsets(table, types, word):
+    """The offsets of the first structures of some types, with this word if there is one, and how many there are."""
+    found, count = [], 0
+    for at in table.places(*types):
+        if word is None or layout_of(table.signature, table.data, at)[0] == word:
+            found += [at] if count < MOST_LISTED else []
+            count += 1
+    return found, count
+
+
+def listing(report, what, table, types, word=None, say_more=None):
+    """The first structures of some types, as `show` writes them, and how many more there are."""
+    found, count = offsets(table, types, word)
     report.say(what)
-    for one in structures:
-        count += 1
-        if count <= MOST_LISTED:
-            report.say(f"  {one.shown()}")
-            if say_more:
-                say_more(report, one)
+    for one in map(table.structure, found):
+        report.say(f"  {one.shown()}")
+        if say_more:
+            say_more(report, one)
     if count == 0 or count > MOST_LISTED:
         report.say(f"  and {count - MOST_LISTED} more" if count else "  none")
 
 
 def io_apics(report, table):
-    listing(report, "the MADT's I/O APICs:", (one for one in table.structures(1) if one.word == "ioapic"), say_served)
+    listing(report, "the MADT's I/O APICs:", table, (1,), "ioapic", say_served)
 
 
 def whole_table(report, signature, code, at):
@@ -119,7 +134,7 @@ def madt(report, code, at, other, point):
         return
     if code in OF_WHOLE_MADT:
         report.field(table, "its beginning", 0, 44)
-        listing(report, "the MADT's processors:", table.structures(*PROCESSORS))
+        listing(report, "the MADT's processors:", table, PROCESSORS)
         return
     if code in RESERVED:
         reserved(report, table, 40, at, other)
@@ -148,7 +163,7 @@ def madt(report, code, at, other, point):
     elif code in (152, 154):
         of_fadt(report, code)
     elif code in (160, 161):
-        listing(report, "the MADT's redistributors and GICCs:", table.structures(14, 11))
+        listing(report, "the MADT's redistributors and GICCs:", table, (14, 11))
 
 
 def of_fadt(report, code):
@@ -187,7 +202,7 @@ def srat(report, code, at, other, point):
         return
     if code == 173:
         report.field(table, "its beginning", 0, 48)
-        listing(report, "the SRAT's memory ranges:", table.structures(1))
+        listing(report, "the SRAT's memory ranges:", table, (1,))
         return
     if code in RESERVED:
         reserved(report, table, 36, at, other)
@@ -229,11 +244,21 @@ def ranges(report, *two):
 def processors(report, number):
     """The processors of the MADT that have an APIC ID or X2APIC ID."""
     table = report.table("APIC")
-    found = [one for one in table.structures(0, 9) if one.fields.get("id") == number] if table else []
-    for one in found[:MOST_LISTED]:
-        report.structure(table, "the processor", one.offset)
+    found = with_ids(table).get(number, ()) if table else ()
+    for at in found:
+        report.structure(table, "the processor", at)
     if table and not found:
         report.say(f"no processor has the ID {number}: {MISMATCH}")
+
+
+@kept
+def with_ids(table):
+    """The offsets of the first processors with each APIC ID or X2APIC ID."""
+    found = {}
+    for number, at in table.values("id", 0, 9):
+        places = found.setdefault(number, [])
+        places += [at] if len(places) < MOST_LISTED else []
+    return found
 
 
 def pptt(report, code, at, other, point):
@@ -282,10 +307,11 @@ def cycle(report, table, code, at, counts):
     """All nodes or caches of a chain from one on, until one comes again."""
     word = "node" if code == 55 else "cache"
     steps, named = chain(table, word, at)
-    for offset in [*steps][:MOST_OF_CHAIN]:
+    listed = report.tables.of_chain(len(steps))
+    for offset in islice(steps, listed):
         report.structure(table, f"{word} {steps[offset] + 1} of the chain" if steps[offset] else f"the {word}", offset)
-    if len(steps) > MOST_OF_CHAIN:
-        report.say(f"and {len(steps) - MOST_OF_CHAIN} more, up to the one at {[*steps][-1]:#x}")
+    if len(steps) > listed:
+        report.say(f"and {len(steps) - listed} more, up to the one at {next(reversed(steps)):#x}")
     if named not in steps:
         report.say(f"the chain comes to no {word} again: {MISMATCH}")
         return
@@ -298,26 +324,39 @@ def cycle(report, table, code, at, counts):
 def parents(report, table, at):
     """The nodes to which the Parents of one lead."""
     steps, _ = chain(table, "node", at)
-    for offset in [*steps][1:MOST_OF_CHAIN]:
+    for offset in islice(steps, 1, report.tables.of_chain(len(steps))):
         report.structure(table, f"parent {steps[offset]}", offset)
     report.say("none of them has the flag of a package, bit 0")
 
 
+@lru_cache(maxsize=1)
 def chain(table, word, at):
-    """The offsets from a node or cache on, each with its number, and the one that the last of them names. Both kinds have it at 8."""
-    marks, data, steps = table.marks(), table.data, {}
-    while at not in steps and at < len(marks) and marks[at] and layout_of(table.signature, data, at)[0] == word:
+    """The offsets from a node or cache on, each with its number, and the one that the last of them names."""
+    links, steps = links_of(table, word), {}
+    while at not in steps and at in links:
         steps[at] = len(steps)
-        at = little(data, at + 8, 4)
+        at = links[at]
     return steps, at
+
+
+@kept
+def links_of(table, word):
+    """The offset of each node or cache, and the one that it names. Both kinds have it at 8."""
+    places = (at for at in table.places(0, 1) if layout_of(table.signature, table.data, at)[0] == word)
+    return {at: little(table.data, at + 8, 4) for at in places}
 
 
 def looked_for(report, code):
     """The numbers among which one was looked for."""
     signature, what, types, name = LOOKED_IN[code]
-    table = report.tables.first(signature)
-    numbers = () if not table else leaves(table) if code == 125 else table.values(name, *types)
-    report.say(f"{what} {in_ranges(set(numbers))}")
+    report.say(f"{what} {numbers_of(report.tables.first(signature), types, name, code == 125)}")
+
+
+@kept
+def numbers_of(table, types, name, is_of_leaves):
+    """The values of a field of all structures of some types, or the IDs of leaves."""
+    numbers = () if not table else leaves(table) if is_of_leaves else (number for number, _ in table.values(name, *types))
+    return in_ranges(set(numbers))
 
 
 def leaves(table):
@@ -325,7 +364,7 @@ def leaves(table):
     nodes = (one for one in table.structures(0) if one.fields.get("flags", 0) & 2)
     if (table.number(8, 1) or 0) >= 2:
         return (one.fields["id"] for one in nodes if one.fields["flags"] & 8)
-    parents = set(table.values("parent", 0))
+    parents = {number for number, _ in table.values("parent", 0)}
     return (one.fields["id"] for one in nodes if one.offset not in parents)
 
 
@@ -334,9 +373,13 @@ def affinities(report, processor):
     types, name, what = (0, 2), "id", "affinities have the IDs"
     if is_one(processor, "gicc") or is_one(processor, "rintc"):
         types, name, what = (3, 7), "uid", "affinities of types 3 and 7 have the UIDs"
-    table = report.tables.first("SRAT")
+    report.say(f"the SRAT's enabled {what} {enabled_numbers(report.tables.first('SRAT'), types, name)}")
+
+
+@kept
+def enabled_numbers(table, types, name):
     enabled = (one for one in table.structures(*types) if one.fields.get("flags", 0) & 1) if table else ()
-    report.say(f"the SRAT's enabled {what} {in_ranges({one.fields[name] for one in enabled})}")
+    return in_ranges({one.fields[name] for one in enabled})
 
 
 def in_ranges(numbers):
@@ -362,7 +405,7 @@ def fadt_madt(report, code, at, other, point):
         report.say(f"the FADT is of version {version(table)}")
         apic = report.table("APIC")
         if apic:
-            listing(report, "the MADT's GICCs and RINTCs:", apic.structures(11, 24))
+            listing(report, "the MADT's GICCs and RINTCs:", apic, (11, 24))
 
 
 def sci(report, table):
@@ -373,10 +416,19 @@ def sci(report, table):
     apic = report.table("APIC")
     if not apic:
         return
-    for one in apic.structures(2):
-        if is_one(one, "override") and one.number(2, 1) == 0 and one.fields["source"] == source:
-            report.structure(apic, "an override of SCI_INT", one.offset)
+    found = overrides(apic, source)
+    for at in found[:MOST_LISTED]:
+        report.structure(apic, "an override of SCI_INT", at)
+    if len(found) > MOST_LISTED:
+        report.say(f"and {len(found) - MOST_LISTED} more overrides of SCI_INT")
     io_apics(report, apic)
+
+
+@kept
+def overrides(table, source):
+    """The offsets of the overrides of an interrupt of the bus 0, ISA."""
+    found = (one for one in table.structures(2) if is_one(one, "override"))
+    return [one.offset for one in found if one.number(2, 1) == 0 and one.fields["source"] == source]
 
 
 def is_advised(signature, kind, size):
@@ -386,6 +438,7 @@ def is_advised(signature, kind, size):
     return size >= {11: 40, 24: 20}.get(kind, 256) or size == {12: 24, 13: 24, 14: 16, 15: 20, 17: 15}.get(kind)
 
 
+@kept
 def unread_kinds(table):
     """Types at which the stages do not look, each with whether advice does: how many structures a table has of them, and the first one."""
     staged = (0, 1, 2) if table.signature == "SRAT" else (0, 1, 2, 3, 4, 5, 9, 10)

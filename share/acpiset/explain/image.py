@@ -92,14 +92,17 @@ def pieces_of(text):
     rows = bare(text)
     if rows is None or not do_begin_lines(rows):
         return None
-    before, *pieces = ADDRESS_LINE.split(rows + "\n")
-    if before.strip():
+    # The bytes before the first address, and then each address with the bytes after it.
+    pieces = ADDRESS_LINE.split(rows + "\n")
+    del rows  # of many short pieces the memory is needed
+    if pieces[0].strip():
         return None
+    starts = array("Q", map(int, pieces[1::2], repeat(16)))
     try:
-        parts = [*map(bytes.fromhex, pieces[1::2])]
+        parts = [*map(bytes.fromhex, pieces[2::2])]
     except ValueError:
         return None
-    return [*compress(map(int, pieces[::2], repeat(16)), parts)], [*filter(None, parts)]
+    return array("Q", compress(starts, parts)), [*filter(None, parts)]
 
 
 def bare(text):
@@ -120,14 +123,13 @@ def laid_out(text, starts, parts):
     """The image of some pieces: in the order of their addresses, and those that touch joined."""
     # The key of each part is its start: sorted asks for the keys once, in the order of the parts.
     parts = sorted(parts, key=partial(next, iter(starts)))
-    starts = sorted(starts)
+    starts = array("Q", sorted(starts))
     sizes = [*map(len, parts)]
-    ends = [*map(add, starts, sizes)]
-    gaps = [*map(sub, starts[1:], ends)]
+    gaps = [*map(sub, starts[1:], map(add, starts, sizes))]
     if gaps and min(gaps) < 0:
         twice = next(compress(starts[1:], map((0).__gt__, gaps)))
         raise refusal(f"address {twice:#x} is given twice")
-    if ends and ends[-1] > ADDRESSES:
+    if parts and starts[-1] + sizes[-1] > ADDRESSES:
         raise refusal(f"bytes go past the last address, {ADDRESSES - 1:#x}")
     begins_run = [1, *gaps] if parts else []
     offsets = compress(accumulate(sizes, initial=0), [*begins_run, 1])

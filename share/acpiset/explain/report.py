@@ -24,7 +24,10 @@ class Report:
         self.lines.append(text)
 
     def bytes(self, address, size):
-        parts = [self.image.part(address + at, 1).hex() or "--" for at in range(size)]
+        data = self.image.part(address, size)
+        parts = data.hex(" ").split()
+        if len(data) < size:
+            parts += [self.image.part(address + at, 1).hex() or "--" for at in range(len(data), size)]
         for at in range(0, size, 16):
             self.say(f"  {address + at:#x}  {' '.join(parts[at : at + 16])}")
         if "--" in parts:
@@ -46,6 +49,8 @@ class Report:
             self.say(f"{what}: of the {size} bytes to sum only the first {len(data)} are in the image")
         elif over == 0:
             self.say(f"{what}: the {size} bytes sum to 0: {MISMATCH}")
+        elif place >= size:
+            self.say(f"{what}: the {size} bytes sum to {over:#x}, not 0, but the checksum, byte {place}, is not among them: {MISMATCH}")
         else:
             now, due = data[place], (data[place] - over) % 256
             self.say(f"{what}: the {size} bytes sum to {over:#x}, not 0. The byte at {place}, now {now:#x}, must be {due:#x}.")

@@ -189,12 +189,16 @@ class Table:
         return (self.structure(at) for at in self.places(*types))
 
     def values(self, name, *types):
-        """The values of a field of all structures of these types that have it."""
+        """The values of a field of all structures of these types that have it, each with the structure's offset."""
         for at in self.places(*types):
             _, _, places = layout_of(self.signature, self.data, at)
             for field, parts, _ in places:
                 if field == name:
-                    yield value_at(self.data, at, parts)
+                    yield value_at(self.data, at, parts), at
+
+
+# Structures of chains that are listed for all lines together.
+MOST_OF_CHAINS = 1000
 
 
 class Tables:
@@ -205,6 +209,7 @@ class Tables:
         self.rsdp = given if given is not None else self.found()
         self.named, self.root, self.width, self.slots = None, None, 4, ()
         self.signatures, self.firsts = {}, {}
+        self.chain_left = MOST_OF_CHAINS
         if self.rsdp is not None:
             self.read_root()
 
@@ -219,6 +224,12 @@ class Tables:
             addresses = {*addresses, first}
             self.note = f"(the image has {len(addresses)} RSDPs; this is by the one at {first:#x}, and --rsdp HEX takes another)"
         return first
+
+    def of_chain(self, size):
+        """How many structures of a chain of so many are listed: the first one, and others as long as there are not too many of all."""
+        listed = min(size, max(self.chain_left, 1))
+        self.chain_left -= listed
+        return listed
 
     def read_root(self):
         number = self.image.number

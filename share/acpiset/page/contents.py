@@ -127,7 +127,7 @@ class Contents:
 
     def distances(self):
         """The rows of the SLIT."""
-        return self.shown.get("slit", {}).get("rows", [])
+        return [*self.shown.get("slit", {}).get("rows", ())]
 
     # ---- processors, and the domains that they are in
 

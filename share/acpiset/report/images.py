@@ -7,7 +7,7 @@ import sys
 from typing import NamedTuple, Optional
 
 from explain import image as image_text
-from explain.forms import LOOKED_AT, WHAT, is_image_text, tool_for
+from explain.forms import LOOKED_AT, WHAT, is_image_text, lines_in, to_change, tool_for
 from explain.refusal import BAD_INPUT, FAILED, Refusal, printable
 
 RSDP_TOLD = re.compile(r"check it with --rsdp ([0-9a-f]+)$", re.M)
@@ -21,7 +21,7 @@ class Text(NamedTuple):
     notes: tuple = ()
 
 
-def of_files(paths, rsdp, folder: str) -> Text:
+def of_files(paths, rsdp, folder: str, prefix: str) -> Text:
     """The image text of files, or of standard input for `-`."""
     if paths == ["-"]:
         text = read_all(0, "standard input")
@@ -30,13 +30,18 @@ def of_files(paths, rsdp, folder: str) -> Text:
         return Text(text)
     if len(paths) > 1:
         refuse_several(paths)
-        return made_by("tables2image", paths, rsdp, folder)
+        return made_by("tables2image", paths, rsdp, folder, prefix)
     with opened(paths[0]) as file:
-        tool = tool_for(file.read(LOOKED_AT), os.fstat(file.fileno()).st_size)
+        head = file.read(LOOKED_AT)
+        tool = tool_for(head, os.fstat(file.fileno()).st_size)
+        if lines := lines_in(head):
+            raise Refusal(BAD_INPUT, f"{printable(paths[0])}: {lines}: give them on standard input, as in < {printable(paths[0])}")
+        if change := to_change(head, prefix):
+            raise Refusal(BAD_INPUT, f"{printable(paths[0])}: {change}")
         if tool is None:
             file.seek(0)
             return Text(read_all(file.fileno(), printable(paths[0])))
-    return made_by(tool, paths, rsdp, folder)
+    return made_by(tool, paths, rsdp, folder, prefix)
 
 
 def refuse_several(paths):
@@ -70,11 +75,10 @@ def read_all(file: int, name: str) -> bytes:
     return bytes(data)
 
 
-def made_by(tool: str, paths, rsdp, folder: str) -> Text:
-    """The image text that a tool makes of files."""
-    places = (os.path.join(folder, name) for name in (tool, f"acpiset-{tool}"))
-    own = next((place for place in places if os.path.exists(place)), None)
-    if own is None:
+def made_by(tool: str, paths, rsdp, folder: str, prefix: str) -> Text:
+    """The image text that a tool makes of files. A name without its prefix may be another program's where it is installed."""
+    own = os.path.join(folder, prefix + tool)
+    if not os.path.exists(own):
         raise Refusal(FAILED, f"{tool} is not beside this tool: copy both")
     words = ["--rsdp", f"{rsdp:x}"] if tool == "memory2image" and rsdp is not None else []
     files = [path if not path.startswith("-") else os.path.join(".", path) for path in paths]

@@ -66,6 +66,17 @@ def shown_by(program, at) -> tuple:
     return tuple(answer.lines[1:]) if answer.status == 0 else ()
 
 
+def hints_in(told: str) -> tuple:
+    """What acpiset wrote to standard error on what its input may be, or where its RSDP may be."""
+    return tuple(line[len("acpiset: ") :] for line in told.splitlines() if line.startswith("acpiset: hint: "))
+
+
+def place_of_rsdp(lines, tables) -> tuple:
+    """Where the RSDP is that acpiset did not find."""
+    is_told = lines == ["no rsdp"] and tables.rsdp is not None
+    return (f"the image's RSDP is at {tables.rsdp:#x}: give it with --rsdp {tables.rsdp:#x}",) if is_told else ()
+
+
 def version_of(program) -> str:
     found = VERSION.search(program.answer("--version").told)
     return found[1] if found else "of an unknown version"
@@ -92,7 +103,7 @@ def rsdp_of(given: Optional[int], text: images.Text) -> tuple:
 def of_files(paths, words, folder: str, is_installed: bool) -> Run:
     """The run on the image that these files are, or are made into."""
     options, settings = read_words(words)
-    text = images.of_files(paths, options.rsdp, folder)
+    text = images.of_files(paths, options.rsdp, folder, "acpiset-" if is_installed else "")
     rsdp, origin = rsdp_of(options.rsdp, text)
     beside = os.path.join(folder, *([] if is_installed else [".."]), "acpiset")
     program = Program([beside], text.data, settings)
@@ -102,11 +113,12 @@ def of_files(paths, words, folder: str, is_installed: bool) -> Run:
     last = ("--through", str(options.through)) if options.through != LAST_STAGE else ()
     checked = program.answer("check", *at, *last)
     if not checked.is_given:
-        return Run(checked.status, checked.told.partition("\n")[0], notes=text.notes)
+        return Run(checked.status, checked.told.partition("\n")[0], notes=(*text.notes, *hints_in(checked.told)))
     linted = program.answer("lint", *at)
     tables = Tables(image_text.read(text.data), rsdp)
     verdict = through(linted.lines, options.through) if linted.is_given else tuple(checked.lines)
     given = " ".join([*at, *last, *settings.words()])
     how = f"Checked by acpiset {version_of(program)}, {f'with {given}' if given else 'without options'}.{origin}"
     line = " ".join(checked.lines)
-    return Run(checked.status, "", line, verdict, shown_by(program, at), settings, options.through, tables, text.notes, how)
+    notes = (*text.notes, *(place_of_rsdp(checked.lines, tables) or hints_in(checked.told)))
+    return Run(checked.status, "", line, verdict, shown_by(program, at), settings, options.through, tables, notes, how)
