@@ -650,7 +650,7 @@ rm -rf "$unpacked"
 tar -xzf "$archive" -C "$scratch/unpacked"
 beside=$({
   printf '%s\n' bindings/rust/Cargo.lock bindings/rust/Cargo.toml bindings/rust/README.md bindings/rust/build.rs bindings/rust/tests/tables_in_memory.rs
-  of_tree 'bindings/rust/src/*' 'examples/*'
+  of_tree 'bindings/rust/src/*' 'bindings/rust/examples/*' 'examples/*'
   of_tree 'bindings/python/*' | grep -v '/lists.py$\|/\.[^/]*$'
 } | sorted)
 mapfile -t installed <<<"$with_library"$'\n'"$beside"
