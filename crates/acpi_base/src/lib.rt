@@ -3,6 +3,7 @@
 //!
 //! - `Image`: bytes at 64-bit addresses. `DraftImage` builds one from pieces in any order. `read_image`, `parse_image`
 //!   read one from image text, `ImageText` from such a text in pieces, and `written_text::image_text` writes it.
+//!   `LentImage` may borrow bytes; what takes one takes an `Image` too.
 //! - `sum`, `find_rsdp`: a checksum, and the search for the RSDP.
 //! - `field`: numbers and bytes at an offset in a table, read and written.
 //! - `Frame`, `Question`: the checks of a structure whose header has its length.

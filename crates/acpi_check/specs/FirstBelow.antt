@@ -1,5 +1,5 @@
 -- The first tables that the slots of a root table list, while the slots are scanned.
-use Rattle.std.specs.Prelude.{◌<◌, ℕ, List, Option, Some, None}
+use Rattle.std.specs.Prelude.{◌≡◌, ◌<◌, ◌⊎◌, ℕ, List, Option, Some, None}
 use Rattle.acpi_base.specs.Memory.{Memory}
 use Rattle.acpi_base.specs.Root.{HasSlot}
 use Rattle.acpi_base.specs.Tables.{IsSigned, IsValidTable, IsTable}
@@ -19,3 +19,7 @@ IsFirstBelow m bytes d k signature (Some whole) = (a : ℕ) × (header : List �
 pub record AreFirstBelow (m : Memory) (root : RootValue) (k : ℕ) (firsts : FirstTables) : Type 0 where
   pub valid : (j a : ℕ) → j < k → HasSlot root.bytes root.width j a → IsValidTable m a
   pub first : (kind : TableKind) → IsFirstBelow m root.bytes root.width k (signature_of kind) (first_table firsts kind)
+
+-- an address that one of the slots below k lists, or 0
+abbrev pub IsReadBelow : RootValue → ℕ → ℕ → Type 0
+IsReadBelow root k a = (a ≡ 0) ⊎ ((j : ℕ) × (j < k) × HasSlot root.bytes root.width j a)

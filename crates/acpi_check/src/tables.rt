@@ -22,9 +22,11 @@ pub fn check_tables<'a>(
         → Reads Stage.Tables image.now q (AreFirstTables image.now q.rsdp) result }
 {
     let mut firsts = FirstTables::new();
+    let mut read = 0;
     for slot in 0..root.slots() {
         let address = root.slot(slot);
-        if address == 0 {
+        // What the last slot that is not 0 lists too is valid, and known.
+        if address == 0 || address == read {
             continue;
         }
         let table = match Table::read(image, address) {
@@ -32,6 +34,7 @@ pub fn check_tables<'a>(
             Err(code) => return Err(listed_fault(code, slot, address)),
         };
         firsts.add(Listed { address, table });
+        read = address;
     }
     Ok(firsts)
 }

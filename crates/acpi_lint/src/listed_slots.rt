@@ -1,9 +1,9 @@
 //! The slots of the root table that list an address (ACPI 6.5, 5.2.7, 5.2.8).
 
-ghost use Rattle.std.specs.Prelude.{ℕ, IfOk};
+ghost use Rattle.std.specs.Prelude.{◌≡◌, ℕ, Contains, IfOk};
 ghost use Rattle.acpi_base.specs.Memory.{Memory};
 ghost use Rattle.acpi_base.specs.Root.{HasSlot, IsSlot};
-ghost use Rattle.acpi_lint.specs.Slots.{IsRootOf, IsSought, AreSlots, FindsSlot};
+ghost use Rattle.acpi_lint.specs.Slots.{IsRootOf, IsSought, IsTableAt, AreSlots, FindsSlot};
 
 use crate::table_at::{Sought, TableAt};
 use acpi_base::LentImage;
@@ -19,6 +19,18 @@ pub struct Slot {
     pub table: TableAt,
 }
 
+/// What is at an address that comes after these slots. What slots in a row list is looked up once.
+fn next_table(image: &LentImage<'_>, slots: &[Slot], address: u64) -> TableAt
+    requires { (s : Slot) → Contains slots.now s → IsTableAt image.now s.table }
+    ensures there { result.address ≡ address }
+    ensures noted { IsTableAt image.now result }
+{
+    match slots.last() {
+        Some(slot) if slot.table.address == address => slot.table,
+        _ => TableAt::of(image, address),
+    }
+}
+
 /// The slots of a root table that list an address.
 fn slots_of(alloc: Global, image: &LentImage<'_>, root: &Root<'_>) -> Result<Vec<Slot>, AllocError>
     ensures { IfOk result
@@ -28,7 +40,7 @@ fn slots_of(alloc: Global, image: &LentImage<'_>, root: &Root<'_>) -> Result<Vec
     for slot in 0..root.slots() {
         let address = root.slot(slot);
         if address != 0 {
-            let table = TableAt::of(image, address);
+            let table = next_table(image, &slots, address);
             let number = u64::from(slot);
             slots.push(Slot { number, table })?;
         }

@@ -19,7 +19,7 @@ use Rattle.acpi_read.specs.Roots.{RootValue}
 use Rattle.acpi_read.specs.declared.first_tables.FirstTables.{FirstTables}
 use Rattle.acpi_read.specs.declared.first_tables.Listed.{Listed}
 use Rattle.acpi_read.proofs.FirstsKept.{bytes_of_first}
-use Rattle.acpi_check.specs.FirstBelow.{IsFirstBelow, AreFirstBelow}
+use Rattle.acpi_check.specs.FirstBelow.{IsFirstBelow, AreFirstBelow, IsReadBelow}
 use Rattle.acpi_check.specs.TableResults.{IsRootOf, AreFirstTables}
 
 pub below_none : (m : Memory) (bytes : List ℕ) (d : ℕ) (signature : List ℕ) → IsFirstBelow m bytes d 0 signature None
@@ -106,6 +106,44 @@ firsts_skip m root k firsts empty below = record {
   first = λ kind. below_skip m root.bytes root.width k (signature_of kind) (first_table firsts kind) empty
       (below.first kind);
 }
+
+-- a slot that lists what one before it lists
+pub below_repeat : (m : Memory) (bytes : List ℕ) (d i k a : ℕ) (signature : List ℕ) (found : Option (List ℕ))
+    → i < k → HasSlot bytes d i a → HasSlot bytes d k a → IsFirstBelow m bytes d k signature found
+    → IsFirstBelow m bytes d (k + 1) signature found
+below_repeat m bytes d i k a signature (Some whole) before first again below = below
+below_repeat m bytes d i k a signature None before first again none = λ j b less there.
+    elim (cases_lt j k) [
+      | inl earlier ↦ none j b earlier there
+      | inr last ↦
+          let here : HasSlot bytes d k b = subst (λ (n : ℕ). HasSlot bytes d n b) (omega arith) there in
+          none i b before (subst (λ (x : ℕ). HasSlot bytes d i x) (one_slot bytes d k a b again here) first)
+    ]
+
+pub firsts_repeat : (m : Memory) (root : RootValue) (k : ℕ) {a b : ℕ} (firsts : FirstTables)
+    → IsReadBelow root k b → a ≡ b → HasSlot root.bytes root.width k a → AreFirstBelow m root k firsts
+    → AreFirstBelow m root (k + 1) firsts
+firsts_repeat m root k firsts (inl none) same again below = absurd (again.listed (same ∙ none))
+firsts_repeat m root k {a = a} firsts (inr (i, before, first)) same again below =
+    let there : HasSlot root.bytes root.width i a =
+    subst (λ (x : ℕ). HasSlot root.bytes root.width i x) (sym same) first in
+    record {
+      valid = λ j b less here. elim (cases_lt j k) [
+        | inl earlier ↦ below.valid j b earlier here
+        | inr last ↦
+            let slot : HasSlot root.bytes root.width k b =
+            subst (λ (n : ℕ). HasSlot root.bytes root.width n b) (omega arith) here in
+            subst (λ (x : ℕ). IsValidTable m x) (one_slot root.bytes root.width k a b again slot)
+            (below.valid i a before there)
+      ];
+      first = λ kind.
+          below_repeat m root.bytes root.width i k a (signature_of kind) (first_table firsts kind) before there again
+          (below.first kind);
+    }
+
+pub read_more : (root : RootValue) {k a : ℕ} → IsReadBelow root k a → IsReadBelow root (k + 1) a
+read_more root (inl none) = inl none
+read_more root (inr (j, before, slot)) = inr (j, omega arith, slot)
 
 -- a slot that lists a valid table
 pub firsts_more : (m : Memory) (root : RootValue) (k a : ℕ) (header : List ℕ) (next : Listed) (old new : FirstTables)

@@ -1,6 +1,6 @@
-use Rattle.acpi_check.specs.FirstBelow.{AreFirstBelow}
+use Rattle.acpi_check.specs.FirstBelow.{AreFirstBelow, IsReadBelow}
 use Rattle.acpi_check.proofs.tables.check_tables.Given as goal
 
--- the tables of the slots so far are valid, and the first ones are kept
+-- the tables of the slots so far are valid, the first ones are kept, and what was read last is in one of these slots
 abbrev pub invariant-loop-slot : goal.invariant-loop-slot
-invariant-loop-slot l = AreFirstBelow l.image l.root l.slot l.firsts
+invariant-loop-slot l = AreFirstBelow l.image l.root l.slot l.firsts × IsReadBelow l.root l.slot l.read

@@ -18,8 +18,8 @@ loop-slot-preserved c =
             listed = search rules;
           } in
           rw (w.slots-is, w.in_ok-push.ensures.items)
-          (one_more _ slots c.loop-slot.invariant w.from-number.ensures (rw w.of-table.ensures.there here)
-          w.of-table.ensures.noted)
+          (one_more _ slots c.loop-slot.invariant w.from-number.ensures (rw w.next_table-table.ensures.there here)
+          w.next_table-table.ensures.noted)
       | else-address-ne0 w ↦
           rw w.slots-is
           (none_more slots c.loop-slot.invariant (sym c.slot-address.ensures ∙ w.if-address-ne0.false))
@@ -31,3 +31,6 @@ returns c =
     (λ k inside.
     let below : k < c.slots-slot-end.result = (c.slots-slot-end.ensures.inside k).1 inside in
     omega arith)
+
+pub next_table-table-requires : goal.next_table-table-requires
+next_table-table-requires c = λ s here. (c.loop-slot.invariant.listed s (rw c.deref.ensures.value at here)).1
