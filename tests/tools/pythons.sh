@@ -14,8 +14,20 @@ wrong_with() {
   printed=$(PATH="$folder:$PATH" "$1" "$2" "$program" 2>&1 </dev/null) && grep -q '[1-9][0-9]* passed, 0 failed$' <<<"$printed" || printf '%s\n' "$printed"
 }
 
-while read -r python; do
-  for script in tests/tools/run.py tests/explain/run.py; do count "$script with $python" "$(wrong_with "$python" "$script")"; done
-done < <(other_pythons)
+scripts=(tests/tools/run.py tests/explain/run.py)
+mapfile -t pythons < <(other_pythons)
+# printed_by PYTHON SCRIPT: the file with what a script prints that has failed.
+printed_by() { printf '%s\n' "$scratch/printed ${1//\//-} ${2//\//-}"; }
+
+for python in "${pythons[@]}"; do
+  for script in "${scripts[@]}"; do
+    while [ "$(jobs -rp | wc -l)" -ge "$(nproc)" ]; do wait -n; done
+    wrong_with "$python" "$script" >"$(printed_by "$python" "$script")" &
+  done
+done
+wait
+for python in "${pythons[@]}"; do
+  for script in "${scripts[@]}"; do count "$script with $python" "$(cat "$(printed_by "$python" "$script")")"; done
+done
 [ "$((passed + failed))" != 0 ] || left_out 'the tools with other Pythons' 'there is none'
 finish 'tools with other Pythons: '
