@@ -3,14 +3,15 @@
 //! The store has all bytes in the order in which they came. If an address occurs twice among its first `n` bytes, one
 //! occurs twice among more bytes too. So the first byte at fault is found by bisection.
 
-ghost use Rattle.std.specs.Prelude.{◌≡◌, ◌⊎◌, ℕ, ◌+◌, ◌-◌, ◌^◌, ◌<◌, ◌≤◌, min, true, length, Ok, Err, IfOk, IfErr, IsOk, OnOk, OnErr, MatchOption, MatchResult};
+ghost use Rattle.std.specs.Prelude.{◌≡◌, ◌⊎◌, ℕ, ◌+◌, ◌-◌, ◌^◌, ◌<◌, ◌≤◌, ◌++◌, min, true, length, Ok, Err, IfOk, IfErr, IsOk, OnOk, OnErr, MatchOption, MatchResult};
 ghost use Rattle.std.specs.FinMap.{empty};
 ghost use Rattle.std.specs.List.{AllByRecursion};
 ghost use Rattle.std.specs.List.Sorted.{IsNonDecreasingBy, IsPermutation};
 ghost use Rattle.acpi_base.specs.Memory.{Memory, IsImage};
 ghost use Rattle.acpi_base.specs.Image.Adding.{IsLayoutRefusal, added};
 ghost use Rattle.acpi_base.specs.Image.Draft.{AreDrafted, ComesTwice, EndsAt, IsFirstTwice, IsOnceBefore, all_added, holder_count};
-ghost use Rattle.acpi_base.specs.Image.Pieces.{runs_in};
+ghost use Rattle.acpi_base.specs.Image.Pieces.{AreSortedDisjoint, LiesBefore, runs_in};
+ghost use Rattle.acpi_base.specs.Image.Runs.{memory_of};
 ghost use Rattle.acpi_base.specs.Image.Segments.{AreSegmentsApart, IsValid, memory_in};
 ghost use Rattle.acpi_base.specs.Text.ImageText.{on_ok};
 
@@ -131,6 +132,62 @@ fn adopt(
     }
 }
 
+/// Appends the bytes of a piece.
+fn append(store: &mut Vec<u8>, bytes: &[u8]) -> Result<(), AllocError>
+    ensures { OnOk result (store.new.items ≡ store.old.items ++ bytes.now) }
+{
+    // A copy of one byte takes several times as long as a `push`.
+    if bytes.len() == 1 {
+        store.push(bytes[0])?;
+        return Ok(());
+    }
+    store.extend_from_slice(bytes)
+}
+
+/// The bytes of pieces in the order of the pieces. These then say where their bytes are among them.
+fn put_in_order(
+    alloc: Global,
+    store: &[u8],
+    pieces: &mut Vec<(u64, Span)>,
+) -> Result<Vec<u8>, AllocError>
+    requires lies { AllByRecursion (LiesBefore (length store.now)) pieces.old.items }
+    requires apart { AreSegmentsApart pieces.old.items }
+    ensures draft { IfOk result (λ ordered. AreDrafted ordered.items pieces.new.items) }
+    ensures apart { OnOk result (AreSegmentsApart pieces.new.items) }
+    ensures same { IfOk result
+        (λ ordered. runs_in ordered.items pieces.new.items ≡ runs_in store.now pieces.old.items) }
+{
+    let mut ordered = Vec::with_capacity(alloc, store.len())?;
+    for i in 0..pieces.len() {
+        let piece = &mut pieces[i];
+        let span = piece.1;
+        piece.1.start = ordered.len();
+        append(&mut ordered, span.bytes(store))?;
+    }
+    Ok(ordered)
+}
+
+/// The segments of sorted pieces: if they are apart, the list of pieces becomes that of the segments.
+fn segments_of(
+    alloc: Global,
+    store: &[u8],
+    mut pieces: Vec<(u64, Span)>,
+) -> Result<Segments, AllocError>
+    requires rising { AreSortedDisjoint pieces.items }
+    requires lies { AllByRecursion (LiesBefore (length store.now)) pieces.items }
+    ensures valid { IfOk result IsValid }
+    ensures same { IfOk result
+        (λ segments. memory_in segments ≡ memory_of (runs_in store.now pieces.items)) }
+{
+    if are_apart(&pieces) {
+        let ordered = put_in_order(alloc, store, &mut pieces)?;
+        return adopt(alloc, ordered, pieces);
+    }
+    let mut segments = Segments::with_capacity(alloc, store.len())?;
+    segments.take_all(store, &pieces)?;
+    Ok(segments)
+}
+
 /// The segments of pieces that came in any order.
 fn lay_out(
     alloc: Global,
@@ -146,9 +203,7 @@ fn lay_out(
     if let Some(address) = judge(store, &mut pieces) {
         return Err(ImageFault::Twice { address });
     }
-    let mut segments = Segments::with_capacity(alloc, store.len())?;
-    segments.take_all(store, &pieces)?;
-    Ok(segments)
+    Ok(segments_of(alloc, store, pieces)?)
 }
 
 /// Whether bytes from `base` on follow the piece that came last.
@@ -233,7 +288,8 @@ impl Model for DraftImage {
     ghost coded = { coded_result (code coded_ℕ coded_ℕ) coded_ℕ };
 
     ghost use Rattle.acpi_base.specs.Image.Draft.{AreDrafted, all_added};
-    ghost use Rattle.acpi_base.specs.Image.Pieces.{runs_in};
+    ghost use Rattle.acpi_base.specs.Image.Pieces.{AreSortedDisjoint, LiesBefore, runs_in};
+    ghost use Rattle.acpi_base.specs.Image.Runs.{memory_of};
 
     ghost view = { λ draft. all_added empty (runs_in draft.store.items draft.pieces.items) };
 
