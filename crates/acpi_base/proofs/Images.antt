@@ -9,6 +9,7 @@ pub mod Inserts
 pub mod Lent
 pub mod LentRuns
 pub mod Ordered
+pub mod Parted
 pub mod PresentBytes
 pub mod Rests
 pub mod RunBytes

@@ -4,11 +4,9 @@ use Rattle.std.specs.List.{AllByRecursion}
 use Rattle.std.proofs.lemmas.List.{append-nil, drop_all, length-take-le, take-append-le, take_all}
 use Rattle.std.proofs.Math.Seq.{drop-append_seam}
 use Rattle.acpi_base.specs.Image.Runs.{run_at}
-use Rattle.acpi_base.specs.declared.image.span.Span.{Span}
 use Rattle.acpi_base.specs.Image.Draft.{AreContiguous, AreDrafted}
 use Rattle.acpi_base.specs.Image.Pieces.{Piece, LiesBefore, end_at, run_in, runs_in}
 use Rattle.acpi_base.specs.Image.Segments.{AreSegmentsApart}
-use Rattle.acpi_base.proofs.Images.Stores.{all_weaker}
 
 -- the bytes of pieces, one after the other
 abbrev pub bytes_of : List ℕ → List Piece → List ℕ

@@ -17,6 +17,7 @@ ghost use Rattle.acpi_base.specs.Text.ImageText.{on_ok};
 
 use super::parts::Parts;
 use super::segments::Segments;
+use super::sorting::sort_by_address;
 use super::span::Span;
 use super::{Image, ImageFault, LentImage};
 use std::alloc::{AllocError, Global};
@@ -89,17 +90,6 @@ fn are_apart(pieces: &[(u64, Span)]) -> bool
         next = u128::from(first);
     }
     true
-}
-
-/// Sorts the pieces by address. If there is no memory for a buffer, it takes longer.
-fn sort_by_address(pieces: &mut Vec<(u64, Span)>)
-    ensures permutation { IsPermutation pieces.old.items pieces.new.items }
-    ensures sorted { IsNonDecreasingBy (λ p. p.0) pieces.new.items }
-{
-    match pieces.sort_by_key(|piece| piece.0) {
-        Ok(()) => (),
-        Err(_) => pieces.sort_unstable_by_key(|piece| piece.0),
-    }
 }
 
 /// The first address that came twice. The pieces are passed in the order in which they came, and are sorted by address.

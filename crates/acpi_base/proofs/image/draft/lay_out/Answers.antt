@@ -3,7 +3,6 @@ use Rattle.std.specs.Prelude.{Ok, Err, MatchOption}
 use Rattle.std.specs.FinMap.{empty}
 use Rattle.std.specs.List.Sorted.{IsNonDecreasingBy, IsPermutation}
 use Rattle.acpi_base.specs.declared.image.ImageFault.TheVariants as fault
-use Rattle.acpi_base.specs.Image.Adding.{IsLayoutRefusal}
 use Rattle.acpi_base.specs.Image.Draft.{AreDrafted, all_added, holder_count}
 use Rattle.acpi_base.specs.Image.Pieces.{Piece, runs_in}
 use Rattle.acpi_base.proofs.Images.FirstTwice.{AreJudged, are_judged, told_on}

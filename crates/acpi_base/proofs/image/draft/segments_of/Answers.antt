@@ -1,4 +1,4 @@
-use Rattle.std.proofs.Common.{◌≡◌, ℕ, ◌<◌, ◌≤◌, List, [], ◌∷◌, sym, ap, subst, ◌∙◌, arith}
+use Rattle.std.proofs.Common.{◌<◌, ◌≤◌, List, [], ◌∷◌, sym, ap, subst, ◌∙◌, arith}
 use Rattle.std.specs.List.{AllByRecursion}
 use Rattle.std.specs.Option.{option_or}
 use Rattle.std.specs.Result.{result_ok}
@@ -7,7 +7,7 @@ use Rattle.std.proofs.lemmas.Result.{IfOk-weaker}
 use Rattle.acpi_base.specs.Memory.{byte_of}
 use Rattle.acpi_base.specs.Image.Pieces.{Piece, AreSortedDisjoint, runs_in}
 use Rattle.acpi_base.specs.Image.Runs.{lookup, memory_of}
-use Rattle.acpi_base.specs.Image.Segments.{AreSegmentsApart, memory_in}
+use Rattle.acpi_base.specs.Image.Segments.{memory_in}
 use Rattle.acpi_base.proofs.Images.Adopted.{apart_joined}
 use Rattle.acpi_base.proofs.Images.RunBytes.{byte_of_memory_of}
 use Rattle.acpi_base.proofs.Images.RunMemory.{same_memory}

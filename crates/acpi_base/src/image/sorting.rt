@@ -1,0 +1,80 @@
+//! Sorting pieces by address. Millions of them are first parted at the middle of their addresses, again and again, until
+//! the sort of each part stays in the processor's cache.
+
+ghost use Rattle.std.specs.Prelude.{◌<◌, ◌≤◌, length, take, drop};
+ghost use Rattle.std.specs.List.{All};
+ghost use Rattle.std.specs.List.Sorted.{IsNonDecreasingBy, IsPermutation};
+
+use super::span::Span;
+use std::alloc::Global;
+
+/// How many pieces are not parted any more.
+const FEW: usize = 16_384;
+
+/// How often pieces are parted at most: if a few addresses are far from all others, that may part few pieces.
+const PARTINGS: u32 = 16;
+
+/// The lowest address and the highest one.
+fn bounds(pieces: &[(u64, Span)]) -> (u64, u64) {
+    let mut low = u64::MAX;
+    let mut high = 0;
+    for i in 0..pieces.len() {
+        low = low.min(pieces[i].0);
+        high = high.max(pieces[i].0);
+    }
+    (low, high)
+}
+
+/// Puts the pieces whose address is at most `most` before the others, and returns how many they are.
+fn part(pieces: &mut [(u64, Span)], most: u64) -> usize
+    ensures permutation { IsPermutation pieces.old pieces.new }
+    ensures within { result ≤ length pieces.new }
+    ensures low { All (λ p. p.0 ≤ most) (take result pieces.new) }
+    ensures high { All (λ p. most < p.0) (drop result pieces.new) }
+{
+    let mut count = 0;
+    for i in 0..pieces.len() {
+        // Each piece changes places, so that the order of random addresses decides no branch.
+        let piece = pieces[i];
+        pieces[i] = pieces[count];
+        pieces[count] = piece;
+        count += (piece.0 <= most) as usize;
+    }
+    count
+}
+
+/// Sorts few pieces. If there is no memory for a buffer, it takes longer.
+fn sort_few(alloc: Global, pieces: &mut [(u64, Span)])
+    ensures permutation { IsPermutation pieces.old pieces.new }
+    ensures sorted { IsNonDecreasingBy (λ p. p.0) pieces.new }
+{
+    match pieces.sort_by_key(alloc, |piece| piece.0) {
+        Ok(()) => (),
+        Err(_) => pieces.sort_unstable_by_key(|piece| piece.0),
+    }
+}
+
+/// Sorts pieces, parted at most so many times. If most addresses are from `low` to `high`, it takes less time.
+fn sort_parts(alloc: Global, pieces: &mut [(u64, Span)], low: u64, high: u64, partings: u32)
+    ensures permutation { IsPermutation pieces.old pieces.new }
+    ensures sorted { IsNonDecreasingBy (λ p. p.0) pieces.new }
+{
+    if partings == 0 || pieces.len() <= FEW {
+        return sort_few(alloc, pieces);
+    }
+    let middle = low / 2 + high / 2;
+    let count = part(pieces, middle);
+    let (left, right) = pieces.split_at_mut(count);
+    sort_parts(alloc, left, low, middle, partings - 1);
+    sort_parts(alloc, right, middle, high, partings - 1);
+}
+
+/// Sorts the pieces by address. If there is no memory for buffers, it takes longer.
+pub fn sort_by_address(pieces: &mut Vec<(u64, Span)>)
+    ensures permutation { IsPermutation pieces.old.items pieces.new.items }
+    ensures sorted { IsNonDecreasingBy (λ p. p.0) pieces.new.items }
+{
+    let alloc = *pieces.allocator();
+    let (low, high) = bounds(pieces);
+    sort_parts(alloc, pieces, low, high, PARTINGS);
+}
