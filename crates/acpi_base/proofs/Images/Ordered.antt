@@ -163,7 +163,8 @@ placed_more store ps i bytes new qs d p start is within lies read at e =
     let next : suc i ≡ i + 1 = omega arith in
     subst (λ n. ArePlaced store ps n new (slice_set qs i (p.0, record { start = start; len = p.1.len }))) next (record {
       pieces = ap (λ rs. slice_set rs i (p.0, record { start = start; len = p.1.len })) is.pieces
-          ∙ ap (λ q. slice_set (placed 0 (take i ps) ++ drop i ps) i (q.0, record { start = start; len = q.1.len })) same
+          ∙ ap (λ q. slice_set (placed 0 (take i ps) ++ drop i ps) i (q.0, record { start = start; len = q.1.len }))
+          same
           ∙ placed_next ps i 0 start d within from;
       bytes = e ∙ ap (λ q. bytes ++ take q.1.len (drop q.1.start store)) same
           ∙ ap (λ bs. bs ++ take (get_or ps i d).1.len (drop (get_or ps i d).1.start store)) is.bytes

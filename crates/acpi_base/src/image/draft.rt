@@ -23,6 +23,19 @@ use super::{Image, ImageFault, LentImage};
 use std::alloc::{AllocError, Global};
 use std::marker::Model;
 
+/// Appends the bytes of a piece.
+fn append(store: &mut Vec<u8>, bytes: &[u8]) -> Result<(), AllocError>
+    ensures ok { OnOk result (store.new.items ≡ store.old.items ++ bytes.now) }
+    ensures err { OnErr result (store.new.items ≡ store.old.items) }
+{
+    // A copy of one byte takes several times as long as a `push`.
+    if bytes.len() == 1 {
+        store.push(bytes[0])?;
+        return Ok(());
+    }
+    store.extend_from_slice(bytes)
+}
+
 /// How many of the piece's bytes are among the first `count` of the store.
 fn present_before(span: Span, count: usize) -> usize
     ensures { result ≡ min span.len (count - span.start) }
@@ -122,18 +135,6 @@ fn adopt(
     }
 }
 
-/// Appends the bytes of a piece.
-fn append(store: &mut Vec<u8>, bytes: &[u8]) -> Result<(), AllocError>
-    ensures { OnOk result (store.new.items ≡ store.old.items ++ bytes.now) }
-{
-    // A copy of one byte takes several times as long as a `push`.
-    if bytes.len() == 1 {
-        store.push(bytes[0])?;
-        return Ok(());
-    }
-    store.extend_from_slice(bytes)
-}
-
 /// The bytes of pieces in the order of the pieces. These then say where their bytes are among them.
 fn put_in_order(
     alloc: Global,
@@ -222,7 +223,7 @@ fn extend(
     ensures err { OnErr result (all_added empty (runs_in store.new.items pieces.new.items)
         ≡ all_added empty (runs_in store.old.items pieces.old.items)) }
 {
-    store.extend_from_slice(bytes)?;
+    append(store, bytes)?;
     let last = pieces.len() - 1;
     pieces[last].1.len += bytes.len();
     Ok(())
@@ -250,7 +251,7 @@ fn open(
         len: bytes.len(),
     };
     pieces.push((base, span))?;
-    if let Err(error) = store.extend_from_slice(bytes) {
+    if let Err(error) = append(store, bytes) {
         pieces.pop();
         return Err(error);
     }

@@ -9,20 +9,20 @@ use super::span::Span;
 use std::alloc::Global;
 
 /// How many pieces are not parted any more.
-const FEW: usize = 16_384;
+const FEW: usize = 65_536;
 
 /// How often pieces are parted at most: if a few addresses are far from all others, that may part few pieces.
-const PARTINGS: u32 = 16;
+const PARTINGS: u32 = 12;
 
-/// The lowest address and the highest one.
-fn bounds(pieces: &[(u64, Span)]) -> (u64, u64) {
+/// The middle between the lowest address and the highest one of some of the pieces.
+fn middle(pieces: &[(u64, Span)]) -> u64 {
     let mut low = u64::MAX;
     let mut high = 0;
-    for i in 0..pieces.len() {
+    for i in (0..pieces.len()).step_by(1024) {
         low = low.min(pieces[i].0);
         high = high.max(pieces[i].0);
     }
-    (low, high)
+    low / 2 + high / 2
 }
 
 /// Puts the pieces whose address is at most `most` before the others, and returns how many they are.
@@ -54,19 +54,19 @@ fn sort_few(alloc: Global, pieces: &mut [(u64, Span)])
     }
 }
 
-/// Sorts pieces, parted at most so many times. If most addresses are from `low` to `high`, it takes less time.
-fn sort_parts(alloc: Global, pieces: &mut [(u64, Span)], low: u64, high: u64, partings: u32)
+/// Sorts pieces, which are parted at most so many times.
+fn sort_parts(alloc: Global, pieces: &mut [(u64, Span)], partings: u32)
     ensures permutation { IsPermutation pieces.old pieces.new }
     ensures sorted { IsNonDecreasingBy (λ p. p.0) pieces.new }
 {
     if partings == 0 || pieces.len() <= FEW {
         return sort_few(alloc, pieces);
     }
-    let middle = low / 2 + high / 2;
-    let count = part(pieces, middle);
-    let (left, right) = pieces.split_at_mut(count);
-    sort_parts(alloc, left, low, middle, partings - 1);
-    sort_parts(alloc, right, middle, high, partings - 1);
+    let most = middle(pieces);
+    let count = part(pieces, most);
+    let (low, high) = pieces.split_at_mut(count);
+    sort_parts(alloc, low, partings - 1);
+    sort_parts(alloc, high, partings - 1);
 }
 
 /// Sorts the pieces by address. If there is no memory for buffers, it takes longer.
@@ -75,6 +75,5 @@ pub fn sort_by_address(pieces: &mut Vec<(u64, Span)>)
     ensures sorted { IsNonDecreasingBy (λ p. p.0) pieces.new.items }
 {
     let alloc = *pieces.allocator();
-    let (low, high) = bounds(pieces);
-    sort_parts(alloc, pieces, low, high, PARTINGS);
+    sort_parts(alloc, pieces, PARTINGS);
 }

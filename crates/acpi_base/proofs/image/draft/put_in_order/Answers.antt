@@ -7,7 +7,8 @@ loop-i-preserved c =
     let long = c.loop-i.auto.i-end in
     placed_more c.args.store.now c.args.pieces.now.items c.loop-i.i c.loop-i.ordered.items _ c.loop-i.pieces.items
     _ c.index_mut-piece.result.now _ c.loop-i.invariant (omega (arith, c.loop-i-test.true)) c.requires.lies
-    c.index_mut-piece.ensures.value (omega (arith, c.len-piece.ensures)) (c.in_ok-append.ensures ∙ ap (λ bs. c.loop-i.ordered.items ++ bs) c.bytes.ensures)
+    c.index_mut-piece.ensures.value (omega (arith, c.len-piece.ensures))
+    (c.in_ok-append.ensures.ok ∙ ap (λ bs. c.loop-i.ordered.items ++ bs) c.bytes.ensures)
 
 pub returns-clause-draft : goal.returns-clause-draft
 returns-clause-draft c =

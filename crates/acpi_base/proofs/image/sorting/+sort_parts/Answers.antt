@@ -1,4 +1,4 @@
-use Rattle.std.proofs.Common.{ℕ, ◌+◌, ◌/◌, ◌<◌, ◌≤◌, ◌++◌, sym, subst}
+use Rattle.std.proofs.Common.{ℕ, ◌<◌, ◌≤◌, ◌++◌, sym, subst}
 use Rattle.std.specs.List.{All}
 use Rattle.std.specs.List.Sorted.{IsPermutation}
 use Rattle.std.proofs.lemmas.List.Sorted.{All-permutation, IsPermutation-append, IsPermutation-trans}
@@ -8,15 +8,15 @@ use Rattle.acpi_base.proofs.image.sorting.+sort_parts.Goals as goal
 
 pub returns-clause-permutation : goal.returns-clause-permutation
 returns-clause-permutation t c =
-    let parts = c.split_at_mut-left.ensures in
+    let parts = c.split_at_mut-low.ensures in
     IsPermutation-trans c.args.pieces.now c.part-count.new.pieces _ c.part-count.ensures.permutation
     (subst (λ all. IsPermutation all (c.sort_parts.new.pieces ++ c.sort_parts-2.new.pieces)) (sym parts.value)
     (IsPermutation-append _ _ _ _ c.sort_parts.ensures.permutation c.sort_parts-2.ensures.permutation))
 
 pub returns-clause-sorted : goal.returns-clause-sorted
 returns-clause-sorted t c =
-    let parts = c.split_at_mut-left.ensures in
-    let middle : ℕ = c.args.low / 2 + c.args.high / 2 in
+    let parts = c.split_at_mut-low.ensures in
+    let middle : ℕ = c.middle-most.result in
     sorted_parts middle c.sort_parts.new.pieces c.sort_parts-2.new.pieces c.sort_parts.ensures.sorted
     c.sort_parts-2.ensures.sorted
     (All-permutation (λ (p : Piece). p.0 ≤ middle) _ _ c.sort_parts.ensures.permutation
