@@ -9,7 +9,7 @@ pub mod Inserts
 pub mod Lent
 pub mod LentRuns
 pub mod Ordered
-pub mod Parted
+pub mod Partitioned
 pub mod PresentBytes
 pub mod Rests
 pub mod RunBytes

@@ -1,5 +1,5 @@
-//! Sorting pieces by address. Millions of them are first parted at the middle of their addresses, again and again, until
-//! the sort of each part stays in the processor's cache.
+//! Sorting pieces by address. Millions of them are first partitioned at the middle of their addresses, again and again,
+//! until the sort of each part stays in the processor's cache.
 
 ghost use Rattle.std.specs.Prelude.{◌<◌, ◌≤◌, length, take, drop};
 ghost use Rattle.std.specs.List.{All};
@@ -8,11 +8,11 @@ ghost use Rattle.std.specs.List.Sorted.{IsNonDecreasingBy, IsPermutation};
 use super::span::Span;
 use std::alloc::Global;
 
-/// How many pieces are not parted any more.
+/// At most so many pieces are not partitioned further.
 const FEW: usize = 65_536;
 
-/// How often pieces are parted at most: if a few addresses are far from all others, that may part few pieces.
-const PARTINGS: u32 = 12;
+/// How often pieces are partitioned at most: if a few addresses are far from all others, that may split off few pieces.
+const MOST_PARTITIONS: u32 = 12;
 
 /// The middle between the lowest address and the highest one of some of the pieces.
 fn middle(pieces: &[(u64, Span)]) -> u64 {
@@ -26,7 +26,7 @@ fn middle(pieces: &[(u64, Span)]) -> u64 {
 }
 
 /// Puts the pieces whose address is at most `most` before the others, and returns how many they are.
-fn part(pieces: &mut [(u64, Span)], most: u64) -> usize
+fn partition(pieces: &mut [(u64, Span)], most: u64) -> usize
     ensures permutation { IsPermutation pieces.old pieces.new }
     ensures within { result ≤ length pieces.new }
     ensures low { All (λ p. p.0 ≤ most) (take result pieces.new) }
@@ -54,19 +54,19 @@ fn sort_few(alloc: Global, pieces: &mut [(u64, Span)])
     }
 }
 
-/// Sorts pieces, which are parted at most so many times.
-fn sort_parts(alloc: Global, pieces: &mut [(u64, Span)], partings: u32)
+/// Sorts pieces, which are partitioned at most so many times.
+fn sort_parts(alloc: Global, pieces: &mut [(u64, Span)], partitions: u32)
     ensures permutation { IsPermutation pieces.old pieces.new }
     ensures sorted { IsNonDecreasingBy (λ p. p.0) pieces.new }
 {
-    if partings == 0 || pieces.len() <= FEW {
+    if partitions == 0 || pieces.len() <= FEW {
         return sort_few(alloc, pieces);
     }
     let most = middle(pieces);
-    let count = part(pieces, most);
+    let count = partition(pieces, most);
     let (low, high) = pieces.split_at_mut(count);
-    sort_parts(alloc, low, partings - 1);
-    sort_parts(alloc, high, partings - 1);
+    sort_parts(alloc, low, partitions - 1);
+    sort_parts(alloc, high, partitions - 1);
 }
 
 /// Sorts the pieces by address. If there is no memory for buffers, it takes longer.
@@ -75,5 +75,5 @@ pub fn sort_by_address(pieces: &mut Vec<(u64, Span)>)
     ensures sorted { IsNonDecreasingBy (λ p. p.0) pieces.new.items }
 {
     let alloc = *pieces.allocator();
-    sort_parts(alloc, pieces, PARTINGS);
+    sort_parts(alloc, pieces, MOST_PARTITIONS);
 }

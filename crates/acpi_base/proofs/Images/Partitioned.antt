@@ -1,4 +1,4 @@
--- Pieces that are parted at an address.
+-- Pieces that are partitioned at an address.
 use Rattle.std.proofs.Common.{◌≡◌, ◌≢◌, ◌⊎◌, inl, inr, ℕ, ◌+◌, ◌-◌, ◌<◌, ◌≤◌, List, ◌++◌, length, get_or, take, drop, slice_set, refl, sym, subst, ◌∙◌, arith, length-append, length-drop}
 use Rattle.std.specs.List.{All, AllWithin}
 use Rattle.std.specs.List.Sorted.{IsNonDecreasingBy, IsPermutation}
@@ -10,7 +10,7 @@ use Rattle.std.proofs.lemmas.List.Sorted.{IsPermutation-swap, IsPermutation-tran
 use Rattle.acpi_base.specs.Image.Pieces.{Piece}
 
 -- of the pieces before the i-th, the first `count` have addresses up to `most`, and the others have higher ones
-pub record AreParted (most : ℕ) (ps qs : List Piece) (count i : ℕ) : Type 0 where
+pub record ArePartitioned (most : ℕ) (ps qs : List Piece) (count i : ℕ) : Type 0 where
   pub permutation : IsPermutation ps qs
   pub within : count ≤ i
   pub low : AllWithin (λ p. p.0 ≤ most) qs 0 count
@@ -18,19 +18,19 @@ pub record AreParted (most : ℕ) (ps qs : List Piece) (count i : ℕ) : Type 0 
 
 -- ---- one more piece
 
-pub parted_more : (most : ℕ) (ps qs : List Piece) (count i next : ℕ) (d : Piece) → AreParted most ps qs count i
-    → i < length qs
+pub partitioned_more : (most : ℕ) (ps qs : List Piece) (count i next : ℕ) (d : Piece)
+    → ArePartitioned most ps qs count i → i < length qs
     → ((next ≡ count + 1) × ((get_or qs i d).0 ≤ most)) ⊎ ((next ≡ count) × (most < (get_or qs i d).0))
-    → AreParted most ps (slice_set (slice_set qs i (get_or qs count d)) count (get_or qs i d)) next (i + 1)
-parted_more most ps qs count i next d parted here side =
-    let within = parted.within in
+    → ArePartitioned most ps (slice_set (slice_set qs i (get_or qs count d)) count (get_or qs i d)) next (i + 1)
+partitioned_more most ps qs count i next d partitioned here side =
+    let within = partitioned.within in
     record {
-      permutation = IsPermutation-trans ps qs rs parted.permutation
+      permutation = IsPermutation-trans ps qs rs partitioned.permutation
           (IsPermutation-swap qs rs i count here (omega arith) (swap_is qs i count d here (omega arith)));
       within = elim side [ inl y ↦ (let more = y.0 in omega arith) | inr y ↦ (let same = y.0 in omega arith) ];
       low = λ k e l h. elim (cases_lt k count) [
         | inl before ↦ subst (λ (r : Piece). r.0 ≤ most) (sym (others k e (λ same. omega arith) (λ same. omega arith)))
-            (parted.low k e l before)
+            (partitioned.low k e l before)
         | inr behind ↦ elim side [
           | inl y ↦ (let more = y.0 in let is : k ≡ count = omega arith in
               subst (λ (r : Piece). r.0 ≤ most) (sym (at_count k e is)) y.1)
@@ -41,10 +41,10 @@ parted_more most ps qs count i next d parted here side =
         | inl behind ↦ elim (cases_lt k i) [
           | inl before ↦ subst (λ (r : Piece). most < r.0)
               (sym (others k e (λ same. omega arith) (λ same. omega arith)))
-              (parted.high k e (omega arith) before)
+              (partitioned.high k e (omega arith) before)
           | inr last ↦ (let is : k ≡ i = omega arith in
               subst (λ (r : Piece). most < r.0) (sym (at_last k e is (λ same. omega arith)))
-              (parted.high count d (omega arith) (omega arith)))
+              (partitioned.high count d (omega arith) (omega arith)))
         ]
         | inr before ↦ elim side [
           | inl y ↦ absurd (let more = y.0 in omega arith)
@@ -66,26 +66,26 @@ parted_more most ps qs count i next d parted here side =
 
     at_count : (k : ℕ) (e : Piece) → k ≡ count → get_or rs k e ≡ get_or qs i d
     at_count k e is =
-        let low = parted.within in
+        let low = partitioned.within in
         get_or-set_at first count k (get_or qs i d) e is (omega (arith, length-set qs i (get_or qs count d)))
 
     at_last : (k : ℕ) (e : Piece) → k ≡ i → k ≢ count → get_or rs k e ≡ get_or qs count d
     at_last k e is a =
         get_or-set_other first count k (get_or qs i d) e a ∙ get_or-set_at qs i k (get_or qs count d) e is here
 
-pub parted_low : (most : ℕ) (ps qs : List Piece) (count i : ℕ) → AreParted most ps qs count i → length qs ≤ i
+pub partitioned_low : (most : ℕ) (ps qs : List Piece) (count i : ℕ) → ArePartitioned most ps qs count i → length qs ≤ i
     → i ≤ length qs → All (λ p. p.0 ≤ most) (take count qs)
-parted_low most ps qs count i parted past end k d h =
-    let within = parted.within in
+partitioned_low most ps qs count i partitioned past end k d h =
+    let within = partitioned.within in
     let inside : k < count = omega (arith, length-take count qs) in
-    subst (λ (r : Piece). r.0 ≤ most) (sym (get_or-take count qs k d inside)) (parted.low k d (omega arith) inside)
+    subst (λ (r : Piece). r.0 ≤ most) (sym (get_or-take count qs k d inside)) (partitioned.low k d (omega arith) inside)
 
-pub parted_high : (most : ℕ) (ps qs : List Piece) (count i : ℕ) → AreParted most ps qs count i → length qs ≤ i
+pub partitioned_high : (most : ℕ) (ps qs : List Piece) (count i : ℕ) → ArePartitioned most ps qs count i → length qs ≤ i
     → i ≤ length qs → All (λ p. most < p.0) (drop count qs)
-parted_high most ps qs count i parted past end k d h =
-    let within = parted.within in
+partitioned_high most ps qs count i partitioned past end k d h =
+    let within = partitioned.within in
     subst (λ (r : Piece). most < r.0) (sym (get_or-drop count qs k d))
-    (parted.high (count + k) d (omega arith) (omega (arith, length-drop count qs)))
+    (partitioned.high (count + k) d (omega arith) (omega (arith, length-drop count qs)))
 
 -- ---- both parts are sorted
 
