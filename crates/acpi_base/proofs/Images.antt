@@ -8,6 +8,8 @@ pub mod Holders
 pub mod Inserts
 pub mod Lent
 pub mod LentRuns
+pub mod Ordered
+pub mod Partitioned
 pub mod PresentBytes
 pub mod Rests
 pub mod RunBytes

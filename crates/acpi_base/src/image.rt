@@ -15,6 +15,7 @@ mod parts;
 mod prefix_sums;
 mod runs;
 mod segments;
+mod sorting;
 mod span;
 
 use parts::Parts;

@@ -3,9 +3,10 @@ use Rattle.std.proofs.Common.{◌≡◌, ℕ, ◌+◌, ◌*◌, ◌^◌, ◌<◌
 use Rattle.std.proofs.lemmas.List.{drop_more}
 use Rattle.std.proofs.lemmas.List.Edits.{between_more}
 use Rattle.std.proofs.Math.Nat.{pow-le-pow_right}
-use Rattle.std.specs.Prelude.{slice_range, None, Some, Option, Bool}
+use Rattle.std.specs.Prelude.{slice_range, None, Some, Option, Bool, take_while}
+use Rattle.std.specs.List.{prefix_len}
 use Rattle.std.specs.Option.{option_map_or}
-use Rattle.acpi_base.specs.Text.ImageText.{Data, Bad, digit_of, is_blank, skip_blanks, without_cr, without_comment, form_of, line_of, address_line_of, data_from}
+use Rattle.acpi_base.specs.Text.ImageText.{Data, Bad, digit_of, hex_number, is_blank, is_hex_digit, skip_blanks, without_cr, without_comment, form_of, line_of, address_line_of, data_from}
 
 pub slice_range_more : (xs : List ℕ) (a i : ℕ) → a ≤ i → i < length xs
     → slice_range xs a (i + 1) ≡ slice_range xs a i ++ get_or xs i 0 ∷ []
@@ -20,6 +21,20 @@ pub ruleset one_more = (slice_range_more, drop_here)
 pub power_fits : (i : ℕ) → i < 16 → 16 ^ i * 16 ≤ 2 ^ 64
 power_fits i few = let most : 16 ^ i ≤ 16 ^ 15 =
     pow-le-pow_right {n = 16} (omega arith) {i = i} {j = 15} (omega arith) in omega arith
+
+-- one more digit of a number
+pub next_digit : (text : List ℕ) (i value digit : ℕ) → i < length text → digit_of (get_or text i 0) ≡ Some digit
+    → (prefix_len is_hex_digit (drop i text) ≡ 1 + prefix_len is_hex_digit (drop (i + 1) text))
+    × (hex_number value (take_while is_hex_digit (drop i text))
+    ≡ hex_number (16 * value + digit) (take_while is_hex_digit (drop (i + 1) text)))
+unfolding hex_number
+next_digit text i value digit within is = rw (drop_here text i within) (first (get_or text i 0) (drop (i + 1) text) is)
+  where
+    first : (b : ℕ) (rest : List ℕ) → digit_of b ≡ Some digit
+        → (prefix_len is_hex_digit (b ∷ rest) ≡ 1 + prefix_len is_hex_digit rest)
+        × (hex_number value (take_while is_hex_digit (b ∷ rest))
+        ≡ hex_number (16 * value + digit) (take_while is_hex_digit rest))
+    first b rest e = (grind (arith, e), grind (arith, e))
 
 data_from_grows : (line bytes : List ℕ) (high : Option ℕ) (all : List ℕ) → data_from bytes high line ≡ Data all
     → length bytes + option_map_or (λ h. 1) high 0 ≤ length all

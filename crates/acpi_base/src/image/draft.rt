@@ -3,23 +3,38 @@
 //! The store has all bytes in the order in which they came. If an address occurs twice among its first `n` bytes, one
 //! occurs twice among more bytes too. So the first byte at fault is found by bisection.
 
-ghost use Rattle.std.specs.Prelude.{◌≡◌, ◌⊎◌, ℕ, ◌+◌, ◌-◌, ◌^◌, ◌<◌, ◌≤◌, min, true, length, Ok, Err, IfOk, IfErr, IsOk, OnOk, OnErr, MatchOption, MatchResult};
+ghost use Rattle.std.specs.Prelude.{◌≡◌, ◌⊎◌, ℕ, ◌+◌, ◌-◌, ◌^◌, ◌<◌, ◌≤◌, ◌++◌, min, true, length, Ok, Err, IfOk, IfErr, IsOk, OnOk, OnErr, MatchOption, MatchResult};
 ghost use Rattle.std.specs.FinMap.{empty};
 ghost use Rattle.std.specs.List.{AllByRecursion};
 ghost use Rattle.std.specs.List.Sorted.{IsNonDecreasingBy, IsPermutation};
 ghost use Rattle.acpi_base.specs.Memory.{Memory, IsImage};
 ghost use Rattle.acpi_base.specs.Image.Adding.{IsLayoutRefusal, added};
 ghost use Rattle.acpi_base.specs.Image.Draft.{AreDrafted, ComesTwice, EndsAt, IsFirstTwice, IsOnceBefore, all_added, holder_count};
-ghost use Rattle.acpi_base.specs.Image.Pieces.{runs_in};
+ghost use Rattle.acpi_base.specs.Image.Pieces.{AreSortedDisjoint, LiesBefore, runs_in};
+ghost use Rattle.acpi_base.specs.Image.Runs.{memory_of};
 ghost use Rattle.acpi_base.specs.Image.Segments.{AreSegmentsApart, IsValid, memory_in};
 ghost use Rattle.acpi_base.specs.Text.ImageText.{on_ok};
 
 use super::parts::Parts;
 use super::segments::Segments;
+use super::sorting::sort_by_address;
 use super::span::Span;
 use super::{Image, ImageFault, LentImage};
 use std::alloc::{AllocError, Global};
 use std::marker::Model;
+
+/// Appends the bytes of a piece.
+fn append(store: &mut Vec<u8>, bytes: &[u8]) -> Result<(), AllocError>
+    ensures ok { OnOk result (store.new.items ≡ store.old.items ++ bytes.now) }
+    ensures err { OnErr result (store.new.items ≡ store.old.items) }
+{
+    // A copy of one byte takes several times as long as a `push`.
+    if bytes.len() == 1 {
+        store.push(bytes[0])?;
+        return Ok(());
+    }
+    store.extend_from_slice(bytes)
+}
 
 /// How many of the piece's bytes are among the first `count` of the store.
 fn present_before(span: Span, count: usize) -> usize
@@ -90,17 +105,6 @@ fn are_apart(pieces: &[(u64, Span)]) -> bool
     true
 }
 
-/// Sorts the pieces by address. If there is no memory for a buffer, it takes longer.
-fn sort_by_address(pieces: &mut Vec<(u64, Span)>)
-    ensures permutation { IsPermutation pieces.old.items pieces.new.items }
-    ensures sorted { IsNonDecreasingBy (λ p. p.0) pieces.new.items }
-{
-    match pieces.sort_by_key(|piece| piece.0) {
-        Ok(()) => (),
-        Err(_) => pieces.sort_unstable_by_key(|piece| piece.0),
-    }
-}
-
 /// The first address that came twice. The pieces are passed in the order in which they came, and are sorted by address.
 fn judge(store: &[u8], pieces: &mut Vec<(u64, Span)>) -> Option<u64>
     requires { AreDrafted store.now pieces.old.items }
@@ -131,6 +135,50 @@ fn adopt(
     }
 }
 
+/// The bytes of pieces in the order of the pieces. These then say where their bytes are among them.
+fn put_in_order(
+    alloc: Global,
+    store: &[u8],
+    pieces: &mut Vec<(u64, Span)>,
+) -> Result<Vec<u8>, AllocError>
+    requires lies { AllByRecursion (LiesBefore (length store.now)) pieces.old.items }
+    requires apart { AreSegmentsApart pieces.old.items }
+    ensures draft { IfOk result (λ ordered. AreDrafted ordered.items pieces.new.items) }
+    ensures apart { OnOk result (AreSegmentsApart pieces.new.items) }
+    ensures same { IfOk result
+        (λ ordered. runs_in ordered.items pieces.new.items ≡ runs_in store.now pieces.old.items) }
+{
+    let mut ordered = Vec::with_capacity(alloc, store.len())?;
+    for i in 0..pieces.len() {
+        let piece = &mut pieces[i];
+        let span = piece.1;
+        piece.1.start = ordered.len();
+        append(&mut ordered, span.bytes(store))?;
+    }
+    Ok(ordered)
+}
+
+/// The segments of sorted pieces: if they are apart, the list of pieces becomes that of the segments.
+fn segments_of(
+    alloc: Global,
+    store: &[u8],
+    mut pieces: Vec<(u64, Span)>,
+) -> Result<Segments, AllocError>
+    requires rising { AreSortedDisjoint pieces.items }
+    requires lies { AllByRecursion (LiesBefore (length store.now)) pieces.items }
+    ensures valid { IfOk result IsValid }
+    ensures same { IfOk result
+        (λ segments. memory_in segments ≡ memory_of (runs_in store.now pieces.items)) }
+{
+    if are_apart(&pieces) {
+        let ordered = put_in_order(alloc, store, &mut pieces)?;
+        return adopt(alloc, ordered, pieces);
+    }
+    let mut segments = Segments::with_capacity(alloc, store.len())?;
+    segments.take_all(store, &pieces)?;
+    Ok(segments)
+}
+
 /// The segments of pieces that came in any order.
 fn lay_out(
     alloc: Global,
@@ -146,9 +194,7 @@ fn lay_out(
     if let Some(address) = judge(store, &mut pieces) {
         return Err(ImageFault::Twice { address });
     }
-    let mut segments = Segments::with_capacity(alloc, store.len())?;
-    segments.take_all(store, &pieces)?;
-    Ok(segments)
+    Ok(segments_of(alloc, store, pieces)?)
 }
 
 /// Whether bytes from `base` on follow the piece that came last.
@@ -177,7 +223,7 @@ fn extend(
     ensures err { OnErr result (all_added empty (runs_in store.new.items pieces.new.items)
         ≡ all_added empty (runs_in store.old.items pieces.old.items)) }
 {
-    store.extend_from_slice(bytes)?;
+    append(store, bytes)?;
     let last = pieces.len() - 1;
     pieces[last].1.len += bytes.len();
     Ok(())
@@ -205,7 +251,7 @@ fn open(
         len: bytes.len(),
     };
     pieces.push((base, span))?;
-    if let Err(error) = store.extend_from_slice(bytes) {
+    if let Err(error) = append(store, bytes) {
         pieces.pop();
         return Err(error);
     }
@@ -233,7 +279,8 @@ impl Model for DraftImage {
     ghost coded = { coded_result (code coded_ℕ coded_ℕ) coded_ℕ };
 
     ghost use Rattle.acpi_base.specs.Image.Draft.{AreDrafted, all_added};
-    ghost use Rattle.acpi_base.specs.Image.Pieces.{runs_in};
+    ghost use Rattle.acpi_base.specs.Image.Pieces.{AreSortedDisjoint, LiesBefore, runs_in};
+    ghost use Rattle.acpi_base.specs.Image.Runs.{memory_of};
 
     ghost view = { λ draft. all_added empty (runs_in draft.store.items draft.pieces.items) };
 

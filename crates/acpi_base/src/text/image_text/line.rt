@@ -1,6 +1,6 @@
 //! What one line of image text says.
 
-ghost use Rattle.std.specs.Prelude.{◌≡◌, ◌≤◌, ℕ, List, [], length, IfOk, IfErr, MatchOption, take_while};
+ghost use Rattle.std.specs.Prelude.{◌≡◌, ◌<◌, ◌≤◌, ℕ, List, [], length, IfOk, IfErr, MatchOption, take_while};
 ghost use Rattle.std.specs.List.{list_all};
 ghost use Rattle.acpi_base.specs.Text.ImageText.{Bad, is_blank, is_hex_digit, without_cr, without_comment, skip_blanks, hex_number, address_line_of, data_from, line_of};
 ghost use Rattle.acpi_base.specs.Text.Lines.{IsData, data_line, line_with};
@@ -66,16 +66,24 @@ fn cut_blanks(line: &[u8]) -> &[u8]
     &[]
 }
 
-/// How many hex digits the text begins with.
-fn digit_count(text: &[u8]) -> usize
-    ensures { result ≡ length (take_while is_hex_digit text.now) }
+/// How many hex digits the text begins with, and the number that they spell, the highest first; `None` for more than 16.
+#[tactic(auto, unfolding(crate::specs::Text::ImageText::hex_number), using(crate::proofs::Texts::LineParsing::power_fits, crate::proofs::Texts::LineParsing::one_more))]
+fn leading_number(text: &[u8]) -> Option<(usize, u64)>
+    ensures { MatchOption result (16 < length (take_while is_hex_digit text.now))
+        (λ found. (found.0 ≡ length (take_while is_hex_digit text.now)) × (found.0 ≤ 16)
+        × (found.1 ≡ hex_number 0 (take_while is_hex_digit text.now))) }
 {
+    let mut value = 0;
     for i in 0..text.len() {
-        if digit_value(text[i]).is_none() {
-            return i;
+        let Some(digit) = digit_value(text[i]) else {
+            return Some((i, value));
+        };
+        if i == 16 {
+            return None;
         }
+        value = 16 * value + digit as u64;
     }
-    text.len()
+    Some((text.len(), value))
 }
 
 fn is_all_blank(text: &[u8]) -> bool
@@ -102,11 +110,13 @@ pub fn number_value(digits: &[u8]) -> u64
 fn parse_address(rest: &[u8]) -> Form
     ensures { (bytes : List ℕ) → line_with result bytes ≡ address_line_of rest.now }
 {
-    let count = digit_count(rest);
-    if count < 1 || count > 16 || !is_all_blank(&rest[count..]) {
+    let Some((count, number)) = leading_number(rest) else {
+        return Form::Bad;
+    };
+    if count < 1 || !is_all_blank(&rest[count..]) {
         return Form::Bad;
     }
-    Form::Address(number_value(&rest[..count]))
+    Form::Address(number)
 }
 
 /// How many bytes the line has, which is pairs of hex digits, with any blanks between pairs and after the last; none

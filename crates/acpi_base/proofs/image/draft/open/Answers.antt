@@ -6,11 +6,11 @@ pub returns-clause-draft : goal.returns-clause-draft
 returns-clause-draft c =
     let long = c.len.ensures in
     drafted-push c.args.store.now.items _ c.args.bytes.now c.args.pieces.now.items _ c.args.base _
-    c.requires.draft c.in_default.ensures.items c.in_ok-push.ensures.items (omega arith) refl c.requires.some
+    c.requires.draft c.in_default.ensures.ok c.in_ok-push.ensures.items (omega arith) refl c.requires.some
     c.requires.fits
 
 pub returns-clause-ok : goal.returns-clause-ok
 returns-clause-ok c =
     let long = c.len.ensures in
     opened_draft c.args.store.now.items _ c.args.bytes.now c.args.pieces.now.items _ c.args.base _
-    c.requires.draft c.in_default.ensures.items c.in_ok-push.ensures.items (omega arith) refl
+    c.requires.draft c.in_default.ensures.ok c.in_ok-push.ensures.items (omega arith) refl

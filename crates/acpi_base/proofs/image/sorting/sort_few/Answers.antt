@@ -1,7 +1,7 @@
 use Rattle.std.proofs.Common.{rules}
 use Rattle.std.proofs.lemmas.List.Sorted.{IsNonDecreasingBy-from_sort_by_key}
 use Rattle.acpi_base.specs.Image.Pieces.{Piece}
-use Rattle.acpi_base.proofs.image.draft.sort_by_address.Goals as goal
+use Rattle.acpi_base.proofs.image.sorting.sort_few.Goals as goal
 
 pub returns-in-Ok-clause-sorted : goal.returns-in-Ok-clause-sorted
 returns-in-Ok-clause-sorted c =
