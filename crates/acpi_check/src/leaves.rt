@@ -31,6 +31,7 @@ fn has_known_type(entry: &MadtEntry<'_>) -> bool
 }
 
 /// Whether a MADT has its 44 bytes, entries fill it, and each is of such a type, so that all its processors are known.
+#[inline(never)]
 fn are_types_known(madt: &Table<'_>) -> bool
     ensures { MatchBool result (IsWhollyTyped (madt_contents madt.now))
         (¬ IsWhollyTyped (madt_contents madt.now)) }
@@ -80,6 +81,7 @@ fn own_fault(uids: &[u64], at: &EntryAt<PpttEntry<'_>>) -> Option<Witness>
 }
 
 /// The fault of the first leaf of a PPTT whose ID is not among the UIDs.
+#[inline(never)]
 fn first_unknown(uids: &[u64], pptt: &Table<'_>) -> Option<Witness>
     requires { AllPairs (λ i j. i < j) uids.now }
     ensures { FindsUnknown (Contains uids.now) leaf_id Code.LeafUnknown
