@@ -1,6 +1,6 @@
 //! Images that are passed as pieces.
 
-ghost use Rattle.std.specs.Prelude.{◌≡◌, ◌⊎◌, ◌<◌, IfErr, IfOk, IfSome, None, Ok, OnOk, drop, false, length};
+ghost use Rattle.std.specs.Prelude.{◌≡◌, ◌⊎◌, ◌<◌, Err, IfErr, IfOk, IfSome, IsOkUnless, MatchOption, None, Ok, OnOk, drop, false, length};
 ghost use Rattle.std.specs.FinMap.{empty};
 ghost use Rattle.std.specs.List.Sorted.{IsPermutation};
 ghost use Rattle.acpi_base.specs.Image.Adding.{add_refusal};
@@ -132,7 +132,9 @@ fn are_apart(pieces: &[Piece<'_>]) -> bool {
 
 /// Adds a piece, lent or copied.
 fn put<'a>(image: &mut LentImage<'a>, piece: &Piece<'a>, lent: bool) -> Result<(), ImageFault>
-    ensures { OnOk result ((add_refusal image.old piece.now.address piece.now.bytes.now ≡ None)
+    ensures refused { MatchOption (add_refusal image.old piece.now.address piece.now.bytes.now)
+        (IsOkUnless result ImageFault.Memory) (λ fault. result ≡ Err fault) }
+    ensures ok { OnOk result ((add_refusal image.old piece.now.address piece.now.bytes.now ≡ None)
         × (image.new ≡ with_bytes image.old piece.now.address piece.now.bytes.now)) }
 {
     if lent {
@@ -142,18 +144,18 @@ fn put<'a>(image: &mut LentImage<'a>, piece: &Piece<'a>, lent: bool) -> Result<(
     }
 }
 
-/// The image of pieces in the order of their addresses, of which those are lent that touch no later one. None if one
-/// cannot be added.
-fn image_in_order<'a>(alloc: Global, pieces: &[Piece<'a>]) -> Option<LentImage<'a>>
-    ensures { IfSome result (λ image. with_pieces 0 empty pieces.now ≡ Ok image) }
+/// The image of pieces in the order of their addresses, of which those are lent that touch no other one. Refuses as
+/// `image_of_pieces` does.
+fn image_in_order<'a>(alloc: Global, pieces: &[Piece<'a>]) -> Result<LentImage<'a>, Refusal>
+    ensures { Reads (pieces_source pieces.now) result }
 {
     let mut image = LentImage::new(alloc);
     for (index, piece) in pieces.iter().enumerate() {
-        if let Err(_) = put(&mut image, piece, ends_apart(pieces, index)) {
-            return None;
+        if let Err(fault) = put(&mut image, piece, ends_apart(pieces, index)) {
+            return Err(Refusal::of_piece(index as u64, fault));
         }
     }
-    Some(image)
+    Ok(image)
 }
 
 /// Whether each piece begins behind the one before it.
@@ -170,18 +172,18 @@ fn sorted<'a>(alloc: Global, pieces: &[Piece<'a>]) -> Result<Vec<Piece<'a>>, All
     Ok(sorted)
 }
 
-/// The image of pieces in any order, of which those are lent that touch no later one. None if one cannot be added, or
+/// The image of pieces in any order, of which those are lent that touch no other one. None if one cannot be added, or
 /// memory runs out.
 fn image_by_lending<'a>(alloc: Global, pieces: &[Piece<'a>]) -> Option<LentImage<'a>>
     ensures { IfSome result (λ image. with_pieces 0 empty pieces.now ≡ Ok image) }
 {
     if are_rising(pieces) {
-        return image_in_order(alloc, pieces);
+        return image_in_order(alloc, pieces).ok();
     }
     let Ok(sorted) = sorted(alloc, pieces) else {
         return None;
     };
-    image_in_order(alloc, &sorted)
+    image_in_order(alloc, &sorted).ok()
 }
 
 /// The image that the pieces give.
@@ -192,7 +194,10 @@ fn image_by_lending<'a>(alloc: Global, pieces: &[Piece<'a>]) -> Option<LentImage
 pub fn image_of_pieces<'a>(alloc: Global, pieces: &[Piece<'a>]) -> Result<LentImage<'a>, Refusal>
     ensures { Reads (pieces_source pieces.now) result }
 {
-    if (are_apart(pieces) || long_bytes(pieces) > 0)
+    if are_apart(pieces) {
+        return image_in_order(alloc, pieces);
+    }
+    if long_bytes(pieces) > 0
         && let Some(image) = image_by_lending(alloc, pieces)
     {
         return Ok(image);
