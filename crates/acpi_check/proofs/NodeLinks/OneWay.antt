@@ -33,5 +33,5 @@ round_again Names up each (suc steps) o some leads = back up o (far Names up eac
 pub no_cycle : (links : Chain) (up : Bool) (c : PpttContents) → HasPassed c.entries [] (IsOneWay links up)
     → (most o lead round : ℕ) → ¬ IsCycle (Names links c) most o lead round
 no_cycle links up c passed most o lead round cycle =
-    round_again (Names links c) up (λ a p (e, stands, is) some. all_passed passed a e stands p is some) round cycle.there
-    cycle.some cycle.back
+    round_again (Names links c) up (λ a p (e, stands, is) some. all_passed passed a e stands p is some) round
+    cycle.there cycle.some cycle.back

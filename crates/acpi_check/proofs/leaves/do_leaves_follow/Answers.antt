@@ -23,7 +23,8 @@ pub loop-at-preserved-else-not-pass_uid : goal.loop-at-preserved-else-not-pass_u
 loop-at-preserved-else-not-pass_uid c =
     let id = c.in-Some-leaf_id.id in
     let (o, (e, stands, has)) = c.pass_uid.ensures.found c.if-not-pass_uid.false in
-    let known : IsUid (madt_contents c.args.madt.now) id = (o, (e, c.loop-at.invariant.processors.listed o e stands, has)) in
+    let known : IsUid (madt_contents c.args.madt.now) id =
+    (o, (e, c.loop-at.invariant.processors.listed o e stands, has)) in
     record {
       leaves = past (rw c.in-Some.ensures.steps.0 at c.loop-at.invariant.leaves) (λ n is.
           subst (IsUid (madt_contents c.args.madt.now))

@@ -13,5 +13,6 @@ pub returns-then-self-address : goal.returns-then-self-address
 returns-then-self-address c = λ yes x from.
     let s = c.args.self.now in
     let low = c.if-self-address.true in
-    let ends : length s.store - s.start < c.args.address - s.base = grind (arith, nat_tests, c.len-count.ensures, yes) in
+    let ends : length s.store - s.start < c.args.address - s.base =
+    grind (arith, nat_tests, c.len-count.ensures, yes) in
     none_from_end s.store s.ended.items s.base s.start c.args.address x c.requires low ends from
