@@ -151,8 +151,8 @@ pub begun_added : (ps : List Piece) (index : ℕ) (d : Piece) (m : Memory) → i
 begun_added ps index d m below free begun = begun_next ps index d below (fits_free m (get_or ps index d) free) begun
 
 -- one is refused
-pub refused_in_order : (ps : List Piece) (index : ℕ) (d : Piece) (m : Memory) (r : Result ⊤ ImageFault) (fault : ImageFault)
-    → r ≡ Err fault → index < length ps
+pub refused_in_order : (ps : List Piece) (index : ℕ) (d : Piece) (m : Memory) (r : Result ⊤ ImageFault)
+    (fault : ImageFault) → r ≡ Err fault → index < length ps
     → MatchOption (add_refusal m (get_or ps index d).address (get_or ps index d).bytes.now) (IsOkUnless r image.Memory)
     (λ f. r ≡ Err f)
     → with_pieces index m (drop index ps) ≡ with_pieces 0 empty ps → (index ≡ 0) ⊎ FirstFits ps
