@@ -63,6 +63,10 @@ fn refusal(parts: &Parts<'_>, base: u64, count: u64) -> Option<ImageFault>
     if count - 1 > u64::MAX - base {
         return Some(ImageFault::PastEnd);
     }
+    // Bytes mostly come in the order of their addresses.
+    if parts.end_before(base) {
+        return None;
+    }
     parts
         .first_present(base, count)
         .map(|address| ImageFault::Twice { address })

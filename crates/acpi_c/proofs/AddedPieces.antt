@@ -1,12 +1,12 @@
 -- One more piece is added, or is refused.
 use Rattle.std.proofs.Common.{◌≡◌, ◌⊎◌, inl, inr, ℕ, zero, suc, ◌+◌, ◌^◌, ◌<◌, ◌≤◌, true, false, List, [], ◌∷◌, length, get_or, drop, Option, Some, None, is_some, refl, sym, subst, ap, ◌∙◌, arith, drop-cons}
-use Rattle.std.specs.Prelude.{nat_lt, Result, Ok, Err}
+use Rattle.std.specs.Prelude.{nat_lt, Result, Ok, Err, ⊤, IsOkUnless, MatchOption}
 use Rattle.std.specs.FinMap.{empty, get-empty}
 use Rattle.std.specs.Option.{option_map_or}
 use Rattle.std.specs.Ordering.{nat_cmp}
 use Rattle.std.proofs.lemmas.Bool.{cases_lt, le-ltb, lt-ltb}
 use Rattle.std.proofs.lemmas.Bool.Decides.{nat_tests}
-use Rattle.acpi_base.specs.Image.Adding.{added}
+use Rattle.acpi_base.specs.Image.Adding.{add_refusal, added}
 use Rattle.acpi_base.specs.Image.Runs.{byte_in, run_at}
 use Rattle.acpi_base.specs.Memory.{Memory, byte_of, first_present, with_bytes}
 use Rattle.acpi_base.specs.Text.ImageText.{on_ok}
@@ -14,6 +14,7 @@ use Rattle.acpi_base.specs.declared.image.ImageFault.{ImageFault}
 use Rattle.acpi_base.specs.declared.image.ImageFault.TheVariants as image
 use Rattle.acpi_base.proofs.Images.RunBytes.{byte_of-with_bytes, present_none, present_some}
 use Rattle.acpi_base.proofs.Images.ByteRuns.{first_of_from, first_of_here, first_of_none}
+use Rattle.acpi_base.proofs.Images.RunMemory.{fits_unless}
 use Rattle.acpi_base.proofs.Images.Searches.{nothing_present}
 use Rattle.acpi_c.specs.AddedPieces.{RefusesFirst, Stands, has_address, second_with}
 use Rattle.acpi_c.specs.Pieces.{FirstFits, piece_refusal, with_pieces}
@@ -137,3 +138,48 @@ stopped ps index m fault (so_far, seen) refuses begun = go (drop index ps) refl 
         | inr first ↦ first
       ],
     )
+
+-- ---- pieces that are added at once
+
+fits_free : (m : Memory) (p : Piece) → add_refusal m p.address p.bytes.now ≡ None
+    → p.address + length p.bytes.now ≤ 2 ^ 64
+fits_free m p free = (let low = (fits_unless _ _ free).0 in grind (arith, nat_tests, low))
+
+pub begun_added : (ps : List Piece) (index : ℕ) (d : Piece) (m : Memory) → index < length ps
+    → add_refusal m (get_or ps index d).address (get_or ps index d).bytes.now ≡ None → (index ≡ 0) ⊎ FirstFits ps
+    → (index + 1 ≡ 0) ⊎ FirstFits ps
+begun_added ps index d m below free begun = begun_next ps index d below (fits_free m (get_or ps index d) free) begun
+
+-- one is refused
+pub refused_in_order : (ps : List Piece) (index : ℕ) (d : Piece) (m : Memory) (r : Result ⊤ ImageFault)
+    (fault : ImageFault) → r ≡ Err fault → index < length ps
+    → MatchOption (add_refusal m (get_or ps index d).address (get_or ps index d).bytes.now) (IsOkUnless r image.Memory)
+    (λ f. r ≡ Err f)
+    → with_pieces index m (drop index ps) ≡ with_pieces 0 empty ps → (index ≡ 0) ⊎ FirstFits ps
+    → Fails (pieces_source ps) (piece_refusal index fault)
+refused_in_order ps index d m r fault is below why so_far begun =
+    go (add_refusal m p.address p.bytes.now) refl why
+  where
+    p : Piece
+    p = get_or ps index d
+
+    all : with_pieces index m (p ∷ drop (suc index) ps) ≡ with_pieces 0 empty ps
+    all = ap (with_pieces index m) (sym (drop-cons ps index d below)) ∙ so_far
+
+    go : (o : Option ImageFault) → add_refusal m p.address p.bytes.now ≡ o
+        → MatchOption o (IsOkUnless r image.Memory) (λ f. r ≡ Err f)
+        → Fails (pieces_source ps) (piece_refusal index fault)
+    go (Some f) refusal same =
+        let one : f ≡ fault = cc in
+        inr (subst (λ g. with_pieces 0 empty ps ≡ Err (piece_refusal index g)) one (sym (rw refusal at all)))
+    go None free memory =
+        let one : fault ≡ image.Memory = (rw is at memory) in
+        inl (
+          ap (piece_refusal index) one,
+          elim begun [
+            | inl start ↦
+                subst FirstFits (sym (ap (λ k. drop k ps) (sym start) ∙ drop-cons ps index d below))
+                (fits_first p (drop (suc index) ps) (fits_free m p free))
+            | inr first ↦ first
+          ],
+        )

@@ -5,6 +5,7 @@ use Rattle.std.specs.FinMap.{empty, get-empty}
 use Rattle.std.specs.List.{AllByRecursion, sum_by}
 use Rattle.std.specs.List.Sorted.{IsPermutation}
 use Rattle.std.specs.Option.{option_or}
+use Rattle.std.specs.Result.{result_ok}
 use Rattle.std.specs.Ordering.{nat_cmp}
 use Rattle.std.proofs.lemmas.Bool.{le-ltb}
 use Rattle.std.proofs.lemmas.Bool.Decides.{nat_tests}
@@ -20,6 +21,7 @@ use Rattle.acpi_base.proofs.Images.RunBytes.{byte_of-with_bytes, present_inside,
 use Rattle.acpi_base.proofs.Images.RunMemory.{fits_unless, same_memory}
 use Rattle.acpi_base.proofs.Images.Searches.{nothing_present}
 use Rattle.acpi_c.specs.Pieces.{unless_refused, with_pieces}
+use Rattle.acpi_c.specs.Sources.{Reads, pieces_source}
 use Rattle.acpi_c.specs.declared.pieces.Piece.{Piece}
 use Rattle.acpi_c.specs.declared.refusal.Refusal.{Refusal}
 use Rattle.acpi_c.proofs.PiecesMean.{byte_at}
@@ -188,7 +190,8 @@ more ps i d m n below free is so_far =
     subst (λ k. with_pieces k n (drop k ps) ≡ with_pieces 0 empty ps) next
     (ap (λ k. with_pieces (suc i) k rest) is ∙ sym here ∙ so_far)
 
-pub permuted_image : (ps qs : List Piece) (found : Option Memory) → IsPermutation ps qs
-    → IfSome found (λ m. with_pieces 0 empty qs ≡ Ok m) → IfSome found (λ m. with_pieces 0 empty ps ≡ Ok m)
-permuted_image ps qs None moved there = tt
-permuted_image ps qs (Some m) moved there = permuted ps qs m moved there
+pub permuted_image : (ps qs : List Piece) (found : Result Memory Refusal) (image : Option Memory)
+    → image ≡ result_ok found → IsPermutation ps qs → Reads (pieces_source qs) found
+    → IfSome image (λ m. with_pieces 0 empty ps ≡ Ok m)
+permuted_image ps qs (Ok m) image is moved there = rw is (permuted ps qs m moved there)
+permuted_image ps qs (Err refusal) image is moved there = rw is tt

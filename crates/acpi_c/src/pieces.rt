@@ -1,6 +1,6 @@
 //! Images that are passed as pieces.
 
-ghost use Rattle.std.specs.Prelude.{◌≡◌, ◌⊎◌, ◌<◌, IfErr, IfOk, IfSome, None, Ok, OnOk, drop, false, length};
+ghost use Rattle.std.specs.Prelude.{◌≡◌, ◌⊎◌, ◌<◌, Err, IfErr, IfOk, IfSome, IsOkUnless, MatchOption, None, Ok, OnOk, drop, false, length};
 ghost use Rattle.std.specs.FinMap.{empty};
 ghost use Rattle.std.specs.List.Sorted.{IsPermutation};
 ghost use Rattle.acpi_base.specs.Image.Adding.{add_refusal};
@@ -13,7 +13,7 @@ use crate::refusal::Refusal;
 use acpi_base::{DraftImage, Image, ImageFault, LentImage};
 use std::alloc::{AllocError, Global};
 
-/// Bytes of an image, and where they are. Long ones are not copied, so they must not change while they are read.
+/// Bytes of an image, and where they are. They are mostly not copied, so they must not change while they are read.
 #[repr(C)]
 #[derive(Clone, Copy)]
 pub struct Piece<'a> {
@@ -23,23 +23,18 @@ pub struct Piece<'a> {
     pub bytes: &'a [u8],
 }
 
-/// From how many bytes on a piece is lent. A shorter one is copied in less time than it takes to look at two lists.
+/// From how many bytes on a piece is long. Where one is, whoever lists it often has its bytes summed often.
 const LONG: usize = 4096;
 
-/// Whether the piece has so many bytes that it is lent.
-fn is_long(piece: &Piece<'_>) -> bool {
-    piece.bytes.len() >= LONG
-}
-
-/// How many bytes the long pieces have, or 2^64 - 1 if they have more.
+/// How many bytes the pieces have if one of them is long, or 2^64 - 1 if they have more; 0 if none is long.
 pub fn long_bytes(pieces: &[Piece<'_>]) -> u64 {
     let mut total: u64 = 0;
+    let mut longest = 0;
     for piece in pieces {
-        if is_long(piece) {
-            total = total.saturating_add(piece.bytes.len() as u64);
-        }
+        total = total.saturating_add(piece.bytes.len() as u64);
+        longest = longest.max(piece.bytes.len());
     }
-    total
+    if longest < LONG { 0 } else { total }
 }
 
 /// Whether the piece has a byte at the address.
@@ -111,15 +106,12 @@ fn image_by_copying(alloc: Global, pieces: &[Piece<'_>]) -> Result<Image, Refusa
     }
 }
 
-/// Whether the piece at the index is to be lent: it is long, and the next one does not touch it. The pieces are in the
-/// order of their addresses.
-fn is_lent(pieces: &[Piece<'_>], index: usize) -> bool
+/// Whether the piece at the index ends before an address that comes before the next piece. Pieces in the order of their
+/// addresses touch no other one if this holds for each of them.
+fn ends_apart(pieces: &[Piece<'_>], index: usize) -> bool
     requires { index < length pieces.now }
 {
     let piece = &pieces[index];
-    if !is_long(piece) {
-        return false;
-    }
     match pieces.get(index + 1) {
         Some(next) => {
             piece.address < next.address && next.address - piece.address > piece.bytes.len() as u64
@@ -128,9 +120,21 @@ fn is_lent(pieces: &[Piece<'_>], index: usize) -> bool
     }
 }
 
+/// Whether the pieces come in the order of their addresses and none touches another, as those of most callers do.
+fn are_apart(pieces: &[Piece<'_>]) -> bool {
+    for index in 0..pieces.len() {
+        if !ends_apart(pieces, index) {
+            return false;
+        }
+    }
+    true
+}
+
 /// Adds a piece, lent or copied.
 fn put<'a>(image: &mut LentImage<'a>, piece: &Piece<'a>, lent: bool) -> Result<(), ImageFault>
-    ensures { OnOk result ((add_refusal image.old piece.now.address piece.now.bytes.now ≡ None)
+    ensures refused { MatchOption (add_refusal image.old piece.now.address piece.now.bytes.now)
+        (IsOkUnless result ImageFault.Memory) (λ fault. result ≡ Err fault) }
+    ensures ok { OnOk result ((add_refusal image.old piece.now.address piece.now.bytes.now ≡ None)
         × (image.new ≡ with_bytes image.old piece.now.address piece.now.bytes.now)) }
 {
     if lent {
@@ -140,17 +144,18 @@ fn put<'a>(image: &mut LentImage<'a>, piece: &Piece<'a>, lent: bool) -> Result<(
     }
 }
 
-/// The image of pieces in the order of their addresses, of which long ones are lent. None if one cannot be added.
-fn image_in_order<'a>(alloc: Global, pieces: &[Piece<'a>]) -> Option<LentImage<'a>>
-    ensures { IfSome result (λ image. with_pieces 0 empty pieces.now ≡ Ok image) }
+/// The image of pieces in the order of their addresses, of which those are lent that touch no other one. Refuses as
+/// `image_of_pieces` does.
+fn image_in_order<'a>(alloc: Global, pieces: &[Piece<'a>]) -> Result<LentImage<'a>, Refusal>
+    ensures { Reads (pieces_source pieces.now) result }
 {
     let mut image = LentImage::new(alloc);
     for (index, piece) in pieces.iter().enumerate() {
-        if let Err(_) = put(&mut image, piece, is_lent(pieces, index)) {
-            return None;
+        if let Err(fault) = put(&mut image, piece, ends_apart(pieces, index)) {
+            return Err(Refusal::of_piece(index as u64, fault));
         }
     }
-    Some(image)
+    Ok(image)
 }
 
 /// Whether each piece begins behind the one before it.
@@ -167,17 +172,18 @@ fn sorted<'a>(alloc: Global, pieces: &[Piece<'a>]) -> Result<Vec<Piece<'a>>, All
     Ok(sorted)
 }
 
-/// The image of pieces in any order, of which long ones are lent. None if one cannot be added, or memory runs out.
+/// The image of pieces in any order, of which those are lent that touch no other one. None if one cannot be added, or
+/// memory runs out.
 fn image_by_lending<'a>(alloc: Global, pieces: &[Piece<'a>]) -> Option<LentImage<'a>>
     ensures { IfSome result (λ image. with_pieces 0 empty pieces.now ≡ Ok image) }
 {
     if are_rising(pieces) {
-        return image_in_order(alloc, pieces);
+        return image_in_order(alloc, pieces).ok();
     }
     let Ok(sorted) = sorted(alloc, pieces) else {
         return None;
     };
-    image_in_order(alloc, &sorted)
+    image_in_order(alloc, &sorted).ok()
 }
 
 /// The image that the pieces give.
@@ -188,6 +194,9 @@ fn image_by_lending<'a>(alloc: Global, pieces: &[Piece<'a>]) -> Option<LentImage
 pub fn image_of_pieces<'a>(alloc: Global, pieces: &[Piece<'a>]) -> Result<LentImage<'a>, Refusal>
     ensures { Reads (pieces_source pieces.now) result }
 {
+    if are_apart(pieces) {
+        return image_in_order(alloc, pieces);
+    }
     if long_bytes(pieces) > 0
         && let Some(image) = image_by_lending(alloc, pieces)
     {

@@ -7,4 +7,5 @@ pub mod LinkedNodes
 pub mod NamedPlaces
 pub mod OffsetBits
 pub mod OffsetsAdded
+pub mod OneWay
 pub mod ReferencePass

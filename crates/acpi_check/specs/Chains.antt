@@ -1,5 +1,5 @@
 -- Chains of nodes and of caches in a PPTT (ACPI 6.5, 5.2.30), and what is found of them: the first cycle.
-use Rattle.std.specs.Prelude.{◌≡◌, ℕ, Option, None, Some}
+use Rattle.std.specs.Prelude.{◌≡◌, ℕ, ◌<◌, Bool, true, false, Option, None, Some}
 use Rattle.acpi_base.specs.Pptt.{PpttContents, PpttEntry, parent_of, next_level_of, Says, most_nodes, most_caches}
 use Rattle.acpi_base.specs.Chains.{IsCycle}
 use Rattle.acpi_base.specs.declared.code.Code.{Code}
@@ -29,6 +29,11 @@ most_of chain.NextLevels c = most_caches c
 abbrev pub code_of : Chain → Code
 code_of chain.Parents = code.ParentCycle
 code_of chain.NextLevels = code.CacheCycle
+
+-- a reference from the offset o to p leads up, or else down
+abbrev pub Leads : Bool → ℕ → ℕ → Type 0
+Leads true o p = o < p
+Leads false o p = p < o
 
 -- ---- what is found
 

@@ -1,6 +1,6 @@
 -- Numbers that the entries of a table name, and the first of them that is not known.
 use Rattle.std.specs.Prelude.{◌≡◌, ℕ, List, Option, Some, None}
-use Rattle.acpi_base.specs.Entries.{PlacedEntry, StandsWith}
+use Rattle.acpi_base.specs.Entries.{PlacedEntry, Stands, StandsWith}
 use Rattle.acpi_base.specs.Faults.{NotAfter}
 use Rattle.acpi_base.specs.declared.code.Code.{Code}
 use Rattle.acpi_base.specs.declared.witness.Witness.{Witness}
@@ -20,6 +20,10 @@ pub record IsUnknown (Known : ℕ → Type 0) (fault : Code) (o : ℕ) (number :
   pub unknown : ¬ Known w.point
 
 -- ---- all entries
+
+-- these entries are among those
+pub record AreAmong {E : Type 0} (left all : List (PlacedEntry E)) : Type 0 where
+  pub listed : (o : ℕ) (e : E) → Stands left o e → Stands all o e
 
 -- an entry at o names the number n
 abbrev pub NamesAt : {E : Type 0} → (E → Option ℕ) → List (PlacedEntry E) → ℕ → ℕ → Type 0

@@ -1,10 +1,10 @@
 //! Stages 14 and 15: the chains of Parents and of Next Levels in the PPTT.
 
-ghost use Rattle.std.specs.Prelude.{◌≡◌, AllPairs, IfOk, ◌<◌};
+ghost use Rattle.std.specs.Prelude.{◌≡◌, ◌≢◌, AllPairs, IfOk, IsTrue, None, ◌<◌};
 ghost use Rattle.acpi_base.specs.Pptt.{pptt_contents, AreReferencesValid, DoParentsEnd, DoCachesEnd, ParentFault, CacheFault};
 ghost use Rattle.acpi_base.specs.declared.stage.Stage.{Stage};
 ghost use Rattle.acpi_read.specs.Pptts.{pptt_value};
-ghost use Rattle.acpi_check.specs.Chains.{named_offset, code_of, FindsCycle};
+ghost use Rattle.acpi_check.specs.Chains.{named_offset, code_of, FindsCycle, Leads};
 ghost use Rattle.acpi_check.specs.ChainIndices.{IsIndexOf, AreNodesOf, AreIndices};
 ghost use Rattle.acpi_check.specs.TableResults.{FindsFirst};
 
@@ -26,6 +26,30 @@ pub fn named_offset(chain: Chain, entry: &PpttEntry<'_>) -> Option<u32>
         (Chain::NextLevels, PpttEntry::Cache28(cache)) => Some(cache.fields.next_level),
         _ => None,
     }
+}
+
+/// Whether a reference from an offset leads up, or else down. 0 refers to nothing.
+fn does_lead(up: bool, offset: u64, named: u32) -> bool
+    ensures { IsTrue result → named ≢ 0 → Leads up offset named }
+{
+    let named = u64::from(named);
+    named == 0 || (if up { offset < named } else { named < offset })
+}
+
+/// Whether all references of a PPTT's chains lead up, or all lead down, as in most machines. Then no chain has a cycle.
+#[inline(never)]
+fn do_all_lead(chain: Chain, up: bool, pptt: &Table<'_>) -> bool
+    ensures { IsTrue result → FindsCycle chain (pptt_contents pptt.now) None }
+{
+    let mut entries = pptt.entries::<PpttEntry<'_>>();
+    while let Some(at) = entries.next() {
+        if let Some(named) = named_offset(chain, &at.entry) {
+            if !does_lead(up, at.offset, named) {
+                return false;
+            }
+        }
+    }
+    true
 }
 
 /// The nodes of a PPTT's chains.
@@ -83,7 +107,8 @@ fn code_of(chain: Chain) -> Code
 ///
 /// The fault has the code `ParentCycle`, or `CacheCycle` for caches: `at` is the node's offset, in bytes from the
 /// table's start; `other` is the lowest number of steps from it into its cycle, and `point` the lowest number of
-/// steps around it, at least 1. Refuses with `AllocError` if out of memory: it allocates for each node of the kind.
+/// steps around it, at least 1. Refuses with `AllocError` if out of memory: unless
+/// all references lead to lower offsets, or all to higher ones, it allocates for each node of the kind.
 pub fn first_cycle(
     alloc: Global,
     chain: Chain,
@@ -91,6 +116,9 @@ pub fn first_cycle(
 ) -> Result<Option<Witness>, AllocError>
     ensures { IfOk result (FindsCycle chain (pptt_contents pptt.now)) }
 {
+    if do_all_lead(chain, false, pptt) || do_all_lead(chain, true, pptt) {
+        return Ok(None);
+    }
     let nodes = nodes_of(alloc, chain, pptt)?;
     let parents = parents_of(alloc, &nodes)?;
     let (found, _) = first_stray(alloc, &parents)?;

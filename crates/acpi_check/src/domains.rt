@@ -46,6 +46,7 @@ fn placement_of(entry: &SratEntry<'_>) -> Option<Placement>
 
 /// Whether each processor that an entry of an SRAT puts into a domain has a greater number than those before it, as in
 /// most machines. Then none is put into two.
+#[inline(never)]
 fn do_processors_rise(srat: &Table<'_>) -> bool
     ensures { IsTrue result → FindsOther PutsIn (srat_contents srat.now).entries None }
 {

@@ -51,6 +51,7 @@ fn pass_entry<'a, E: TableEntry<'a> + Copy>(
 
 /// Whether the entries of a table are valid, each by itself. The first fault is at an entry's offset, at that of the
 /// bytes after the entries, or at 0 for a table that is too short.
+#[inline(never)]
 pub fn check_entries<'a, E: TableEntry<'a> + Copy>(
     policy: &Policy,
     table: Table<'a>,

@@ -1,6 +1,6 @@
 //! Stage 7: the interrupt numbers that I/O APICs serve.
 
-ghost use Rattle.std.specs.Prelude.{◌≡◌, ◌<◌, ◌^◌, IfOk, IfSome, option_map};
+ghost use Rattle.std.specs.Prelude.{◌≡◌, ◌<◌, ◌^◌, IfOk, IfSome, IsTrue, option_map};
 ghost use Rattle.acpi_base.specs.Madt.{madt_contents, Serves, AreInterruptsApart, IsFirstGsiClash};
 ghost use Rattle.acpi_base.specs.declared.code.Code.{Code};
 ghost use Rattle.acpi_base.specs.declared.stage.Stage.{Stage};
@@ -16,7 +16,7 @@ use acpi_read::{EntryAt, MadtEntry, Table};
 use std::alloc::{AllocError, Global};
 
 /// The interrupt numbers that an I/O APIC serves, as a span with the entry's offset as its id. None for another entry.
-fn served_span(policy: &Policy, at: &EntryAt<MadtEntry<'_>>) -> Option<Span>
+pub fn served_span(policy: &Policy, at: &EntryAt<MadtEntry<'_>>) -> Option<Span>
     requires { at.now.offset < 2 ^ 32 }
     ensures span { option_map span_value result ≡ served_span policy.now at.now.offset
         (madt_value at.now.entry) }
@@ -28,6 +28,25 @@ fn served_span(policy: &Policy, at: &EntryAt<MadtEntry<'_>>) -> Option<Span>
     let start = u128::from(io_apic.gsi_base);
     let end = start + u128::from(policy.inputs_of(io_apic.address));
     Span::new(start, end, at.offset as u32)
+}
+
+/// Whether each I/O APIC of a MADT serves numbers behind those of the I/O APICs before it, as in most machines. Then no
+/// two serve one number.
+#[inline(never)]
+fn do_numbers_rise(policy: &Policy, madt: &Table<'_>) -> bool
+    ensures { IsTrue result → AreInterruptsApart policy.now (madt_contents madt.now) }
+{
+    let mut entries = madt.entries::<MadtEntry<'_>>();
+    let mut least = 0;
+    while let Some(at) = entries.next() {
+        if let Some(span) = served_span(policy, &at) {
+            if span.start < least {
+                return false;
+            }
+            least = span.end;
+        }
+    }
+    true
 }
 
 /// The interrupt numbers that each I/O APIC of a MADT serves, in the entries' order.
@@ -64,11 +83,15 @@ fn first_gsi_clash(alloc: Global, policy: &Policy, madt: &Table<'_>) -> Result<C
 ///
 /// Refuses with `Fault` and the code `GsiClash` if two serve one number: `point` is the lowest such number, which is
 /// below 2^32; `at` and `other` are the offsets, in bytes from the table's start, of the first two that serve it, by
-/// their first number and then by offset. Refuses with `OutOfMemory`: it allocates a span for each I/O APIC.
+/// their first number and then by offset. Refuses with `OutOfMemory`: unless the numbers of each I/O APIC are behind those
+/// of the ones before it, it allocates a span for each.
 pub fn check_interrupts(alloc: Global, policy: &Policy, madt: &Table<'_>) -> Result<(), Refusal>
     ensures { Finds Stage.Interrupts (AreInterruptsApart policy.now (madt_contents madt.now))
         (IsOverlap Code.GsiClash (IsFirstGsiClash policy.now (madt_contents madt.now))) result }
 {
+    if do_numbers_rise(policy, madt) {
+        return Ok(());
+    }
     match first_gsi_clash(alloc, policy, madt)? {
         Clash::None => Ok(()),
         Clash::At {

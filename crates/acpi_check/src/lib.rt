@@ -6,6 +6,9 @@
 //! `read_set` and `check_set` return the set for which stages 1 to 3, or all eighteen, hold. Stages 7, 10 and 13 to 18
 //! allocate; the others do not.
 //!
+//! A loop over the entries of a table is mostly a function that is not inlined: as a part of `check_to`, which has all of
+//! them, it would keep its counters in memory, and a check of 64 processors would take an eighth more instructions.
+//!
 //! The finders of stages that have one code are public: `check_interrupts`, `check_overrides`, `check_ranges`,
 //! `first_cycle`, `check_domains`, `check_served` and `check_leaves` require nothing of earlier stages, and may be
 //! called on any table. Public too are the functions that read an entry of a PPTT (`named_offset`, `first_dangling`),

@@ -1,6 +1,6 @@
 //! Sets of offsets of a table, as bits.
 
-ghost use Rattle.std.specs.Prelude.{◌≡◌, ◌<◌, ◌↔◌, ℕ, Contains, IfOk, OnOk, MatchBool, vec_len, slice_index, true};
+ghost use Rattle.std.specs.Prelude.{◌≡◌, ◌/◌, ◌<◌, ◌↔◌, ℕ, Contains, IfOk, OnOk, MatchBool, vec_len, slice_index, true};
 ghost use Rattle.acpi_check.specs.OffsetSets.{IsIn, Adds};
 
 use std::alloc::{AllocError, Global};
@@ -8,23 +8,23 @@ use std::alloc::{AllocError, Global};
 /// How many offsets a word represents.
 const WORD: u64 = 64;
 
-/// Offsets of a table, as a bit for each byte of the table up to the last of them. Looking one up takes constant
-/// time.
+/// Offsets of a table, as a bit for each byte of the table up to the last of them, or to twice its offset. Looking one
+/// up takes constant time.
 #[derive(Drop)]
 pub struct OffsetSet {
     /// The offset `o` is the bit `o % 64` of the word `o / 64`.
     words: Vec<u64>,
 }
 
-/// Extends the words up to an index, if they end before it.
+/// Extends the words past an index, if they end before it: to twice as many as are needed, since more mostly follow.
 fn make_room(words: &mut Vec<u64>, place: usize) -> Result<(), AllocError>
-    requires { place < usize.MAX }
+    requires { place < usize.MAX / 2 }
     ensures room { OnOk result (place < vec_len words.new) }
     ensures same { OnOk result
         ((i : ℕ) → slice_index words.new.items i ≡ slice_index words.old.items i) }
 {
     if words.len() <= place {
-        words.resize(place + 1, 0)?;
+        words.resize(2 * place + 1, 0)?;
     }
     Ok(())
 }

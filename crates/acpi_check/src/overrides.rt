@@ -31,6 +31,7 @@ fn number_given(entry: &MadtEntry<'_>) -> Option<Given>
 }
 
 /// Whether no two overrides of a MADT are of one Source, as in most machines. Then none is given two numbers.
+#[inline(never)]
 fn do_sources_differ(madt: &Table<'_>) -> bool
     ensures { IsTrue result → DoOverridesAgree (madt_contents madt.now) }
 {

@@ -35,7 +35,7 @@ fn counts_as_enabled(processors: Processors, flags: u32) -> bool
 }
 
 /// The number of the processor that an entry describes. None for another entry.
-fn number_of(key: Key, entry: &MadtEntry<'_>) -> Option<u32>
+pub fn number_of(key: Key, entry: &MadtEntry<'_>) -> Option<u32>
     ensures { result ≡ number_of key (madt_value entry.now) }
 {
     match (key, entry) {

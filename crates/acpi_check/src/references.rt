@@ -47,6 +47,7 @@ fn add_place(places: &mut Places, kind: PlaceKind, offset: u64) -> Result<(), Al
 }
 
 /// The offsets of the entries of a PPTT, by what they are.
+#[inline(never)]
 fn places_of(alloc: Global, pptt: &Table<'_>) -> Result<Places, AllocError>
     requires { IsCutPptt (pptt_contents pptt.now) }
     ensures { IfOk result (ArePlaces (pptt_contents pptt.now)) }
@@ -136,6 +137,7 @@ fn own_fault(places: &Places, at: &EntryAt<PpttEntry<'_>>) -> Option<Witness>
 }
 
 /// The first fault of the entries' references, in the entries' order.
+#[inline(never)]
 fn first_fault(places: &Places, pptt: &Table<'_>) -> Result<(), Refusal>
     requires { ArePlaces (pptt_contents pptt.now) places.now }
     ensures { FindsFirst Stage.References (AreReferencesValid (pptt_contents pptt.now))

@@ -12,7 +12,12 @@ fn interpolated_place(offsets: &[u64], offset: u64) -> usize {
     };
     let steps = offsets.len() as u64 - 1;
     let span = last.saturating_sub(*first).max(1);
-    (offset.saturating_sub(*first).saturating_mul(steps) / span) as usize
+    let behind = offset.saturating_sub(*first);
+    if span == steps {
+        // Numbers without gaps: a division takes as long as all the rest.
+        return behind as usize;
+    }
+    (behind.saturating_mul(steps) / span) as usize
 }
 
 /// The index of an offset among offsets that rise, or none if it is not among them. The numbers may be any of 64

@@ -1,7 +1,7 @@
 //! Stage 17: the interrupt numbers that overrides and NMI sources of the MADT name, among those that its I/O APICs
 //! serve.
 
-ghost use Rattle.std.specs.Prelude.{◌≡◌, ℕ, ◌↔◌, IfOk, MatchBool, MatchOption};
+ghost use Rattle.std.specs.Prelude.{◌≡◌, ℕ, ◌↔◌, IfOk, IsTrue, MatchBool, MatchOption};
 ghost use Rattle.acpi_base.specs.Across.{AreNamedServed, ServedFault};
 ghost use Rattle.acpi_base.specs.Madt.{madt_contents};
 ghost use Rattle.acpi_base.specs.declared.code.Code.{Code};
@@ -11,7 +11,7 @@ ghost use Rattle.acpi_check.specs.NamedNumbers.{IsKnown, IsUnknown, FindsUnknown
 ghost use Rattle.acpi_check.specs.TableResults.{FindsFirst};
 ghost use Rattle.acpi_check.specs.ServedGsis.{named_gsi, IsInSpans, DoStartsRise, DoRise, IsPlaceOf};
 
-use crate::interrupts::served_spans;
+use crate::interrupts::{served_span, served_spans};
 use crate::refusal::{Refusal, refuse};
 use acpi_base::{Code, Policy, Witness};
 use acpi_graph::{Span, sort_unless_sorted};
@@ -27,6 +27,30 @@ fn named_gsi(entry: &MadtEntry<'_>) -> Option<u32>
         MadtEntry::NmiSource(nmi) => Some(nmi.gsi),
         _ => None,
     }
+}
+
+/// Whether the first I/O APIC of a MADT serves each interrupt number that entries name, and comes before them, as in most
+/// machines.
+#[inline(never)]
+fn does_first_serve(policy: &Policy, madt: &Table<'_>) -> bool
+    ensures { IsTrue result → AreNamedServed policy.now (madt_contents madt.now) }
+{
+    let mut entries = madt.entries::<MadtEntry<'_>>();
+    let mut start = 0;
+    let mut end = 0;
+    while let Some(at) = entries.next() {
+        if let Some(gsi) = named_gsi(&at.entry) {
+            if u128::from(gsi) < start || u128::from(gsi) >= end {
+                return false;
+            }
+        } else if end == 0
+            && let Some(span) = served_span(policy, &at)
+        {
+            start = span.start;
+            end = span.end;
+        }
+    }
+    true
 }
 
 /// Spans that contain the same numbers, but end in rising order too: each ends at the greatest end of those up to it.
@@ -87,6 +111,7 @@ fn own_fault(spans: &[Span], at: &EntryAt<MadtEntry<'_>>) -> Option<Witness>
 }
 
 /// The fault of the first entry of a MADT that names a number which is in none of the spans.
+#[inline(never)]
 fn first_unserved(spans: &[Span], madt: &Table<'_>) -> Option<Witness>
     requires { DoRise spans.now }
     ensures { FindsUnknown (IsInSpans spans.now) named_gsi Code.GsiNowhere
@@ -108,8 +133,8 @@ fn first_unserved(spans: &[Span], madt: &Table<'_>) -> Option<Witness>
 /// Refuses with `Fault` and the code `GsiNowhere`: `at` is the offset, in bytes from the table's start, of the first
 /// entry that names a number that is not served; `other` is 0, and `point` is the number, of 32 bits.
 ///
-/// Refuses with `OutOfMemory`: it allocates two spans for each I/O APIC. These are sorted, and each number is looked
-/// up among them.
+/// Refuses with `OutOfMemory`: unless the first I/O APIC serves all of them and comes before these entries, it allocates
+/// two spans for each I/O APIC. These are sorted, and each number is looked up among them.
 pub fn check_served(alloc: Global, policy: &Policy, madt: &Table<'_>) -> Result<(), Refusal>
     ensures { FindsFirst Stage.Served (AreNamedServed policy.now (madt_contents madt.now))
         (ServedFault policy.now (madt_contents madt.now)) result }
@@ -117,6 +142,9 @@ pub fn check_served(alloc: Global, policy: &Policy, madt: &Table<'_>) -> Result<
     // Makes the invariant of `Policy` available to the proof, and does nothing at run time: a policy gives each I/O
     // APIC at least one input, so each has a span.
     let _ = policy.rsdp();
+    if does_first_serve(policy, madt) {
+        return Ok(());
+    }
     let mut spans = served_spans(alloc, policy, madt)?;
     if spans.is_empty() {
         return Ok(());

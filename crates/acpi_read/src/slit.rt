@@ -54,6 +54,8 @@ fn cell_fault(bytes: &[u8], count: usize, i: usize, j: usize) -> Option<Witness>
 
 /// The first fault of the cells.
 #[tactic(auto, using(crate::proofs::SlitCells::rows))]
+// As a part of a larger function the loops would keep their counters in memory.
+#[inline(never)]
 fn cells_fault(bytes: &[u8], count: usize) -> Option<Witness>
     requires { HasRows bytes.now count }
     ensures { MatchOption result (IsValidSlit (slit_contents bytes.now))

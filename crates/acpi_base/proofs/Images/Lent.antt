@@ -126,6 +126,14 @@ lent_rest p a bytes parts none rest = record {
         ap (lookup (runs_of p.own)) (sym last)
         ∙ parts.apart.after (a + n) (each_some p.lent.items a bytes rest n (omega arith))
 
+-- ---- all bytes come before an address
+
+pub none_behind : (p : Parts) (a x : ℕ) → AllByRecursion (λ r. end_of r < a) p.lent.items
+    → (a ≤ x + 1 → lookup (runs_of p.own) x ≡ None) → a ≤ x → lookup (runs_of_parts p) x ≡ None
+none_behind p a x lent own from =
+    lookup-append p.lent.items (runs_of p.own) x
+    ∙ rw (none_from p.lent.items a x lent (omega arith)) (own (omega arith))
+
 -- ---- the first address with a byte
 
 abbrev pub IsFirstOrNone : (ℕ → Option ℕ) → ℕ → Option ℕ → Type 0

@@ -201,3 +201,23 @@ no_next store ps base begin a laid none place past x from =
     ) in
     rw past_end (gap_ended store begin ps a (x + 1) (length ps) x laid.within laid.lies rest place
     (λ k e m o. absurd (omega arith)) from (omega arith))
+
+-- ---- all segments end before the address before this one
+
+pub no_bytes_from : (store : List ℕ) (ps : List Piece) (base begin a x : ℕ) → AreSegments store ps base begin
+    → length store ≡ 0 → a ≤ x + 1 → lookup (all_runs store ps base begin) x ≡ None
+no_bytes_from store ps base begin a x laid empty from =
+    rw (behind_none store base begin x (inl (omega arith)))
+    (none_present store begin ps x laid.within laid.lies (all_from _ ps (λ k d h. absurd (
+    let some = filled ps k d laid.apart h in
+    let lies = (of_all _ ps k d laid.lies h).0 in
+    let within = laid.within in
+    omega arith))))
+
+pub none_from_end : (store : List ℕ) (ps : List Piece) (base begin a x : ℕ) → AreSegments store ps base begin
+    → base < a → length store - begin < a - base → a ≤ x + 1 → lookup (all_runs store ps base begin) x ≡ None
+none_from_end store ps base begin a x laid low ends from =
+    let long = length-drop begin store in
+    rw (present_none (run_at base (drop begin store)) x (inr (omega arith)))
+    (none_present store begin ps x laid.within laid.lies
+    (all_weaker _ _ ps (λ p below. inl (omega arith)) laid.below))

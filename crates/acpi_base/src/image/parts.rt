@@ -1,14 +1,14 @@
 //! The parts of an image: the segments, whose bytes it has itself, and the runs that it borrows. A run of bytes is all in
 //! one of them, since no two parts touch.
 
-ghost use Rattle.std.specs.Prelude.{◌≡◌, ◌+◌, ◌^◌, ◌<◌, ◌≤◌, ℕ, None, IfOk, IfSome, IsSome, OnErr, OnOk, length};
+ghost use Rattle.std.specs.Prelude.{◌≡◌, ◌+◌, ◌^◌, ◌<◌, ◌≤◌, ℕ, None, IfOk, IfSome, IsSome, OnErr, OnOk, length, true};
 ghost use Rattle.std.specs.Option.{option_map};
 ghost use Rattle.std.specs.List.{AllByRecursion};
 ghost use Rattle.acpi_base.specs.Memory.{least_defined, run_of, with_bytes};
 ghost use Rattle.acpi_base.specs.Number.{byte_sum};
 ghost use Rattle.acpi_base.specs.Image.Lent.{AreParts, memory_of_parts, runs_of_parts, lower};
 ghost use Rattle.acpi_base.specs.Image.Runs.{end_of, lookup};
-ghost use Rattle.acpi_base.specs.Image.Segments.{IsGap, IsRest, IsValid, memory_in};
+ghost use Rattle.acpi_base.specs.Image.Segments.{IsGap, IsRest, IsValid, memory_in, runs_of};
 
 use super::lent::{self, LentRun};
 use super::segments::Segments;
@@ -106,6 +106,17 @@ impl<'a> Parts<'a> {
         )
     }
 
+    /// Whether all bytes come before an address that comes before this one. Unlike a search this takes constant time.
+    pub fn end_before(&self, address: u64) -> bool
+        requires { AreParts self.now }
+        ensures lent { result ≡ true
+            → AllByRecursion (λ run. end_of run < address) self.now.lent.items }
+        ensures own { result ≡ true
+            → (x : ℕ) → address ≤ x + 1 → lookup (runs_of self.now.own) x ≡ None }
+    {
+        lent::end_before(&self.lent, address) && self.own.end_before(address)
+    }
+
     /// The lowest of this many addresses that has a byte.
     #[tactic(auto, using(crate::proofs::Images::Searches::first_in_gap))]
     pub fn first_present(&self, base: u64, count: u64) -> Option<u64>
@@ -187,8 +198,7 @@ impl<'a> Parts<'a> {
             (memory_of_parts self.new ≡ with_bytes (memory_of_parts self.old) base bytes.now) }
         ensures err { OnErr result (memory_of_parts self.new ≡ memory_of_parts self.old) }
     {
-        let before = base.saturating_sub(1);
-        if self.own.first_from(before).is_some() || !lent::end_before(&self.lent, base) {
+        if !self.end_before(base) {
             return self.put(alloc, base, bytes);
         }
         self.lent.push(LentRun::new(alloc, base, bytes))?;

@@ -3,7 +3,7 @@
 //! There is an address without a byte between two segments. All bytes are in one store. The last segment is open: it
 //! has the store's bytes from `start` on, so bytes that follow it are appended. If it is empty, none is open.
 
-ghost use Rattle.std.specs.Prelude.{◌≡◌, ◌+◌, ◌-◌, ◌^◌, ◌<◌, ◌≤◌, ℕ, None, IfSome, IsSome, OnOk, OnErr, IfOk, MatchOption, length, take, drop};
+ghost use Rattle.std.specs.Prelude.{◌≡◌, ◌+◌, ◌-◌, ◌^◌, ◌<◌, ◌≤◌, ℕ, None, IfSome, IsSome, OnOk, OnErr, IfOk, MatchOption, length, take, drop, true};
 ghost use Rattle.std.specs.Option.{option_map, option_or};
 ghost use Rattle.std.specs.List.{AllByRecursion};
 ghost use Rattle.std.specs.FinMap.{empty};
@@ -167,6 +167,15 @@ impl Segments {
     {
         let span = self.window_span(address, count)?;
         Some(self.store.sum(span))
+    }
+
+    /// Whether all bytes come before an address that comes before this one. Unlike a search this takes constant time.
+    pub fn end_before(&self, address: u64) -> bool
+        requires { IsValid self.now }
+        ensures { result ≡ true → (x : ℕ) → address ≤ x + 1 → lookup (runs_of self.now) x ≡ None }
+    {
+        let count = self.store.len();
+        count == 0 || self.base < address && address - self.base > (count - self.start) as u64
     }
 
     /// The lowest base of a segment after an address without a byte.

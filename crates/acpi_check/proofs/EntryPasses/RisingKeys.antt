@@ -1,7 +1,7 @@
 -- Entries that give keys values: if the keys rise, no key is given two values.
-use Rattle.std.proofs.Common.{◌≡◌, ℕ, ◌+◌, ◌<◌, ◌≤◌, List, [], ◌∷◌, sym, subst, inl, inr, arith}
+use Rattle.std.proofs.Common.{◌≡◌, ℕ, ◌+◌, ◌<◌, ◌≤◌, List, [], ◌∷◌, ◌∙◌, ap, sym, subst, inl, inr, arith}
 use Rattle.std.specs.Prelude.{⊤, None}
-use Rattle.acpi_base.specs.Entries.{PlacedEntry, StandsWith}
+use Rattle.acpi_base.specs.Entries.{PlacedEntry, Stands, StandsWith}
 use Rattle.acpi_base.proofs.Elements.{first_or_later, no_element}
 use Rattle.acpi_check.specs.FirstSeen.{FindsOther}
 
@@ -28,20 +28,20 @@ unfolding RiseFrom
 without {least = least} before none =
     record { all_rise = λ rise. before.all_rise (least, omega arith, (λ k d gives. absurd (none k d gives)), rise) }
 
+-- the next entry gives values to keys below this number alone
+pub with_some : {E : Type 0} {Gives : ℕ → ℕ → E → Type 0} {all left : List (PlacedEntry E)} {s : PlacedEntry E}
+    {least : ℕ} (next : ℕ) → DoRiseTo Gives all (s ∷ left) least → least ≤ next
+    → ((k d : ℕ) → Gives k d s.entry → (least ≤ k) × (k < next)) → DoRiseTo Gives all left next
+unfolding RiseFrom
+with_some next before up own = record { all_rise = λ rise. before.all_rise (next, up, own, rise) }
+
 -- the next entry gives a value to this key alone
 pub with_one : {E : Type 0} {Gives : ℕ → ℕ → E → Type 0} {all left : List (PlacedEntry E)} {s : PlacedEntry E}
     {least : ℕ} (key : ℕ) → DoRiseTo Gives all (s ∷ left) least → least ≤ key
     → ((k d : ℕ) → Gives k d s.entry → k ≡ key) → DoRiseTo Gives all left (key + 1)
-unfolding RiseFrom
 with_one key before from is =
-    record {
-      all_rise = λ rise. before.all_rise (
-        key + 1,
-        omega (arith, from),
-        (λ k d gives. (omega (arith, from, is k d gives), omega (arith, is k d gives))),
-        rise,
-      );
-    }
+    with_some (key + 1) before (omega (arith, from))
+    (λ k d gives. (omega (arith, from, is k d gives), omega (arith, is k d gives)))
 
 -- ---- all entries
 
@@ -60,18 +60,20 @@ not_below Gives (s ∷ left) least o k d (next, up, own, rest) (e, stands, gives
       | inr later ↦ omega (arith, up, not_below Gives left next o k d rest (e, later, gives))
     ]
 
-one_value : {E : Type 0} (Gives : ℕ → ℕ → E → Type 0)
-    → ((e : E) (k l d h : ℕ) → Gives k d e → Gives l h e → (k ≡ l) × (d ≡ h)) → (entries : List (PlacedEntry E))
-    (least : ℕ) → RiseFrom Gives least entries → FindsOther Gives entries None
+-- entries that give one key values are one entry
+same_entry : {E : Type 0} (Gives : ℕ → ℕ → E → Type 0) (entries : List (PlacedEntry E)) (least : ℕ)
+    → RiseFrom Gives least entries → (o p k d h : ℕ) (e b : E) → Stands entries o e → Gives k d e → Stands entries p b
+    → Gives k h b → (o ≡ p) × (e ≡ b)
 unfolding RiseFrom
-one_value Gives one [] least rise o p k d h (e, stands, gives) other =
+same_entry Gives [] least rise o p k d h e b stands gives also gives_too =
     absurd (no_element (record { offset = o; entry = e }) stands)
-one_value Gives one (s ∷ left) least (next, up, own, rest) o p k d h (e, stands, gives) (b, also, gives_too) =
+same_entry Gives (s ∷ left) least (next, up, own, rest) o p k d h e b stands gives also gives_too =
     elim (first_or_later s (record { offset = o; entry = e }) left stands) [
       | inl is ↦
           elim (first_or_later s (record { offset = p; entry = b }) left also) [
             | inl is_too ↦
-                (one s.entry k k d h (gives_of Gives s o e k d is gives) (gives_of Gives s p b k h is_too gives_too)).1
+                let same = sym is ∙ is_too in
+                (ap (λ t. t.offset) same, ap (λ t. t.entry) same)
             | inr later ↦
                 absurd (omega (
                   arith,
@@ -87,13 +89,21 @@ one_value Gives one (s ∷ left) least (next, up, own, rest) o p k d h (e, stand
                   not_below Gives left next o k d rest (e, later, gives),
                   (own k h (gives_of Gives s p b k h is_too gives_too)).1,
                 ))
-            | inr later_too ↦
-                one_value Gives one left next rest o p k d h (e, later, gives) (b, later_too, gives_too)
+            | inr later_too ↦ same_entry Gives left next rest o p k d h e b later gives later_too gives_too
           ]
     ]
+
+pub ends_apart : {E : Type 0} {Gives : ℕ → ℕ → E → Type 0} {entries : List (PlacedEntry E)} {least : ℕ}
+    → DoRiseTo Gives entries [] least → (o p k d h : ℕ) → StandsWith entries o (Gives k d)
+    → StandsWith entries p (Gives k h) → o ≡ p
+unfolding RiseFrom
+ends_apart {Gives = Gives} {entries = entries} before o p k d h (e, stands, gives) (b, also, gives_too) =
+    (same_entry Gives entries 0 (before.all_rise tt) o p k d h e b stands gives also gives_too).0
 
 pub ends : {E : Type 0} {Gives : ℕ → ℕ → E → Type 0} {entries : List (PlacedEntry E)} {least : ℕ}
     → ((e : E) (k l d h : ℕ) → Gives k d e → Gives l h e → (k ≡ l) × (d ≡ h)) → DoRiseTo Gives entries [] least
     → FindsOther Gives entries None
 unfolding RiseFrom
-ends {Gives = Gives} {entries = entries} one before = one_value Gives one entries 0 (before.all_rise tt)
+ends {Gives = Gives} {entries = entries} one before o p k d h (e, stands, gives) (b, also, gives_too) =
+    let same = (same_entry Gives entries 0 (before.all_rise tt) o p k d h e b stands gives also gives_too).1 in
+    (one b k k d h (subst (Gives k d) same gives) gives_too).1

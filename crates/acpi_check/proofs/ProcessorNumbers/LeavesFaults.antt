@@ -21,7 +21,7 @@ use Rattle.acpi_check.specs.declared.processors.Key.TheVariants as key
 
 -- ---- entries
 
-is_leaf : (id : ℕ) (e : PpttEntry) → IsLeaf id e ↔ (leaf_id e ≡ Some id)
+pub is_leaf : (id : ℕ) (e : PpttEntry) → IsLeaf id e ↔ (leaf_id e ≡ Some id)
 is_leaf id (Node v) = (
   λ (valid, leaf, is). rw (and_from (has_bit v.flags 1) (has_bit v.flags 3) valid leaf, is) refl,
   λ is.
@@ -31,7 +31,7 @@ is_leaf id (Node v) = (
 )
 is_leaf id _ = (λ h. absurd h, λ is. none-some id is)
 
-has_uid : (uid : ℕ) (e : MadtEntry) → HasUid uid e ↔ (number_of key.Uid e ≡ Some uid)
+pub has_uid : (uid : ℕ) (e : MadtEntry) → HasUid uid e ↔ (number_of key.Uid e ≡ Some uid)
 has_uid uid (LocalApic v) = (λ is. ap Some is, λ is. same_Some v.uid uid is)
 has_uid uid (X2apic v) = (λ is. ap Some is, λ is. same_Some v.uid uid is)
 has_uid uid _ = (λ h. absurd h, λ is. none-some uid is)

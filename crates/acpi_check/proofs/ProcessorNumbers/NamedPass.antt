@@ -2,12 +2,13 @@
 use Rattle.std.proofs.Common.{ℕ, List, [], ◌∷◌, Option, sym, ◌∙◌, ap, inl, inr, arith}
 use Rattle.std.proofs.lemmas.Option.{same_Some}
 use Rattle.acpi_base.specs.Codes.{code_number}
-use Rattle.acpi_base.specs.Entries.{PlacedEntry}
+use Rattle.acpi_base.specs.Entries.{PlacedEntry, Stands}
 use Rattle.acpi_base.specs.Faults.{NotAfter}
 use Rattle.acpi_base.specs.declared.code.Code.{Code}
 use Rattle.acpi_base.specs.declared.witness.Witness.{Witness}
+use Rattle.acpi_base.proofs.Elements.{first_element, later_element}
 use Rattle.acpi_base.proofs.Faults.Order.{not_after}
-use Rattle.acpi_check.specs.NamedNumbers.{IsKnown, IsUnknown, NamesAt, IsFirstUnknown}
+use Rattle.acpi_check.specs.NamedNumbers.{AreAmong, IsKnown, IsUnknown, NamesAt, IsFirstUnknown}
 use Rattle.acpi_check.proofs.EntryPasses.Passes.{HasPassed, before_or_behind, next_stands, all_passed}
 
 -- the pass has these entries left, and the numbers that those before them name are known
@@ -43,3 +44,14 @@ stops {E} Known read {entries} {s} {left} here fault w own =
 pub ends : {E : Type 0} (Known : ℕ → Type 0) (read : E → Option ℕ) {entries : List (PlacedEntry E)}
     → IsAt Known read entries [] → (o n : ℕ) → NamesAt read entries o n → Known n
 ends Known read here o n (e, stands, is) = all_passed here o e stands n is
+
+-- ---- entries among others
+
+pub next_among : {E : Type 0} {s : PlacedEntry E} {left all : List (PlacedEntry E)} → AreAmong (s ∷ left) all
+    → Stands all s.offset s.entry
+next_among {s = s} {left = left} among = among.listed s.offset s.entry (first_element s left)
+
+pub others_among : {E : Type 0} {s : PlacedEntry E} {left all : List (PlacedEntry E)} → AreAmong (s ∷ left) all
+    → AreAmong left all
+others_among {s = s} {left = left} among =
+    record { listed = λ o e stands. among.listed o e (later_element s (record { offset = o; entry = e }) left stands) }

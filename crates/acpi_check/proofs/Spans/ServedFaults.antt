@@ -25,7 +25,7 @@ use Rattle.acpi_check.specs.ServedGsis.{named_gsi, IsInSpans, DoStartsRise}
 
 -- ---- entries
 
-names : (g : ℕ) (e : MadtEntry) → NamesGsi g e ↔ (named_gsi e ≡ Some g)
+pub names : (g : ℕ) (e : MadtEntry) → NamesGsi g e ↔ (named_gsi e ≡ Some g)
 names g (Override v) = (λ is. ap Some is, λ is. same_Some v.gsi g is)
 names g (NmiSource v) = (λ is. ap Some is, λ is. same_Some v.gsi g is)
 names g _ = (λ h. absurd h, λ is. none-some g is)

@@ -2,6 +2,7 @@ use Rattle.std.proofs.Common.{◌∙◌}
 use Rattle.std.proofs.lemmas.List.{get_or_default}
 use Rattle.acpi_check.proofs.NodeLinks.LinkedNodes.{nodes_rise, ready, cycle_found, has_offset}
 use Rattle.acpi_check.proofs.chains.first_cycle.Goals as goal
+use Rattle.acpi_check.proofs.chains.first_cycle.Goals.{then-do_all_lead-via-then-do_all_lead, then-do_all_lead-via-else-do_all_lead+then-do_all_lead-2}
 
 pub parents_of-requires : goal.parents_of-requires
 parents_of-requires c = nodes_rise c.args.chain c.args.pptt.now c.in_ok-nodes.nodes c.in_ok-nodes.ensures
@@ -31,3 +32,11 @@ returns c =
     node c.in-Round.lead c.in-Round.round first in
     let place = c.index.ensures ∙ get_or_default nodes.offsets.items node c.index.result.now 0 inside in
     (c.code_of.ensures, rw place cycle)
+
+pub returns-then-do_all_lead : goal.returns-then-do_all_lead
+returns-then-do_all_lead c =
+    elim c.then-do_all_lead.branch [
+      | then-do_all_lead-via-then-do_all_lead w ↦ c.do_all_lead.ensures w.if-do_all_lead.true
+      | then-do_all_lead-via-else-do_all_lead+then-do_all_lead-2 w ↦
+          w.do_all_lead-else-do_all_lead.ensures w.if-do_all_lead-2.true
+    ]

@@ -5,7 +5,7 @@ use Rattle.acpi_base.specs.Pptt.{pptt_contents}
 use Rattle.acpi_check.proofs.ProcessorNumbers.LeavesFaults.{revision, leaves_found}
 use Rattle.acpi_check.proofs.EntryPasses.Passes.{refused}
 use Rattle.acpi_check.proofs.leaves.check_leaves.Goals as goal
-use Rattle.acpi_check.proofs.leaves.check_leaves.Goals.{then-header-lt-HAS_LEAVES-via-then-header-lt-HAS_LEAVES, then-header-lt-HAS_LEAVES-via-else-header-lt-HAS_LEAVES+then-not-are_types_known}
+use Rattle.acpi_check.proofs.leaves.check_leaves.Goals.{then-header-lt-HAS_LEAVES-via-then-header-lt-HAS_LEAVES, then-header-lt-HAS_LEAVES-via-else-header-lt-HAS_LEAVES+then-do_leaves_follow}
 
 pub returns-then-header-lt-HAS_LEAVES : goal.returns-then-header-lt-HAS_LEAVES
 returns-then-header-lt-HAS_LEAVES c =
@@ -15,8 +15,8 @@ returns-then-header-lt-HAS_LEAVES c =
     elim c.then-header-lt-HAS_LEAVES.branch [
       | then-header-lt-HAS_LEAVES-via-then-header-lt-HAS_LEAVES w ↦
           absurd (omega (arith, w.if-header-lt-HAS_LEAVES.true))
-      | then-header-lt-HAS_LEAVES-via-else-header-lt-HAS_LEAVES+then-not-are_types_known w ↦
-          absurd (w.if-not-are_types_known.ensures typed)
+      | then-header-lt-HAS_LEAVES-via-else-header-lt-HAS_LEAVES+then-do_leaves_follow w ↦
+          w.do_leaves_follow.ensures w.if-do_leaves_follow.true recent typed
     ]
 
 pub returns : goal.returns

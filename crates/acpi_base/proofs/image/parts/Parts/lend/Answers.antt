@@ -16,8 +16,7 @@ returns-clause-valid c =
     let items : c.push.new.self.items ≡ rs ++ r ∷ [] =
     c.in_ok-push.ensures.items ∙ ap (λ q. rs ++ q ∷ []) c.new.ensures in
     let below : AllByRecursion (λ (q : Run). end_of q < c.args.base) rs =
-    rw c.deref.ensures.value at (c.end_before.ensures c.if-not-end_before.false) in
-    let nothing : c.first_from.result ≡ None = grind (arith, c.is_some.ensures, c.if-is_some.false) in
+    c.end_before.ensures.lent c.if-not-end_before.false in
     record {
       own = valid.own;
       lent = subst AreLent (sym items) (lend_lent rs r below valid.lent
@@ -25,7 +24,7 @@ returns-clause-valid c =
           (λ k. omega (arith, c.type_inv.bytes k))));
       apart = subst (λ (qs : List Run). AreApart (lookup qs) (lookup (runs_of p.own))) (sym items)
           (lend_apart rs r below (lookup (runs_of p.own)) valid.apart
-          (λ x from. c.first_from.ensures.none nothing x (omega (arith, c.saturating_sub-before.ensures))));
+          (c.end_before.ensures.own c.if-not-end_before.false));
     }
 
 pub returns-clause-ok : goal.returns-clause-ok
@@ -36,5 +35,5 @@ returns-clause-ok c =
     let items : c.push.new.self.items ≡ rs ++ r ∷ [] =
     c.in_ok-push.ensures.items ∙ ap (λ q. rs ++ q ∷ []) c.new.ensures in
     let below : AllByRecursion (λ (q : Run). end_of q < c.args.base) rs =
-    rw c.deref.ensures.value at (c.end_before.ensures c.if-not-end_before.false) in
+    c.end_before.ensures.lent c.if-not-end_before.false in
     ap (λ qs. memory_of (qs ++ runs_of p.own)) items ∙ lend_memory rs r below (runs_of p.own)
