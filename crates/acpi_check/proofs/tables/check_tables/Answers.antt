@@ -8,8 +8,8 @@ use Rattle.acpi_check.proofs.tables.check_tables.Goals.{then-address-eq0-via-the
 
 pub loop-slot-init : goal.loop-slot-init
 loop-slot-init c = (
-    none_below c.args.image.now c.args.root.now c.new-firsts.result c.new-firsts.ensures,
-    inl refl,
+  none_below c.args.image.now c.args.root.now c.new-firsts.result c.new-firsts.ensures,
+  inl refl,
 )
 
 pub loop-slot-preserved-then-address-eq0 : goal.loop-slot-preserved-then-address-eq0
@@ -20,9 +20,9 @@ loop-slot-preserved-then-address-eq0 c =
     let (below, read) = c.loop-slot.invariant in
     elim c.then-address-eq0.branch [
       | then-address-eq0-via-then-address-eq0 w ↦ (
-          firsts_skip image root c.loop-slot.slot firsts
-          (λ a slot. slot.listed (sym slot.address ∙ sym c.slot-address.ensures ∙ w.if-address-eq0.true)) below,
-          read_more root read,
+        firsts_skip image root c.loop-slot.slot firsts
+            (λ a slot. slot.listed (sym slot.address ∙ sym c.slot-address.ensures ∙ w.if-address-eq0.true)) below,
+        read_more root read,
       )
       | then-address-eq0-via-else-address-eq0+then-address-read w ↦
           let slot : HasSlot root.bytes root.width c.loop-slot.slot c.slot-address.result =
@@ -42,11 +42,10 @@ loop-slot-preserved c =
       inside = (c.slots-slot-end.ensures.inside c.loop-slot.slot).0 c.loop-slot-test.true;
       address = sym c.slot-address.ensures;
       listed = c.if-address-eq0.false;
-    } in
-    (
+    } in (
       firsts_more c.args.image.now c.args.root.now c.loop-slot.slot c.slot-address.result table.0
-      (record { address = c.slot-address.result; table = c.in-Ok.table }) c.loop-slot.firsts c.add.new.self slot
-      (c.in-Ok.ensures.ok.0 refl) table.1 c.add.ensures.tables c.loop-slot.invariant.0,
+          (record { address = c.slot-address.result; table = c.in-Ok.table }) c.loop-slot.firsts c.add.new.self slot
+          (c.in-Ok.ensures.ok.0 refl) table.1 c.add.ensures.tables c.loop-slot.invariant.0,
       inr (c.loop-slot.slot, omega arith, slot),
     )
 
