@@ -42,13 +42,20 @@ MINUTES = {
 MINUTES_OF_TESTS = {"acpi_c": 3, "acpi_cli": 6, "acpi_tests": 20}
 
 # Asks the kernel for SIGTERM when the thread that started this process ends, with PR_SET_PDEATHSIG, and becomes the command. Where Python has
-# no ctypes, it is only the command.
+# no ctypes, it is only the command. Linux may schedule each session as a group (autogroup), and then a process is nice only to those of its
+# own session: a new session gets the niceness too.
 BECOMES = """import os, sys
 try:
     import ctypes
     ctypes.CDLL(None).prctl(1, 15)
 except (ImportError, OSError, AttributeError):
     pass
+if os.getsid(0) == os.getpid():
+    try:
+        with open("/proc/self/autogroup", "w") as group:
+            group.write(str(os.nice(0)))
+    except OSError:
+        pass
 if os.getppid() == int(sys.argv[1]):
     os.execvp(sys.argv[2], sys.argv[2:])
 """
