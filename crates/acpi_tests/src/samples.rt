@@ -115,18 +115,12 @@ pub(crate) fn facs(version: u8) -> [u8; 64] {
     bytes
 }
 
-/// Adds bytes to the image, each piece at its address.
-fn add_all(image: &mut Image, pieces: &[(u64, &[u8])]) -> Result<(), ImageFault> {
-    for (address, bytes) in pieces {
-        image.add(*address, bytes)?;
-    }
-    Ok(())
-}
-
 /// An image of these bytes, each piece at its address.
 pub(crate) fn image_of(alloc: Global, pieces: &[(u64, &[u8])]) -> Result<Image, Fail> {
     let mut image = Image::new(alloc);
-    add_all(&mut image, pieces)?;
+    for (address, bytes) in pieces {
+        image.add(*address, bytes)?;
+    }
     Ok(image)
 }
 
