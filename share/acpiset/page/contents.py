@@ -116,9 +116,9 @@ class Contents:
 
     def entries(self, table: str, *kinds):
         """The entries of a table that have one of these kinds."""
-        for entry in self.shown.get(table, {}).get("entries", ()):
-            if entry["kind"] in kinds:
-                yield {name: value_of(value) if name not in ("kind", "resources") else value for name, value in entry.items()}
+        entries = self.shown.get(table, {}).get("entries")
+        for entry in entries.of_kinds(kinds) if entries else ():
+            yield {name: value_of(value) if name not in ("kind", "resources") else value for name, value in entry.items()}
 
     def structures(self, signature: str, *types):
         """The image's structures of some types; none without an image."""
