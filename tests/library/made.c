@@ -58,16 +58,23 @@ static struct acpiset_answer checked(const struct subject *it, uint32_t through)
     return ask(CHECK, &other);
 }
 
-static void show(struct subject *it) {
-    struct acpiset_answer judged = checked(it, 3), answer = ask_with(SHOW, it, NULL, 0);
+/* All bytes of a call that answers yes if and only if a check through these stages does. Otherwise it answers as that check and writes
+ * nothing; then NULL. */
+static uint8_t *bytes_if_checked(enum call call, struct subject *it, uint32_t through, size_t *length) {
+    struct acpiset_answer judged = checked(it, through), answer = ask_with(call, it, NULL, 0);
     if (judged.kind != ACPISET_YES) {
-        expect(answer, judged, "%s: show answers as a check through stage 3", it->name);
-        writes_nothing(SHOW, it);
-        return;
+        expect(answer, judged, "%s: %s answers as a check through stage %u", it->name, call_names[call], through);
+        writes_nothing(call, it);
+        return NULL;
     }
-    expect(answer, answer_of(ACPISET_YES, answer.at, 0), "%s: show", it->name);
+    expect(answer, answer_of(ACPISET_YES, answer.at, 0), "%s: %s", it->name, call_names[call]);
+    return bytes_of_call(call, it, length);
+}
+
+static void show(struct subject *it) {
     size_t length;
-    uint8_t *text = bytes_of_call(SHOW, it, &length);
+    uint8_t *text = bytes_if_checked(SHOW, it, 3, &length);
+    if (!text) return;
     count_case(length > 5 && memcmp(text, "rsdp ", 5) == 0 && text[length - 1] == '\n' && !memchr(text, 0, length),
                "%s: show writes lines", it->name);
     free(text);
@@ -100,15 +107,9 @@ static void at_the_end(const struct subject *it, size_t length) {
 }
 
 static void rebuild(struct subject *it) {
-    struct acpiset_answer judged = checked(it, 18), answer = ask_with(REBUILD, it, NULL, 0);
-    if (judged.kind != ACPISET_YES) {
-        expect(answer, judged, "%s: rebuild answers as a check", it->name);
-        writes_nothing(REBUILD, it);
-        return;
-    }
-    expect(answer, answer_of(ACPISET_YES, answer.at, 0), "%s: rebuild", it->name);
     size_t length;
-    uint8_t *bytes = bytes_of_call(REBUILD, it, &length);
+    uint8_t *bytes = bytes_if_checked(REBUILD, it, 18, &length);
+    if (!bytes) return;
     count_case(length > 36 && memcmp(bytes, "RSD PTR ", 8) == 0, "%s: rebuild begins with the RSDP", it->name);
     is_valid_there(it, bytes, length);
     at_the_end(it, length);
