@@ -107,8 +107,8 @@ fn code_of(chain: Chain) -> Code
 ///
 /// The fault has the code `ParentCycle`, or `CacheCycle` for caches: `at` is the node's offset, in bytes from the
 /// table's start; `other` is the lowest number of steps from it into its cycle, and `point` the lowest number of
-/// steps around it, at least 1. Refuses with `AllocError` if out of memory: unless
-/// all references lead to lower offsets, or all to higher ones, it allocates for each node of the kind.
+/// steps around it, at least 1. Refuses with `AllocError` if out of memory: unless all references lead to lower offsets,
+/// or all to higher ones, it allocates for each node of the kind.
 pub fn first_cycle(
     alloc: Global,
     chain: Chain,

@@ -1,6 +1,6 @@
 //! Sets of offsets of a table, as bits.
 
-ghost use Rattle.std.specs.Prelude.{◌≡◌, ◌/◌, ◌<◌, ◌↔◌, ℕ, Contains, IfOk, OnOk, MatchBool, vec_len, slice_index, true};
+ghost use Rattle.std.specs.Prelude.{◌≡◌, ◌<◌, ◌↔◌, ℕ, Contains, IfOk, OnOk, MatchBool, vec_len, slice_index, true};
 ghost use Rattle.acpi_check.specs.OffsetSets.{IsIn, Adds};
 
 use std::alloc::{AllocError, Global};
@@ -18,13 +18,13 @@ pub struct OffsetSet {
 
 /// Extends the words past an index, if they end before it: to twice as many as are needed, since more mostly follow.
 fn make_room(words: &mut Vec<u64>, place: usize) -> Result<(), AllocError>
-    requires { place < usize.MAX / 2 }
+    requires { place < usize.MAX }
     ensures room { OnOk result (place < vec_len words.new) }
     ensures same { OnOk result
         ((i : ℕ) → slice_index words.new.items i ≡ slice_index words.old.items i) }
 {
     if words.len() <= place {
-        words.resize(2 * place + 1, 0)?;
+        words.resize(place.saturating_mul(2).saturating_add(1), 0)?;
     }
     Ok(())
 }

@@ -6,7 +6,7 @@ use Rattle.std.proofs.lemmas.List.{map-id}
 use Rattle.std.proofs.lemmas.Option.{same_Some}
 use denote.Ref.{Bor}
 use Rattle.acpi_base.specs.Entries.{PlacedEntry}
-use Rattle.acpi_lint.specs.Rules.Numbered.{NamesAt, IsNamed, IsLater, Repeats}
+use Rattle.acpi_lint.specs.Rules.Numbered.{NamesAt, IsNamed, IsLater}
 use Rattle.acpi_read.specs.Entries.{entry_at_value}
 use Rattle.acpi_read.specs.declared.typed_entries.EntryAt.{EntryAt}
 use Rattle.acpi_check.specs.CollectedValues.{Picks, Collects}

@@ -20,13 +20,14 @@ mod LeafNumbers
 mod LeastPlaces
 mod ListedSlots
 mod NamedPlaces
+mod NeededForms
+mod NumberKeys
 mod OddFields
 mod OfTables
 mod OnceTables
 mod OneAdvice
 mod OneCodes
 mod OpaqueBytes
-mod OpaqueEntries
 mod OtherBases
 mod OuterChains
 mod OuterNodes

@@ -1,15 +1,17 @@
 -- The complete tables of a set.
 use Rattle.std.specs.Prelude.{◌≡◌, ◌↔◌, ℕ, IsTrue, ◌<◌, ◌≤◌, List, length, Option, Some, None, MatchOption, option_map}
-use Rattle.acpi_base.specs.Entries.{StandsWith}
-use Rattle.acpi_base.specs.Madt.{MadtEntry, Opaque, MadtContents, madt_contents}
+use Rattle.acpi_base.specs.Madt.{madt_contents}
 use Rattle.acpi_base.specs.Memory.{Memory}
 use Rattle.acpi_base.specs.Listed.{IsListedTable}
 use Rattle.acpi_base.specs.Root.{IsSlot}
 use Rattle.acpi_base.specs.TableKinds.{signature_of}
 use Rattle.acpi_base.specs.declared.table_kind.TableKind.{TableKind}
 use Rattle.acpi_base.specs.declared.table_kind.TableKind.TheVariants as kind
+use Rattle.acpi_lint.specs.MadtForms.{HasForm}
 use Rattle.acpi_lint.specs.Slots.{IsRootOf, AreSlots, AreFirstSlots}
 use Rattle.acpi_lint.specs.declared.complete_tables.CompleteTables.{CompleteTables}
+use Rattle.acpi_lint.specs.declared.madt_forms.MadtForm.{MadtForm}
+use Rattle.acpi_lint.specs.declared.madt_forms.MadtForm.TheVariants as form
 
 -- these are the bytes of the set's first listed table with the signature, or it is missing or incomplete
 abbrev pub IsFound : Memory → ℕ → List ℕ → Option (List ℕ) → Type 0
@@ -24,18 +26,9 @@ table_of tables kind.Srat = tables.srat
 table_of tables kind.Slit = tables.slit
 table_of tables kind.Pptt = tables.pptt
 
--- the entry is one that the stages do not read
-abbrev pub IsOpaque : MadtEntry → Type 0
-IsOpaque (Opaque bytes) = Unit {0}
-IsOpaque _ = ⊥
-
--- a MADT has such an entry
-abbrev pub HasOpaque : MadtContents → Type 0
-HasOpaque madt = (o : ℕ) × StandsWith madt.entries o IsOpaque
-
--- the same of the MADT that was found, if one was
-abbrev pub IsAnyOpaque : Option (List ℕ) → Type 0
-IsAnyOpaque found = MatchOption found ⊥ (λ whole. HasOpaque (madt_contents whole))
+-- a MADT was found, and has such an entry
+abbrev pub IsAnyOfForm : MadtForm → Option (List ℕ) → Type 0
+IsAnyOfForm form found = MatchOption found ⊥ (λ whole. HasForm (madt_contents whole) form)
 
 -- these are the root table and the tables of the set that the RSDP at p leads to
 pub record AreCompleteTables (m : Memory) (p : ℕ) (tables : CompleteTables) : Type 0 where
@@ -43,7 +36,8 @@ pub record AreCompleteTables (m : Memory) (p : ℕ) (tables : CompleteTables) : 
   pub slots : AreSlots m (IsSlot m p) tables.slots.items
   pub firsts : AreFirstSlots m p tables.firsts
   pub listed : (kind : TableKind) → IsFound m p (signature_of kind) (table_of tables kind)
-  pub opaque : IsTrue tables.has_opaque ↔ IsAnyOpaque tables.madt
+  pub opaque : IsTrue tables.has_opaque ↔ IsAnyOfForm form.Opaque tables.madt
+  pub read_opaque : IsTrue tables.has_read_opaque ↔ IsAnyOfForm form.ReadOpaque tables.madt
 
 -- this is the table that was found, of at least this many bytes; or none was found, or it is shorter
 abbrev pub IsLong : ℕ → Option (List ℕ) → Option (List ℕ) → Type 0

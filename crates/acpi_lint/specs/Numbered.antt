@@ -1,5 +1,5 @@
 -- Values that are given to numbers at places, such as offsets or slots.
-use Rattle.std.specs.Prelude.{◌≡◌, ◌≢◌, ℕ, ◌<◌, ◌≤◌, ◌⊎◌, ◌↔◌, List, AllPairs, Contains, Option, Some, None}
+use Rattle.std.specs.Prelude.{◌≡◌, ◌≢◌, ℕ, ◌/◌, ◌%◌, ◌^◌, ◌<◌, ◌≤◌, ◌⊎◌, ◌↔◌, List, AllPairs, Contains, Option, Some, None}
 use Rattle.acpi_lint.specs.declared.numbered.Numbered.{Numbered}
 use Rattle.acpi_lint.specs.declared.numbered.Order.{Order}
 use Rattle.acpi_lint.specs.declared.numbered.Order.TheVariants.{Later, First}
@@ -39,6 +39,10 @@ IsUnlikeAt order given at other point =
 -- the number n at a place, which is also its value there
 abbrev pub at_place : ℕ → ℕ → Numbered
 at_place at n = record { number = n; at = at; value = at }
+
+-- that with this key: the number and its place are the upper and the lower 32 bits
+abbrev pub of_key : ℕ → Numbered
+of_key key = at_place (key % 2 ^ 32) (key / 2 ^ 32)
 
 -- it is among these
 abbrev pub HasAt : List Numbered → ℕ → ℕ → Type 0

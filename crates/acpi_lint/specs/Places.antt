@@ -1,5 +1,5 @@
 -- Places of findings: the lowest, the first of a table's entries, and those of the FADT, the FACS and the SLIT.
-use Rattle.std.specs.Prelude.{◌≡◌, ℕ, List, [], ◌∷◌, Option, Some, None, ◌<◌, ◌≤◌, ◌⊎◌, ◌+◌, ◌*◌, length}
+use Rattle.std.specs.Prelude.{◌≡◌, ℕ, List, [], ◌∷◌, Option, Some, None, ◌<◌, ◌≤◌, ◌⊎◌, ◌+◌, length}
 use Rattle.acpi_base.specs.Order.{AreNotAfter}
 use Rattle.acpi_base.specs.Entries.{PlacedEntry, AreUnused}
 use Rattle.acpi_base.specs.Fadt.{gas_at, FadtTableFault}

@@ -6,10 +6,12 @@ use Rattle.acpi_base.specs.Policy.{PolicyValue}
 use Rattle.acpi_base.specs.Pptt.{PpttEntry, PpttContents}
 use Rattle.acpi_base.specs.Slit.{SlitContents, HasSlitSize}
 use Rattle.acpi_base.specs.Srat.{SratEntry, SratContents}
-use Rattle.acpi_lint.specs.CompleteTables.{HasOpaque, AreCompleteTables}
+use Rattle.acpi_lint.specs.CompleteTables.{AreCompleteTables}
+use Rattle.acpi_lint.specs.MadtForms.{HasForm}
 use Rattle.acpi_lint.specs.Places.{FindsLeast}
 use Rattle.acpi_lint.specs.Rules.Broken.{OfMadt, Condition, HoldsAt, Slots, Set, OnFadt, OnMadt, OnSrat, OnPptt, Fadt, FadtMemory, FadtMadt, Madt, MadtEntries, MadtNumbers, MadtBytes, MadtSrat, MadtPptt, Srat, SratEntries, SratBytes, SratSlit, Slit, Pptt, PpttEntries, PpttBytes}
 use Rattle.acpi_lint.specs.declared.complete_tables.CompleteTables.{CompleteTables}
+use Rattle.acpi_lint.specs.declared.madt_forms.MadtForm.{MadtForm}
 use Rattle.acpi_lint.specs.declared.place.Place.{Place}
 use Rattle.acpi_lint.specs.declared.rule_group.RuleGroup.{RuleGroup}
 use Rattle.acpi_lint.specs.declared.rule_group.RuleGroup.TheVariants as group
@@ -140,12 +142,13 @@ as_group group.Pptt c = OnPptt (Pptt (in_pptt c))
 as_group group.PpttEntries c = OnPptt (PpttEntries (on_pptt_entry c))
 as_group group.PpttBytes c = OnPptt (PpttBytes (in_pptt_bytes c))
 
--- ---- conditions on entries that the stages do not read
+-- ---- conditions that need an entry of the MADT
 
 -- the condition holds only in a set with a MADT that has such an entry
-abbrev pub NeedsOpaque : Condition → Type 0
-NeedsOpaque c =
-    (m : Memory) (q : PolicyValue) (at other point : ℕ) → HoldsAt c m q at other point → OfMadt m q HasOpaque
+abbrev pub NeedsForm : MadtForm → Condition → Type 0
+NeedsForm form c =
+    (m : Memory) (q : PolicyValue) (at other point : ℕ) → HoldsAt c m q at other point
+    → OfMadt m q (λ madt. HasForm madt form)
 
 -- ---- what is found for a condition in the tables of a set
 

@@ -1,10 +1,10 @@
 //! The first finding of each rule of advice. A rule on a table finds nothing if the set lists no complete one with all
 //! its fields.
 
-ghost use Rattle.std.specs.Prelude.{◌≡◌, IfOk, IsTrue};
+ghost use Rattle.std.specs.Prelude.{◌≡◌, IfOk, IfSome, IsTrue, None};
 ghost use Rattle.acpi_lint.specs.CompleteTables.{AreCompleteTables};
 ghost use Rattle.acpi_lint.specs.Places.{FindsLeast};
-ghost use Rattle.acpi_lint.specs.RuleGroups.{as_group, NeedsOpaque, Finds, FindsBy, FindsIn};
+ghost use Rattle.acpi_lint.specs.RuleGroups.{as_group, NeedsForm, Finds, FindsBy, FindsIn};
 ghost use Rattle.acpi_lint.specs.Rules.Broken.{condition, IsBroken};
 ghost use Rattle.acpi_lint.specs.Rules.Findings.{AreFirstAdvice};
 ghost use Rattle.acpi_lint.specs.StageFaults.{FindsFirstAdvice};
@@ -13,6 +13,7 @@ ghost use Rattle.acpi_lint.specs.declared.rule_group.RuleGroup.TheVariants as gr
 use crate::complete_tables::CompleteTables;
 use crate::fadt_advice::fadt_place;
 use crate::fadt_memory::fadt_memory_place;
+use crate::madt_forms::MadtForm;
 use crate::nowhere::{madt_place, madt_pptt_place, madt_srat_place};
 use crate::own::{
     first_own_place, madt_entries_place, pptt_entry_place, srat_entry_place, srat_slit_entry_place,
@@ -29,30 +30,40 @@ use crate::slot_advice::slot_place;
 use acpi_base::{LentImage, Policy, TableKind};
 use std::alloc::{AllocError, Global};
 
-/// Whether a rule can be broken only beside an entry of the MADT that the stages do not read. A MADT without one is not
-/// gone over for it.
-fn needs_opaque(rule: Rule) -> bool
-    ensures { IsTrue result → NeedsOpaque (condition rule) }
+/// An entry of the MADT without which a rule is kept, so that a MADT which has none is not gone over for it. None for a
+/// rule that needs none, or one of those that the stages read.
+fn needed_form(rule: Rule) -> Option<MadtForm>
+    ensures { IfSome result (λ form. NeedsForm form (condition rule)) }
 {
     match rule {
-        Rule::SecondGicd => true,
-        Rule::LeafNowhere => true,
-        Rule::MadtUnread => true,
-        Rule::FadtForArch => true,
-        Rule::NoDistributor => true,
-        Rule::NoRedistributor => true,
-        Rule::GicrTooSmall => true,
-        Rule::GiccBaseDiffers => true,
-        Rule::SameMpidr => true,
-        Rule::MpidrReserved => true,
-        Rule::GicrEmpty => true,
-        Rule::SameIts => true,
-        Rule::SameMsiFrame => true,
-        Rule::GicOverlap => true,
-        Rule::RedistributorTwice => true,
-        Rule::NoBootMethod => true,
-        Rule::SameHart => true,
-        _ => false,
+        Rule::SecondGicd => Some(MadtForm::Opaque),
+        Rule::MadtUnread => Some(MadtForm::Opaque),
+        Rule::FadtForArch => Some(MadtForm::Opaque),
+        Rule::NoDistributor => Some(MadtForm::Opaque),
+        Rule::LeafNowhere => Some(MadtForm::ReadOpaque),
+        Rule::NoRedistributor => Some(MadtForm::ReadOpaque),
+        Rule::GicrTooSmall => Some(MadtForm::ReadOpaque),
+        Rule::GiccBaseDiffers => Some(MadtForm::ReadOpaque),
+        Rule::SameMpidr => Some(MadtForm::ReadOpaque),
+        Rule::MpidrReserved => Some(MadtForm::ReadOpaque),
+        Rule::GicrEmpty => Some(MadtForm::ReadOpaque),
+        Rule::SameIts => Some(MadtForm::ReadOpaque),
+        Rule::SameMsiFrame => Some(MadtForm::ReadOpaque),
+        Rule::GicOverlap => Some(MadtForm::ReadOpaque),
+        Rule::RedistributorTwice => Some(MadtForm::ReadOpaque),
+        Rule::NoBootMethod => Some(MadtForm::ReadOpaque),
+        Rule::SameHart => Some(MadtForm::ReadOpaque),
+        _ => None,
+    }
+}
+
+/// Whether a rule is kept since the MADT has no entry of a kind that it needs.
+fn is_kept_without(tables: &CompleteTables<'_>, rule: Rule) -> bool
+    ensures { IsTrue result → Finds (condition rule) tables.now None }
+{
+    match needed_form(rule) {
+        Some(form) => !tables.may_have(form),
+        None => false,
     }
 }
 
@@ -281,7 +292,7 @@ fn first_finding(
     requires { AreCompleteTables image.now policy.now.rsdp tables.now }
     ensures { IfOk result (FindsFirstAdvice rule image.now policy.now) }
 {
-    if needs_opaque(rule) && !tables.has_opaque {
+    if is_kept_without(tables, rule) {
         return Ok(None);
     }
     let Some(Place { at, other, point }) = first_place(alloc, image, tables, policy, rule)? else {

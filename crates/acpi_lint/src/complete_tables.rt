@@ -1,16 +1,18 @@
 //! The tables of a set that the finders read.
 
-ghost use Rattle.std.specs.Prelude.{◌≡◌, ◌↔◌, ℕ, IfOk, IsTrue, option_map};
+ghost use Rattle.std.specs.Prelude.{◌≡◌, ◌↔◌, ℕ, IfOk, IsTrue, false, option_map};
 ghost use Rattle.acpi_base.specs.Entries.{entries_read_by};
+ghost use Rattle.acpi_base.specs.Memory.{Memory};
 ghost use Rattle.acpi_base.specs.Pptt.{pptt_contents, pptt_entry};
 ghost use Rattle.acpi_base.specs.Srat.{srat_contents, srat_entry};
 ghost use Rattle.acpi_base.specs.TableKinds.{signature_of};
 ghost use Rattle.acpi_lint.specs.Slots.{AreFirstSlots};
-ghost use Rattle.acpi_lint.specs.CompleteTables.{IsFound, IsLong, IsAnyOpaque, AreEntries, table_of, AreCompleteTables};
+ghost use Rattle.acpi_lint.specs.CompleteTables.{IsFound, IsLong, IsAnyOfForm, AreEntries, table_of, AreCompleteTables};
+ghost use Rattle.acpi_lint.specs.declared.madt_forms.MadtForm.TheVariants as form;
 
 use crate::first_slots::FirstSlots;
 use crate::listed_slots::{Slot, listed_slots};
-use crate::madt_forms::has_opaque;
+use crate::madt_forms::{MadtForm, has_form};
 use acpi_base::{LentImage, TableKind};
 use acpi_read::{Fadt, MadtEntry, PpttEntry, Root, SratEntry, Table, TableEntry, TypedEntries};
 use std::alloc::{AllocError, Global};
@@ -36,7 +38,9 @@ pub struct CompleteTables<'a> {
     /// The PPTT.
     pub pptt: Option<Table<'a>>,
     /// Whether an entry of the MADT is one that the stages do not read.
-    pub has_opaque: bool,
+    has_opaque: bool,
+    /// Whether one of these is one that rules read.
+    has_read_opaque: bool,
 }
 
 /// The first listed table of a kind in a set with these first slots.
@@ -48,14 +52,23 @@ fn found<'a>(image: &'a LentImage<'_>, firsts: &FirstSlots, kind: TableKind) -> 
     Table::complete(image, slot.table.address)
 }
 
-/// Whether an entry of the MADT that was found is one that the stages do not read. Not if none was found.
-fn is_any_opaque(madt: &Option<Table<'_>>) -> bool
-    ensures { IsTrue result ↔ IsAnyOpaque madt.now }
+/// Whether a MADT was found and has such an entry.
+fn is_any_of(form: MadtForm, madt: &Option<Table<'_>>) -> bool
+    ensures { IsTrue result ↔ IsAnyOfForm form madt.now }
 {
     match madt {
-        Some(madt) => has_opaque(madt),
+        Some(madt) => has_form(madt, form),
         None => false,
     }
+}
+
+/// Whether a MADT was found and has an entry that the stages do not read and that rules do. `has_opaque` is whether it
+/// has one that the stages do not read; mostly it has not, and is not gone over again.
+fn has_read_opaque(has_opaque: bool, madt: &Option<Table<'_>>) -> bool
+    requires { IsTrue has_opaque ↔ IsAnyOfForm form.Opaque madt.now }
+    ensures { IsTrue result ↔ IsAnyOfForm form.ReadOpaque madt.now }
+{
+    has_opaque && is_any_of(MadtForm::ReadOpaque, madt)
 }
 
 impl<'a> CompleteTables<'a> {
@@ -71,9 +84,11 @@ impl<'a> CompleteTables<'a> {
         let slots = listed_slots(alloc, image, &root)?;
         let firsts = FirstSlots::of(&slots);
         let madt = found(image, &firsts, TableKind::Madt);
+        let has_opaque = is_any_of(MadtForm::Opaque, &madt);
         Ok(CompleteTables {
             fadt: found(image, &firsts, TableKind::Fadt),
-            has_opaque: is_any_opaque(&madt),
+            has_opaque,
+            has_read_opaque: has_read_opaque(has_opaque, &madt),
             madt,
             srat: found(image, &firsts, TableKind::Srat),
             slit: found(image, &firsts, TableKind::Slit),
@@ -82,6 +97,19 @@ impl<'a> CompleteTables<'a> {
             slots,
             firsts,
         })
+    }
+
+    /// Whether an entry of the MADT may be such a one. Not if there is none that the stages do not read, or that rules
+    /// read beside them.
+    pub fn may_have(&self, form: MadtForm) -> bool
+        ensures { result ≡ false → (m : Memory) → (p : ℕ) → AreCompleteTables m p self.now
+            → ¬ IsAnyOfForm form self.now.madt }
+    {
+        match form {
+            MadtForm::Opaque => self.has_opaque,
+            MadtForm::ReadOpaque => self.has_read_opaque,
+            _ => true,
+        }
     }
 
     /// The table of a kind, if there is one.

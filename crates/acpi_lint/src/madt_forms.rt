@@ -4,15 +4,16 @@ ghost use Rattle.std.specs.Prelude.{◌≡◌, ◌↔◌, IsTrue, slice_index};
 ghost use Rattle.acpi_base.specs.Across.{IsIoApic};
 ghost use Rattle.acpi_base.specs.Madt.{madt_contents};
 ghost use Rattle.acpi_read.specs.Madts.{madt_value};
-ghost use Rattle.acpi_lint.specs.CompleteTables.{IsOpaque, HasOpaque};
-ghost use Rattle.acpi_lint.specs.MadtForms.{IsOfForm, HasForm};
+ghost use Rattle.acpi_lint.specs.MadtForms.{IsOpaque, IsReadOpaque, is_read_opaque, IsOfForm, HasForm};
 ghost use Rattle.acpi_lint.specs.Rules.EntryTypes.{type_of, HasType};
 ghost use Rattle.acpi_lint.specs.Rules.FadtWithMadt.{IsParking};
 ghost use Rattle.acpi_lint.specs.Rules.Its.{IsOtherIts};
 ghost use Rattle.acpi_lint.specs.Rules.Processors.{IsOpaqueProcessor, IsUnreadProcessor};
 
-use crate::gic::{ITS, ITS_LEN, is_usable_gicc};
-use crate::processors::{CORE_PIC, CORE_PIC_LEN, RINTC, RINTC_LEN, opaque_processor};
+use crate::gic::{ITS, ITS_LEN, is_gicd, is_gicr, is_its, is_msi_frame, is_usable_gicc};
+use crate::processors::{
+    CORE_PIC, CORE_PIC_LEN, RINTC, RINTC_LEN, is_core_pic, is_gicc, is_rintc, opaque_processor,
+};
 use acpi_base::field::u32_at;
 use acpi_read::{GICC, GICC_LEN, MadtEntry, Table};
 
@@ -23,6 +24,8 @@ pub enum MadtForm {
     Type(u8),
     /// One that the stages do not read.
     Opaque,
+    /// One that the stages do not read and that rules do.
+    ReadOpaque,
     /// A processor that is not of x86, if the rules read it.
     OpaqueProcessor,
     /// One that describes a processor that no rule reads.
@@ -44,6 +47,7 @@ impl MadtForm {
         match self {
             MadtForm::Type(wanted) => type_of(entry) == wanted,
             MadtForm::Opaque => is_opaque(entry),
+            MadtForm::ReadOpaque => is_read_opaque_entry(entry),
             MadtForm::OpaqueProcessor => is_opaque_processor(entry),
             MadtForm::UnreadProcessor => is_unread_processor(entry),
             MadtForm::OtherIts => is_other_its(entry),
@@ -89,6 +93,31 @@ fn is_opaque(entry: &MadtEntry<'_>) -> bool
 {
     match entry {
         MadtEntry::Opaque(_) => true,
+        _ => false,
+    }
+}
+
+/// Whether the bytes are an entry that the stages do not read and that rules do.
+#[inline(always)]
+fn is_read_opaque(bytes: &[u8]) -> bool
+    ensures { result ≡ is_read_opaque bytes.now }
+{
+    is_gicc(bytes)
+        || is_rintc(bytes)
+        || is_core_pic(bytes)
+        || is_gicd(bytes)
+        || is_msi_frame(bytes)
+        || is_gicr(bytes)
+        || is_its(bytes)
+}
+
+/// Whether an entry is one that the stages do not read and that rules do.
+#[inline(always)]
+fn is_read_opaque_entry(entry: &MadtEntry<'_>) -> bool
+    ensures { IsTrue result ↔ IsReadOpaque (madt_value entry.now) }
+{
+    match entry {
+        MadtEntry::Opaque(bytes) => is_read_opaque(bytes),
         _ => false,
     }
 }
@@ -177,11 +206,4 @@ pub fn has_type(madt: &Table<'_>, wanted: u8) -> bool
     ensures { IsTrue result ↔ HasType (madt_contents madt.now) wanted }
 {
     has_form(madt, MadtForm::Type(wanted))
-}
-
-/// Whether it has one that the stages do not read.
-pub fn has_opaque(madt: &Table<'_>) -> bool
-    ensures { IsTrue result ↔ HasOpaque (madt_contents madt.now) }
-{
-    has_form(madt, MadtForm::Opaque)
 }

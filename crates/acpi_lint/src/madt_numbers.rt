@@ -239,5 +239,5 @@ pub fn repeated_number(
         (FindsLeast (Repeats (number_of number) (madt_contents madt.now).entries)) }
 {
     let given = numbers_at(alloc, madt, number)?;
-    first_repeated(given)
+    first_repeated(alloc, given)
 }

@@ -1,15 +1,15 @@
 //! Numbers with values at places, and those that occur again with another value.
 
-ghost use Rattle.std.specs.Prelude.{◌≡◌, ◌⊎◌, AllPairs, Contains, IfOk, IfSome, OnOk, Some};
+ghost use Rattle.std.specs.Prelude.{◌≡◌, ◌⊎◌, map, AllPairs, Contains, IfOk, IfSome, OnOk, Some};
 ghost use Rattle.std.specs.List.Sorted.{IsPermutation};
 ghost use Rattle.std.specs.Option.{option_map};
 ghost use Rattle.acpi_lint.specs.Rules.Numbered.{IsLater};
-ghost use Rattle.acpi_lint.specs.Numbered.{IsNotAbove, IsUnlikeAt, HasAt, at_place, unlike_place};
+ghost use Rattle.acpi_lint.specs.Numbered.{IsNotAbove, IsUnlikeAt, HasAt, at_place, of_key, unlike_place};
 ghost use Rattle.acpi_lint.specs.Places.{FindsLeast, IsNotAfter};
 
 use crate::place::Place;
 use acpi_graph::sort_unless_sorted;
-use std::alloc::AllocError;
+use std::alloc::{AllocError, Global};
 
 /// A value that is given to a number at a place. These compare by number, then by place, then by value.
 #[derive(Clone, Copy, PartialEq, Eq, PartialOrd, Ord)]
@@ -93,9 +93,72 @@ fn least_unlike(sorted: &[Numbered], order: Order) -> Option<Place>
 /// How many numbers are few. Sets of firmware have some ten slots, and as many entries with a number of a kind.
 const FEW: usize = 20;
 
-/// Sorts numbers. Refuses if out of memory, for more than `FEW` that are not in order.
-pub fn sort_numbers(given: &mut Vec<Numbered>) -> Result<(), AllocError>
-    ensures permutation { IsPermutation given.old.items given.new.items }
+/// Numbers and places below this have a key: the number times this, plus the place.
+const KEY_LIMIT: u64 = 1 << 32;
+
+/// The key of a number whose value is its place, if both are below `KEY_LIMIT`.
+fn key_of(numbered: &Numbered) -> Option<u64>
+    ensures { IfSome result (λ key. of_key key ≡ numbered.now) }
+{
+    let Numbered { number, at, value } = *numbered;
+    if number >= KEY_LIMIT || at >= KEY_LIMIT || value != at {
+        return None;
+    }
+    Some(number * KEY_LIMIT + at)
+}
+
+/// The number with a key.
+fn of_key(key: u64) -> Numbered
+    ensures { result ≡ of_key key }
+{
+    let at = key % KEY_LIMIT;
+    Numbered {
+        number: key / KEY_LIMIT,
+        at,
+        value: at,
+    }
+}
+
+/// The keys of numbers, if each has one. Allocates for each.
+fn keys_of(alloc: Global, given: &[Numbered]) -> Result<Option<Vec<u64>>, AllocError>
+    ensures { IfOk result
+        (λ found. IfSome found (λ keys. map of_key keys.items ≡ given.now)) }
+{
+    let mut keys = Vec::with_capacity(alloc, given.len())?;
+    for numbered in given {
+        let Some(key) = key_of(numbered) else {
+            return Ok(None);
+        };
+        keys.push(key)?;
+    }
+    Ok(Some(keys))
+}
+
+/// Replaces numbers by those with these keys, in their order.
+fn set_by_keys(given: &mut Vec<Numbered>, keys: &[u64]) -> Result<(), AllocError>
+    ensures { OnOk result (given.new.items ≡ map of_key keys.now) }
+{
+    given.clear();
+    for key in keys {
+        given.push(of_key(*key))?;
+    }
+    Ok(())
+}
+
+/// Sorts numbers by their keys, each a third of a number with its place and value, and compared at once. Refuses if out of
+/// memory.
+fn sort_by_keys(given: &mut Vec<Numbered>, mut keys: Vec<u64>) -> Result<(), AllocError>
+    requires { map of_key keys.items ≡ given.old.items }
+    ensures permutation { OnOk result (IsPermutation given.old.items given.new.items) }
+    ensures sorted { OnOk result (AllPairs IsNotAbove given.new.items) }
+{
+    sort_unless_sorted(&mut keys)?;
+    set_by_keys(given, &keys)
+}
+
+/// Sorts numbers. Refuses if out of memory, for more than `FEW`.
+pub fn sort_numbers(alloc: Global, given: &mut Vec<Numbered>) -> Result<(), AllocError>
+    ensures permutation { OnOk result (IsPermutation given.old.items given.new.items) }
     ensures sorted { OnOk result (AllPairs IsNotAbove given.new.items) }
 {
     // The sort of the library first clears a buffer of 4 KiB, which takes as long as all finders on a set of firmware.
@@ -103,22 +166,29 @@ pub fn sort_numbers(given: &mut Vec<Numbered>) -> Result<(), AllocError>
         given.sort_unstable();
         return Ok(());
     }
-    sort_unless_sorted(given)
+    match keys_of(alloc, given)? {
+        Some(keys) => sort_by_keys(given, keys),
+        None => sort_unless_sorted(given),
+    }
 }
 
 /// The lowest place of a number whose value differs from that at its first place. Allocates while it sorts them.
-pub fn first_unlike(mut given: Vec<Numbered>, order: Order) -> Result<Option<Place>, AllocError>
+pub fn first_unlike(
+    alloc: Global,
+    mut given: Vec<Numbered>,
+    order: Order,
+) -> Result<Option<Place>, AllocError>
     ensures { IfOk result (FindsLeast (IsUnlikeAt order given.items)) }
 {
-    sort_numbers(&mut given)?;
+    sort_numbers(alloc, &mut given)?;
     Ok(least_unlike(&given, order))
 }
 
 /// The first place of a number that also occurs at an earlier one; `other` is the first of these, and `point` the
 /// number. The value that is given to a number is its place. Allocates while it sorts them.
-pub fn first_repeated(given: Vec<Numbered>) -> Result<Option<Place>, AllocError>
+pub fn first_repeated(alloc: Global, given: Vec<Numbered>) -> Result<Option<Place>, AllocError>
     requires { (g : Numbered) → Contains given.items g → g.value ≡ g.at }
     ensures { IfOk result (FindsLeast (IsLater (HasAt given.items))) }
 {
-    first_unlike(given, Order::Later)
+    first_unlike(alloc, given, Order::Later)
 }

@@ -88,7 +88,7 @@ fn same_cache_id(alloc: Global, pptt: &Table<'_>) -> Result<Option<Place>, Alloc
         return Ok(None);
     }
     let ids = cache_ids(alloc, pptt)?;
-    first_repeated(ids)
+    first_repeated(alloc, ids)
 }
 
 /// The first leaf that has the ACPI processor ID of an earlier one. Allocates for each leaf, and below Revision 2 for
@@ -97,7 +97,7 @@ fn same_leaf(alloc: Global, policy: &Policy, pptt: &Table<'_>) -> Result<Option<
     ensures { IfOk result (FindsLeast (IsSameLeaf (pptt_contents pptt.now))) }
 {
     let leaves = leaves_of(alloc, policy, pptt)?;
-    first_repeated(leaves)
+    first_repeated(alloc, leaves)
 }
 
 /// The place where a rule on the numbers in a PPTT is broken. None for another rule.
@@ -140,7 +140,7 @@ fn two_uid_domains(alloc: Global, srat: &Table<'_>) -> Result<Option<Place>, All
     ensures { IfOk result (FindsLeast (IsTwoUidDomains (srat_contents srat.now))) }
 {
     let domains = collected(alloc, srat.entries::<SratEntry<'_>>(), domain_of_uid)?;
-    first_unlike(domains, Order::First)
+    first_unlike(alloc, domains, Order::First)
 }
 
 /// The place where a rule on the numbers in an SRAT is broken. None for another rule.

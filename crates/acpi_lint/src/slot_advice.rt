@@ -44,7 +44,7 @@ fn listed_twice(alloc: Global, tables: &CompleteTables<'_>) -> Result<Option<Pla
         → IfOk result (FindsLeast (IsListedTwice m p)) }
 {
     let given = numbered_slots(alloc, &tables.slots)?;
-    first_repeated(given)
+    first_repeated(alloc, given)
 }
 
 /// The place of a slot that lists a table of a kind at another address than the first slot of this kind.

@@ -279,8 +279,7 @@ impl Model for DraftImage {
     ghost coded = { coded_result (code coded_ℕ coded_ℕ) coded_ℕ };
 
     ghost use Rattle.acpi_base.specs.Image.Draft.{AreDrafted, all_added};
-    ghost use Rattle.acpi_base.specs.Image.Pieces.{AreSortedDisjoint, LiesBefore, runs_in};
-    ghost use Rattle.acpi_base.specs.Image.Runs.{memory_of};
+    ghost use Rattle.acpi_base.specs.Image.Pieces.{runs_in};
 
     ghost view = { λ draft. all_added empty (runs_in draft.store.items draft.pieces.items) };
 

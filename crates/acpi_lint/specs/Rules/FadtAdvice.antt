@@ -1,5 +1,5 @@
 -- Advice on the FADT (ACPI 6.5, 5.2.9). Offsets are from its start; `at` is a field's.
-use Rattle.std.specs.Prelude.{◌≡◌, ◌≢◌, ℕ, ◌+◌, ◌*◌, ◌<◌, ◌≤◌, ◌⊎◌, List, length, nat_le, false, if◌then◌else◌}
+use Rattle.std.specs.Prelude.{◌≡◌, ◌≢◌, ℕ, ◌+◌, ◌<◌, ◌≤◌, ◌⊎◌, List, length, nat_le, false, if◌then◌else◌}
 use Rattle.acpi_base.specs.Number.{field}
 use Rattle.acpi_base.specs.Across.{HasIoApic, IsServed}
 use Rattle.acpi_base.specs.Entries.{Stands, StandsWith}

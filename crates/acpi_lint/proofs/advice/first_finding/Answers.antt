@@ -1,10 +1,6 @@
-use Rattle.std.proofs.Common.{◌≡◌, false}
-use Rattle.acpi_lint.proofs.OpaqueEntries.{not_opaque}
 use Rattle.acpi_lint.proofs.advice.first_finding.Goals as goal
 
-pub returns-then-not-tables : goal.returns-then-not-tables
-returns-then-not-tables c = λ a same first.
-    let none : c.args.tables.now.has_opaque ≡ false = c.if-not-tables.true in
-    not_opaque c.args.image.now c.args.policy.now c.requires none
-    (c.needs_opaque.ensures c.if-needs_opaque.true c.args.image.now c.args.policy.now a.at a.other a.point
-    (rw same at first.broken))
+pub returns-then-is_kept_without : goal.returns-then-is_kept_without
+returns-then-is_kept_without c = λ a same first.
+    c.is_kept_without.ensures c.if-is_kept_without.true c.args.image.now c.args.policy.now c.requires a.at a.other
+    a.point (rw same at first.broken)

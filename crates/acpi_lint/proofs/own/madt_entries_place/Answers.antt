@@ -1,5 +1,4 @@
 use Rattle.std.proofs.Common.{◌≡◌, None, rules}
-use Rattle.acpi_base.specs.Madt.{madt_contents}
 use Rattle.acpi_read.specs.Madts.{madt_value}
 use Rattle.acpi_check.proofs.EntryPasses.Kept.{madt_rising}
 use Rattle.acpi_lint.specs.RuleGroups.{on_madt_entry}

@@ -1,0 +1,324 @@
+-- Rules that are kept by a MADT without an entry of a form.
+use Rattle.std.proofs.Common.{◌≡◌, ℕ, ◌<◌, List, Bool, true, false, Option, Some, None, arith, refl, inl, inr}
+use Rattle.std.specs.Prelude.{IsSome, ◌==◌, ◌&&◌, ◌||◌, ◌^◌, option_map, if◌then◌else◌}
+use Rattle.std.specs.Option.{option_or}
+use Rattle.std.proofs.lemmas.Bool.{and_parts}
+use Rattle.std.proofs.lemmas.Option.{option_and_then_some}
+use Rattle.acpi_base.specs.Listed.{madt_signature}
+use Rattle.acpi_base.specs.Madt.{MadtEntry, LocalApic, IoApic, Override, NmiSource, LocalNmi, AddressOverride, X2apic, X2apicNmi, Opaque, MadtContents, madt_contents}
+use Rattle.acpi_base.specs.Memory.{Memory}
+use Rattle.acpi_base.specs.Number.{field, has_bit}
+use Rattle.acpi_base.specs.Policy.{PolicyValue}
+use Rattle.acpi_base.specs.Pptt.{PpttContents, pptt_contents}
+use Rattle.acpi_lint.specs.CompleteTables.{IsFound, IsAnyOfForm, AreCompleteTables}
+use Rattle.acpi_lint.specs.MadtForms.{IsOpaque, is_read_opaque, IsReadOpaque, IsOfForm, HasForm}
+use Rattle.acpi_lint.specs.RuleGroups.{NeedsForm}
+use Rattle.acpi_lint.specs.Rules.Broken.{OfMadt, OnFadt, OnMadt, FadtMadt, Madt, MadtEntries, MadtNumbers, MadtPptt}
+use Rattle.acpi_lint.specs.Rules.EntryTypes.{type_of, HasType}
+use Rattle.acpi_lint.specs.Rules.FadtWithMadt.{IsFadtForArch, IsUsableGicc, IsNoBootMethod}
+use Rattle.acpi_lint.specs.Rules.Gic.{field_where, is_gicd, is_msi_frame, is_gicr, is_its, is_usable_gicc, has_mpidr, names_redistributor, gicc_base, gicd_version, gicr_length, own_redistributor, usable_mpidr}
+use Rattle.acpi_lint.specs.Rules.GicAdvice.{is_reserved_mpidr, reserved_mpidr, IsNoDistributor, IsNoRedistributor, IsGicrTooSmall, IsGiccBaseDiffers, IsRedistributorTwice}
+use Rattle.acpi_lint.specs.Rules.GicRanges.{gicd_size, registers_from, HasRegisters, IsGicOverlap}
+use Rattle.acpi_lint.specs.Rules.ApicAdvice.{usable_hart_id}
+use Rattle.acpi_lint.specs.Rules.MadtAdvice.{gicd, IsMadtUnread}
+use Rattle.acpi_lint.specs.Rules.Numbered.{NamesAt}
+use Rattle.acpi_lint.specs.Rules.PpttAdvice.{IsLeafNowhere}
+use Rattle.acpi_lint.specs.Rules.Processors.{Processor, is_gicc, is_rintc, is_core_pic, is_usable, IsOpaqueProcessor}
+use Rattle.acpi_lint.specs.declared.complete_tables.CompleteTables.{CompleteTables}
+use Rattle.acpi_lint.specs.declared.madt_forms.MadtForm.{MadtForm}
+use Rattle.acpi_lint.specs.declared.madt_forms.MadtForm.TheVariants as form
+use Rattle.acpi_base.specs.declared.table_kind.TableKind.TheVariants as kind
+use Rattle.acpi_lint.proofs.OfTables.{listed_lifts}
+
+-- ---- a set whose MADT has no such entry
+
+without : (m : Memory) (q : PolicyValue) (form : MadtForm) (found : Option (List ℕ)) → IsFound m q.rsdp madt_signature found
+    → ¬ IsAnyOfForm form found → ¬ OfMadt m q (λ madt. HasForm madt form)
+without m q form None looked none (whole, listed, (size, has)) = looked whole listed
+without m q form (Some other) looked none (whole, listed, (size, has)) =
+    none ((listed_lifts m q.rsdp madt_signature (Some other) looked (λ bytes. HasForm (madt_contents bytes) form)).0
+    (whole, listed, has))
+
+pub not_of_form : (m : Memory) (q : PolicyValue) (form : MadtForm) {tables : CompleteTables} → AreCompleteTables m q.rsdp tables
+    → ¬ IsAnyOfForm form tables.madt → ¬ OfMadt m q (λ madt. HasForm madt form)
+not_of_form m q form {tables = tables} are none = without m q form tables.madt (are.listed kind.Madt) none
+
+-- ---- an entry that rules read is one that the stages do not read
+
+read_opaque : (e : MadtEntry) → IsReadOpaque e → IsOpaque e
+read_opaque (Opaque e) is = tt
+read_opaque (LocalApic v) is = elim is [ ]
+read_opaque (IoApic v) is = elim is [ ]
+read_opaque (Override v) is = elim is [ ]
+read_opaque (NmiSource v) is = elim is [ ]
+read_opaque (LocalNmi v) is = elim is [ ]
+read_opaque (AddressOverride v) is = elim is [ ]
+read_opaque (X2apic v) is = elim is [ ]
+read_opaque (X2apicNmi v) is = elim is [ ]
+
+pub any_opaque : (found : Option (List ℕ)) → IsAnyOfForm form.ReadOpaque found → IsAnyOfForm form.Opaque found
+any_opaque None has = has
+any_opaque (Some whole) (o, (e, stands, is)) = (o, (e, stands, read_opaque e is))
+
+-- ---- rules by what they look at
+
+pub madt_needs : (form : MadtForm) (P : MadtContents → ℕ → ℕ → ℕ → Type 0)
+    → ((madt : MadtContents) (at other point : ℕ) → P madt at other point → HasForm madt form)
+    → NeedsForm form (OnMadt (Madt P))
+madt_needs form P each m q at other point (whole, listed, (size, holds)) =
+    (whole, listed, (size, each (madt_contents whole) at other point holds))
+
+pub entries_need : (form : MadtForm) (P : MadtEntry → ℕ → ℕ → Type 0)
+    → ((e : MadtEntry) (other point : ℕ) → P e other point → IsOfForm form e)
+    → NeedsForm form (OnMadt (MadtEntries P))
+entries_need form P each m q at other point (whole, listed, (size, (e, stands, holds))) =
+    (whole, listed, (size, (at, (e, stands, each e other point holds))))
+
+-- only an entry of the form has the number
+abbrev pub IsNumberOf : MadtForm → (MadtEntry → Option ℕ) → Type 0
+IsNumberOf form read = (e : MadtEntry) (n : ℕ) → read e ≡ Some n → IsOfForm form e
+
+pub named_form : (form : MadtForm) (read : MadtEntry → Option ℕ) → IsNumberOf form read → (madt : MadtContents) (o n : ℕ)
+    → NamesAt read madt.entries o n → HasForm madt form
+named_form form read each madt o n (e, stands, is) = (o, (e, stands, each e n is))
+
+pub number_needs : (form : MadtForm) (read : MadtEntry → Option ℕ) → IsNumberOf form read
+    → NeedsForm form (OnMadt (MadtNumbers read))
+number_needs form read each m q at other point (whole, listed, (size, repeats)) =
+    (whole, listed, (size, named_form form read each (madt_contents whole) at point repeats.here))
+
+pub fadt_madt_needs : (form : MadtForm) (P : PolicyValue → List ℕ → MadtContents → ℕ → ℕ → ℕ → Type 0)
+    → ((q : PolicyValue) (fadt : List ℕ) (madt : MadtContents) (at other point : ℕ) → P q fadt madt at other point
+    → HasForm madt form) → NeedsForm form (OnFadt (FadtMadt P))
+fadt_madt_needs form P each m q at other point (fadt, found, (length, (whole, listed, (size, holds)))) =
+    (whole, listed, (size, each q fadt (madt_contents whole) at other point holds))
+
+pub madt_pptt_needs : (form : MadtForm) (P : MadtContents → PpttContents → ℕ → ℕ → ℕ → Type 0)
+    → ((madt : MadtContents) (pptt : PpttContents) (at other point : ℕ) → P madt pptt at other point → HasForm madt form)
+    → NeedsForm form (OnMadt (MadtPptt P))
+madt_pptt_needs form P each m q at other point (whole, listed, (size, (bytes, found, holds))) =
+    (whole, listed, (size, each (madt_contents whole) (pptt_contents bytes) at other point holds))
+
+-- ---- entries of any length that the stages do not read
+
+type_opaque : (e : MadtEntry) (type : ℕ) → 10 < type → type_of e ≡ type → IsOpaque e
+type_opaque (Opaque e) type above is = tt
+type_opaque (LocalApic v) type above is = omega (arith, is, above)
+type_opaque (IoApic v) type above is = omega (arith, is, above)
+type_opaque (Override v) type above is = omega (arith, is, above)
+type_opaque (NmiSource v) type above is = omega (arith, is, above)
+type_opaque (LocalNmi v) type above is = omega (arith, is, above)
+type_opaque (AddressOverride v) type above is = omega (arith, is, above)
+type_opaque (X2apic v) type above is = omega (arith, is, above)
+type_opaque (X2apicNmi v) type above is = omega (arith, is, above)
+
+typed_opaque : (madt : MadtContents) (type : ℕ) → 10 < type → HasType madt type → HasForm madt form.Opaque
+typed_opaque madt type above (o, (e, stands, is)) = (o, (e, stands, type_opaque e type above is))
+
+pub arch_opaque : (q : PolicyValue) (fadt : List ℕ) (madt : MadtContents) (at other point : ℕ)
+    → IsFadtForArch fadt madt at other point → HasForm madt form.Opaque
+arch_opaque q fadt madt at other point (inl (place, unused, reduced, inl gicc)) =
+    typed_opaque madt 11 (omega arith) gicc
+arch_opaque q fadt madt at other point (inl (place, unused, reduced, inr hart)) =
+    typed_opaque madt 24 (omega arith) hart
+arch_opaque q fadt madt at other point (inr (place, version, gicc, older)) =
+    typed_opaque madt 11 (omega arith) gicc
+
+pub no_distributor_opaque : (madt : MadtContents) (at other point : ℕ) → IsNoDistributor madt at other point
+    → HasForm madt form.Opaque
+no_distributor_opaque madt at other point (lacks, place, unused) =
+    typed_opaque madt 11 (omega arith) lacks.has_interface
+
+pub gicd_opaque : IsNumberOf form.Opaque gicd
+gicd_opaque (Opaque e) n some = tt
+gicd_opaque (LocalApic v) n some = cc
+gicd_opaque (IoApic v) n some = cc
+gicd_opaque (Override v) n some = cc
+gicd_opaque (NmiSource v) n some = cc
+gicd_opaque (LocalNmi v) n some = cc
+gicd_opaque (AddressOverride v) n some = cc
+gicd_opaque (X2apic v) n some = cc
+gicd_opaque (X2apicNmi v) n some = cc
+
+pub unread_opaque : (e : MadtEntry) (other point : ℕ) → IsMadtUnread e other point → IsOpaque e
+unread_opaque e other point ((bytes, is, unread, type), zero) = rw is tt
+
+-- ---- entries that rules read
+
+pub gicc_read : (e : List ℕ) → is_gicc e ≡ true → is_read_opaque e ≡ true
+gicc_read e is = grind (arith, is)
+
+pub rintc_read : (e : List ℕ) → is_rintc e ≡ true → is_read_opaque e ≡ true
+rintc_read e is = grind (arith, is)
+
+pub gicd_read : (e : List ℕ) → is_gicd e ≡ true → is_read_opaque e ≡ true
+gicd_read e is = grind (arith, is)
+
+pub msi_frame_read : (e : List ℕ) → is_msi_frame e ≡ true → is_read_opaque e ≡ true
+msi_frame_read e is = grind (arith, is)
+
+pub gicr_read : (e : List ℕ) → is_gicr e ≡ true → is_read_opaque e ≡ true
+gicr_read e is = grind (arith, is)
+
+-- a range of redistributors of no bytes
+abbrev pub is_empty_gicr : List ℕ → Bool
+is_empty_gicr e = is_gicr e && (field e 12 4 == 0)
+
+pub empty_read : (e : List ℕ) → is_empty_gicr e ≡ true → is_read_opaque e ≡ true
+empty_read e is = gicr_read e (and_parts (is_gicr e) (field e 12 4 == 0) is).0
+
+pub its_read : (e : List ℕ) → is_its e ≡ true → is_read_opaque e ≡ true
+its_read e is = grind (arith, is)
+
+usable_read : (e : List ℕ) → is_usable_gicc e ≡ true → is_read_opaque e ≡ true
+usable_read e is = gicc_read e (and_parts (is_gicc e) (is_usable (field e 12 4) 3) is).0
+
+pub mpidr_read : (e : List ℕ) → has_mpidr e ≡ true → is_read_opaque e ≡ true
+mpidr_read e is = usable_read e (and_parts (is_usable_gicc e) _ is).0
+
+pub own_read : (e : List ℕ) → names_redistributor e ≡ true → is_read_opaque e ≡ true
+own_read e is = usable_read e (and_parts (is_usable_gicc e) _ (and_parts _ _ is).0).0
+
+-- ---- their numbers
+
+some_if : (b : Bool) (x n : ℕ) → (if b then Some x else None) ≡ Some n → b ≡ true
+some_if true x n some = refl
+some_if false x n some = cc
+
+pub field_read : (is : List ℕ → Bool) → ((e : List ℕ) → is e ≡ true → is_read_opaque e ≡ true) → (at width : ℕ)
+    → IsNumberOf form.ReadOpaque (field_where is at width)
+field_read is each at width (Opaque e) n some = each e (some_if (is e) (field e at width) n some)
+field_read is each at width (LocalApic v) n some = cc
+field_read is each at width (IoApic v) n some = cc
+field_read is each at width (Override v) n some = cc
+field_read is each at width (NmiSource v) n some = cc
+field_read is each at width (LocalNmi v) n some = cc
+field_read is each at width (AddressOverride v) n some = cc
+field_read is each at width (X2apic v) n some = cc
+field_read is each at width (X2apicNmi v) n some = cc
+
+pub reserved_read : IsNumberOf form.ReadOpaque reserved_mpidr
+reserved_read e n some =
+    option_and_then_some (λ n. if is_reserved_mpidr n then Some n else None) (usable_mpidr e) n some
+    (λ mpidr is reserved. field_read has_mpidr mpidr_read 68 8 e mpidr is)
+
+pub hart_read : IsNumberOf form.ReadOpaque usable_hart_id
+hart_read (Opaque e) n some = rintc_read e (and_parts (is_rintc e) _ (some_if _ (field e 8 8) n some)).0
+hart_read (LocalApic v) n some = cc
+hart_read (IoApic v) n some = cc
+hart_read (Override v) n some = cc
+hart_read (NmiSource v) n some = cc
+hart_read (LocalNmi v) n some = cc
+hart_read (AddressOverride v) n some = cc
+hart_read (X2apic v) n some = cc
+hart_read (X2apicNmi v) n some = cc
+
+-- ---- rules on the parts of a GIC
+
+gicc_form : (e : MadtEntry) → IsUsableGicc e → IsReadOpaque e
+gicc_form (Opaque e) is = usable_read e is
+gicc_form (LocalApic v) is = elim is [ ]
+gicc_form (IoApic v) is = elim is [ ]
+gicc_form (Override v) is = elim is [ ]
+gicc_form (NmiSource v) is = elim is [ ]
+gicc_form (LocalNmi v) is = elim is [ ]
+gicc_form (AddressOverride v) is = elim is [ ]
+gicc_form (X2apic v) is = elim is [ ]
+gicc_form (X2apicNmi v) is = elim is [ ]
+
+pub giccs_read : (q : PolicyValue) (fadt : List ℕ) (madt : MadtContents) (at other point : ℕ)
+    → IsNoBootMethod fadt madt at other point → HasForm madt form.ReadOpaque
+giccs_read q fadt madt at other point (((o, p, (e, stands, is), two, before), none), psci, place, first, second) =
+    (o, (e, stands, gicc_form e is))
+
+some_part : (gicd msi_frame gicr its : Bool) (p q r t u v : ℕ) (o : ℕ × ℕ)
+    → option_or
+    (option_or
+    (option_or (registers_from (if gicr then Some p else None) (if gicr then Some q else None))
+    (registers_from (if its then Some r else None) (Some (2 ^ 17))))
+    (registers_from (if msi_frame then Some t else None) (Some (2 ^ 12))))
+    (registers_from (if gicd then Some u else None) (option_map gicd_size (if gicd then Some v else None))) ≡ Some o
+    → (gicd || msi_frame || gicr || its) ≡ true
+some_part true msi_frame gicr its p q r t u v o is = refl
+some_part false true gicr its p q r t u v o is = refl
+some_part false false true its p q r t u v o is = refl
+some_part false false false true p q r t u v o is = refl
+some_part false false false false p q r t u v o is = absurd (let none : None ≡ Some o = is in cc)
+
+part_read : (e : List ℕ) → (is_gicd e || is_msi_frame e || is_gicr e || is_its e) ≡ true → is_read_opaque e ≡ true
+part_read e is = grind (arith, is)
+
+registers_read : (e : MadtEntry) (s n : ℕ) → HasRegisters e s n → IsReadOpaque e
+registers_read (Opaque e) s n some =
+    part_read e
+    (some_part (is_gicd e) (is_msi_frame e) (is_gicr e) (is_its e) (field e 4 8) (field e 12 4) (field e 8 8)
+    (field e 8 8) (field e 8 8) (field e 20 1) (s, n) some)
+registers_read (LocalApic v) s n some = cc
+registers_read (IoApic v) s n some = cc
+registers_read (Override v) s n some = cc
+registers_read (NmiSource v) s n some = cc
+registers_read (LocalNmi v) s n some = cc
+registers_read (AddressOverride v) s n some = cc
+registers_read (X2apic v) s n some = cc
+registers_read (X2apicNmi v) s n some = cc
+
+pub overlap_read : (madt : MadtContents) (at other point : ℕ) → IsGicOverlap madt at other point
+    → HasForm madt form.ReadOpaque
+overlap_read madt at other point first =
+    let (n, (e, stands, has), start, inside) = first.overlap.one_holds in
+    (at, (e, stands, registers_read e first.overlap.s n has))
+
+pub no_redistributor_read : (madt : MadtContents) (at other point : ℕ) → IsNoRedistributor madt at other point
+    → HasForm madt form.ReadOpaque
+no_redistributor_read madt at other point (first, lacks, zero) =
+    named_form form.ReadOpaque gicd_version (field_read is_gicd gicd_read 20 1) madt at other first.0
+
+pub too_small_read : (madt : MadtContents) (at other point : ℕ) → IsGicrTooSmall madt at other point
+    → HasForm madt form.ReadOpaque
+too_small_read madt at other point small =
+    let (size, first) = small.first in
+    named_form form.ReadOpaque gicr_length (field_read is_gicr gicr_read 12 4) madt at size first.0
+
+pub base_read : (madt : MadtContents) (at other point : ℕ) → IsGiccBaseDiffers madt at other point
+    → HasForm madt form.ReadOpaque
+base_read madt at other point differs =
+    named_form form.ReadOpaque gicc_base (field_read is_gicc gicc_read 32 8) madt at point differs.here
+
+pub twice_read : (madt : MadtContents) (at other point : ℕ) → IsRedistributorTwice madt at other point
+    → HasForm madt form.ReadOpaque
+twice_read madt at other point (names, first) =
+    named_form form.ReadOpaque own_redistributor (field_read names_redistributor own_read 60 8) madt at point names
+
+-- ---- the rule on leaves that have no processor
+
+some_processor : (gicc rintc core_pic : Bool) (p q r : Processor)
+    → IsSome (if gicc then Some p else if rintc then Some q else if core_pic then Some r else None)
+    → (gicc || rintc || core_pic) ≡ true
+some_processor true rintc core_pic p q r some = refl
+some_processor false true core_pic p q r some = refl
+some_processor false false true p q r some = refl
+some_processor false false false p q r some = absurd cc
+
+one_read : (e : List ℕ) → (is_gicc e || is_rintc e || is_core_pic e) ≡ true → is_read_opaque e ≡ true
+one_read e is = grind (arith, is)
+
+processor_form : (e : MadtEntry) → IsOpaqueProcessor e → IsReadOpaque e
+processor_form (Opaque e) is =
+    one_read e
+    (some_processor (is_gicc e) (is_rintc e) (is_core_pic e)
+    (record { uid = field e 8 4; apic_id = None; usable = is_usable (field e 12 4) 3 })
+    (record { uid = field e 16 4; apic_id = None; usable = is_usable (field e 4 4) 1 })
+    (record { uid = field e 3 4; apic_id = Some (field e 7 4); usable = has_bit (field e 11 4) 0 }) is)
+processor_form (LocalApic v) is = elim is [ ]
+processor_form (IoApic v) is = elim is [ ]
+processor_form (Override v) is = elim is [ ]
+processor_form (NmiSource v) is = elim is [ ]
+processor_form (LocalNmi v) is = elim is [ ]
+processor_form (AddressOverride v) is = elim is [ ]
+processor_form (X2apic v) is = elim is [ ]
+processor_form (X2apicNmi v) is = elim is [ ]
+
+pub leaf_read : (madt : MadtContents) (pptt : PpttContents) (at other point : ℕ)
+    → IsLeafNowhere madt pptt at other point → HasForm madt form.ReadOpaque
+leaf_read madt pptt at other point (known, (o, (e, stands, is)), leaf, none, zero) =
+    (o, (e, stands, processor_form e is))
