@@ -55,6 +55,7 @@ mod tables;
 pub use chains::{first_cycle, named_offset};
 pub use collecting::collected;
 pub use domains::check_domains;
+pub use entries::check_entries;
 pub use interrupts::check_interrupts;
 pub use leaves::{HAS_LEAVES, check_leaves};
 pub use nodes::Chain;

@@ -14,6 +14,7 @@ mod FirstOfCodes
 mod FirstPlaces
 mod FirstSlots
 mod HeaderTexts
+mod HeldStages
 mod HierarchyPlaces
 mod KnownOnes
 mod LeafNumbers

@@ -1,6 +1,6 @@
 -- Rules that are kept by a MADT without an entry of a form.
 use Rattle.std.proofs.Common.{◌≡◌, ℕ, ◌<◌, List, Bool, true, false, Option, Some, None, arith, refl, inl, inr}
-use Rattle.std.specs.Prelude.{IsSome, ◌==◌, ◌&&◌, ◌||◌, ◌^◌, option_map, if◌then◌else◌}
+use Rattle.std.specs.Prelude.{◌↔◌, IsSome, IsTrue, ◌==◌, ◌&&◌, ◌||◌, ◌^◌, option_map, if◌then◌else◌}
 use Rattle.std.specs.Option.{option_or}
 use Rattle.std.proofs.lemmas.Bool.{and_parts}
 use Rattle.std.proofs.lemmas.Option.{option_and_then_some}
@@ -10,21 +10,23 @@ use Rattle.acpi_base.specs.Memory.{Memory}
 use Rattle.acpi_base.specs.Number.{field, has_bit}
 use Rattle.acpi_base.specs.Policy.{PolicyValue}
 use Rattle.acpi_base.specs.Pptt.{PpttContents, pptt_contents}
-use Rattle.acpi_lint.specs.CompleteTables.{IsFound, IsAnyOfForm, AreCompleteTables}
+use Rattle.acpi_lint.specs.CompleteTables.{IsFound, IsAnyOfForm, is_seen, AreSeenForms, AreCompleteTables}
 use Rattle.acpi_lint.specs.MadtForms.{IsOpaque, is_read_opaque, IsReadOpaque, IsOfForm, HasForm}
 use Rattle.acpi_lint.specs.RuleGroups.{NeedsForm}
 use Rattle.acpi_lint.specs.Rules.Broken.{OfMadt, OnFadt, OnMadt, FadtMadt, Madt, MadtEntries, MadtNumbers, MadtPptt}
 use Rattle.acpi_lint.specs.Rules.EntryTypes.{type_of, HasType}
-use Rattle.acpi_lint.specs.Rules.FadtWithMadt.{IsFadtForArch, IsUsableGicc, IsNoBootMethod}
+use Rattle.acpi_lint.specs.Rules.FadtAdvice.{IsSciNowhere}
+use Rattle.acpi_lint.specs.Rules.FadtWithMadt.{IsFadtForArch, IsPastIsa, IsOverridePastIsa, IsUsableGicc, IsNoBootMethod}
 use Rattle.acpi_lint.specs.Rules.Gic.{field_where, is_gicd, is_msi_frame, is_gicr, is_its, is_usable_gicc, has_mpidr, names_redistributor, gicc_base, gicd_version, gicr_length, own_redistributor, usable_mpidr}
 use Rattle.acpi_lint.specs.Rules.GicAdvice.{is_reserved_mpidr, reserved_mpidr, IsNoDistributor, IsNoRedistributor, IsGicrTooSmall, IsGiccBaseDiffers, IsRedistributorTwice}
 use Rattle.acpi_lint.specs.Rules.GicRanges.{gicd_size, registers_from, HasRegisters, IsGicOverlap}
-use Rattle.acpi_lint.specs.Rules.ApicAdvice.{usable_hart_id}
-use Rattle.acpi_lint.specs.Rules.MadtAdvice.{gicd, IsMadtUnread}
+use Rattle.acpi_lint.specs.Rules.ApicAdvice.{usable_hart_id, low_x2apic_id, level_timer, other_lint, source_for, IsTwoSourcesOneGsi, IsX2ApicBelow255}
+use Rattle.acpi_lint.specs.Rules.MadtAdvice.{io_apic_id, io_apic_address, nonzero_io_apic_address, IsIoApicAtZero, nmi_uid, IsNmiNowhere, gicd, IsMadtUnread}
 use Rattle.acpi_lint.specs.Rules.Numbered.{NamesAt}
 use Rattle.acpi_lint.specs.Rules.PpttAdvice.{IsLeafNowhere}
 use Rattle.acpi_lint.specs.Rules.Processors.{Processor, is_gicc, is_rintc, is_core_pic, is_usable, IsOpaqueProcessor}
 use Rattle.acpi_lint.specs.declared.complete_tables.CompleteTables.{CompleteTables}
+use Rattle.acpi_lint.specs.declared.complete_tables.SeenForms.{SeenForms}
 use Rattle.acpi_lint.specs.declared.madt_forms.MadtForm.{MadtForm}
 use Rattle.acpi_lint.specs.declared.madt_forms.MadtForm.TheVariants as form
 use Rattle.acpi_base.specs.declared.table_kind.TableKind.TheVariants as kind
@@ -59,6 +61,31 @@ read_opaque (X2apicNmi v) is = elim is [ ]
 pub any_opaque : (found : Option (List ℕ)) → IsAnyOfForm form.ReadOpaque found → IsAnyOfForm form.Opaque found
 any_opaque None has = has
 any_opaque (Some whole) (o, (e, stands, is)) = (o, (e, stands, read_opaque e is))
+
+seen_none : (b : Bool) (form : MadtForm) (found : Option (List ℕ)) → IsTrue b ↔ IsAnyOfForm form found → b ≡ false
+    → ¬ IsAnyOfForm form found
+seen_none b form found seen unseen any = absurd (let is : IsTrue b = seen.1 any in cc)
+
+-- the forms that were looked for one by one
+pub seen_forms : (forms : SeenForms) (found : Option (List ℕ)) → IsTrue forms.io_apic ↔ IsAnyOfForm form.IoApic found
+    → IsTrue forms.override_entry ↔ IsAnyOfForm form.Override found
+    → IsTrue forms.local_nmi ↔ IsAnyOfForm form.LocalNmi found → IsTrue forms.x2apic ↔ IsAnyOfForm form.X2apic found
+    → IsTrue forms.opaque ↔ IsAnyOfForm form.Opaque found
+    → IsTrue forms.read_opaque ↔ IsAnyOfForm form.ReadOpaque found → AreSeenForms forms found
+seen_forms forms found io_apic override_entry local_nmi x2apic opaque read = each
+  where
+    each : (form : MadtForm) → is_seen forms form ≡ false → ¬ IsAnyOfForm form found
+    each (form.Type wanted) unseen = absurd cc
+    each form.Opaque unseen = seen_none forms.opaque form.Opaque found opaque unseen
+    each form.ReadOpaque unseen = seen_none forms.read_opaque form.ReadOpaque found read unseen
+    each form.OpaqueProcessor unseen = absurd cc
+    each form.UnreadProcessor unseen = absurd cc
+    each form.OtherIts unseen = absurd cc
+    each form.IoApic unseen = seen_none forms.io_apic form.IoApic found io_apic unseen
+    each form.Override unseen = seen_none forms.override_entry form.Override found override_entry unseen
+    each form.LocalNmi unseen = seen_none forms.local_nmi form.LocalNmi found local_nmi unseen
+    each form.X2apic unseen = seen_none forms.x2apic form.X2apic found x2apic unseen
+    each form.Parking unseen = absurd cc
 
 -- ---- rules by what they look at
 
@@ -98,6 +125,129 @@ pub madt_pptt_needs : (form : MadtForm) (P : MadtContents → PpttContents → �
     → NeedsForm form (OnMadt (MadtPptt P))
 madt_pptt_needs form P each m q at other point (whole, listed, (size, (bytes, found, holds))) =
     (whole, listed, (size, each (madt_contents whole) (pptt_contents bytes) at other point holds))
+
+-- ---- entries that the stages read
+
+pub id_of_io_apic : IsNumberOf form.IoApic io_apic_id
+id_of_io_apic (LocalApic v) n some = cc
+id_of_io_apic (IoApic v) n some = tt
+id_of_io_apic (Override v) n some = cc
+id_of_io_apic (NmiSource v) n some = cc
+id_of_io_apic (LocalNmi v) n some = cc
+id_of_io_apic (AddressOverride v) n some = cc
+id_of_io_apic (X2apic v) n some = cc
+id_of_io_apic (X2apicNmi v) n some = cc
+id_of_io_apic (Opaque v) n some = cc
+
+pub address_of_io_apic : IsNumberOf form.IoApic io_apic_address
+address_of_io_apic (LocalApic v) n some = cc
+address_of_io_apic (IoApic v) n some = tt
+address_of_io_apic (Override v) n some = cc
+address_of_io_apic (NmiSource v) n some = cc
+address_of_io_apic (LocalNmi v) n some = cc
+address_of_io_apic (AddressOverride v) n some = cc
+address_of_io_apic (X2apic v) n some = cc
+address_of_io_apic (X2apicNmi v) n some = cc
+address_of_io_apic (Opaque v) n some = cc
+
+pub nonzero_of_io_apic : IsNumberOf form.IoApic nonzero_io_apic_address
+nonzero_of_io_apic e n some =
+    option_and_then_some (λ a. if a == 0 then None else Some a) (io_apic_address e) n some
+    (λ address is nonzero. address_of_io_apic e address is)
+
+pub zero_of_io_apic : (e : MadtEntry) (other point : ℕ) → IsIoApicAtZero e other point → IsOfForm form.IoApic e
+zero_of_io_apic e other point (is, unused) = address_of_io_apic e 0 is
+
+pub sci_io_apic : (q : PolicyValue) (fadt : List ℕ) (madt : MadtContents) (at other point : ℕ)
+    → IsSciNowhere q fadt madt at other point → HasForm madt form.IoApic
+sci_io_apic q fadt madt at other point nowhere = nowhere.some
+
+pub timer_of_override : IsNumberOf form.Override level_timer
+timer_of_override (LocalApic v) n some = cc
+timer_of_override (IoApic v) n some = cc
+timer_of_override (Override v) n some = tt
+timer_of_override (NmiSource v) n some = cc
+timer_of_override (LocalNmi v) n some = cc
+timer_of_override (AddressOverride v) n some = cc
+timer_of_override (X2apic v) n some = cc
+timer_of_override (X2apicNmi v) n some = cc
+timer_of_override (Opaque v) n some = cc
+
+past_of_override : (sci : ℕ) (e : MadtEntry) (other point : ℕ) → IsPastIsa sci e other point
+    → IsOfForm form.Override e
+past_of_override sci (LocalApic v) other point is = elim is [ ]
+past_of_override sci (IoApic v) other point is = elim is [ ]
+past_of_override sci (Override v) other point is = tt
+past_of_override sci (NmiSource v) other point is = elim is [ ]
+past_of_override sci (LocalNmi v) other point is = elim is [ ]
+past_of_override sci (AddressOverride v) other point is = elim is [ ]
+past_of_override sci (X2apic v) other point is = elim is [ ]
+past_of_override sci (X2apicNmi v) other point is = elim is [ ]
+past_of_override sci (Opaque v) other point is = elim is [ ]
+
+pub past_override : (q : PolicyValue) (fadt : List ℕ) (madt : MadtContents) (at other point : ℕ)
+    → IsOverridePastIsa fadt madt at other point → HasForm madt form.Override
+past_override q fadt madt at other point (e, stands, is) =
+    (at, (e, stands, past_of_override (field fadt 46 2) e other point is))
+
+source_of_override : (gsi : ℕ) → IsNumberOf form.Override (source_for gsi)
+source_of_override gsi (LocalApic v) n some = cc
+source_of_override gsi (IoApic v) n some = cc
+source_of_override gsi (Override v) n some = tt
+source_of_override gsi (NmiSource v) n some = cc
+source_of_override gsi (LocalNmi v) n some = cc
+source_of_override gsi (AddressOverride v) n some = cc
+source_of_override gsi (X2apic v) n some = cc
+source_of_override gsi (X2apicNmi v) n some = cc
+source_of_override gsi (Opaque v) n some = cc
+
+pub two_overrides : (madt : MadtContents) (at other point : ℕ) → IsTwoSourcesOneGsi madt at other point
+    → HasForm madt form.Override
+two_overrides madt at other point two =
+    named_form form.Override (source_for point) (source_of_override point) madt at two.source two.here
+
+pub uid_of_nmi : IsNumberOf form.LocalNmi nmi_uid
+uid_of_nmi (LocalApic v) n some = cc
+uid_of_nmi (IoApic v) n some = cc
+uid_of_nmi (Override v) n some = cc
+uid_of_nmi (NmiSource v) n some = cc
+uid_of_nmi (LocalNmi v) n some = tt
+uid_of_nmi (AddressOverride v) n some = cc
+uid_of_nmi (X2apic v) n some = cc
+uid_of_nmi (X2apicNmi v) n some = tt
+uid_of_nmi (Opaque v) n some = cc
+
+pub nmi_somewhere : (madt : MadtContents) (at other point : ℕ) → IsNmiNowhere madt at other point
+    → HasForm madt form.LocalNmi
+nmi_somewhere madt at other point (known, names, none, zero) =
+    named_form form.LocalNmi nmi_uid uid_of_nmi madt at point names
+
+pub lint_of_nmi : IsNumberOf form.LocalNmi other_lint
+lint_of_nmi (LocalApic v) n some = cc
+lint_of_nmi (IoApic v) n some = cc
+lint_of_nmi (Override v) n some = cc
+lint_of_nmi (NmiSource v) n some = cc
+lint_of_nmi (LocalNmi v) n some = tt
+lint_of_nmi (AddressOverride v) n some = cc
+lint_of_nmi (X2apic v) n some = cc
+lint_of_nmi (X2apicNmi v) n some = tt
+lint_of_nmi (Opaque v) n some = cc
+
+pub id_of_x2apic : IsNumberOf form.X2apic low_x2apic_id
+id_of_x2apic (LocalApic v) n some = cc
+id_of_x2apic (IoApic v) n some = cc
+id_of_x2apic (Override v) n some = cc
+id_of_x2apic (NmiSource v) n some = cc
+id_of_x2apic (LocalNmi v) n some = cc
+id_of_x2apic (AddressOverride v) n some = cc
+id_of_x2apic (X2apic v) n some = tt
+id_of_x2apic (X2apicNmi v) n some = cc
+id_of_x2apic (Opaque v) n some = cc
+
+pub low_x2apic : (madt : MadtContents) (at other point : ℕ) → IsX2ApicBelow255 madt at other point
+    → HasForm madt form.X2apic
+low_x2apic madt at other point (some, names, zero) =
+    named_form form.X2apic low_x2apic_id id_of_x2apic madt at point names
 
 -- ---- entries of any length that the stages do not read
 

@@ -1,6 +1,6 @@
 -- From what is found in a table to what is found in the set that lists it, and for the rules that look at it.
 use Rattle.std.proofs.Common.{◌≡◌, ℕ, ◌≤◌, List, length, Option, Some, None, Result, Ok, Err, refl, ap, arith, ◌<◌, sym, ◌∙◌, subst}
-use Rattle.std.specs.Prelude.{◌↔◌, IfOk, IsTrue, MatchOption, option_map}
+use Rattle.std.specs.Prelude.{◌↔◌, IfOk, MatchOption, option_map}
 use Rattle.std.proofs.lemmas.Option.{same_Some}
 use denote.Ref.{Bor}
 use Rattle.acpi_base.specs.Contents.{HasPptt}
@@ -22,7 +22,7 @@ use Rattle.acpi_check.specs.CollectedValues.{Picks}
 use Rattle.acpi_check.proofs.EntryPasses.Kept.{AreRising, srat_rising, pptt_rising}
 use Rattle.acpi_lint.specs.MadtNumbers.{NamesWith}
 use Rattle.acpi_lint.specs.Places.{PicksFirst, FindsOwn, FindsLeast}
-use Rattle.acpi_lint.specs.CompleteTables.{IsFound, IsLong, IsAnyOfForm, AreEntries, AreCompleteTables, table_of}
+use Rattle.acpi_lint.specs.CompleteTables.{IsFound, IsLong, AreSeenForms, AreEntries, AreCompleteTables, table_of}
 use Rattle.acpi_lint.specs.declared.place.Place.{Place}
 use Rattle.acpi_lint.specs.declared.complete_tables.CompleteTables.{CompleteTables}
 use Rattle.acpi_lint.proofs.CollectedNumbers.{each_ok}
@@ -35,7 +35,6 @@ use Rattle.acpi_lint.specs.Slots.{IsRootOf, AreSlots, AreFirstSlots}
 use Rattle.acpi_lint.specs.RuleGroups.{group_of, as_group, Finds}
 use Rattle.acpi_lint.specs.declared.rule_group.RuleGroup.{RuleGroup}
 use Rattle.acpi_base.specs.declared.table_kind.TableKind.TheVariants as kind
-use Rattle.acpi_lint.specs.declared.madt_forms.MadtForm.TheVariants as form
 
 pub of_table : {m : Memory} {p : ℕ} {signature whole : List ℕ} (P : List ℕ → ℕ → ℕ → ℕ → Type 0) (found : Option Place)
     → IsListedTable m p signature whole → FindsLeast (P whole) found
@@ -83,10 +82,9 @@ pub are_whole : {m : Memory} {p : ℕ} (tables : CompleteTables)
     → IsRootOf m p tables.root → AreSlots m (IsSlot m p) tables.slots.items → AreFirstSlots m p tables.firsts
     → IsFound m p fadt_signature tables.fadt → IsFound m p madt_signature tables.madt
     → IsFound m p srat_signature tables.srat → IsFound m p slit_signature tables.slit
-    → IsFound m p pptt_signature tables.pptt → IsTrue tables.has_opaque ↔ IsAnyOfForm form.Opaque tables.madt
-    → IsTrue tables.has_read_opaque ↔ IsAnyOfForm form.ReadOpaque tables.madt → AreCompleteTables m p tables
-are_whole {m} {p} tables root slots firsts fadt madt srat slit pptt opaque read_opaque =
-    record { root = root; slots = slots; firsts = firsts; listed = listed; opaque = opaque; read_opaque = read_opaque }
+    → IsFound m p pptt_signature tables.pptt → AreSeenForms tables.forms tables.madt → AreCompleteTables m p tables
+are_whole {m} {p} tables root slots firsts fadt madt srat slit pptt forms =
+    record { root = root; slots = slots; firsts = firsts; listed = listed; forms = forms }
   where
     listed : (k : TableKind) → IsFound m p (signature_of k) (table_of tables k)
     listed kind.Fadt = fadt

@@ -6,6 +6,7 @@ pub mod Domains
 pub mod EntryNumbers
 pub mod FadtPlaces
 pub mod Headers
+pub mod HeldStages
 pub mod Hierarchy
 pub mod Leaves
 pub mod MadtForms

@@ -31,11 +31,21 @@ use acpi_base::{LentImage, Policy, TableKind};
 use std::alloc::{AllocError, Global};
 
 /// An entry of the MADT without which a rule is kept, so that a MADT which has none is not gone over for it. None for a
-/// rule that needs none, or one of those that the stages read.
+/// rule that needs none of these.
 fn needed_form(rule: Rule) -> Option<MadtForm>
     ensures { IfSome result (λ form. NeedsForm form (condition rule)) }
 {
     match rule {
+        Rule::SciNowhere => Some(MadtForm::IoApic),
+        Rule::IoApicAtZero => Some(MadtForm::IoApic),
+        Rule::SameIoApicId => Some(MadtForm::IoApic),
+        Rule::SameIoApicAddress => Some(MadtForm::IoApic),
+        Rule::OverridePastIsa => Some(MadtForm::Override),
+        Rule::TimerLevel => Some(MadtForm::Override),
+        Rule::TwoSourcesOneGsi => Some(MadtForm::Override),
+        Rule::NmiNowhere => Some(MadtForm::LocalNmi),
+        Rule::LintNotOne => Some(MadtForm::LocalNmi),
+        Rule::X2ApicBelow255 => Some(MadtForm::X2apic),
         Rule::SecondGicd => Some(MadtForm::Opaque),
         Rule::MadtUnread => Some(MadtForm::Opaque),
         Rule::FadtForArch => Some(MadtForm::Opaque),

@@ -1,13 +1,12 @@
 //! The tables of a set that the finders read.
 
-ghost use Rattle.std.specs.Prelude.{◌≡◌, ◌↔◌, ℕ, IfOk, IsTrue, false, option_map};
+ghost use Rattle.std.specs.Prelude.{◌≡◌, ◌↔◌, ℕ, IfOk, IsTrue, option_map};
 ghost use Rattle.acpi_base.specs.Entries.{entries_read_by};
-ghost use Rattle.acpi_base.specs.Memory.{Memory};
 ghost use Rattle.acpi_base.specs.Pptt.{pptt_contents, pptt_entry};
 ghost use Rattle.acpi_base.specs.Srat.{srat_contents, srat_entry};
 ghost use Rattle.acpi_base.specs.TableKinds.{signature_of};
 ghost use Rattle.acpi_lint.specs.Slots.{AreFirstSlots};
-ghost use Rattle.acpi_lint.specs.CompleteTables.{IsFound, IsLong, IsAnyOfForm, AreEntries, table_of, AreCompleteTables};
+ghost use Rattle.acpi_lint.specs.CompleteTables.{IsFound, IsLong, IsAnyOfForm, AreEntries, AreSeenForms, may_have, table_of, AreCompleteTables};
 ghost use Rattle.acpi_lint.specs.declared.madt_forms.MadtForm.TheVariants as form;
 
 use crate::first_slots::FirstSlots;
@@ -37,10 +36,25 @@ pub struct CompleteTables<'a> {
     pub slit: Option<Table<'a>>,
     /// The PPTT.
     pub pptt: Option<Table<'a>>,
-    /// Whether an entry of the MADT is one that the stages do not read.
-    has_opaque: bool,
-    /// Whether one of these is one that rules read.
-    has_read_opaque: bool,
+    /// Which entries the MADT has.
+    forms: SeenForms,
+}
+
+/// Of which forms that rules need a MADT has an entry.
+#[derive(Drop)]
+struct SeenForms {
+    /// An I/O APIC.
+    io_apic: bool,
+    /// An override.
+    override_entry: bool,
+    /// An NMI of local APICs or of local x2APICs.
+    local_nmi: bool,
+    /// A local x2APIC.
+    x2apic: bool,
+    /// One that the stages do not read.
+    opaque: bool,
+    /// One that the stages do not read and that rules do.
+    read_opaque: bool,
 }
 
 /// The first listed table of a kind in a set with these first slots.
@@ -71,6 +85,23 @@ fn has_read_opaque(has_opaque: bool, madt: &Option<Table<'_>>) -> bool
     has_opaque && is_any_of(MadtForm::ReadOpaque, madt)
 }
 
+impl SeenForms {
+    /// Those of a MADT, if one was found. Each form is looked for by itself: mostly the first entries show it.
+    fn of(madt: &Option<Table<'_>>) -> SeenForms
+        ensures { AreSeenForms result madt.now }
+    {
+        let opaque = is_any_of(MadtForm::Opaque, madt);
+        SeenForms {
+            io_apic: is_any_of(MadtForm::IoApic, madt),
+            override_entry: is_any_of(MadtForm::Override, madt),
+            local_nmi: is_any_of(MadtForm::LocalNmi, madt),
+            x2apic: is_any_of(MadtForm::X2apic, madt),
+            opaque,
+            read_opaque: has_read_opaque(opaque, madt),
+        }
+    }
+}
+
 impl<'a> CompleteTables<'a> {
     /// The tables of the set that the RSDP at an address leads to. Allocates for each address that is listed.
     pub fn of(
@@ -84,11 +115,9 @@ impl<'a> CompleteTables<'a> {
         let slots = listed_slots(alloc, image, &root)?;
         let firsts = FirstSlots::of(&slots);
         let madt = found(image, &firsts, TableKind::Madt);
-        let has_opaque = is_any_of(MadtForm::Opaque, &madt);
         Ok(CompleteTables {
             fadt: found(image, &firsts, TableKind::Fadt),
-            has_opaque,
-            has_read_opaque: has_read_opaque(has_opaque, &madt),
+            forms: SeenForms::of(&madt),
             madt,
             srat: found(image, &firsts, TableKind::Srat),
             slit: found(image, &firsts, TableKind::Slit),
@@ -99,15 +128,17 @@ impl<'a> CompleteTables<'a> {
         })
     }
 
-    /// Whether an entry of the MADT may be such a one. Not if there is none that the stages do not read, or that rules
-    /// read beside them.
+    /// Whether the MADT may have an entry of a form. Of some it is known whether it has.
     pub fn may_have(&self, form: MadtForm) -> bool
-        ensures { result ≡ false → (m : Memory) → (p : ℕ) → AreCompleteTables m p self.now
-            → ¬ IsAnyOfForm form self.now.madt }
+        ensures { result ≡ may_have self.now form }
     {
         match form {
-            MadtForm::Opaque => self.has_opaque,
-            MadtForm::ReadOpaque => self.has_read_opaque,
+            MadtForm::IoApic => self.forms.io_apic,
+            MadtForm::Override => self.forms.override_entry,
+            MadtForm::LocalNmi => self.forms.local_nmi,
+            MadtForm::X2apic => self.forms.x2apic,
+            MadtForm::Opaque => self.forms.opaque,
+            MadtForm::ReadOpaque => self.forms.read_opaque,
             _ => true,
         }
     }

@@ -4,10 +4,12 @@ ghost use Rattle.std.specs.Prelude.{IfOk};
 ghost use Rattle.acpi_base.specs.FirstOfCode.{AreFirstFaults, FindsFirstOfCode};
 ghost use Rattle.acpi_lint.specs.StageFaults.{FindsFirstAt};
 ghost use Rattle.acpi_lint.specs.CompleteTables.{AreCompleteTables};
+ghost use Rattle.acpi_lint.specs.HeldStages.{AreHeld};
 
 use crate::complete_tables::CompleteTables;
 use crate::facs::facs_fault;
 use crate::fadt::fadt_fault;
+use crate::held_stages::HeldStages;
 use crate::one_code::{
     cycle_place, gsi_clash, gsi_nowhere, leaf_unknown, overlap, override_clash, two_domains,
 };
@@ -66,11 +68,16 @@ fn first_fault(
     image: &LentImage<'_>,
     tables: &CompleteTables<'_>,
     policy: &Policy,
+    held: &HeldStages,
     code: Code,
 ) -> Result<Option<Witness>, AllocError>
-    requires { AreCompleteTables image.now policy.now.rsdp tables.now }
+    requires tables { AreCompleteTables image.now policy.now.rsdp tables.now }
+    requires held { AreHeld held.now image.now policy.now }
     ensures { IfOk result (FindsFirstOfCode code image.now policy.now) }
 {
+    if held.has(code.stage()) {
+        return Ok(None);
+    }
     let Some(Place { at, other, point }) = first_place(alloc, image, tables, policy, code)? else {
         return Ok(None);
     };
@@ -92,10 +99,11 @@ pub fn first_faults(
     requires { AreCompleteTables image.now policy.now.rsdp tables.now }
     ensures { IfOk result (λ faults. AreFirstFaults image.now policy.now faults.items) }
 {
+    let held = HeldStages::of(tables, policy);
     let mut faults = Vec::new(alloc);
     let mut number = 1;
     while let Some(code) = Code::new(number) {
-        if let Some(fault) = first_fault(alloc, image, tables, policy, code)? {
+        if let Some(fault) = first_fault(alloc, image, tables, policy, &held, code)? {
             faults.push(fault)?;
         }
         number += 1;

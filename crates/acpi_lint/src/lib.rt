@@ -49,6 +49,7 @@ mod first_slots;
 mod gic;
 mod gic_overlap;
 mod header_advice;
+mod held_stages;
 mod hierarchy;
 mod its;
 mod known_numbers;

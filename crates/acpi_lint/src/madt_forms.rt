@@ -4,7 +4,7 @@ ghost use Rattle.std.specs.Prelude.{◌≡◌, ◌↔◌, IsTrue, slice_index};
 ghost use Rattle.acpi_base.specs.Across.{IsIoApic};
 ghost use Rattle.acpi_base.specs.Madt.{madt_contents};
 ghost use Rattle.acpi_read.specs.Madts.{madt_value};
-ghost use Rattle.acpi_lint.specs.MadtForms.{IsOpaque, IsReadOpaque, is_read_opaque, IsOfForm, HasForm};
+ghost use Rattle.acpi_lint.specs.MadtForms.{IsOpaque, IsReadOpaque, IsOverride, IsLocalNmi, IsX2apic, is_read_opaque, IsOfForm, HasForm};
 ghost use Rattle.acpi_lint.specs.Rules.EntryTypes.{type_of, HasType};
 ghost use Rattle.acpi_lint.specs.Rules.FadtWithMadt.{IsParking};
 ghost use Rattle.acpi_lint.specs.Rules.Its.{IsOtherIts};
@@ -34,6 +34,12 @@ pub enum MadtForm {
     OtherIts,
     /// An I/O APIC.
     IoApic,
+    /// An override.
+    Override,
+    /// An NMI of local APICs or of local x2APICs.
+    LocalNmi,
+    /// A local x2APIC.
+    X2apic,
     /// A usable GIC CPU interface with a version of the parking protocol.
     Parking,
 }
@@ -52,6 +58,9 @@ impl MadtForm {
             MadtForm::UnreadProcessor => is_unread_processor(entry),
             MadtForm::OtherIts => is_other_its(entry),
             MadtForm::IoApic => is_io_apic(entry),
+            MadtForm::Override => is_override(entry),
+            MadtForm::LocalNmi => is_local_nmi(entry),
+            MadtForm::X2apic => is_x2apic(entry),
             MadtForm::Parking => is_parking(entry),
         }
     }
@@ -172,6 +181,40 @@ fn is_io_apic(entry: &MadtEntry<'_>) -> bool
 {
     match entry {
         MadtEntry::IoApic(_) => true,
+        _ => false,
+    }
+}
+
+/// Whether it is an override.
+#[inline(always)]
+fn is_override(entry: &MadtEntry<'_>) -> bool
+    ensures { IsTrue result ↔ IsOverride (madt_value entry.now) }
+{
+    match entry {
+        MadtEntry::Override(_) => true,
+        _ => false,
+    }
+}
+
+/// Whether it is an NMI of local APICs or of local x2APICs.
+#[inline(always)]
+fn is_local_nmi(entry: &MadtEntry<'_>) -> bool
+    ensures { IsTrue result ↔ IsLocalNmi (madt_value entry.now) }
+{
+    match entry {
+        MadtEntry::LocalNmi(_) => true,
+        MadtEntry::X2apicNmi(_) => true,
+        _ => false,
+    }
+}
+
+/// Whether it is a local x2APIC.
+#[inline(always)]
+fn is_x2apic(entry: &MadtEntry<'_>) -> bool
+    ensures { IsTrue result ↔ IsX2apic (madt_value entry.now) }
+{
+    match entry {
+        MadtEntry::X2apic(_) => true,
         _ => false,
     }
 }

@@ -1,13 +1,14 @@
-use Rattle.acpi_lint.specs.Rules.ApicAdvice.{usable_hart_id}
-use Rattle.acpi_lint.specs.Rules.FadtWithMadt.{IsFadtForArch, IsNoBootMethod}
+use Rattle.acpi_lint.specs.Rules.ApicAdvice.{usable_hart_id, level_timer, other_lint, IsTwoSourcesOneGsi, IsX2ApicBelow255}
+use Rattle.acpi_lint.specs.Rules.FadtAdvice.{IsSciNowhere}
+use Rattle.acpi_lint.specs.Rules.FadtWithMadt.{IsFadtForArch, IsOverridePastIsa, IsNoBootMethod}
 use Rattle.acpi_lint.specs.Rules.Gic.{has_mpidr, is_its, is_msi_frame, usable_mpidr, its_id, msi_frame_id}
 use Rattle.acpi_lint.specs.Rules.GicAdvice.{reserved_mpidr, empty_gicr, IsNoDistributor, IsNoRedistributor, IsGicrTooSmall, IsGiccBaseDiffers, IsRedistributorTwice}
 use Rattle.acpi_lint.specs.Rules.GicRanges.{IsGicOverlap}
-use Rattle.acpi_lint.specs.Rules.MadtAdvice.{gicd, IsMadtUnread}
+use Rattle.acpi_lint.specs.Rules.MadtAdvice.{io_apic_id, nonzero_io_apic_address, IsIoApicAtZero, IsNmiNowhere, gicd, IsMadtUnread}
 use Rattle.acpi_lint.specs.Rules.Numbered.{HasNumber}
 use Rattle.acpi_lint.specs.Rules.PpttAdvice.{IsLeafNowhere}
 use Rattle.acpi_lint.specs.declared.madt_forms.MadtForm.TheVariants as form
-use Rattle.acpi_lint.proofs.NeededForms.{madt_needs, entries_need, number_needs, fadt_madt_needs, madt_pptt_needs, field_read, is_empty_gicr, empty_read, mpidr_read, its_read, msi_frame_read, gicd_opaque, hart_read, reserved_read, unread_opaque, overlap_read, no_distributor_opaque, no_redistributor_read, too_small_read, base_read, twice_read, leaf_read, arch_opaque, giccs_read}
+use Rattle.acpi_lint.proofs.NeededForms.{sci_io_apic, zero_of_io_apic, id_of_io_apic, nonzero_of_io_apic, past_override, timer_of_override, two_overrides, nmi_somewhere, lint_of_nmi, low_x2apic, madt_needs, entries_need, number_needs, fadt_madt_needs, madt_pptt_needs, field_read, is_empty_gicr, empty_read, mpidr_read, its_read, msi_frame_read, gicd_opaque, hart_read, reserved_read, unread_opaque, overlap_read, no_distributor_opaque, no_redistributor_read, too_small_read, base_read, twice_read, leaf_read, arch_opaque, giccs_read}
 use Rattle.acpi_lint.proofs.advice.needed_form.Goals as goal
 
 pub returns-in-SecondGicd : goal.returns-in-SecondGicd
@@ -79,3 +80,45 @@ returns-in-NoBootMethod c = rw c.in-NoBootMethod.is
 pub returns-in-SameHart : goal.returns-in-SameHart
 returns-in-SameHart c = rw c.in-SameHart.is
     (number_needs form.ReadOpaque usable_hart_id hart_read)
+
+pub returns-in-SciNowhere : goal.returns-in-SciNowhere
+returns-in-SciNowhere c = rw c.in-SciNowhere.is
+    (fadt_madt_needs form.IoApic IsSciNowhere sci_io_apic)
+
+pub returns-in-IoApicAtZero : goal.returns-in-IoApicAtZero
+returns-in-IoApicAtZero c = rw c.in-IoApicAtZero.is
+    (entries_need form.IoApic IsIoApicAtZero zero_of_io_apic)
+
+pub returns-in-SameIoApicId : goal.returns-in-SameIoApicId
+returns-in-SameIoApicId c = rw c.in-SameIoApicId.is
+    (number_needs form.IoApic io_apic_id id_of_io_apic)
+
+pub returns-in-SameIoApicAddress : goal.returns-in-SameIoApicAddress
+returns-in-SameIoApicAddress c = rw c.in-SameIoApicAddress.is
+    (number_needs form.IoApic nonzero_io_apic_address nonzero_of_io_apic)
+
+pub returns-in-OverridePastIsa : goal.returns-in-OverridePastIsa
+returns-in-OverridePastIsa c = rw c.in-OverridePastIsa.is
+    (fadt_madt_needs form.Override (λ q. IsOverridePastIsa) past_override)
+
+pub returns-in-TimerLevel : goal.returns-in-TimerLevel
+returns-in-TimerLevel c = rw c.in-TimerLevel.is
+    (entries_need form.Override (HasNumber level_timer)
+    (λ e other point holds. timer_of_override e point holds.0))
+
+pub returns-in-TwoSourcesOneGsi : goal.returns-in-TwoSourcesOneGsi
+returns-in-TwoSourcesOneGsi c = rw c.in-TwoSourcesOneGsi.is
+    (madt_needs form.Override IsTwoSourcesOneGsi two_overrides)
+
+pub returns-in-NmiNowhere : goal.returns-in-NmiNowhere
+returns-in-NmiNowhere c = rw c.in-NmiNowhere.is
+    (madt_needs form.LocalNmi IsNmiNowhere nmi_somewhere)
+
+pub returns-in-LintNotOne : goal.returns-in-LintNotOne
+returns-in-LintNotOne c = rw c.in-LintNotOne.is
+    (entries_need form.LocalNmi (HasNumber other_lint)
+    (λ e other point holds. lint_of_nmi e point holds.0))
+
+pub returns-in-X2ApicBelow255 : goal.returns-in-X2ApicBelow255
+returns-in-X2ApicBelow255 c = rw c.in-X2ApicBelow255.is
+    (madt_needs form.X2apic IsX2ApicBelow255 low_x2apic)

@@ -7,5 +7,4 @@ returns c =
     let firsts = (rw c.deref.ensures.value at c.of-firsts.ensures) c.args.image.now c.args.rsdp slots in
     are_whole _ c.complete-root.ensures slots firsts (c.found.ensures c.args.rsdp firsts)
     (c.found-madt.ensures c.args.rsdp firsts) (c.found-2.ensures c.args.rsdp firsts)
-    (c.found-3.ensures c.args.rsdp firsts) (c.found-4.ensures c.args.rsdp firsts) c.is_any_of-has_opaque.ensures
-    c.has_read_opaque.ensures
+    (c.found-3.ensures c.args.rsdp firsts) (c.found-4.ensures c.args.rsdp firsts) c.of.ensures

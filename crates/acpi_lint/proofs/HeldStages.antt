@@ -1,0 +1,68 @@
+-- Stages that hold for the tables of a set, and codes that have no fault then.
+use Rattle.std.proofs.Common.{◌≡◌, ℕ, List, Option, Some, None, refl, sym, subst}
+use Rattle.std.specs.Prelude.{IsTrue}
+use Rattle.acpi_base.specs.Codes.{stage_of}
+use Rattle.acpi_base.specs.Listed.{madt_signature, srat_signature, pptt_signature, ForListed}
+use Rattle.acpi_base.specs.Madt.{madt_contents, IsValidMadt}
+use Rattle.acpi_base.specs.Memory.{Memory}
+use Rattle.acpi_base.specs.Policy.{PolicyValue}
+use Rattle.acpi_base.specs.Pptt.{pptt_contents, IsCutPptt}
+use Rattle.acpi_base.specs.Srat.{srat_contents, IsValidSrat}
+use Rattle.acpi_base.specs.Statements.{Holds}
+use Rattle.acpi_base.specs.declared.code.Code.{Code}
+use Rattle.acpi_base.specs.declared.stage.Stage.{Stage}
+use Rattle.acpi_base.specs.declared.stage.Stage.TheVariants as stage
+use Rattle.acpi_base.specs.declared.table_kind.TableKind.TheVariants as kind
+use Rattle.acpi_base.proofs.Faults.ListedTables.{of_listed}
+use Rattle.acpi_base.proofs.Faults.Stages.{excludes}
+use Rattle.acpi_lint.specs.CompleteTables.{IsFound, AreCompleteTables}
+use Rattle.acpi_lint.specs.HeldStages.{is_held, AreHeld}
+use Rattle.acpi_lint.specs.StageFaults.{FindsFirstAt}
+use Rattle.acpi_lint.specs.declared.complete_tables.CompleteTables.{CompleteTables}
+use Rattle.acpi_lint.specs.declared.held_stages.HeldStages.{HeldStages}
+
+-- what holds for the table that was found holds for each that the set lists first
+for_found : (m : Memory) (p : ℕ) (signature : List ℕ) (P : List ℕ → Type 0) (found : Option (List ℕ))
+    → IsFound m p signature found → ((whole : List ℕ) → found ≡ Some whole → P whole) → ForListed m p signature P
+for_found m p signature P None looked holds whole listed = absurd (looked whole listed)
+for_found m p signature P (Some other) looked holds whole listed =
+    subst P (of_listed (λ one. one ≡ whole) looked (whole, listed, refl)) (holds other refl)
+
+pub held_stages : (held : HeldStages) (tables : CompleteTables) (q : PolicyValue)
+    → (IsTrue held.madt → (whole : List ℕ) → tables.madt ≡ Some whole → IsValidMadt q (madt_contents whole))
+    → (IsTrue held.srat → (whole : List ℕ) → tables.srat ≡ Some whole → IsValidSrat (srat_contents whole))
+    → (IsTrue held.pptt → (whole : List ℕ) → tables.pptt ≡ Some whole → IsCutPptt (pptt_contents whole))
+    → (m : Memory) → AreCompleteTables m q.rsdp tables → AreHeld held m q
+held_stages held tables q madt srat pptt m are = each
+  where
+    each : (one : Stage) → IsTrue (is_held held one) → Holds one m q
+    each stage.Madt is =
+        for_found m q.rsdp madt_signature (λ whole. IsValidMadt q (madt_contents whole)) tables.madt
+        (are.listed kind.Madt) (madt is)
+    each stage.Srat is =
+        for_found m q.rsdp srat_signature (λ whole. IsValidSrat (srat_contents whole)) tables.srat
+        (are.listed kind.Srat) (srat is)
+    each stage.Pptt is =
+        for_found m q.rsdp pptt_signature (λ whole. IsCutPptt (pptt_contents whole)) tables.pptt
+        (are.listed kind.Pptt) (pptt is)
+    each stage.Rsdp is = absurd cc
+    each stage.Root is = absurd cc
+    each stage.Tables is = absurd cc
+    each stage.Fadt is = absurd cc
+    each stage.Facs is = absurd cc
+    each stage.Interrupts is = absurd cc
+    each stage.Overrides is = absurd cc
+    each stage.Ranges is = absurd cc
+    each stage.Slit is = absurd cc
+    each stage.References is = absurd cc
+    each stage.Parents is = absurd cc
+    each stage.Caches is = absurd cc
+    each stage.Domains is = absurd cc
+    each stage.Served is = absurd cc
+    each stage.Leaves is = absurd cc
+
+-- a code of a stage that holds has no fault
+pub none_of_held : (m : Memory) (q : PolicyValue) (code : Code) → Holds (stage_of code) m q
+    → FindsFirstAt code m q None
+none_of_held m q code holds w same fault =
+    excludes m q w (stage_of w.code) fault.holds (subst (λ (one : Code). Holds (stage_of one) m q) (sym same) holds)
