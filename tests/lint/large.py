@@ -48,6 +48,24 @@ def processors():
     yield "the last", (madt(entries), pptt(core(COUNT), core(1))), advised(*advice, first="no 18 LeafUnknown 0x38 0x0 0x1")
 
 
+def x2apics():
+    """x2APICs whose UIDs and IDs are in no order, and the last of which has the UID and the ID of the first."""
+    entry = struct.Struct("<BBHIII")
+    ids, uids = (random.Random(seed).sample(range(2**32 - 1), COUNT) for seed in (3, 4))
+    alike = [entry.pack(9, 16, 0, apic_id, 1, uid) for apic_id, uid in zip(ids, uids)]
+    yield "clean", madt(*alike), advised()
+    repeated = f"SameUid {44 + 16 * LAST:#x} 0x2c {uids[0]:#x}", f"SameApicId {44 + 16 * LAST:#x} 0x2c {ids[0]:#x}"
+    yield "the last", madt(*alike[:-1], alike[0]), advised(*repeated)
+
+
+def unread_entries():
+    """A processor, and entries of two bytes of a type without a meaning; behind them a range of redistributors of no bytes."""
+    entries = lapic(0, 0) + bytes((0x80, 2)) * COUNT
+    yield "all", madt(entries), advised("MadtUnread 0x34 0x80")
+    empty = struct.pack("<BBHQI", 14, 16, 0, 0x20000, 0)
+    yield "the last", madt(entries, empty), advised("MadtUnread 0x34 0x80", f"GicrEmpty {52 + 2 * COUNT:#x} 0x0 0x20000")
+
+
 def giccs():
     """GICCs whose UIDs rise and whose MPIDRs fall, and the last of which has the UID and the MPIDR of the first, and a distributor."""
     entry = struct.Struct("<BB6xII52xQ4x")
@@ -176,7 +194,10 @@ def caches():
 
 
 WITH_CHECK = (interrupt_sources, processors)
-OF_ENTRIES = (giccs, harts, overrides, redistributors, its_and_frames, distributors, ranges, affinities_of_its, localities, nodes, caches)
+OF_ENTRIES = (
+    x2apics, unread_entries, giccs, harts, overrides, redistributors, its_and_frames, distributors, ranges, affinities_of_its, localities,
+    nodes, caches,
+)
 
 
 def large_sets():
