@@ -1,5 +1,5 @@
 -- Rules that are kept by a MADT without an entry of a form.
-use Rattle.std.proofs.Common.{◌≡◌, ℕ, ◌<◌, List, Bool, true, false, Option, Some, None, arith, refl, inl, inr}
+use Rattle.std.proofs.Common.{◌≡◌, ℕ, ◌<◌, List, Bool, true, false, Option, Some, None, [], arith, refl, inl, inr}
 use Rattle.std.specs.Prelude.{◌↔◌, IsSome, IsTrue, ◌==◌, ◌&&◌, ◌||◌, ◌^◌, option_map, if◌then◌else◌}
 use Rattle.std.specs.Option.{option_or}
 use Rattle.std.proofs.lemmas.Bool.{and_parts}
@@ -10,7 +10,7 @@ use Rattle.acpi_base.specs.Memory.{Memory}
 use Rattle.acpi_base.specs.Number.{field, has_bit}
 use Rattle.acpi_base.specs.Policy.{PolicyValue}
 use Rattle.acpi_base.specs.Pptt.{PpttContents, pptt_contents}
-use Rattle.acpi_lint.specs.CompleteTables.{IsFound, IsAnyOfForm, is_seen, AreSeenForms, AreCompleteTables}
+use Rattle.acpi_lint.specs.CompleteTables.{IsFound, IsAnyOfForm, is_seen, IsSeenToo, AreCompleteTables}
 use Rattle.acpi_lint.specs.MadtForms.{IsOpaque, is_read_opaque, IsReadOpaque, IsOfForm, HasForm}
 use Rattle.acpi_lint.specs.RuleGroups.{NeedsForm}
 use Rattle.acpi_lint.specs.Rules.Broken.{OfMadt, OnFadt, OnMadt, FadtMadt, Madt, MadtEntries, MadtNumbers, MadtPptt}
@@ -30,6 +30,7 @@ use Rattle.acpi_lint.specs.declared.complete_tables.SeenForms.{SeenForms}
 use Rattle.acpi_lint.specs.declared.madt_forms.MadtForm.{MadtForm}
 use Rattle.acpi_lint.specs.declared.madt_forms.MadtForm.TheVariants as form
 use Rattle.acpi_base.specs.declared.table_kind.TableKind.TheVariants as kind
+use Rattle.acpi_check.proofs.EntryPasses.Passes.{HasPassed, all_passed}
 use Rattle.acpi_lint.proofs.OfTables.{listed_lifts}
 
 -- ---- a set whose MADT has no such entry
@@ -45,47 +46,53 @@ pub not_of_form : (m : Memory) (q : PolicyValue) (form : MadtForm) {tables : Com
     → ¬ IsAnyOfForm form tables.madt → ¬ OfMadt m q (λ madt. HasForm madt form)
 not_of_form m q form {tables = tables} are none = without m q form tables.madt (are.listed kind.Madt) none
 
--- ---- an entry that rules read is one that the stages do not read
+-- ---- the forms of the entries that were seen
 
-read_opaque : (e : MadtEntry) → IsReadOpaque e → IsOpaque e
-read_opaque (Opaque e) is = tt
-read_opaque (LocalApic v) is = elim is [ ]
-read_opaque (IoApic v) is = elim is [ ]
-read_opaque (Override v) is = elim is [ ]
-read_opaque (NmiSource v) is = elim is [ ]
-read_opaque (LocalNmi v) is = elim is [ ]
-read_opaque (AddressOverride v) is = elim is [ ]
-read_opaque (X2apic v) is = elim is [ ]
-read_opaque (X2apicNmi v) is = elim is [ ]
+neither : (old is : Bool) {P : Type 0} → IsTrue is ↔ P → (old || is) ≡ false → (old ≡ false) × (¬ P)
+neither false false decides unseen = (refl, λ holds. absurd (let yes : false ≡ true = decides.1 holds in cc))
+neither false true decides unseen = absurd cc
+neither true is decides unseen = absurd cc
 
-pub any_opaque : (found : Option (List ℕ)) → IsAnyOfForm form.ReadOpaque found → IsAnyOfForm form.Opaque found
-any_opaque None has = has
-any_opaque (Some whole) (o, (e, stands, is)) = (o, (e, stands, read_opaque e is))
-
-seen_none : (b : Bool) (form : MadtForm) (found : Option (List ℕ)) → IsTrue b ↔ IsAnyOfForm form found → b ≡ false
-    → ¬ IsAnyOfForm form found
-seen_none b form found seen unseen any = absurd (let is : IsTrue b = seen.1 any in cc)
-
--- the forms that were looked for one by one
-pub seen_forms : (forms : SeenForms) (found : Option (List ℕ)) → IsTrue forms.io_apic ↔ IsAnyOfForm form.IoApic found
-    → IsTrue forms.override_entry ↔ IsAnyOfForm form.Override found
-    → IsTrue forms.local_nmi ↔ IsAnyOfForm form.LocalNmi found → IsTrue forms.x2apic ↔ IsAnyOfForm form.X2apic found
-    → IsTrue forms.opaque ↔ IsAnyOfForm form.Opaque found
-    → IsTrue forms.read_opaque ↔ IsAnyOfForm form.ReadOpaque found → AreSeenForms forms found
-seen_forms forms found io_apic override_entry local_nmi x2apic opaque read = each
+pub seen_too : (old : SeenForms) (e : MadtEntry) (io_apic override_entry local_nmi x2apic opaque read : Bool)
+    → IsTrue io_apic ↔ IsOfForm form.IoApic e → IsTrue override_entry ↔ IsOfForm form.Override e
+    → IsTrue local_nmi ↔ IsOfForm form.LocalNmi e → IsTrue x2apic ↔ IsOfForm form.X2apic e
+    → IsTrue opaque ↔ IsOfForm form.Opaque e → IsTrue read ↔ IsOfForm form.ReadOpaque e → IsSeenToo old e (record {
+      io_apic = old.io_apic || io_apic;
+      override_entry = old.override_entry || override_entry;
+      local_nmi = old.local_nmi || local_nmi;
+      x2apic = old.x2apic || x2apic;
+      opaque = old.opaque || opaque;
+      read_opaque = old.read_opaque || read;
+    })
+seen_too old e io_apic override_entry local_nmi x2apic opaque read a b c d f g = each
   where
-    each : (form : MadtForm) → is_seen forms form ≡ false → ¬ IsAnyOfForm form found
+    each : (one : MadtForm) → is_seen (record {
+      io_apic = old.io_apic || io_apic;
+      override_entry = old.override_entry || override_entry;
+      local_nmi = old.local_nmi || local_nmi;
+      x2apic = old.x2apic || x2apic;
+      opaque = old.opaque || opaque;
+      read_opaque = old.read_opaque || read;
+    }) one ≡ false → (is_seen old one ≡ false) × (¬ IsOfForm one e)
     each (form.Type wanted) unseen = absurd cc
-    each form.Opaque unseen = seen_none forms.opaque form.Opaque found opaque unseen
-    each form.ReadOpaque unseen = seen_none forms.read_opaque form.ReadOpaque found read unseen
+    each form.Opaque unseen = neither old.opaque opaque f unseen
+    each form.ReadOpaque unseen = neither old.read_opaque read g unseen
     each form.OpaqueProcessor unseen = absurd cc
     each form.UnreadProcessor unseen = absurd cc
     each form.OtherIts unseen = absurd cc
-    each form.IoApic unseen = seen_none forms.io_apic form.IoApic found io_apic unseen
-    each form.Override unseen = seen_none forms.override_entry form.Override found override_entry unseen
-    each form.LocalNmi unseen = seen_none forms.local_nmi form.LocalNmi found local_nmi unseen
-    each form.X2apic unseen = seen_none forms.x2apic form.X2apic found x2apic unseen
+    each form.IoApic unseen = neither old.io_apic io_apic a unseen
+    each form.Override unseen = neither old.override_entry override_entry b unseen
+    each form.LocalNmi unseen = neither old.local_nmi local_nmi c unseen
+    each form.X2apic unseen = neither old.x2apic x2apic d unseen
     each form.Parking unseen = absurd cc
+
+-- the entry is of no form that was not seen
+abbrev pub IsOfSeen : SeenForms → ℕ → MadtEntry → Type 0
+IsOfSeen seen o e = (form : MadtForm) → is_seen seen form ≡ false → ¬ IsOfForm form e
+
+pub all_seen : (seen : SeenForms) (madt : MadtContents) → HasPassed madt.entries [] (IsOfSeen seen)
+    → (form : MadtForm) → is_seen seen form ≡ false → ¬ HasForm madt form
+all_seen seen madt passed form unseen (o, (e, stands, is)) = all_passed passed o e stands form unseen is
 
 -- ---- rules by what they look at
 

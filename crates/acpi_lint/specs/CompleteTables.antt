@@ -1,13 +1,13 @@
 -- The complete tables of a set.
 use Rattle.std.specs.Prelude.{◌≡◌, ℕ, ◌<◌, ◌≤◌, Bool, true, false, List, length, Option, Some, None, MatchOption, option_map}
-use Rattle.acpi_base.specs.Madt.{madt_contents}
+use Rattle.acpi_base.specs.Madt.{MadtEntry, madt_contents}
 use Rattle.acpi_base.specs.Memory.{Memory}
 use Rattle.acpi_base.specs.Listed.{IsListedTable}
 use Rattle.acpi_base.specs.Root.{IsSlot}
 use Rattle.acpi_base.specs.TableKinds.{signature_of}
 use Rattle.acpi_base.specs.declared.table_kind.TableKind.{TableKind}
 use Rattle.acpi_base.specs.declared.table_kind.TableKind.TheVariants as kind
-use Rattle.acpi_lint.specs.MadtForms.{HasForm}
+use Rattle.acpi_lint.specs.MadtForms.{IsOfForm, HasForm}
 use Rattle.acpi_lint.specs.Slots.{IsRootOf, AreSlots, AreFirstSlots}
 use Rattle.acpi_lint.specs.declared.complete_tables.CompleteTables.{CompleteTables}
 use Rattle.acpi_lint.specs.declared.complete_tables.SeenForms.{SeenForms}
@@ -40,6 +40,11 @@ is_seen forms form.X2apic = forms.x2apic
 is_seen forms form.Opaque = forms.opaque
 is_seen forms form.ReadOpaque = forms.read_opaque
 is_seen forms _ = true
+
+-- with one more entry these are seen too
+abbrev pub IsSeenToo : SeenForms → MadtEntry → SeenForms → Type 0
+IsSeenToo old e new =
+    (form : MadtForm) → is_seen new form ≡ false → (is_seen old form ≡ false) × (¬ IsOfForm form e)
 
 -- where none may be, there is none in the MADT that was found
 abbrev pub AreSeenForms : SeenForms → Option (List ℕ) → Type 0

@@ -1,17 +1,22 @@
 //! The tables of a set that the finders read.
 
-ghost use Rattle.std.specs.Prelude.{◌≡◌, ◌↔◌, ℕ, IfOk, IsTrue, option_map};
+ghost use Rattle.std.specs.Prelude.{◌≡◌, ℕ, IfOk, false, option_map};
 ghost use Rattle.acpi_base.specs.Entries.{entries_read_by};
+ghost use Rattle.acpi_base.specs.Madt.{madt_contents};
 ghost use Rattle.acpi_base.specs.Pptt.{pptt_contents, pptt_entry};
 ghost use Rattle.acpi_base.specs.Srat.{srat_contents, srat_entry};
 ghost use Rattle.acpi_base.specs.TableKinds.{signature_of};
 ghost use Rattle.acpi_lint.specs.Slots.{AreFirstSlots};
-ghost use Rattle.acpi_lint.specs.CompleteTables.{IsFound, IsLong, IsAnyOfForm, AreEntries, AreSeenForms, may_have, table_of, AreCompleteTables};
-ghost use Rattle.acpi_lint.specs.declared.madt_forms.MadtForm.TheVariants as form;
+ghost use Rattle.acpi_lint.specs.CompleteTables.{IsFound, IsLong, IsAnyOfForm, AreEntries, is_seen, IsSeenToo, AreSeenForms, may_have, table_of, AreCompleteTables};
+ghost use Rattle.acpi_lint.specs.MadtForms.{HasForm};
+ghost use Rattle.acpi_lint.specs.declared.madt_forms.MadtForm.{MadtForm};
+ghost use Rattle.acpi_read.specs.Madts.{madt_value};
 
 use crate::first_slots::FirstSlots;
 use crate::listed_slots::{Slot, listed_slots};
-use crate::madt_forms::{MadtForm, has_form};
+use crate::madt_forms::{
+    MadtForm, is_io_apic, is_local_nmi, is_opaque, is_override, is_read_opaque_entry, is_x2apic,
+};
 use acpi_base::{LentImage, TableKind};
 use acpi_read::{Fadt, MadtEntry, PpttEntry, Root, SratEntry, Table, TableEntry, TypedEntries};
 use std::alloc::{AllocError, Global};
@@ -66,38 +71,53 @@ fn found<'a>(image: &'a LentImage<'_>, firsts: &FirstSlots, kind: TableKind) -> 
     Table::complete(image, slot.table.address)
 }
 
-/// Whether a MADT was found and has such an entry.
-fn is_any_of(form: MadtForm, madt: &Option<Table<'_>>) -> bool
-    ensures { IsTrue result ↔ IsAnyOfForm form madt.now }
-{
-    match madt {
-        Some(madt) => has_form(madt, form),
-        None => false,
-    }
-}
-
-/// Whether a MADT was found and has an entry that the stages do not read and that rules do. `has_opaque` is whether it
-/// has one that the stages do not read; mostly it has not, and is not gone over again.
-fn has_read_opaque(has_opaque: bool, madt: &Option<Table<'_>>) -> bool
-    requires { IsTrue has_opaque ↔ IsAnyOfForm form.Opaque madt.now }
-    ensures { IsTrue result ↔ IsAnyOfForm form.ReadOpaque madt.now }
-{
-    has_opaque && is_any_of(MadtForm::ReadOpaque, madt)
-}
-
 impl SeenForms {
-    /// Those of a MADT, if one was found. Each form is looked for by itself: mostly the first entries show it.
+    /// Those of no entries.
+    fn none() -> SeenForms {
+        SeenForms {
+            io_apic: false,
+            override_entry: false,
+            local_nmi: false,
+            x2apic: false,
+            opaque: false,
+            read_opaque: false,
+        }
+    }
+
+    /// Those of one more entry too.
+    #[inline(always)]
+    fn with(&self, entry: &MadtEntry<'_>) -> SeenForms
+        ensures { IsSeenToo self.now (madt_value entry.now) result }
+    {
+        SeenForms {
+            io_apic: self.io_apic | is_io_apic(entry),
+            override_entry: self.override_entry | is_override(entry),
+            local_nmi: self.local_nmi | is_local_nmi(entry),
+            x2apic: self.x2apic | is_x2apic(entry),
+            opaque: self.opaque | is_opaque(entry),
+            read_opaque: self.read_opaque | is_read_opaque_entry(entry),
+        }
+    }
+
+    /// Those of a MADT.
+    fn in_madt(madt: &Table<'_>) -> SeenForms
+        ensures { (form : MadtForm) → is_seen result form ≡ false
+            → ¬ HasForm (madt_contents madt.now) form }
+    {
+        let mut seen = SeenForms::none();
+        for at in madt.entries::<MadtEntry<'_>>() {
+            seen = seen.with(&at.entry);
+        }
+        seen
+    }
+
+    /// Those of a MADT, if one was found.
     fn of(madt: &Option<Table<'_>>) -> SeenForms
         ensures { AreSeenForms result madt.now }
     {
-        let opaque = is_any_of(MadtForm::Opaque, madt);
-        SeenForms {
-            io_apic: is_any_of(MadtForm::IoApic, madt),
-            override_entry: is_any_of(MadtForm::Override, madt),
-            local_nmi: is_any_of(MadtForm::LocalNmi, madt),
-            x2apic: is_any_of(MadtForm::X2apic, madt),
-            opaque,
-            read_opaque: has_read_opaque(opaque, madt),
+        match madt {
+            Some(madt) => SeenForms::in_madt(madt),
+            None => SeenForms::none(),
         }
     }
 }

@@ -97,7 +97,7 @@ fn type_of(entry: &MadtEntry<'_>) -> u8
 
 /// Whether an entry is one that the stages do not read.
 #[inline(always)]
-fn is_opaque(entry: &MadtEntry<'_>) -> bool
+pub fn is_opaque(entry: &MadtEntry<'_>) -> bool
     ensures { IsTrue result ↔ IsOpaque (madt_value entry.now) }
 {
     match entry {
@@ -122,7 +122,7 @@ fn is_read_opaque(bytes: &[u8]) -> bool
 
 /// Whether an entry is one that the stages do not read and that rules do.
 #[inline(always)]
-fn is_read_opaque_entry(entry: &MadtEntry<'_>) -> bool
+pub fn is_read_opaque_entry(entry: &MadtEntry<'_>) -> bool
     ensures { IsTrue result ↔ IsReadOpaque (madt_value entry.now) }
 {
     match entry {
@@ -176,7 +176,7 @@ fn is_other_its(entry: &MadtEntry<'_>) -> bool
 
 /// Whether it is an I/O APIC.
 #[inline(always)]
-fn is_io_apic(entry: &MadtEntry<'_>) -> bool
+pub fn is_io_apic(entry: &MadtEntry<'_>) -> bool
     ensures { IsTrue result ↔ IsIoApic (madt_value entry.now) }
 {
     match entry {
@@ -187,7 +187,7 @@ fn is_io_apic(entry: &MadtEntry<'_>) -> bool
 
 /// Whether it is an override.
 #[inline(always)]
-fn is_override(entry: &MadtEntry<'_>) -> bool
+pub fn is_override(entry: &MadtEntry<'_>) -> bool
     ensures { IsTrue result ↔ IsOverride (madt_value entry.now) }
 {
     match entry {
@@ -198,7 +198,7 @@ fn is_override(entry: &MadtEntry<'_>) -> bool
 
 /// Whether it is an NMI of local APICs or of local x2APICs.
 #[inline(always)]
-fn is_local_nmi(entry: &MadtEntry<'_>) -> bool
+pub fn is_local_nmi(entry: &MadtEntry<'_>) -> bool
     ensures { IsTrue result ↔ IsLocalNmi (madt_value entry.now) }
 {
     match entry {
@@ -210,7 +210,7 @@ fn is_local_nmi(entry: &MadtEntry<'_>) -> bool
 
 /// Whether it is a local x2APIC.
 #[inline(always)]
-fn is_x2apic(entry: &MadtEntry<'_>) -> bool
+pub fn is_x2apic(entry: &MadtEntry<'_>) -> bool
     ensures { IsTrue result ↔ IsX2apic (madt_value entry.now) }
 {
     match entry {

@@ -1,0 +1,11 @@
+use Rattle.acpi_base.specs.Entries.{entries_read_by}
+use Rattle.acpi_base.specs.Madt.{madt_contents, madt_entry}
+use Rattle.acpi_check.proofs.EntryPasses.Passes.{HasPassed}
+use Rattle.acpi_lint.proofs.NeededForms.{IsOfSeen}
+use Rattle.acpi_lint.proofs.complete_tables.SeenForms.in_madt.Given as goal
+
+-- the entries before those left are of no form that was not seen
+abbrev pub invariant-loop-at : goal.invariant-loop-at
+invariant-loop-at l =
+    HasPassed (madt_contents l.fn.madt).entries (entries_read_by madt_entry l.at-iterator.entries.entries)
+    (IsOfSeen l.seen)

@@ -1,0 +1,8 @@
+use Rattle.acpi_lint.proofs.NeededForms.{seen_too}
+use Rattle.acpi_lint.proofs.complete_tables.SeenForms.with.Goals as goal
+
+pub returns : goal.returns
+returns c =
+    seen_too c.args.self.now _ c.is_io_apic.result c.is_override.result c.is_local_nmi.result c.is_x2apic.result
+    c.is_opaque.result c.is_read_opaque_entry.result c.is_io_apic.ensures c.is_override.ensures c.is_local_nmi.ensures
+    c.is_x2apic.ensures c.is_opaque.ensures c.is_read_opaque_entry.ensures
