@@ -45,21 +45,7 @@ held_stages held tables q madt srat pptt m are = each
     each stage.Pptt is =
         for_found m q.rsdp pptt_signature (λ whole. IsCutPptt (pptt_contents whole)) tables.pptt
         (are.listed kind.Pptt) (pptt is)
-    each stage.Rsdp is = absurd cc
-    each stage.Root is = absurd cc
-    each stage.Tables is = absurd cc
-    each stage.Fadt is = absurd cc
-    each stage.Facs is = absurd cc
-    each stage.Interrupts is = absurd cc
-    each stage.Overrides is = absurd cc
-    each stage.Ranges is = absurd cc
-    each stage.Slit is = absurd cc
-    each stage.References is = absurd cc
-    each stage.Parents is = absurd cc
-    each stage.Caches is = absurd cc
-    each stage.Domains is = absurd cc
-    each stage.Served is = absurd cc
-    each stage.Leaves is = absurd cc
+    each _ is = absurd cc
 
 -- a code of a stage that holds has no fault
 pub none_of_held : (m : Memory) (q : PolicyValue) (code : Code) → Holds (stage_of code) m q

@@ -21,7 +21,7 @@ mod LeafNumbers
 mod LeastPlaces
 mod ListedSlots
 mod NamedPlaces
-mod NeededForms
+mod NeededEntries
 mod NumberKeys
 mod OddFields
 mod OfTables

@@ -11,6 +11,7 @@ pub mod Hierarchy
 pub mod Leaves
 pub mod MadtForms
 pub mod MadtNumbers
+pub mod NeededEntries
 pub mod Numbered
 pub mod Overrides
 pub mod Places

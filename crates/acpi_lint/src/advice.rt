@@ -4,7 +4,7 @@
 ghost use Rattle.std.specs.Prelude.{◌≡◌, IfOk, IfSome, IsTrue, None};
 ghost use Rattle.acpi_lint.specs.CompleteTables.{AreCompleteTables};
 ghost use Rattle.acpi_lint.specs.Places.{FindsLeast};
-ghost use Rattle.acpi_lint.specs.RuleGroups.{as_group, NeedsForm, Finds, FindsBy, FindsIn};
+ghost use Rattle.acpi_lint.specs.RuleGroups.{as_group, NeedsEntry, Finds, FindsBy, FindsIn};
 ghost use Rattle.acpi_lint.specs.Rules.Broken.{condition, IsBroken};
 ghost use Rattle.acpi_lint.specs.Rules.Findings.{AreFirstAdvice};
 ghost use Rattle.acpi_lint.specs.StageFaults.{FindsFirstAdvice};
@@ -13,7 +13,7 @@ ghost use Rattle.acpi_lint.specs.declared.rule_group.RuleGroup.TheVariants as gr
 use crate::complete_tables::CompleteTables;
 use crate::fadt_advice::fadt_place;
 use crate::fadt_memory::fadt_memory_place;
-use crate::madt_forms::MadtForm;
+use crate::needed_entries::NeededEntry;
 use crate::nowhere::{madt_place, madt_pptt_place, madt_srat_place};
 use crate::own::{
     first_own_place, madt_entries_place, pptt_entry_place, srat_entry_place, srat_slit_entry_place,
@@ -32,47 +32,47 @@ use std::alloc::{AllocError, Global};
 
 /// An entry of the MADT without which a rule is kept, so that a MADT which has none is not gone over for it. None for a
 /// rule that needs none of these.
-fn needed_form(rule: Rule) -> Option<MadtForm>
-    ensures { IfSome result (λ form. NeedsForm form (condition rule)) }
+fn needed_entry(rule: Rule) -> Option<NeededEntry>
+    ensures { IfSome result (λ needed. NeedsEntry needed (condition rule)) }
 {
     match rule {
-        Rule::SciNowhere => Some(MadtForm::IoApic),
-        Rule::IoApicAtZero => Some(MadtForm::IoApic),
-        Rule::SameIoApicId => Some(MadtForm::IoApic),
-        Rule::SameIoApicAddress => Some(MadtForm::IoApic),
-        Rule::OverridePastIsa => Some(MadtForm::Override),
-        Rule::TimerLevel => Some(MadtForm::Override),
-        Rule::TwoSourcesOneGsi => Some(MadtForm::Override),
-        Rule::NmiNowhere => Some(MadtForm::LocalNmi),
-        Rule::LintNotOne => Some(MadtForm::LocalNmi),
-        Rule::X2ApicBelow255 => Some(MadtForm::X2apic),
-        Rule::SecondGicd => Some(MadtForm::Opaque),
-        Rule::MadtUnread => Some(MadtForm::Opaque),
-        Rule::FadtForArch => Some(MadtForm::Opaque),
-        Rule::NoDistributor => Some(MadtForm::Opaque),
-        Rule::LeafNowhere => Some(MadtForm::ReadOpaque),
-        Rule::NoRedistributor => Some(MadtForm::ReadOpaque),
-        Rule::GicrTooSmall => Some(MadtForm::ReadOpaque),
-        Rule::GiccBaseDiffers => Some(MadtForm::ReadOpaque),
-        Rule::SameMpidr => Some(MadtForm::ReadOpaque),
-        Rule::MpidrReserved => Some(MadtForm::ReadOpaque),
-        Rule::GicrEmpty => Some(MadtForm::ReadOpaque),
-        Rule::SameIts => Some(MadtForm::ReadOpaque),
-        Rule::SameMsiFrame => Some(MadtForm::ReadOpaque),
-        Rule::GicOverlap => Some(MadtForm::ReadOpaque),
-        Rule::RedistributorTwice => Some(MadtForm::ReadOpaque),
-        Rule::NoBootMethod => Some(MadtForm::ReadOpaque),
-        Rule::SameHart => Some(MadtForm::ReadOpaque),
+        Rule::SciNowhere => Some(NeededEntry::IoApic),
+        Rule::IoApicAtZero => Some(NeededEntry::IoApic),
+        Rule::SameIoApicId => Some(NeededEntry::IoApic),
+        Rule::SameIoApicAddress => Some(NeededEntry::IoApic),
+        Rule::OverridePastIsa => Some(NeededEntry::Override),
+        Rule::TimerLevel => Some(NeededEntry::Override),
+        Rule::TwoSourcesOneGsi => Some(NeededEntry::Override),
+        Rule::NmiNowhere => Some(NeededEntry::LocalNmi),
+        Rule::LintNotOne => Some(NeededEntry::LocalNmi),
+        Rule::X2ApicBelow255 => Some(NeededEntry::X2apic),
+        Rule::SecondGicd => Some(NeededEntry::Opaque),
+        Rule::MadtUnread => Some(NeededEntry::Opaque),
+        Rule::FadtForArch => Some(NeededEntry::Opaque),
+        Rule::NoDistributor => Some(NeededEntry::Opaque),
+        Rule::LeafNowhere => Some(NeededEntry::ReadOpaque),
+        Rule::NoRedistributor => Some(NeededEntry::ReadOpaque),
+        Rule::GicrTooSmall => Some(NeededEntry::ReadOpaque),
+        Rule::GiccBaseDiffers => Some(NeededEntry::ReadOpaque),
+        Rule::SameMpidr => Some(NeededEntry::ReadOpaque),
+        Rule::MpidrReserved => Some(NeededEntry::ReadOpaque),
+        Rule::GicrEmpty => Some(NeededEntry::ReadOpaque),
+        Rule::SameIts => Some(NeededEntry::ReadOpaque),
+        Rule::SameMsiFrame => Some(NeededEntry::ReadOpaque),
+        Rule::GicOverlap => Some(NeededEntry::ReadOpaque),
+        Rule::RedistributorTwice => Some(NeededEntry::ReadOpaque),
+        Rule::NoBootMethod => Some(NeededEntry::ReadOpaque),
+        Rule::SameHart => Some(NeededEntry::ReadOpaque),
         _ => None,
     }
 }
 
-/// Whether a rule is kept since the MADT has no entry of a kind that it needs.
-fn is_kept_without(tables: &CompleteTables<'_>, rule: Rule) -> bool
+/// Whether the MADT lacks the entry without which a rule is kept.
+fn lacks_needed(tables: &CompleteTables<'_>, rule: Rule) -> bool
     ensures { IsTrue result → Finds (condition rule) tables.now None }
 {
-    match needed_form(rule) {
-        Some(form) => !tables.may_have(form),
+    match needed_entry(rule) {
+        Some(needed) => !tables.may_have(needed),
         None => false,
     }
 }
@@ -302,7 +302,7 @@ fn first_finding(
     requires { AreCompleteTables image.now policy.now.rsdp tables.now }
     ensures { IfOk result (FindsFirstAdvice rule image.now policy.now) }
 {
-    if is_kept_without(tables, rule) {
+    if lacks_needed(tables, rule) {
         return Ok(None);
     }
     let Some(Place { at, other, point }) = first_place(alloc, image, tables, policy, rule)? else {

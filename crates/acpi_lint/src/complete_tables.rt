@@ -1,22 +1,17 @@
 //! The tables of a set that the finders read.
 
-ghost use Rattle.std.specs.Prelude.{◌≡◌, ℕ, IfOk, false, option_map};
+ghost use Rattle.std.specs.Prelude.{◌≡◌, ℕ, IfOk, option_map};
 ghost use Rattle.acpi_base.specs.Entries.{entries_read_by};
-ghost use Rattle.acpi_base.specs.Madt.{madt_contents};
 ghost use Rattle.acpi_base.specs.Pptt.{pptt_contents, pptt_entry};
 ghost use Rattle.acpi_base.specs.Srat.{srat_contents, srat_entry};
 ghost use Rattle.acpi_base.specs.TableKinds.{signature_of};
 ghost use Rattle.acpi_lint.specs.Slots.{AreFirstSlots};
-ghost use Rattle.acpi_lint.specs.CompleteTables.{IsFound, IsLong, IsAnyOfForm, AreEntries, is_seen, IsSeenToo, AreSeenForms, may_have, table_of, AreCompleteTables};
-ghost use Rattle.acpi_lint.specs.MadtForms.{HasForm};
-ghost use Rattle.acpi_lint.specs.declared.madt_forms.MadtForm.{MadtForm};
-ghost use Rattle.acpi_read.specs.Madts.{madt_value};
+ghost use Rattle.acpi_lint.specs.CompleteTables.{IsFound, IsLong, AreEntries, table_of, AreCompleteTables};
+ghost use Rattle.acpi_lint.specs.NeededEntries.{is_seen};
 
 use crate::first_slots::FirstSlots;
 use crate::listed_slots::{Slot, listed_slots};
-use crate::madt_forms::{
-    MadtForm, is_io_apic, is_local_nmi, is_opaque, is_override, is_read_opaque_entry, is_x2apic,
-};
+use crate::needed_entries::{NeededEntry, SeenEntries};
 use acpi_base::{LentImage, TableKind};
 use acpi_read::{Fadt, MadtEntry, PpttEntry, Root, SratEntry, Table, TableEntry, TypedEntries};
 use std::alloc::{AllocError, Global};
@@ -41,25 +36,8 @@ pub struct CompleteTables<'a> {
     pub slit: Option<Table<'a>>,
     /// The PPTT.
     pub pptt: Option<Table<'a>>,
-    /// Which entries the MADT has.
-    forms: SeenForms,
-}
-
-/// Of which forms that rules need a MADT has an entry.
-#[derive(Drop)]
-struct SeenForms {
-    /// An I/O APIC.
-    io_apic: bool,
-    /// An override.
-    override_entry: bool,
-    /// An NMI of local APICs or of local x2APICs.
-    local_nmi: bool,
-    /// A local x2APIC.
-    x2apic: bool,
-    /// One that the stages do not read.
-    opaque: bool,
-    /// One that the stages do not read and that rules do.
-    read_opaque: bool,
+    /// Which of the entries that rules need the MADT has.
+    seen: SeenEntries,
 }
 
 /// The first listed table of a kind in a set with these first slots.
@@ -69,57 +47,6 @@ fn found<'a>(image: &'a LentImage<'_>, firsts: &FirstSlots, kind: TableKind) -> 
 {
     let slot = firsts.of_kind(kind)?;
     Table::complete(image, slot.table.address)
-}
-
-impl SeenForms {
-    /// Those of no entries.
-    fn none() -> SeenForms {
-        SeenForms {
-            io_apic: false,
-            override_entry: false,
-            local_nmi: false,
-            x2apic: false,
-            opaque: false,
-            read_opaque: false,
-        }
-    }
-
-    /// Those of one more entry too.
-    #[inline(always)]
-    fn with(&self, entry: &MadtEntry<'_>) -> SeenForms
-        ensures { IsSeenToo self.now (madt_value entry.now) result }
-    {
-        SeenForms {
-            io_apic: self.io_apic | is_io_apic(entry),
-            override_entry: self.override_entry | is_override(entry),
-            local_nmi: self.local_nmi | is_local_nmi(entry),
-            x2apic: self.x2apic | is_x2apic(entry),
-            opaque: self.opaque | is_opaque(entry),
-            read_opaque: self.read_opaque | is_read_opaque_entry(entry),
-        }
-    }
-
-    /// Those of a MADT.
-    fn in_madt(madt: &Table<'_>) -> SeenForms
-        ensures { (form : MadtForm) → is_seen result form ≡ false
-            → ¬ HasForm (madt_contents madt.now) form }
-    {
-        let mut seen = SeenForms::none();
-        for at in madt.entries::<MadtEntry<'_>>() {
-            seen = seen.with(&at.entry);
-        }
-        seen
-    }
-
-    /// Those of a MADT, if one was found.
-    fn of(madt: &Option<Table<'_>>) -> SeenForms
-        ensures { AreSeenForms result madt.now }
-    {
-        match madt {
-            Some(madt) => SeenForms::in_madt(madt),
-            None => SeenForms::none(),
-        }
-    }
 }
 
 impl<'a> CompleteTables<'a> {
@@ -137,7 +64,7 @@ impl<'a> CompleteTables<'a> {
         let madt = found(image, &firsts, TableKind::Madt);
         Ok(CompleteTables {
             fadt: found(image, &firsts, TableKind::Fadt),
-            forms: SeenForms::of(&madt),
+            seen: SeenEntries::of(&madt),
             madt,
             srat: found(image, &firsts, TableKind::Srat),
             slit: found(image, &firsts, TableKind::Slit),
@@ -148,19 +75,11 @@ impl<'a> CompleteTables<'a> {
         })
     }
 
-    /// Whether the MADT may have an entry of a form. Of some it is known whether it has.
-    pub fn may_have(&self, form: MadtForm) -> bool
-        ensures { result ≡ may_have self.now form }
+    /// Whether the MADT may have an entry that a rule needs; false only if it has none.
+    pub fn may_have(&self, needed: NeededEntry) -> bool
+        ensures { result ≡ is_seen self.now.seen needed }
     {
-        match form {
-            MadtForm::IoApic => self.forms.io_apic,
-            MadtForm::Override => self.forms.override_entry,
-            MadtForm::LocalNmi => self.forms.local_nmi,
-            MadtForm::X2apic => self.forms.x2apic,
-            MadtForm::Opaque => self.forms.opaque,
-            MadtForm::ReadOpaque => self.forms.read_opaque,
-            _ => true,
-        }
+        self.seen.has(needed)
     }
 
     /// The table of a kind, if there is one.

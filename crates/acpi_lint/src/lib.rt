@@ -60,6 +60,7 @@ mod listed_slots;
 mod madt_advice;
 mod madt_forms;
 mod madt_numbers;
+mod needed_entries;
 mod nowhere;
 mod numbered;
 mod one_code;

@@ -4,7 +4,8 @@ ghost use Rattle.std.specs.Prelude.{◌≡◌, ◌↔◌, IsTrue, slice_index};
 ghost use Rattle.acpi_base.specs.Across.{IsIoApic};
 ghost use Rattle.acpi_base.specs.Madt.{madt_contents};
 ghost use Rattle.acpi_read.specs.Madts.{madt_value};
-ghost use Rattle.acpi_lint.specs.MadtForms.{IsOpaque, IsReadOpaque, IsOverride, IsLocalNmi, IsX2apic, is_read_opaque, IsOfForm, HasForm};
+ghost use Rattle.acpi_lint.specs.MadtForms.{IsOfForm, HasForm};
+ghost use Rattle.acpi_lint.specs.NeededEntries.{IsOpaque, IsReadOpaque, IsOverride, IsLocalNmi, IsX2apic, is_read_opaque};
 ghost use Rattle.acpi_lint.specs.Rules.EntryTypes.{type_of, HasType};
 ghost use Rattle.acpi_lint.specs.Rules.FadtWithMadt.{IsParking};
 ghost use Rattle.acpi_lint.specs.Rules.Its.{IsOtherIts};
@@ -22,10 +23,6 @@ use acpi_read::{GICC, GICC_LEN, MadtEntry, Table};
 pub enum MadtForm {
     /// One of this type, of any length.
     Type(u8),
-    /// One that the stages do not read.
-    Opaque,
-    /// One that the stages do not read and that rules do.
-    ReadOpaque,
     /// A processor that is not of x86, if the rules read it.
     OpaqueProcessor,
     /// One that describes a processor that no rule reads.
@@ -34,12 +31,6 @@ pub enum MadtForm {
     OtherIts,
     /// An I/O APIC.
     IoApic,
-    /// An override.
-    Override,
-    /// An NMI of local APICs or of local x2APICs.
-    LocalNmi,
-    /// A local x2APIC.
-    X2apic,
     /// A usable GIC CPU interface with a version of the parking protocol.
     Parking,
 }
@@ -52,15 +43,10 @@ impl MadtForm {
     {
         match self {
             MadtForm::Type(wanted) => type_of(entry) == wanted,
-            MadtForm::Opaque => is_opaque(entry),
-            MadtForm::ReadOpaque => is_read_opaque_entry(entry),
             MadtForm::OpaqueProcessor => is_opaque_processor(entry),
             MadtForm::UnreadProcessor => is_unread_processor(entry),
             MadtForm::OtherIts => is_other_its(entry),
             MadtForm::IoApic => is_io_apic(entry),
-            MadtForm::Override => is_override(entry),
-            MadtForm::LocalNmi => is_local_nmi(entry),
-            MadtForm::X2apic => is_x2apic(entry),
             MadtForm::Parking => is_parking(entry),
         }
     }

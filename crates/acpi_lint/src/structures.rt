@@ -164,6 +164,6 @@ pub fn tables_overlap(
     ensures { IfOk result (FindsLeast (IsTablesOverlap image.now rsdp)) }
 {
     let mut given = structures(alloc, image, rsdp, tables)?;
-    sort_numbers(alloc, &mut given)?;
+    sort_numbers(&mut given)?;
     Ok(overlap_by_starts(&given))
 }

@@ -5,7 +5,7 @@ pub overlap_by_starts-requires-clause-some : goal.overlap_by_starts-requires-cla
 overlap_by_starts-requires-clause-some c =
     let given = c.in_ok-given.given.items in
     let sorted = c.sort_numbers.new.given.items in
-    let are = ranges_moved given sorted c.in_ok-sort_numbers.ensures.permutation c.in_ok-given.ensures in
+    let are = ranges_moved given sorted c.sort_numbers.ensures.permutation c.in_ok-given.ensures in
     rw c.deref.ensures.value
     (λ g listed. not_empty c.args.image.now c.args.rsdp g.at g.number g.value (are.listed g listed))
 
@@ -14,5 +14,5 @@ returns c =
     let given = c.in_ok-given.given.items in
     let sorted = c.sort_numbers.new.given.items in
     of_structures sorted c.overlap_by_starts.result
-    (ranges_moved given sorted c.in_ok-sort_numbers.ensures.permutation c.in_ok-given.ensures)
+    (ranges_moved given sorted c.sort_numbers.ensures.permutation c.in_ok-given.ensures)
     (rw c.deref.ensures.value at c.overlap_by_starts.ensures)

@@ -1,4 +1,4 @@
--- Rules that are kept by a MADT without an entry of a form.
+-- Rules that are kept by a MADT without an entry of a needed.
 use Rattle.std.proofs.Common.{◌≡◌, ℕ, ◌<◌, List, Bool, true, false, Option, Some, None, [], arith, refl, inl, inr}
 use Rattle.std.specs.Prelude.{◌↔◌, IsSome, IsTrue, ◌==◌, ◌&&◌, ◌||◌, ◌^◌, option_map, if◌then◌else◌}
 use Rattle.std.specs.Option.{option_or}
@@ -10,9 +10,9 @@ use Rattle.acpi_base.specs.Memory.{Memory}
 use Rattle.acpi_base.specs.Number.{field, has_bit}
 use Rattle.acpi_base.specs.Policy.{PolicyValue}
 use Rattle.acpi_base.specs.Pptt.{PpttContents, pptt_contents}
-use Rattle.acpi_lint.specs.CompleteTables.{IsFound, IsAnyOfForm, is_seen, IsSeenToo, AreCompleteTables}
-use Rattle.acpi_lint.specs.MadtForms.{IsOpaque, is_read_opaque, IsReadOpaque, IsOfForm, HasForm}
-use Rattle.acpi_lint.specs.RuleGroups.{NeedsForm}
+use Rattle.acpi_lint.specs.CompleteTables.{IsFound, AreCompleteTables}
+use Rattle.acpi_lint.specs.NeededEntries.{IsOpaque, is_read_opaque, IsReadOpaque, IsNeeded, HasNeeded, IsAnyNeeded, is_seen, IsSeenToo}
+use Rattle.acpi_lint.specs.RuleGroups.{NeedsEntry}
 use Rattle.acpi_lint.specs.Rules.Broken.{OfMadt, OnFadt, OnMadt, FadtMadt, Madt, MadtEntries, MadtNumbers, MadtPptt}
 use Rattle.acpi_lint.specs.Rules.EntryTypes.{type_of, HasType}
 use Rattle.acpi_lint.specs.Rules.FadtAdvice.{IsSciNowhere}
@@ -26,25 +26,27 @@ use Rattle.acpi_lint.specs.Rules.Numbered.{NamesAt}
 use Rattle.acpi_lint.specs.Rules.PpttAdvice.{IsLeafNowhere}
 use Rattle.acpi_lint.specs.Rules.Processors.{Processor, is_gicc, is_rintc, is_core_pic, is_usable, IsOpaqueProcessor}
 use Rattle.acpi_lint.specs.declared.complete_tables.CompleteTables.{CompleteTables}
-use Rattle.acpi_lint.specs.declared.complete_tables.SeenForms.{SeenForms}
-use Rattle.acpi_lint.specs.declared.madt_forms.MadtForm.{MadtForm}
-use Rattle.acpi_lint.specs.declared.madt_forms.MadtForm.TheVariants as form
+use Rattle.acpi_lint.specs.declared.needed_entries.SeenEntries.{SeenEntries}
+use Rattle.acpi_lint.specs.declared.needed_entries.NeededEntry.{NeededEntry}
+use Rattle.acpi_lint.specs.declared.needed_entries.NeededEntry.TheVariants as needed
 use Rattle.acpi_base.specs.declared.table_kind.TableKind.TheVariants as kind
 use Rattle.acpi_check.proofs.EntryPasses.Passes.{HasPassed, all_passed}
 use Rattle.acpi_lint.proofs.OfTables.{listed_lifts}
 
 -- ---- a set whose MADT has no such entry
 
-without : (m : Memory) (q : PolicyValue) (form : MadtForm) (found : Option (List ℕ)) → IsFound m q.rsdp madt_signature found
-    → ¬ IsAnyOfForm form found → ¬ OfMadt m q (λ madt. HasForm madt form)
-without m q form None looked none (whole, listed, (size, has)) = looked whole listed
-without m q form (Some other) looked none (whole, listed, (size, has)) =
-    none ((listed_lifts m q.rsdp madt_signature (Some other) looked (λ bytes. HasForm (madt_contents bytes) form)).0
+without : (m : Memory) (q : PolicyValue) (wanted : NeededEntry) (found : Option (List ℕ))
+    → IsFound m q.rsdp madt_signature found
+    → ¬ IsAnyNeeded wanted found → ¬ OfMadt m q (λ madt. HasNeeded madt wanted)
+without m q wanted None looked none (whole, listed, (size, has)) = looked whole listed
+without m q wanted (Some other) looked none (whole, listed, (size, has)) =
+    none ((listed_lifts m q.rsdp madt_signature (Some other) looked (λ bytes. HasNeeded (madt_contents bytes) wanted)).0
     (whole, listed, has))
 
-pub not_of_form : (m : Memory) (q : PolicyValue) (form : MadtForm) {tables : CompleteTables} → AreCompleteTables m q.rsdp tables
-    → ¬ IsAnyOfForm form tables.madt → ¬ OfMadt m q (λ madt. HasForm madt form)
-not_of_form m q form {tables = tables} are none = without m q form tables.madt (are.listed kind.Madt) none
+pub not_needed : (m : Memory) (q : PolicyValue) (wanted : NeededEntry) {tables : CompleteTables}
+    → AreCompleteTables m q.rsdp tables
+    → ¬ IsAnyNeeded wanted tables.madt → ¬ OfMadt m q (λ madt. HasNeeded madt wanted)
+not_needed m q wanted {tables = tables} are none = without m q wanted tables.madt (are.listed kind.Madt) none
 
 -- ---- the forms of the entries that were seen
 
@@ -53,10 +55,10 @@ neither false false decides unseen = (refl, λ holds. absurd (let yes : false �
 neither false true decides unseen = absurd cc
 neither true is decides unseen = absurd cc
 
-pub seen_too : (old : SeenForms) (e : MadtEntry) (io_apic override_entry local_nmi x2apic opaque read : Bool)
-    → IsTrue io_apic ↔ IsOfForm form.IoApic e → IsTrue override_entry ↔ IsOfForm form.Override e
-    → IsTrue local_nmi ↔ IsOfForm form.LocalNmi e → IsTrue x2apic ↔ IsOfForm form.X2apic e
-    → IsTrue opaque ↔ IsOfForm form.Opaque e → IsTrue read ↔ IsOfForm form.ReadOpaque e → IsSeenToo old e (record {
+pub seen_too : (old : SeenEntries) (e : MadtEntry) (io_apic override_entry local_nmi x2apic opaque read : Bool)
+    → IsTrue io_apic ↔ IsNeeded needed.IoApic e → IsTrue override_entry ↔ IsNeeded needed.Override e
+    → IsTrue local_nmi ↔ IsNeeded needed.LocalNmi e → IsTrue x2apic ↔ IsNeeded needed.X2apic e
+    → IsTrue opaque ↔ IsNeeded needed.Opaque e → IsTrue read ↔ IsNeeded needed.ReadOpaque e → IsSeenToo old e (record {
       io_apic = old.io_apic || io_apic;
       override_entry = old.override_entry || override_entry;
       local_nmi = old.local_nmi || local_nmi;
@@ -66,76 +68,73 @@ pub seen_too : (old : SeenForms) (e : MadtEntry) (io_apic override_entry local_n
     })
 seen_too old e io_apic override_entry local_nmi x2apic opaque read a b c d f g = each
   where
-    each : (one : MadtForm) → is_seen (record {
+    each : (one : NeededEntry) → is_seen (record {
       io_apic = old.io_apic || io_apic;
       override_entry = old.override_entry || override_entry;
       local_nmi = old.local_nmi || local_nmi;
       x2apic = old.x2apic || x2apic;
       opaque = old.opaque || opaque;
       read_opaque = old.read_opaque || read;
-    }) one ≡ false → (is_seen old one ≡ false) × (¬ IsOfForm one e)
-    each (form.Type wanted) unseen = absurd cc
-    each form.Opaque unseen = neither old.opaque opaque f unseen
-    each form.ReadOpaque unseen = neither old.read_opaque read g unseen
-    each form.OpaqueProcessor unseen = absurd cc
-    each form.UnreadProcessor unseen = absurd cc
-    each form.OtherIts unseen = absurd cc
-    each form.IoApic unseen = neither old.io_apic io_apic a unseen
-    each form.Override unseen = neither old.override_entry override_entry b unseen
-    each form.LocalNmi unseen = neither old.local_nmi local_nmi c unseen
-    each form.X2apic unseen = neither old.x2apic x2apic d unseen
-    each form.Parking unseen = absurd cc
+    }) one ≡ false → (is_seen old one ≡ false) × (¬ IsNeeded one e)
+    each needed.Opaque unseen = neither old.opaque opaque f unseen
+    each needed.ReadOpaque unseen = neither old.read_opaque read g unseen
+    each needed.IoApic unseen = neither old.io_apic io_apic a unseen
+    each needed.Override unseen = neither old.override_entry override_entry b unseen
+    each needed.LocalNmi unseen = neither old.local_nmi local_nmi c unseen
+    each needed.X2apic unseen = neither old.x2apic x2apic d unseen
 
--- the entry is of no form that was not seen
-abbrev pub IsOfSeen : SeenForms → ℕ → MadtEntry → Type 0
-IsOfSeen seen o e = (form : MadtForm) → is_seen seen form ≡ false → ¬ IsOfForm form e
+-- the entry is of no kind that was not seen
+abbrev pub IsOfSeen : SeenEntries → ℕ → MadtEntry → Type 0
+IsOfSeen seen o e = (wanted : NeededEntry) → is_seen seen wanted ≡ false → ¬ IsNeeded wanted e
 
-pub all_seen : (seen : SeenForms) (madt : MadtContents) → HasPassed madt.entries [] (IsOfSeen seen)
-    → (form : MadtForm) → is_seen seen form ≡ false → ¬ HasForm madt form
-all_seen seen madt passed form unseen (o, (e, stands, is)) = all_passed passed o e stands form unseen is
+pub all_seen : (seen : SeenEntries) (madt : MadtContents) → HasPassed madt.entries [] (IsOfSeen seen)
+    → (wanted : NeededEntry) → is_seen seen wanted ≡ false → ¬ HasNeeded madt wanted
+all_seen seen madt passed wanted unseen (o, (e, stands, is)) = all_passed passed o e stands wanted unseen is
 
 -- ---- rules by what they look at
 
-pub madt_needs : (form : MadtForm) (P : MadtContents → ℕ → ℕ → ℕ → Type 0)
-    → ((madt : MadtContents) (at other point : ℕ) → P madt at other point → HasForm madt form)
-    → NeedsForm form (OnMadt (Madt P))
-madt_needs form P each m q at other point (whole, listed, (size, holds)) =
+pub madt_needs : (wanted : NeededEntry) (P : MadtContents → ℕ → ℕ → ℕ → Type 0)
+    → ((madt : MadtContents) (at other point : ℕ) → P madt at other point → HasNeeded madt wanted)
+    → NeedsEntry wanted (OnMadt (Madt P))
+madt_needs wanted P each m q at other point (whole, listed, (size, holds)) =
     (whole, listed, (size, each (madt_contents whole) at other point holds))
 
-pub entries_need : (form : MadtForm) (P : MadtEntry → ℕ → ℕ → Type 0)
-    → ((e : MadtEntry) (other point : ℕ) → P e other point → IsOfForm form e)
-    → NeedsForm form (OnMadt (MadtEntries P))
-entries_need form P each m q at other point (whole, listed, (size, (e, stands, holds))) =
+pub entries_need : (wanted : NeededEntry) (P : MadtEntry → ℕ → ℕ → Type 0)
+    → ((e : MadtEntry) (other point : ℕ) → P e other point → IsNeeded wanted e)
+    → NeedsEntry wanted (OnMadt (MadtEntries P))
+entries_need wanted P each m q at other point (whole, listed, (size, (e, stands, holds))) =
     (whole, listed, (size, (at, (e, stands, each e other point holds))))
 
--- only an entry of the form has the number
-abbrev pub IsNumberOf : MadtForm → (MadtEntry → Option ℕ) → Type 0
-IsNumberOf form read = (e : MadtEntry) (n : ℕ) → read e ≡ Some n → IsOfForm form e
+-- only an entry of the kind has the number
+abbrev pub IsNumberOf : NeededEntry → (MadtEntry → Option ℕ) → Type 0
+IsNumberOf wanted read = (e : MadtEntry) (n : ℕ) → read e ≡ Some n → IsNeeded wanted e
 
-pub named_form : (form : MadtForm) (read : MadtEntry → Option ℕ) → IsNumberOf form read → (madt : MadtContents) (o n : ℕ)
-    → NamesAt read madt.entries o n → HasForm madt form
-named_form form read each madt o n (e, stands, is) = (o, (e, stands, each e n is))
+pub named_needed : (wanted : NeededEntry) (read : MadtEntry → Option ℕ) → IsNumberOf wanted read
+    → (madt : MadtContents) (o n : ℕ)
+    → NamesAt read madt.entries o n → HasNeeded madt wanted
+named_needed wanted read each madt o n (e, stands, is) = (o, (e, stands, each e n is))
 
-pub number_needs : (form : MadtForm) (read : MadtEntry → Option ℕ) → IsNumberOf form read
-    → NeedsForm form (OnMadt (MadtNumbers read))
-number_needs form read each m q at other point (whole, listed, (size, repeats)) =
-    (whole, listed, (size, named_form form read each (madt_contents whole) at point repeats.here))
+pub number_needs : (wanted : NeededEntry) (read : MadtEntry → Option ℕ) → IsNumberOf wanted read
+    → NeedsEntry wanted (OnMadt (MadtNumbers read))
+number_needs wanted read each m q at other point (whole, listed, (size, repeats)) =
+    (whole, listed, (size, named_needed wanted read each (madt_contents whole) at point repeats.here))
 
-pub fadt_madt_needs : (form : MadtForm) (P : PolicyValue → List ℕ → MadtContents → ℕ → ℕ → ℕ → Type 0)
+pub fadt_madt_needs : (wanted : NeededEntry) (P : PolicyValue → List ℕ → MadtContents → ℕ → ℕ → ℕ → Type 0)
     → ((q : PolicyValue) (fadt : List ℕ) (madt : MadtContents) (at other point : ℕ) → P q fadt madt at other point
-    → HasForm madt form) → NeedsForm form (OnFadt (FadtMadt P))
-fadt_madt_needs form P each m q at other point (fadt, found, (length, (whole, listed, (size, holds)))) =
+    → HasNeeded madt wanted) → NeedsEntry wanted (OnFadt (FadtMadt P))
+fadt_madt_needs wanted P each m q at other point (fadt, found, (length, (whole, listed, (size, holds)))) =
     (whole, listed, (size, each q fadt (madt_contents whole) at other point holds))
 
-pub madt_pptt_needs : (form : MadtForm) (P : MadtContents → PpttContents → ℕ → ℕ → ℕ → Type 0)
-    → ((madt : MadtContents) (pptt : PpttContents) (at other point : ℕ) → P madt pptt at other point → HasForm madt form)
-    → NeedsForm form (OnMadt (MadtPptt P))
-madt_pptt_needs form P each m q at other point (whole, listed, (size, (bytes, found, holds))) =
+pub madt_pptt_needs : (wanted : NeededEntry) (P : MadtContents → PpttContents → ℕ → ℕ → ℕ → Type 0)
+    → ((madt : MadtContents) (pptt : PpttContents) (at other point : ℕ) → P madt pptt at other point
+    → HasNeeded madt wanted)
+    → NeedsEntry wanted (OnMadt (MadtPptt P))
+madt_pptt_needs wanted P each m q at other point (whole, listed, (size, (bytes, found, holds))) =
     (whole, listed, (size, each (madt_contents whole) (pptt_contents bytes) at other point holds))
 
 -- ---- entries that the stages read
 
-pub id_of_io_apic : IsNumberOf form.IoApic io_apic_id
+pub id_of_io_apic : IsNumberOf needed.IoApic io_apic_id
 id_of_io_apic (LocalApic v) n some = cc
 id_of_io_apic (IoApic v) n some = tt
 id_of_io_apic (Override v) n some = cc
@@ -146,7 +145,7 @@ id_of_io_apic (X2apic v) n some = cc
 id_of_io_apic (X2apicNmi v) n some = cc
 id_of_io_apic (Opaque v) n some = cc
 
-pub address_of_io_apic : IsNumberOf form.IoApic io_apic_address
+pub address_of_io_apic : IsNumberOf needed.IoApic io_apic_address
 address_of_io_apic (LocalApic v) n some = cc
 address_of_io_apic (IoApic v) n some = tt
 address_of_io_apic (Override v) n some = cc
@@ -157,19 +156,19 @@ address_of_io_apic (X2apic v) n some = cc
 address_of_io_apic (X2apicNmi v) n some = cc
 address_of_io_apic (Opaque v) n some = cc
 
-pub nonzero_of_io_apic : IsNumberOf form.IoApic nonzero_io_apic_address
+pub nonzero_of_io_apic : IsNumberOf needed.IoApic nonzero_io_apic_address
 nonzero_of_io_apic e n some =
     option_and_then_some (λ a. if a == 0 then None else Some a) (io_apic_address e) n some
     (λ address is nonzero. address_of_io_apic e address is)
 
-pub zero_of_io_apic : (e : MadtEntry) (other point : ℕ) → IsIoApicAtZero e other point → IsOfForm form.IoApic e
+pub zero_of_io_apic : (e : MadtEntry) (other point : ℕ) → IsIoApicAtZero e other point → IsNeeded needed.IoApic e
 zero_of_io_apic e other point (is, unused) = address_of_io_apic e 0 is
 
 pub sci_io_apic : (q : PolicyValue) (fadt : List ℕ) (madt : MadtContents) (at other point : ℕ)
-    → IsSciNowhere q fadt madt at other point → HasForm madt form.IoApic
+    → IsSciNowhere q fadt madt at other point → HasNeeded madt needed.IoApic
 sci_io_apic q fadt madt at other point nowhere = nowhere.some
 
-pub timer_of_override : IsNumberOf form.Override level_timer
+pub timer_of_override : IsNumberOf needed.Override level_timer
 timer_of_override (LocalApic v) n some = cc
 timer_of_override (IoApic v) n some = cc
 timer_of_override (Override v) n some = tt
@@ -181,7 +180,7 @@ timer_of_override (X2apicNmi v) n some = cc
 timer_of_override (Opaque v) n some = cc
 
 past_of_override : (sci : ℕ) (e : MadtEntry) (other point : ℕ) → IsPastIsa sci e other point
-    → IsOfForm form.Override e
+    → IsNeeded needed.Override e
 past_of_override sci (LocalApic v) other point is = elim is [ ]
 past_of_override sci (IoApic v) other point is = elim is [ ]
 past_of_override sci (Override v) other point is = tt
@@ -193,11 +192,11 @@ past_of_override sci (X2apicNmi v) other point is = elim is [ ]
 past_of_override sci (Opaque v) other point is = elim is [ ]
 
 pub past_override : (q : PolicyValue) (fadt : List ℕ) (madt : MadtContents) (at other point : ℕ)
-    → IsOverridePastIsa fadt madt at other point → HasForm madt form.Override
+    → IsOverridePastIsa fadt madt at other point → HasNeeded madt needed.Override
 past_override q fadt madt at other point (e, stands, is) =
     (at, (e, stands, past_of_override (field fadt 46 2) e other point is))
 
-source_of_override : (gsi : ℕ) → IsNumberOf form.Override (source_for gsi)
+source_of_override : (gsi : ℕ) → IsNumberOf needed.Override (source_for gsi)
 source_of_override gsi (LocalApic v) n some = cc
 source_of_override gsi (IoApic v) n some = cc
 source_of_override gsi (Override v) n some = tt
@@ -209,11 +208,11 @@ source_of_override gsi (X2apicNmi v) n some = cc
 source_of_override gsi (Opaque v) n some = cc
 
 pub two_overrides : (madt : MadtContents) (at other point : ℕ) → IsTwoSourcesOneGsi madt at other point
-    → HasForm madt form.Override
+    → HasNeeded madt needed.Override
 two_overrides madt at other point two =
-    named_form form.Override (source_for point) (source_of_override point) madt at two.source two.here
+    named_needed needed.Override (source_for point) (source_of_override point) madt at two.source two.here
 
-pub uid_of_nmi : IsNumberOf form.LocalNmi nmi_uid
+pub uid_of_nmi : IsNumberOf needed.LocalNmi nmi_uid
 uid_of_nmi (LocalApic v) n some = cc
 uid_of_nmi (IoApic v) n some = cc
 uid_of_nmi (Override v) n some = cc
@@ -225,11 +224,11 @@ uid_of_nmi (X2apicNmi v) n some = tt
 uid_of_nmi (Opaque v) n some = cc
 
 pub nmi_somewhere : (madt : MadtContents) (at other point : ℕ) → IsNmiNowhere madt at other point
-    → HasForm madt form.LocalNmi
+    → HasNeeded madt needed.LocalNmi
 nmi_somewhere madt at other point (known, names, none, zero) =
-    named_form form.LocalNmi nmi_uid uid_of_nmi madt at point names
+    named_needed needed.LocalNmi nmi_uid uid_of_nmi madt at point names
 
-pub lint_of_nmi : IsNumberOf form.LocalNmi other_lint
+pub lint_of_nmi : IsNumberOf needed.LocalNmi other_lint
 lint_of_nmi (LocalApic v) n some = cc
 lint_of_nmi (IoApic v) n some = cc
 lint_of_nmi (Override v) n some = cc
@@ -240,7 +239,7 @@ lint_of_nmi (X2apic v) n some = cc
 lint_of_nmi (X2apicNmi v) n some = tt
 lint_of_nmi (Opaque v) n some = cc
 
-pub id_of_x2apic : IsNumberOf form.X2apic low_x2apic_id
+pub id_of_x2apic : IsNumberOf needed.X2apic low_x2apic_id
 id_of_x2apic (LocalApic v) n some = cc
 id_of_x2apic (IoApic v) n some = cc
 id_of_x2apic (Override v) n some = cc
@@ -252,9 +251,9 @@ id_of_x2apic (X2apicNmi v) n some = cc
 id_of_x2apic (Opaque v) n some = cc
 
 pub low_x2apic : (madt : MadtContents) (at other point : ℕ) → IsX2ApicBelow255 madt at other point
-    → HasForm madt form.X2apic
+    → HasNeeded madt needed.X2apic
 low_x2apic madt at other point (some, names, zero) =
-    named_form form.X2apic low_x2apic_id id_of_x2apic madt at point names
+    named_needed needed.X2apic low_x2apic_id id_of_x2apic madt at point names
 
 -- ---- entries of any length that the stages do not read
 
@@ -269,11 +268,11 @@ type_opaque (AddressOverride v) type above is = omega (arith, is, above)
 type_opaque (X2apic v) type above is = omega (arith, is, above)
 type_opaque (X2apicNmi v) type above is = omega (arith, is, above)
 
-typed_opaque : (madt : MadtContents) (type : ℕ) → 10 < type → HasType madt type → HasForm madt form.Opaque
+typed_opaque : (madt : MadtContents) (type : ℕ) → 10 < type → HasType madt type → HasNeeded madt needed.Opaque
 typed_opaque madt type above (o, (e, stands, is)) = (o, (e, stands, type_opaque e type above is))
 
 pub arch_opaque : (q : PolicyValue) (fadt : List ℕ) (madt : MadtContents) (at other point : ℕ)
-    → IsFadtForArch fadt madt at other point → HasForm madt form.Opaque
+    → IsFadtForArch fadt madt at other point → HasNeeded madt needed.Opaque
 arch_opaque q fadt madt at other point (inl (place, unused, reduced, inl gicc)) =
     typed_opaque madt 11 (omega arith) gicc
 arch_opaque q fadt madt at other point (inl (place, unused, reduced, inr hart)) =
@@ -282,11 +281,11 @@ arch_opaque q fadt madt at other point (inr (place, version, gicc, older)) =
     typed_opaque madt 11 (omega arith) gicc
 
 pub no_distributor_opaque : (madt : MadtContents) (at other point : ℕ) → IsNoDistributor madt at other point
-    → HasForm madt form.Opaque
+    → HasNeeded madt needed.Opaque
 no_distributor_opaque madt at other point (lacks, place, unused) =
     typed_opaque madt 11 (omega arith) lacks.has_interface
 
-pub gicd_opaque : IsNumberOf form.Opaque gicd
+pub gicd_opaque : IsNumberOf needed.Opaque gicd
 gicd_opaque (Opaque e) n some = tt
 gicd_opaque (LocalApic v) n some = cc
 gicd_opaque (IoApic v) n some = cc
@@ -343,7 +342,7 @@ some_if true x n some = refl
 some_if false x n some = cc
 
 pub field_read : (is : List ℕ → Bool) → ((e : List ℕ) → is e ≡ true → is_read_opaque e ≡ true) → (at width : ℕ)
-    → IsNumberOf form.ReadOpaque (field_where is at width)
+    → IsNumberOf needed.ReadOpaque (field_where is at width)
 field_read is each at width (Opaque e) n some = each e (some_if (is e) (field e at width) n some)
 field_read is each at width (LocalApic v) n some = cc
 field_read is each at width (IoApic v) n some = cc
@@ -354,12 +353,12 @@ field_read is each at width (AddressOverride v) n some = cc
 field_read is each at width (X2apic v) n some = cc
 field_read is each at width (X2apicNmi v) n some = cc
 
-pub reserved_read : IsNumberOf form.ReadOpaque reserved_mpidr
+pub reserved_read : IsNumberOf needed.ReadOpaque reserved_mpidr
 reserved_read e n some =
     option_and_then_some (λ n. if is_reserved_mpidr n then Some n else None) (usable_mpidr e) n some
     (λ mpidr is reserved. field_read has_mpidr mpidr_read 68 8 e mpidr is)
 
-pub hart_read : IsNumberOf form.ReadOpaque usable_hart_id
+pub hart_read : IsNumberOf needed.ReadOpaque usable_hart_id
 hart_read (Opaque e) n some = rintc_read e (and_parts (is_rintc e) _ (some_if _ (field e 8 8) n some)).0
 hart_read (LocalApic v) n some = cc
 hart_read (IoApic v) n some = cc
@@ -384,7 +383,7 @@ gicc_form (X2apic v) is = elim is [ ]
 gicc_form (X2apicNmi v) is = elim is [ ]
 
 pub giccs_read : (q : PolicyValue) (fadt : List ℕ) (madt : MadtContents) (at other point : ℕ)
-    → IsNoBootMethod fadt madt at other point → HasForm madt form.ReadOpaque
+    → IsNoBootMethod fadt madt at other point → HasNeeded madt needed.ReadOpaque
 giccs_read q fadt madt at other point (((o, p, (e, stands, is), two, before), none), psci, place, first, second) =
     (o, (e, stands, gicc_form e is))
 
@@ -420,31 +419,31 @@ registers_read (X2apic v) s n some = cc
 registers_read (X2apicNmi v) s n some = cc
 
 pub overlap_read : (madt : MadtContents) (at other point : ℕ) → IsGicOverlap madt at other point
-    → HasForm madt form.ReadOpaque
+    → HasNeeded madt needed.ReadOpaque
 overlap_read madt at other point first =
     let (n, (e, stands, has), start, inside) = first.overlap.one_holds in
     (at, (e, stands, registers_read e first.overlap.s n has))
 
 pub no_redistributor_read : (madt : MadtContents) (at other point : ℕ) → IsNoRedistributor madt at other point
-    → HasForm madt form.ReadOpaque
+    → HasNeeded madt needed.ReadOpaque
 no_redistributor_read madt at other point (first, lacks, zero) =
-    named_form form.ReadOpaque gicd_version (field_read is_gicd gicd_read 20 1) madt at other first.0
+    named_needed needed.ReadOpaque gicd_version (field_read is_gicd gicd_read 20 1) madt at other first.0
 
 pub too_small_read : (madt : MadtContents) (at other point : ℕ) → IsGicrTooSmall madt at other point
-    → HasForm madt form.ReadOpaque
+    → HasNeeded madt needed.ReadOpaque
 too_small_read madt at other point small =
     let (size, first) = small.first in
-    named_form form.ReadOpaque gicr_length (field_read is_gicr gicr_read 12 4) madt at size first.0
+    named_needed needed.ReadOpaque gicr_length (field_read is_gicr gicr_read 12 4) madt at size first.0
 
 pub base_read : (madt : MadtContents) (at other point : ℕ) → IsGiccBaseDiffers madt at other point
-    → HasForm madt form.ReadOpaque
+    → HasNeeded madt needed.ReadOpaque
 base_read madt at other point differs =
-    named_form form.ReadOpaque gicc_base (field_read is_gicc gicc_read 32 8) madt at point differs.here
+    named_needed needed.ReadOpaque gicc_base (field_read is_gicc gicc_read 32 8) madt at point differs.here
 
 pub twice_read : (madt : MadtContents) (at other point : ℕ) → IsRedistributorTwice madt at other point
-    → HasForm madt form.ReadOpaque
+    → HasNeeded madt needed.ReadOpaque
 twice_read madt at other point (names, first) =
-    named_form form.ReadOpaque own_redistributor (field_read names_redistributor own_read 60 8) madt at point names
+    named_needed needed.ReadOpaque own_redistributor (field_read names_redistributor own_read 60 8) madt at point names
 
 -- ---- the rule on leaves that have no processor
 
@@ -476,6 +475,6 @@ processor_form (X2apic v) is = elim is [ ]
 processor_form (X2apicNmi v) is = elim is [ ]
 
 pub leaf_read : (madt : MadtContents) (pptt : PpttContents) (at other point : ℕ)
-    → IsLeafNowhere madt pptt at other point → HasForm madt form.ReadOpaque
+    → IsLeafNowhere madt pptt at other point → HasNeeded madt needed.ReadOpaque
 leaf_read madt pptt at other point (known, (o, (e, stands, is)), leaf, none, zero) =
     (o, (e, stands, processor_form e is))

@@ -1,5 +1,5 @@
-use Rattle.acpi_lint.proofs.NeededForms.{seen_too}
-use Rattle.acpi_lint.proofs.complete_tables.SeenForms.with.Goals as goal
+use Rattle.acpi_lint.proofs.NeededEntries.{seen_too}
+use Rattle.acpi_lint.proofs.needed_entries.SeenEntries.with.Goals as goal
 
 pub returns : goal.returns
 returns c =

@@ -1,8 +1,8 @@
 use Rattle.acpi_base.specs.Madt.{madt_contents}
 use Rattle.acpi_check.proofs.EntryPasses.Kept.{madt_rising}
 use Rattle.acpi_check.proofs.EntryPasses.Passes.{none_passed, one_more}
-use Rattle.acpi_lint.proofs.NeededForms.{IsOfSeen, all_seen}
-use Rattle.acpi_lint.proofs.complete_tables.SeenForms.in_madt.Goals as goal
+use Rattle.acpi_lint.proofs.NeededEntries.{IsOfSeen, all_seen}
+use Rattle.acpi_lint.proofs.needed_entries.SeenEntries.in_madt.Goals as goal
 
 pub loop-at-init : goal.loop-at-init
 loop-at-init c =

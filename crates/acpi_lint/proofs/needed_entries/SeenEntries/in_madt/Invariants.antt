@@ -1,8 +1,8 @@
 use Rattle.acpi_base.specs.Entries.{entries_read_by}
 use Rattle.acpi_base.specs.Madt.{madt_contents, madt_entry}
 use Rattle.acpi_check.proofs.EntryPasses.Passes.{HasPassed}
-use Rattle.acpi_lint.proofs.NeededForms.{IsOfSeen}
-use Rattle.acpi_lint.proofs.complete_tables.SeenForms.in_madt.Given as goal
+use Rattle.acpi_lint.proofs.NeededEntries.{IsOfSeen}
+use Rattle.acpi_lint.proofs.needed_entries.SeenEntries.in_madt.Given as goal
 
 -- the entries before those left are of no form that was not seen
 abbrev pub invariant-loop-at : goal.invariant-loop-at
