@@ -12,7 +12,7 @@ use Rattle.acpi_base.specs.declared.witness.Witness.{Witness}
 use Rattle.acpi_check.specs.declared.places.PlaceKind.{PlaceKind}
 use Rattle.acpi_check.specs.declared.places.PlaceKind.TheVariants as kind
 use Rattle.acpi_check.specs.declared.places.Places.{Places}
-use Rattle.acpi_check.specs.OffsetSets.{IsIn}
+use Rattle.acpi_check.specs.BitSets.{IsIn}
 
 -- ---- offsets
 

@@ -7,7 +7,7 @@ pub mod FirstBelow
 pub mod FirstSeen
 pub mod Headline
 pub mod NamedNumbers
-pub mod OffsetSets
+pub mod BitSets
 pub mod PassResults
 pub mod Processors
 pub mod RangeSpans

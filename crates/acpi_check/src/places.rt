@@ -1,6 +1,6 @@
 //! The offsets of the entries of a PPTT, by kind.
 
-use crate::offset_set::OffsetSet;
+use crate::bit_set::BitSet;
 
 /// What an entry is.
 #[derive(Clone, Copy)]
@@ -17,9 +17,9 @@ pub enum PlaceKind {
 #[derive(Drop)]
 pub struct Places {
     /// Those of nodes: what a Parent may refer to.
-    pub nodes: OffsetSet,
+    pub nodes: BitSet,
     /// Those of caches: what a Next Level may refer to.
-    pub caches: OffsetSet,
+    pub caches: BitSet,
     /// Those of all entries but nodes: what a private resource may be.
-    pub resources: OffsetSet,
+    pub resources: BitSet,
 }

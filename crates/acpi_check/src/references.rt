@@ -7,9 +7,9 @@ ghost use Rattle.acpi_base.specs.declared.stage.Stage.{Stage};
 ghost use Rattle.acpi_read.specs.Pptts.{pptt_value, HasReferences};
 ghost use Rattle.acpi_check.specs.TableResults.{FindsFirst};
 ghost use Rattle.acpi_check.specs.EntryPlaces.{kind_of, is_node, is_cache, is_resource, ArePlaces, NamesPlaces, IsFirstReference};
-ghost use Rattle.acpi_check.specs.OffsetSets.{IsIn, Adds};
+ghost use Rattle.acpi_check.specs.BitSets.{IsIn, Adds};
 
-use crate::offset_set::OffsetSet;
+use crate::bit_set::BitSet;
 use crate::places::{PlaceKind, Places};
 use crate::refusal::Refusal;
 use acpi_base::field::u32_at;
@@ -53,9 +53,9 @@ fn places_of(alloc: Global, pptt: &Table<'_>) -> Result<Places, AllocError>
     ensures { IfOk result (ArePlaces (pptt_contents pptt.now)) }
 {
     let mut places = Places {
-        nodes: OffsetSet::new(alloc),
-        caches: OffsetSet::new(alloc),
-        resources: OffsetSet::new(alloc),
+        nodes: BitSet::new(alloc),
+        caches: BitSet::new(alloc),
+        resources: BitSet::new(alloc),
     };
     for at in pptt.entries::<PpttEntry<'_>>() {
         add_place(&mut places, kind_of(&at.entry), at.offset)?;
@@ -65,7 +65,7 @@ fn places_of(alloc: Global, pptt: &Table<'_>) -> Result<Places, AllocError>
 
 /// The first of a node's private resources that is not at one of these offsets: its number, from 0, and its own offset.
 /// `references` has 4 bytes for each of the `count` resources (ACPI 6.5, 5.2.30.1).
-pub fn first_dangling(offsets: &OffsetSet, count: u32, references: &[u8]) -> Option<(u32, u32)>
+pub fn first_dangling(offsets: &BitSet, count: u32, references: &[u8]) -> Option<(u32, u32)>
     requires { length references.now ≡ 4 * count }
     ensures { MatchOption result ((j : ℕ) → j < count
         → IsIn offsets.now (field references.now (4 * j) 4))
@@ -83,7 +83,7 @@ pub fn first_dangling(offsets: &OffsetSet, count: u32, references: &[u8]) -> Opt
 }
 
 /// The fault of a Parent or a Next Level that refers to an offset that is not among these. 0 refers to nothing.
-fn link_fault(code: Code, at: u64, offsets: &OffsetSet, offset: u32) -> Option<Witness>
+fn link_fault(code: Code, at: u64, offsets: &BitSet, offset: u32) -> Option<Witness>
     ensures { MatchOption result ((offset ≡ 0) ⊎ IsIn offsets.now offset)
         (λ w. (w ≡ record { code = code; at = at; other = offset; point = 0 }) × (offset ≢ 0)
         × ¬ IsIn offsets.now offset) }

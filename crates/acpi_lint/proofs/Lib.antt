@@ -22,7 +22,6 @@ mod LeastPlaces
 mod ListedSlots
 mod NamedPlaces
 mod NeededEntries
-mod NumberKeys
 mod OddFields
 mod OfTables
 mod OnceTables
@@ -47,6 +46,7 @@ pub mod RuleNumbers
 mod SameNumbers
 mod SciGsis
 mod SecondTables
+mod SharedMarks
 mod ShortTables
 mod SlitFaults
 mod SomeEntries

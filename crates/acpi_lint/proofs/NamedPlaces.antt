@@ -11,9 +11,9 @@ use Rattle.acpi_base.specs.Pptt.{PpttEntry, Node, NodeValue, PpttContents, pptt_
 use Rattle.acpi_base.specs.declared.code.Code.TheVariants as code
 use Rattle.acpi_base.proofs.Options.{cases_Option}
 use Rattle.acpi_check.specs.Chains.{named_offset}
-use Rattle.acpi_check.specs.OffsetSets.{IsIn}
+use Rattle.acpi_check.specs.BitSets.{IsIn}
 use Rattle.acpi_check.specs.declared.nodes.Chain.{Chain}
-use Rattle.acpi_check.specs.declared.offset_set.OffsetSet.{OffsetSet}
+use Rattle.acpi_check.specs.declared.bit_set.BitSet.{BitSet}
 use Rattle.acpi_check.proofs.EntryPasses.Kept.{kept_has, kept_from}
 use Rattle.acpi_check.proofs.NodeLinks.NamedPlaces.{numbers_in, number_is, is_number}
 use Rattle.acpi_lint.specs.Places.{FindsOwn, FindsLeast}
@@ -66,7 +66,7 @@ resources_there whole offsets are o =
       λ (e, stands, other). (stand is_resource said o).1 (e, stands, ap not (ne_eqb _ _ other)),
     )
 
-pub same_places : {X : Type 0} {IsThere : ℕ → Type 0} (offsets : List ℕ) (r : Result OffsetSet X)
+pub same_places : {X : Type 0} {IsThere : ℕ → Type 0} (offsets : List ℕ) (r : Result BitSet X)
     → ((o : ℕ) → Contains offsets o ↔ IsThere o) → IfOk r (λ s. (o : ℕ) → IsIn s o ↔ Contains offsets o)
     → IfOk r (AreOffsets IsThere)
 same_places offsets (Ok s) there same = λ o. (λ is. (there o).0 ((same o).0 is), λ is. (same o).1 ((there o).1 is))
@@ -75,7 +75,7 @@ same_places offsets (Err e) there same = tt
 -- ---- what dangles
 
 -- an entry whose link is at none of the offsets of its kind dangles
-pub links_dangle : (kind : Chain) (c : PpttContents) (offsets : OffsetSet) (found : Option Place)
+pub links_dangle : (kind : Chain) (c : PpttContents) (offsets : BitSet) (found : Option Place)
     → AreOffsets (IsAt (Says (named_offset kind) c)) offsets
     → FindsLeast (IsFaultAt (NamesNoLink kind offsets) c.entries) found
     → FindsLeast (IsDanglingLink kind c) found
@@ -88,7 +88,7 @@ links_dangle kind c offsets found are least =
     (e, stands, (is, dangles.some, λ listed. dangles.nowhere ((are other).0 listed), zero)))
     least
 
-pub resources_dangle : (c : PpttContents) (offsets : OffsetSet) (found : Option Place)
+pub resources_dangle : (c : PpttContents) (offsets : BitSet) (found : Option Place)
     → AreOffsets (IsResourceAt c) offsets → FindsLeast (IsFaultAt (NamesNoResource offsets) c.entries) found
     → FindsLeast (ReferenceFault c code.DanglingResource) found
 resources_dangle c offsets found are least =
@@ -100,7 +100,7 @@ resources_dangle c offsets found are least =
 -- ---- private resources
 
 -- for a node all of whose private resources are present
-pub none_missing : (offsets : OffsetSet) (references : List ℕ) (count : ℕ) (s : PlacedEntry PpttEntry) (v : NodeValue)
+pub none_missing : (offsets : BitSet) (references : List ℕ) (count : ℕ) (s : PlacedEntry PpttEntry) (v : NodeValue)
     → s.entry ≡ Node v → v.resources ≡ numbers_in references count
     → ((j : ℕ) → j < count → IsIn offsets (field references (4 * j) 4)) → FindsOwn (NamesNoResource offsets) s None
 none_missing offsets references count s v node are all = λ other point (is, not).
@@ -108,7 +108,7 @@ none_missing offsets references count s v node are all = λ other point (is, not
     not (rw number (all other below))
 
 -- for one whose first private resource that is missing is this one
-pub first_missing : (offsets : OffsetSet) (references : List ℕ) (count j : ℕ) (s : PlacedEntry PpttEntry)
+pub first_missing : (offsets : BitSet) (references : List ℕ) (count j : ℕ) (s : PlacedEntry PpttEntry)
     (v : NodeValue) → s.entry ≡ Node v → v.resources ≡ numbers_in references count → j < count
     → ¬ IsIn offsets (field references (4 * j) 4)
     → ((i : ℕ) → i < j → IsIn offsets (field references (4 * i) 4))

@@ -1,9 +1,10 @@
 -- Rules that are kept by a MADT without an entry of a needed.
 use Rattle.std.proofs.Common.{◌≡◌, ℕ, ◌<◌, List, Bool, true, false, Option, Some, None, [], arith, refl, inl, inr}
-use Rattle.std.specs.Prelude.{◌↔◌, IsSome, IsTrue, ◌==◌, ◌&&◌, ◌||◌, ◌^◌, option_map, if◌then◌else◌}
+use Rattle.std.specs.Prelude.{◌↔◌, ◌⊎◌, IsSome, IsTrue, ◌==◌, ◌&&◌, ◌||◌, ◌^◌, option_map, slice_index, if◌then◌else◌}
 use Rattle.std.specs.Option.{option_or}
-use Rattle.std.proofs.lemmas.Bool.{and_parts}
+use Rattle.std.proofs.lemmas.Bool.{and_parts, cases_eq, ne_eqb}
 use Rattle.std.proofs.lemmas.Option.{option_and_then_some}
+use Rattle.acpi_base.specs.Entries.{Stands}
 use Rattle.acpi_base.specs.Listed.{madt_signature}
 use Rattle.acpi_base.specs.Madt.{MadtEntry, LocalApic, IoApic, Override, NmiSource, LocalNmi, AddressOverride, X2apic, X2apicNmi, Opaque, MadtContents, madt_contents}
 use Rattle.acpi_base.specs.Memory.{Memory}
@@ -11,7 +12,7 @@ use Rattle.acpi_base.specs.Number.{field, has_bit}
 use Rattle.acpi_base.specs.Policy.{PolicyValue}
 use Rattle.acpi_base.specs.Pptt.{PpttContents, pptt_contents}
 use Rattle.acpi_lint.specs.CompleteTables.{IsFound, AreCompleteTables}
-use Rattle.acpi_lint.specs.NeededEntries.{IsOpaque, is_read_opaque, IsReadOpaque, IsNeeded, HasNeeded, IsAnyNeeded, is_seen, IsSeenToo}
+use Rattle.acpi_lint.specs.NeededEntries.{IsOpaque, is_read_opaque, IsReadOpaque, IsNeeded, HasNeeded, IsAnyNeeded, is_seen, IsSeenToo, IsSeenIn}
 use Rattle.acpi_lint.specs.RuleGroups.{NeedsEntry}
 use Rattle.acpi_lint.specs.Rules.Broken.{OfMadt, OnFadt, OnMadt, FadtMadt, Madt, MadtEntries, MadtNumbers, MadtPptt}
 use Rattle.acpi_lint.specs.Rules.EntryTypes.{type_of, HasType}
@@ -20,7 +21,7 @@ use Rattle.acpi_lint.specs.Rules.FadtWithMadt.{IsFadtForArch, IsPastIsa, IsOverr
 use Rattle.acpi_lint.specs.Rules.Gic.{field_where, is_gicd, is_msi_frame, is_gicr, is_its, is_usable_gicc, has_mpidr, names_redistributor, gicc_base, gicd_version, gicr_length, own_redistributor, usable_mpidr}
 use Rattle.acpi_lint.specs.Rules.GicAdvice.{is_reserved_mpidr, reserved_mpidr, IsNoDistributor, IsNoRedistributor, IsGicrTooSmall, IsGiccBaseDiffers, IsRedistributorTwice}
 use Rattle.acpi_lint.specs.Rules.GicRanges.{gicd_size, registers_from, HasRegisters, IsGicOverlap}
-use Rattle.acpi_lint.specs.Rules.ApicAdvice.{usable_hart_id, low_x2apic_id, level_timer, other_lint, source_for, IsTwoSourcesOneGsi, IsX2ApicBelow255}
+use Rattle.acpi_lint.specs.Rules.ApicAdvice.{usable_hart_id, plain_apic_id, level_timer, other_lint, source_for, IsTwoSourcesOneGsi, IsX2ApicBelow255, IsNoIoApic}
 use Rattle.acpi_lint.specs.Rules.MadtAdvice.{io_apic_id, io_apic_address, nonzero_io_apic_address, IsIoApicAtZero, nmi_uid, IsNmiNowhere, gicd, IsMadtUnread}
 use Rattle.acpi_lint.specs.Rules.Numbered.{NamesAt}
 use Rattle.acpi_lint.specs.Rules.PpttAdvice.{IsLeafNowhere}
@@ -50,46 +51,65 @@ not_needed m q wanted {tables = tables} are none = without m q wanted tables.mad
 
 -- ---- the forms of the entries that were seen
 
-neither : (old is : Bool) {P : Type 0} → IsTrue is ↔ P → (old || is) ≡ false → (old ≡ false) × (¬ P)
-neither false false decides unseen = (refl, λ holds. absurd (let yes : false ≡ true = decides.1 holds in cc))
-neither false true decides unseen = absurd cc
-neither true is decides unseen = absurd cc
+either : (old is : Bool) {P : Type 0} → IsTrue is ↔ P → IsTrue (old || is) ↔ (IsTrue old ⊎ P)
+either true is decides = (λ any. inl refl, λ holds. refl)
+either false is decides =
+    (λ any. inr (decides.0 any), λ holds. elim holds [ inl before ↦ absurd (let never : false ≡ true = before in cc) | inr here ↦ decides.1 here ])
 
-pub seen_too : (old : SeenEntries) (e : MadtEntry) (io_apic override_entry local_nmi x2apic opaque read : Bool)
+pub seen_too : (old : SeenEntries) (e : MadtEntry)
+    (io_apic override_entry local_nmi local_apic source opaque read arm_or_riscv : Bool)
     → IsTrue io_apic ↔ IsNeeded needed.IoApic e → IsTrue override_entry ↔ IsNeeded needed.Override e
-    → IsTrue local_nmi ↔ IsNeeded needed.LocalNmi e → IsTrue x2apic ↔ IsNeeded needed.X2apic e
-    → IsTrue opaque ↔ IsNeeded needed.Opaque e → IsTrue read ↔ IsNeeded needed.ReadOpaque e → IsSeenToo old e (record {
+    → IsTrue local_nmi ↔ IsNeeded needed.LocalNmi e → IsTrue local_apic ↔ IsNeeded needed.LocalApic e
+    → IsTrue source ↔ IsNeeded needed.Source e → IsTrue opaque ↔ IsNeeded needed.Opaque e
+    → IsTrue read ↔ IsNeeded needed.ReadOpaque e → IsTrue arm_or_riscv ↔ IsNeeded needed.ArmOrRiscv e
+    → IsSeenToo old e (record {
       io_apic = old.io_apic || io_apic;
       override_entry = old.override_entry || override_entry;
       local_nmi = old.local_nmi || local_nmi;
-      x2apic = old.x2apic || x2apic;
+      local_apic = old.local_apic || local_apic;
+      source = old.source || source;
       opaque = old.opaque || opaque;
       read_opaque = old.read_opaque || read;
+      arm_or_riscv = old.arm_or_riscv || arm_or_riscv;
     })
-seen_too old e io_apic override_entry local_nmi x2apic opaque read a b c d f g = each
+seen_too old e io_apic override_entry local_nmi local_apic source opaque read arm_or_riscv a b c d f g h i = each
   where
-    each : (one : NeededEntry) → is_seen (record {
+    each : (one : NeededEntry) → IsTrue (is_seen (record {
       io_apic = old.io_apic || io_apic;
       override_entry = old.override_entry || override_entry;
       local_nmi = old.local_nmi || local_nmi;
-      x2apic = old.x2apic || x2apic;
+      local_apic = old.local_apic || local_apic;
+      source = old.source || source;
       opaque = old.opaque || opaque;
       read_opaque = old.read_opaque || read;
-    }) one ≡ false → (is_seen old one ≡ false) × (¬ IsNeeded one e)
-    each needed.Opaque unseen = neither old.opaque opaque f unseen
-    each needed.ReadOpaque unseen = neither old.read_opaque read g unseen
-    each needed.IoApic unseen = neither old.io_apic io_apic a unseen
-    each needed.Override unseen = neither old.override_entry override_entry b unseen
-    each needed.LocalNmi unseen = neither old.local_nmi local_nmi c unseen
-    each needed.X2apic unseen = neither old.x2apic x2apic d unseen
+      arm_or_riscv = old.arm_or_riscv || arm_or_riscv;
+    }) one) ↔ (IsTrue (is_seen old one) ⊎ IsNeeded one e)
+    each needed.Opaque = either old.opaque opaque g
+    each needed.ReadOpaque = either old.read_opaque read h
+    each needed.IoApic = either old.io_apic io_apic a
+    each needed.Override = either old.override_entry override_entry b
+    each needed.LocalNmi = either old.local_nmi local_nmi c
+    each needed.LocalApic = either old.local_apic local_apic d
+    each needed.Source = either old.source source f
+    each needed.ArmOrRiscv = either old.arm_or_riscv arm_or_riscv i
 
--- the entry is of no kind that was not seen
+-- the kinds that the entry is of were seen
 abbrev pub IsOfSeen : SeenEntries → ℕ → MadtEntry → Type 0
-IsOfSeen seen o e = (wanted : NeededEntry) → is_seen seen wanted ≡ false → ¬ IsNeeded wanted e
+IsOfSeen seen o e = (wanted : NeededEntry) → IsNeeded wanted e → IsTrue (is_seen seen wanted)
+
+-- the kinds that were seen are in the MADT
+abbrev pub AreInMadt : SeenEntries → MadtContents → Type 0
+AreInMadt seen madt = (wanted : NeededEntry) → IsTrue (is_seen seen wanted) → HasNeeded madt wanted
+
+pub seen_one_more : (old new : SeenEntries) (madt : MadtContents) (o : ℕ) (e : MadtEntry)
+    → Stands madt.entries o e → IsSeenToo old e new → AreInMadt old madt → AreInMadt new madt
+seen_one_more old new madt o e stands too are wanted seen =
+    elim ((too wanted).0 seen) [ inl before ↦ are wanted before | inr here ↦ (o, (e, stands, here)) ]
 
 pub all_seen : (seen : SeenEntries) (madt : MadtContents) → HasPassed madt.entries [] (IsOfSeen seen)
-    → (wanted : NeededEntry) → is_seen seen wanted ≡ false → ¬ HasNeeded madt wanted
-all_seen seen madt passed wanted unseen (o, (e, stands, is)) = all_passed passed o e stands wanted unseen is
+    → AreInMadt seen madt → IsSeenIn seen madt
+all_seen seen madt passed are wanted =
+    (are wanted, λ (o, (e, stands, is)). all_passed passed o e stands wanted is)
 
 -- ---- rules by what they look at
 
@@ -239,62 +259,62 @@ lint_of_nmi (X2apic v) n some = cc
 lint_of_nmi (X2apicNmi v) n some = tt
 lint_of_nmi (Opaque v) n some = cc
 
-pub id_of_x2apic : IsNumberOf needed.X2apic low_x2apic_id
-id_of_x2apic (LocalApic v) n some = cc
-id_of_x2apic (IoApic v) n some = cc
-id_of_x2apic (Override v) n some = cc
-id_of_x2apic (NmiSource v) n some = cc
-id_of_x2apic (LocalNmi v) n some = cc
-id_of_x2apic (AddressOverride v) n some = cc
-id_of_x2apic (X2apic v) n some = tt
-id_of_x2apic (X2apicNmi v) n some = cc
-id_of_x2apic (Opaque v) n some = cc
+pub plain_of_local_apic : IsNumberOf needed.LocalApic plain_apic_id
+plain_of_local_apic (LocalApic v) n some = tt
+plain_of_local_apic (IoApic v) n some = cc
+plain_of_local_apic (Override v) n some = cc
+plain_of_local_apic (NmiSource v) n some = cc
+plain_of_local_apic (LocalNmi v) n some = cc
+plain_of_local_apic (AddressOverride v) n some = cc
+plain_of_local_apic (X2apic v) n some = cc
+plain_of_local_apic (X2apicNmi v) n some = cc
+plain_of_local_apic (Opaque v) n some = cc
 
-pub low_x2apic : (madt : MadtContents) (at other point : ℕ) → IsX2ApicBelow255 madt at other point
-    → HasNeeded madt needed.X2apic
-low_x2apic madt at other point (some, names, zero) =
-    named_needed needed.X2apic low_x2apic_id id_of_x2apic madt at point names
+pub local_below_255 : (madt : MadtContents) (at other point : ℕ) → IsX2ApicBelow255 madt at other point
+    → HasNeeded madt needed.LocalApic
+local_below_255 madt at other point ((id, (o, names)), below, zero) =
+    named_needed needed.LocalApic plain_apic_id plain_of_local_apic madt o id names
 
--- ---- entries of any length that the stages do not read
+-- ---- entries of a type, of any length
 
-type_opaque : (e : MadtEntry) (type : ℕ) → 10 < type → type_of e ≡ type → IsOpaque e
-type_opaque (Opaque e) type above is = tt
-type_opaque (LocalApic v) type above is = omega (arith, is, above)
-type_opaque (IoApic v) type above is = omega (arith, is, above)
-type_opaque (Override v) type above is = omega (arith, is, above)
-type_opaque (NmiSource v) type above is = omega (arith, is, above)
-type_opaque (LocalNmi v) type above is = omega (arith, is, above)
-type_opaque (AddressOverride v) type above is = omega (arith, is, above)
-type_opaque (X2apic v) type above is = omega (arith, is, above)
-type_opaque (X2apicNmi v) type above is = omega (arith, is, above)
+pub source_named : (madt : MadtContents) (at other point : ℕ) → IsNoIoApic madt at other point
+    → HasNeeded madt needed.Source
+source_named madt at other point (lacks, place, unused) =
+    elim lacks.named [
+      | inl (o, (e, stands, is)) ↦ (o, (e, stands, inl is))
+      | inr (o, (e, stands, is)) ↦ (o, (e, stands, inr is))
+    ]
 
-typed_opaque : (madt : MadtContents) (type : ℕ) → 10 < type → HasType madt type → HasNeeded madt needed.Opaque
-typed_opaque madt type above (o, (e, stands, is)) = (o, (e, stands, type_opaque e type above is))
+of_gicc : (madt : MadtContents) → HasType madt 11 → HasNeeded madt needed.ArmOrRiscv
+of_gicc madt (o, (e, stands, is)) = (o, (e, stands, inl is))
 
-pub arch_opaque : (q : PolicyValue) (fadt : List ℕ) (madt : MadtContents) (at other point : ℕ)
-    → IsFadtForArch fadt madt at other point → HasNeeded madt needed.Opaque
-arch_opaque q fadt madt at other point (inl (place, unused, reduced, inl gicc)) =
-    typed_opaque madt 11 (omega arith) gicc
-arch_opaque q fadt madt at other point (inl (place, unused, reduced, inr hart)) =
-    typed_opaque madt 24 (omega arith) hart
-arch_opaque q fadt madt at other point (inr (place, version, gicc, older)) =
-    typed_opaque madt 11 (omega arith) gicc
+of_hart : (madt : MadtContents) → HasType madt 24 → HasNeeded madt needed.ArmOrRiscv
+of_hart madt (o, (e, stands, is)) = (o, (e, stands, inr (inr is)))
 
-pub no_distributor_opaque : (madt : MadtContents) (at other point : ℕ) → IsNoDistributor madt at other point
-    → HasNeeded madt needed.Opaque
-no_distributor_opaque madt at other point (lacks, place, unused) =
-    typed_opaque madt 11 (omega arith) lacks.has_interface
+pub arch_named : (q : PolicyValue) (fadt : List ℕ) (madt : MadtContents) (at other point : ℕ)
+    → IsFadtForArch fadt madt at other point → HasNeeded madt needed.ArmOrRiscv
+arch_named q fadt madt at other point (inl (place, unused, reduced, inl gicc)) = of_gicc madt gicc
+arch_named q fadt madt at other point (inl (place, unused, reduced, inr hart)) = of_hart madt hart
+arch_named q fadt madt at other point (inr (place, version, gicc, older)) = of_gicc madt gicc
 
-pub gicd_opaque : IsNumberOf needed.Opaque gicd
-gicd_opaque (Opaque e) n some = tt
-gicd_opaque (LocalApic v) n some = cc
-gicd_opaque (IoApic v) n some = cc
-gicd_opaque (Override v) n some = cc
-gicd_opaque (NmiSource v) n some = cc
-gicd_opaque (LocalNmi v) n some = cc
-gicd_opaque (AddressOverride v) n some = cc
-gicd_opaque (X2apic v) n some = cc
-gicd_opaque (X2apicNmi v) n some = cc
+pub interface_named : (madt : MadtContents) (at other point : ℕ) → IsNoDistributor madt at other point
+    → HasNeeded madt needed.ArmOrRiscv
+interface_named madt at other point (lacks, place, unused) = of_gicc madt lacks.has_interface
+
+of_gicd : (type n : ℕ) → (if type == 12 then Some 0 else None) ≡ Some n → type ≡ 12
+of_gicd type n some =
+    elim (cases_eq type 12) [ | inl is ↦ is | inr other ↦ absurd (let none = rw (ne_eqb type 12 other) at some in cc) ]
+
+pub gicd_named : IsNumberOf needed.ArmOrRiscv gicd
+gicd_named (Opaque e) n some = inr (inl (of_gicd (slice_index e 0) n some))
+gicd_named (LocalApic v) n some = cc
+gicd_named (IoApic v) n some = cc
+gicd_named (Override v) n some = cc
+gicd_named (NmiSource v) n some = cc
+gicd_named (LocalNmi v) n some = cc
+gicd_named (AddressOverride v) n some = cc
+gicd_named (X2apic v) n some = cc
+gicd_named (X2apicNmi v) n some = cc
 
 pub unread_opaque : (e : MadtEntry) (other point : ℕ) → IsMadtUnread e other point → IsOpaque e
 unread_opaque e other point ((bytes, is, unread, type), zero) = rw is tt

@@ -1,5 +1,7 @@
 -- Values that are given to numbers at places, such as offsets or slots.
-use Rattle.std.specs.Prelude.{◌≡◌, ◌≢◌, ℕ, ◌/◌, ◌%◌, ◌^◌, ◌<◌, ◌≤◌, ◌⊎◌, ◌↔◌, List, AllPairs, Contains, Option, Some, None}
+use Rattle.std.specs.Prelude.{◌≡◌, ◌≢◌, ℕ, ◌%◌, ◌<◌, ◌≤◌, ◌⊎◌, ◌↔◌, List, length, get_or, AllPairs, Contains, Option, Some, None}
+use Rattle.acpi_check.specs.BitSets.{IsIn}
+use Rattle.acpi_check.specs.declared.bit_set.BitSet.{BitSet}
 use Rattle.acpi_lint.specs.declared.numbered.Numbered.{Numbered}
 use Rattle.acpi_lint.specs.declared.numbered.Order.{Order}
 use Rattle.acpi_lint.specs.declared.numbered.Order.TheVariants.{Later, First}
@@ -40,10 +42,6 @@ IsUnlikeAt order given at other point =
 abbrev pub at_place : ℕ → ℕ → Numbered
 at_place at n = record { number = n; at = at; value = at }
 
--- that with this key: the number and its place are the upper and the lower 32 bits
-abbrev pub of_key : ℕ → Numbered
-of_key key = at_place (key % 2 ^ 32) (key / 2 ^ 32)
-
 -- it is among these
 abbrev pub HasAt : List Numbered → ℕ → ℕ → Type 0
 HasAt given at n = Contains given (at_place at n)
@@ -53,6 +51,28 @@ pub record AreNumbersAt (StandsAt : ℕ → ℕ → Type 0) (given : List Number
   pub rise : AllPairs (λ a b. a.at < b.at) given
   pub placed : (g : Numbered) → Contains given g → g.value ≡ g.at
   pub all : (at n : ℕ) → HasAt given at n ↔ StandsAt at n
+
+-- the mark of the number at i: its remainder
+abbrev pub mark_at : List Numbered → ℕ → ℕ → ℕ
+mark_at given marks i = (get_or given i (at_place 0 0)).number % marks
+
+-- two of the first n have this mark
+pub record HaveMark (given : List Numbered) (marks n mark : ℕ) : Type 0 where
+  pub i : ℕ
+  pub j : ℕ
+  pub before : i < j
+  pub within : j < n
+  pub one : mark_at given marks i ≡ mark
+  pub other : mark_at given marks j ≡ mark
+
+-- the set has the marks that two of these have
+abbrev pub AreSharedMarks : List Numbered → ℕ → BitSet → Type 0
+AreSharedMarks given marks shared = (mark : ℕ) → IsIn shared mark ↔ HaveMark given marks (length given) mark
+
+-- these are of those that were given, and all whose number occurs twice among those are among these
+pub record AreSuspects (given kept : List Numbered) : Type 0 where
+  pub listed : (g : Numbered) → Contains kept g → Contains given g
+  pub twice : (g h : Numbered) → Contains given g → Contains given h → g.number ≡ h.number → g ≢ h → Contains kept g
 
 -- ---- ranges of numbers: each is at its name, and its value says how many numbers it has
 

@@ -5,7 +5,7 @@ ghost use Rattle.acpi_base.specs.Across.{IsIoApic};
 ghost use Rattle.acpi_base.specs.Madt.{madt_contents};
 ghost use Rattle.acpi_read.specs.Madts.{madt_value};
 ghost use Rattle.acpi_lint.specs.MadtForms.{IsOfForm, HasForm};
-ghost use Rattle.acpi_lint.specs.NeededEntries.{IsOpaque, IsReadOpaque, IsOverride, IsLocalNmi, IsX2apic, is_read_opaque};
+ghost use Rattle.acpi_lint.specs.NeededEntries.{IsOpaque, IsReadOpaque, IsOverride, IsLocalNmi, IsLocalApic, IsOfSource, IsArmOrRiscv, is_read_opaque};
 ghost use Rattle.acpi_lint.specs.Rules.EntryTypes.{type_of, HasType};
 ghost use Rattle.acpi_lint.specs.Rules.FadtWithMadt.{IsParking};
 ghost use Rattle.acpi_lint.specs.Rules.Its.{IsOtherIts};
@@ -13,7 +13,7 @@ ghost use Rattle.acpi_lint.specs.Rules.Processors.{IsOpaqueProcessor, IsUnreadPr
 
 use crate::gic::{ITS, ITS_LEN, is_gicd, is_gicr, is_its, is_msi_frame, is_usable_gicc};
 use crate::processors::{
-    CORE_PIC, CORE_PIC_LEN, RINTC, RINTC_LEN, is_core_pic, is_gicc, is_rintc, opaque_processor,
+    CORE_PIC, CORE_PIC_LEN, GICD, RINTC, RINTC_LEN, is_core_pic, is_gicc, is_rintc, opaque_processor,
 };
 use acpi_base::field::u32_at;
 use acpi_read::{GICC, GICC_LEN, MadtEntry, Table};
@@ -194,15 +194,31 @@ pub fn is_local_nmi(entry: &MadtEntry<'_>) -> bool
     }
 }
 
-/// Whether it is a local x2APIC.
+/// Whether it is a local APIC.
 #[inline(always)]
-pub fn is_x2apic(entry: &MadtEntry<'_>) -> bool
-    ensures { IsTrue result ↔ IsX2apic (madt_value entry.now) }
+pub fn is_local_apic(entry: &MadtEntry<'_>) -> bool
+    ensures { IsTrue result ↔ IsLocalApic (madt_value entry.now) }
 {
     match entry {
-        MadtEntry::X2apic(_) => true,
+        MadtEntry::LocalApic(_) => true,
         _ => false,
     }
+}
+
+/// Whether it has the type of an override or of an NMI source.
+#[inline(always)]
+pub fn is_of_source(entry: &MadtEntry<'_>) -> bool
+    ensures { IsTrue result ↔ IsOfSource (madt_value entry.now) }
+{
+    matches!(type_of(entry), 2 | 3)
+}
+
+/// Whether it has the type of a GIC CPU interface, of a GIC distributor or of a hart.
+#[inline(always)]
+pub fn is_arm_or_riscv(entry: &MadtEntry<'_>) -> bool
+    ensures { IsTrue result ↔ IsArmOrRiscv (madt_value entry.now) }
+{
+    matches!(type_of(entry), GICC | GICD | RINTC)
 }
 
 /// Whether it is a usable GIC CPU interface with a version of the parking protocol.

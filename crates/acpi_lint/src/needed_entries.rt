@@ -1,13 +1,13 @@
 //! Entries of a MADT without which rules are kept, and which of them a MADT has.
 
-ghost use Rattle.std.specs.Prelude.{◌≡◌, false};
+ghost use Rattle.std.specs.Prelude.{◌≡◌};
 ghost use Rattle.acpi_base.specs.Madt.{madt_contents};
 ghost use Rattle.acpi_read.specs.Madts.{madt_value};
-ghost use Rattle.acpi_lint.specs.NeededEntries.{HasNeeded, is_seen, IsSeenToo, AreSeenEntries};
-ghost use Rattle.acpi_lint.specs.declared.needed_entries.NeededEntry.{NeededEntry};
+ghost use Rattle.acpi_lint.specs.NeededEntries.{is_seen, IsNoneSeen, IsSeenToo, IsSeenIn, AreSeenEntries};
 
 use crate::madt_forms::{
-    is_io_apic, is_local_nmi, is_opaque, is_override, is_read_opaque_entry, is_x2apic,
+    is_arm_or_riscv, is_io_apic, is_local_apic, is_local_nmi, is_of_source, is_opaque, is_override,
+    is_read_opaque_entry,
 };
 use acpi_read::{MadtEntry, Table};
 
@@ -20,12 +20,16 @@ pub enum NeededEntry {
     Override,
     /// An NMI of local APICs or of local x2APICs.
     LocalNmi,
-    /// A local x2APIC.
-    X2apic,
+    /// A local APIC.
+    LocalApic,
+    /// One of the type of an override or of an NMI source, of any length.
+    Source,
     /// One that the stages do not read.
     Opaque,
     /// One that the stages do not read and that rules do.
     ReadOpaque,
+    /// One of the type of a GIC CPU interface, of a GIC distributor or of a hart, of any length.
+    ArmOrRiscv,
 }
 
 /// Which of the entries that rules need a MADT has.
@@ -37,24 +41,32 @@ pub struct SeenEntries {
     override_entry: bool,
     /// An NMI of local APICs or of local x2APICs.
     local_nmi: bool,
-    /// A local x2APIC.
-    x2apic: bool,
+    /// A local APIC.
+    local_apic: bool,
+    /// One of the type of an override or of an NMI source, of any length.
+    source: bool,
     /// One that the stages do not read.
     opaque: bool,
     /// One that the stages do not read and that rules do.
     read_opaque: bool,
+    /// One of the type of a GIC CPU interface, of a GIC distributor or of a hart, of any length.
+    arm_or_riscv: bool,
 }
 
 impl SeenEntries {
     /// Those of no entries.
-    fn none() -> SeenEntries {
+    fn none() -> SeenEntries
+        ensures { IsNoneSeen result }
+    {
         SeenEntries {
             io_apic: false,
             override_entry: false,
             local_nmi: false,
-            x2apic: false,
+            local_apic: false,
+            source: false,
             opaque: false,
             read_opaque: false,
+            arm_or_riscv: false,
         }
     }
 
@@ -67,16 +79,17 @@ impl SeenEntries {
             io_apic: self.io_apic | is_io_apic(entry),
             override_entry: self.override_entry | is_override(entry),
             local_nmi: self.local_nmi | is_local_nmi(entry),
-            x2apic: self.x2apic | is_x2apic(entry),
+            local_apic: self.local_apic | is_local_apic(entry),
+            source: self.source | is_of_source(entry),
             opaque: self.opaque | is_opaque(entry),
             read_opaque: self.read_opaque | is_read_opaque_entry(entry),
+            arm_or_riscv: self.arm_or_riscv | is_arm_or_riscv(entry),
         }
     }
 
     /// Those of a MADT.
     fn in_madt(madt: &Table<'_>) -> SeenEntries
-        ensures { (needed : NeededEntry) → is_seen result needed ≡ false
-            → ¬ HasNeeded (madt_contents madt.now) needed }
+        ensures { IsSeenIn result (madt_contents madt.now) }
     {
         let mut seen = SeenEntries::none();
         for at in madt.entries::<MadtEntry<'_>>() {
@@ -103,9 +116,11 @@ impl SeenEntries {
             NeededEntry::IoApic => self.io_apic,
             NeededEntry::Override => self.override_entry,
             NeededEntry::LocalNmi => self.local_nmi,
-            NeededEntry::X2apic => self.x2apic,
+            NeededEntry::LocalApic => self.local_apic,
+            NeededEntry::Source => self.source,
             NeededEntry::Opaque => self.opaque,
             NeededEntry::ReadOpaque => self.read_opaque,
+            NeededEntry::ArmOrRiscv => self.arm_or_riscv,
         }
     }
 }

@@ -1,13 +1,14 @@
 //! Numbers with values at places, and those that occur again with another value.
 
-ghost use Rattle.std.specs.Prelude.{◌≡◌, ◌⊎◌, map, AllPairs, Contains, IfOk, IfSome, OnOk, Some};
+ghost use Rattle.std.specs.Prelude.{◌≡◌, ◌<◌, ◌^◌, ◌⊎◌, AllPairs, Contains, IfOk, IfSome, OnOk};
 ghost use Rattle.std.specs.List.Sorted.{IsPermutation};
 ghost use Rattle.std.specs.Option.{option_map};
 ghost use Rattle.acpi_lint.specs.Rules.Numbered.{IsLater};
-ghost use Rattle.acpi_lint.specs.Numbered.{IsNotAbove, IsUnlikeAt, HasAt, at_place, of_key, unlike_place};
+ghost use Rattle.acpi_lint.specs.Numbered.{IsNotAbove, IsUnlikeAt, HasAt, AreSharedMarks, AreSuspects, at_place, unlike_place};
 ghost use Rattle.acpi_lint.specs.Places.{FindsLeast, IsNotAfter};
 
 use crate::place::Place;
+use acpi_check::BitSet;
 use acpi_graph::sort_unless_sorted;
 use std::alloc::{AllocError, Global};
 
@@ -106,97 +107,68 @@ pub fn sort_numbers(given: &mut Vec<Numbered>) -> Result<(), AllocError>
     sort_unless_sorted(given)
 }
 
-/// Numbers and places below this have a key: the number times this, plus the place.
-const KEY_LIMIT: u64 = 1 << 32;
-
-/// The key of a number whose value is its place, if both are below `KEY_LIMIT`.
-fn key_of(numbered: &Numbered) -> Option<u64>
-    ensures { IfSome result (λ key. of_key key ≡ numbered.now) }
+/// How many marks so many numbers get: 16 for each, up to 2^27, so that few share one. It is odd, so that those at
+/// distances of a power of 2 don't.
+fn mark_count(len: usize) -> u64
+    ensures positive { 0 < result }
+    ensures narrow { result < 2 ^ 32 }
 {
-    let Numbered { number, at, value } = *numbered;
-    if number >= KEY_LIMIT || at >= KEY_LIMIT || value != at {
-        return None;
-    }
-    Some(number * KEY_LIMIT + at)
+    (len as u64).min(1 << 27) * 16 + 1
 }
 
-/// The number with a key.
-fn of_key(key: u64) -> Numbered
-    ensures { result ≡ of_key key }
+/// The marks, remainders of this division, that several of these numbers have. Allocates for each mark.
+fn shared_marks(alloc: Global, given: &[Numbered], marks: u64) -> Result<BitSet, AllocError>
+    requires positive { 0 < marks }
+    requires narrow { marks < 2 ^ 32 }
+    ensures { IfOk result (AreSharedMarks given.now marks) }
 {
-    let at = key % KEY_LIMIT;
-    Numbered {
-        number: key / KEY_LIMIT,
-        at,
-        value: at,
+    let mut seen = BitSet::new(alloc);
+    let mut shared = BitSet::new(alloc);
+    for one in given {
+        let mark = one.number % marks;
+        if seen.has(mark as u32) {
+            shared.add(mark)?;
+        } else {
+            seen.add(mark)?;
+        }
     }
+    Ok(shared)
 }
 
-/// The keys of numbers, if each has one. Allocates for each.
-fn keys_of(alloc: Global, given: &[Numbered]) -> Result<Option<Vec<u64>>, AllocError>
-    ensures { IfOk result
-        (λ found. IfSome found (λ keys. map of_key keys.items ≡ given.now)) }
+/// Keeps the numbers that have a mark in common with another one: all that occur twice are among them. Keeps all, if
+/// they are few or in order, since these are soon sorted. Otherwise it allocates for each mark.
+fn keep_suspects(alloc: Global, given: &mut Vec<Numbered>) -> Result<(), AllocError>
+    ensures { OnOk result (AreSuspects given.old.items given.new.items) }
 {
-    let mut keys = Vec::with_capacity(alloc, given.len())?;
-    for numbered in given {
-        let Some(key) = key_of(numbered) else {
-            return Ok(None);
-        };
-        keys.push(key)?;
+    if given.len() <= FEW || given.is_sorted() {
+        return Ok(());
     }
-    Ok(Some(keys))
-}
-
-/// Replaces numbers by those with these keys, in their order.
-fn set_by_keys(given: &mut Vec<Numbered>, keys: &[u64]) -> Result<(), AllocError>
-    ensures { OnOk result (given.new.items ≡ map of_key keys.now) }
-{
-    given.clear();
-    for key in keys {
-        given.push(of_key(*key))?;
-    }
+    let marks = mark_count(given.len());
+    let shared = shared_marks(alloc, given, marks)?;
+    given.retain(|one| shared.has((one.number % marks) as u32));
     Ok(())
 }
 
-/// Sorts numbers by their keys. Refuses if out of memory.
-fn sort_by_keys(given: &mut Vec<Numbered>, mut keys: Vec<u64>) -> Result<(), AllocError>
-    requires { map of_key keys.items ≡ given.old.items }
-    ensures permutation { OnOk result (IsPermutation given.old.items given.new.items) }
-    ensures sorted { OnOk result (AllPairs IsNotAbove given.new.items) }
-{
-    sort_unless_sorted(&mut keys)?;
-    set_by_keys(given, &keys)
-}
-
-/// Sorts numbers whose values are their places, as `sort_numbers` does, but by keys if they have some: 8 bytes in place
-/// of 24, and one comparison in place of three. Refuses if out of memory, for more than `FEW` that are not in order.
-fn sort_places(alloc: Global, given: &mut Vec<Numbered>) -> Result<(), AllocError>
-    ensures permutation { OnOk result (IsPermutation given.old.items given.new.items) }
-    ensures sorted { OnOk result (AllPairs IsNotAbove given.new.items) }
-{
-    if given.len() <= FEW || given.is_sorted() {
-        return sort_numbers(given);
-    }
-    match keys_of(alloc, given)? {
-        Some(keys) => sort_by_keys(given, keys),
-        None => sort_numbers(given),
-    }
-}
-
-/// The lowest place of a number whose value differs from that at its first place. Allocates while it sorts them.
-pub fn first_unlike(mut given: Vec<Numbered>, order: Order) -> Result<Option<Place>, AllocError>
+/// The lowest place of a number whose value differs from that at its first place. Allocates while it looks for numbers
+/// that occur twice, and while it sorts these.
+pub fn first_unlike(
+    alloc: Global,
+    mut given: Vec<Numbered>,
+    order: Order,
+) -> Result<Option<Place>, AllocError>
     ensures { IfOk result (FindsLeast (IsUnlikeAt order given.items)) }
 {
+    keep_suspects(alloc, &mut given)?;
     sort_numbers(&mut given)?;
     Ok(least_unlike(&given, order))
 }
 
 /// The first place of a number that also occurs at an earlier one; `other` is the first of these, and `point` the
-/// number. The value that is given to a number is its place. Allocates while it sorts them.
-pub fn first_repeated(alloc: Global, mut given: Vec<Numbered>) -> Result<Option<Place>, AllocError>
+/// number. The value that is given to a number is its place. Allocates while it looks for numbers that occur twice, and
+/// while it sorts these.
+pub fn first_repeated(alloc: Global, given: Vec<Numbered>) -> Result<Option<Place>, AllocError>
     requires { (g : Numbered) → Contains given.items g → g.value ≡ g.at }
     ensures { IfOk result (FindsLeast (IsLater (HasAt given.items))) }
 {
-    sort_places(alloc, &mut given)?;
-    Ok(least_unlike(&given, Order::Later))
+    first_unlike(alloc, given, Order::Later)
 }

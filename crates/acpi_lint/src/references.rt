@@ -13,7 +13,7 @@ ghost use Rattle.acpi_lint.specs.References.{is_linked, is_resource, offset_wher
 use crate::passes::first_picked;
 use crate::place::Place;
 use acpi_base::Code;
-use acpi_check::{Chain, OffsetSet, collected, first_dangling, named_offset};
+use acpi_check::{Chain, BitSet, collected, first_dangling, named_offset};
 use acpi_read::{EntryAt, PpttEntry, Table};
 use std::alloc::{AllocError, Global};
 
@@ -27,7 +27,7 @@ fn linked_offset(chain: Chain, at: &EntryAt<PpttEntry<'_>>) -> Option<u64>
 }
 
 /// The offsets of a PPTT's entries that are nodes of such chains.
-fn linked_offsets(alloc: Global, chain: Chain, pptt: &Table<'_>) -> Result<OffsetSet, AllocError>
+fn linked_offsets(alloc: Global, chain: Chain, pptt: &Table<'_>) -> Result<BitSet, AllocError>
     ensures { IfOk result (AreOffsets (IsAt (Says (named_offset chain) (pptt_contents pptt.now)))) }
 {
     let offsets = collected(
@@ -35,11 +35,11 @@ fn linked_offsets(alloc: Global, chain: Chain, pptt: &Table<'_>) -> Result<Offse
         pptt.entries::<PpttEntry<'_>>(),
         |at| linked_offset(chain, at),
     )?;
-    OffsetSet::of(alloc, &offsets)
+    BitSet::of(alloc, &offsets)
 }
 
 /// The place of an entry that refers to none of these offsets.
-fn unlinked_place(chain: Chain, offsets: &OffsetSet, at: &EntryAt<PpttEntry<'_>>) -> Option<Place>
+fn unlinked_place(chain: Chain, offsets: &BitSet, at: &EntryAt<PpttEntry<'_>>) -> Option<Place>
     ensures { FindsOwn (NamesNoLink chain offsets.now) (entry_at_value pptt_value at.now) result }
 {
     let offset = named_offset(chain, &at.entry)?;
@@ -83,15 +83,15 @@ fn resource_offset(at: &EntryAt<PpttEntry<'_>>) -> Option<u64>
 }
 
 /// The offsets of such entries of a PPTT.
-fn resource_offsets(alloc: Global, pptt: &Table<'_>) -> Result<OffsetSet, AllocError>
+fn resource_offsets(alloc: Global, pptt: &Table<'_>) -> Result<BitSet, AllocError>
     ensures { IfOk result (AreOffsets (IsResourceAt (pptt_contents pptt.now))) }
 {
     let offsets = collected(alloc, pptt.entries::<PpttEntry<'_>>(), resource_offset)?;
-    OffsetSet::of(alloc, &offsets)
+    BitSet::of(alloc, &offsets)
 }
 
 /// The place of the first private resource of an entry that is at none of these offsets.
-fn missing_place(offsets: &OffsetSet, at: &EntryAt<PpttEntry<'_>>) -> Option<Place>
+fn missing_place(offsets: &BitSet, at: &EntryAt<PpttEntry<'_>>) -> Option<Place>
     requires { HasReferences at.now.entry }
     ensures { FindsOwn (NamesNoResource offsets.now) (entry_at_value pptt_value at.now) result }
 {

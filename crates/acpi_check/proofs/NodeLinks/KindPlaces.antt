@@ -7,10 +7,10 @@ use Rattle.acpi_base.specs.Entries.{PlacedEntry, Stands, StandsWith}
 use Rattle.acpi_base.specs.Pptt.{PpttEntry, Node, Cache, Opaque, pptt_type, pptt_contents, parent_of, next_level_of, HasOtherPpttLength, IsCutPptt}
 use Rattle.acpi_base.proofs.Elements.{first_element, later_element, first_or_later, no_element}
 use Rattle.acpi_check.specs.EntryPlaces.{ArePlaces, kind_of, is_node, is_cache, is_resource, kind_offsets}
-use Rattle.acpi_check.specs.OffsetSets.{IsIn, Adds}
+use Rattle.acpi_check.specs.BitSets.{IsIn, Adds}
 use Rattle.acpi_check.specs.declared.places.PlaceKind.{PlaceKind}
 use Rattle.acpi_check.specs.declared.places.Places.{Places}
-use Rattle.acpi_check.specs.declared.offset_set.OffsetSet.{OffsetSet}
+use Rattle.acpi_check.specs.declared.bit_set.BitSet.{BitSet}
 use Rattle.acpi_check.proofs.EntryPasses.Kept.{kept_has, kept_from}
 
 -- ---- entries of some kinds
@@ -37,12 +37,12 @@ stand kinds entries o =
 -- ---- in the loop over the entries
 
 -- the offsets so far, with those of the entries left, are those of all entries of the kinds
-pub record IsGathering (kinds : PlaceKind → Bool) (all left : List (PlacedEntry PpttEntry)) (offsets : OffsetSet) :
+pub record IsGathering (kinds : PlaceKind → Bool) (all left : List (PlacedEntry PpttEntry)) (offsets : BitSet) :
     Type 0
   where
     pub each : (o : ℕ) → (IsIn offsets o ⊎ Contains (kind_offsets kinds left) o) ↔ Contains (kind_offsets kinds all) o
 
-pub none_gathered : (kinds : PlaceKind → Bool) (all : List (PlacedEntry PpttEntry)) (offsets : OffsetSet)
+pub none_gathered : (kinds : PlaceKind → Bool) (all : List (PlacedEntry PpttEntry)) (offsets : BitSet)
     → ((o : ℕ) → ¬ IsIn offsets o) → IsGathering kinds all all offsets
 none_gathered kinds all offsets none =
     record {
@@ -50,7 +50,7 @@ none_gathered kinds all offsets none =
     }
 
 pub one_gathered : (kinds : PlaceKind → Bool) (all left : List (PlacedEntry PpttEntry)) (s : PlacedEntry PpttEntry)
-    (old new : OffsetSet) → IsGathering kinds all (s ∷ left) old → Adds (kinds (kind_of s.entry)) s.offset old new
+    (old new : BitSet) → IsGathering kinds all (s ∷ left) old → Adds (kinds (kind_of s.entry)) s.offset old new
     → IsGathering kinds all left new
 one_gathered kinds all left s old new before adds =
     record {
@@ -89,7 +89,7 @@ one_gathered kinds all left s old new before adds =
           λ listed. elim (was.1 listed) [ inl earlier ↦ inl ((same o).1 earlier) | inr later ↦ inr later ],
         )
 
-all_gathered : (kinds : PlaceKind → Bool) (all : List (PlacedEntry PpttEntry)) (offsets : OffsetSet)
+all_gathered : (kinds : PlaceKind → Bool) (all : List (PlacedEntry PpttEntry)) (offsets : BitSet)
     → IsGathering kinds all [] offsets → (o : ℕ) → IsIn offsets o ↔ StandsWith all o (λ e. kinds (kind_of e) ≡ true)
 all_gathered kinds all offsets here o = (
   λ is. (stand kinds all o).0 ((here.each o).0 (inl is)),

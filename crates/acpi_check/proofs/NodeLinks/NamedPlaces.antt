@@ -13,7 +13,7 @@ use Rattle.acpi_base.specs.declared.code.Code.TheVariants as code
 use Rattle.acpi_base.specs.declared.witness.Witness.{Witness}
 use Rattle.acpi_base.proofs.Faults.Order.{not_after}
 use Rattle.acpi_check.specs.EntryPlaces.{NamesPlaces, EntryReferenceFault, IsFirstReference}
-use Rattle.acpi_check.specs.OffsetSets.{IsIn}
+use Rattle.acpi_check.specs.BitSets.{IsIn}
 use Rattle.acpi_check.specs.declared.places.Places.{Places}
 
 -- ---- private resources

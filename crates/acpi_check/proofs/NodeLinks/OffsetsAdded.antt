@@ -3,21 +3,21 @@ use Rattle.std.proofs.Common.{◌≡◌, ℕ, ◌+◌, ◌<◌, ◌≤◌, List,
 use Rattle.std.specs.Prelude.{◌↔◌, Contains, true}
 use Rattle.std.proofs.lemmas.Bool.{cases_order}
 use Rattle.std.proofs.lemmas.List.{get_or_default}
-use Rattle.acpi_check.specs.OffsetSets.{IsIn, Adds}
-use Rattle.acpi_check.specs.declared.offset_set.OffsetSet.{OffsetSet}
+use Rattle.acpi_check.specs.BitSets.{IsIn, Adds}
+use Rattle.acpi_check.specs.declared.bit_set.BitSet.{BitSet}
 
 -- o is one of the first i offsets
 abbrev IsBefore : List ℕ → ℕ → ℕ → Type 0
 IsBefore offsets i o = (j : ℕ) × (j < i) × (j < length offsets) × (get_or offsets j o ≡ o)
 
 -- the first i offsets are in the set, and no others
-abbrev pub AreAdded : List ℕ → ℕ → OffsetSet → Type 0
+abbrev pub AreAdded : List ℕ → ℕ → BitSet → Type 0
 AreAdded offsets i s = (o : ℕ) → IsIn s o ↔ IsBefore offsets i o
 
-pub none_added : (offsets : List ℕ) (s : OffsetSet) → ((o : ℕ) → ¬ IsIn s o) → AreAdded offsets 0 s
+pub none_added : (offsets : List ℕ) (s : BitSet) → ((o : ℕ) → ¬ IsIn s o) → AreAdded offsets 0 s
 none_added offsets s none = λ o. (λ is. absurd (none o is), λ (j, below, inside, at). absurd (omega arith))
 
-pub one_added : (offsets : List ℕ) (i h : ℕ) (old new : OffsetSet) → i < length offsets → get_or offsets i h ≡ h
+pub one_added : (offsets : List ℕ) (i h : ℕ) (old new : BitSet) → i < length offsets → get_or offsets i h ≡ h
     → Adds true h old new → AreAdded offsets i old → AreAdded offsets (i + 1) new
 one_added offsets i h old new within here adds before = λ o. (
   λ is. elim ((adds o).0 is) [
@@ -32,7 +32,7 @@ one_added offsets i h old new within here adds before = λ o. (
   ],
 )
 
-pub all_added : (offsets : List ℕ) (i : ℕ) (s : OffsetSet) → length offsets ≤ i → AreAdded offsets i s
+pub all_added : (offsets : List ℕ) (i : ℕ) (s : BitSet) → length offsets ≤ i → AreAdded offsets i s
     → (o : ℕ) → IsIn s o ↔ Contains offsets o
 all_added offsets i s past are = λ o. (
   λ is. (let (j, below, inside, at) = (are o).0 is in (j, inside, at)),

@@ -1,6 +1,6 @@
 use Rattle.std.proofs.Common.{ℕ, ◌*◌, ◌<◌}
 use Rattle.acpi_base.specs.Number.{field}
-use Rattle.acpi_check.specs.OffsetSets.{IsIn}
+use Rattle.acpi_check.specs.BitSets.{IsIn}
 use Rattle.acpi_check.proofs.references.first_dangling.Given as goal
 
 -- the private resources so far are at these offsets

@@ -1,4 +1,4 @@
-use Rattle.acpi_lint.specs.Rules.ApicAdvice.{usable_hart_id, level_timer, other_lint, IsTwoSourcesOneGsi, IsX2ApicBelow255}
+use Rattle.acpi_lint.specs.Rules.ApicAdvice.{usable_hart_id, level_timer, other_lint, IsTwoSourcesOneGsi, IsX2ApicBelow255, IsNoIoApic}
 use Rattle.acpi_lint.specs.Rules.FadtAdvice.{IsSciNowhere}
 use Rattle.acpi_lint.specs.Rules.FadtWithMadt.{IsFadtForArch, IsOverridePastIsa, IsNoBootMethod}
 use Rattle.acpi_lint.specs.Rules.Gic.{has_mpidr, is_its, is_msi_frame, usable_mpidr, its_id, msi_frame_id}
@@ -8,12 +8,12 @@ use Rattle.acpi_lint.specs.Rules.MadtAdvice.{io_apic_id, nonzero_io_apic_address
 use Rattle.acpi_lint.specs.Rules.Numbered.{HasNumber}
 use Rattle.acpi_lint.specs.Rules.PpttAdvice.{IsLeafNowhere}
 use Rattle.acpi_lint.specs.declared.needed_entries.NeededEntry.TheVariants as needed
-use Rattle.acpi_lint.proofs.NeededEntries.{sci_io_apic, zero_of_io_apic, id_of_io_apic, nonzero_of_io_apic, past_override, timer_of_override, two_overrides, nmi_somewhere, lint_of_nmi, low_x2apic, madt_needs, entries_need, number_needs, fadt_madt_needs, madt_pptt_needs, field_read, is_empty_gicr, empty_read, mpidr_read, its_read, msi_frame_read, gicd_opaque, hart_read, reserved_read, unread_opaque, overlap_read, no_distributor_opaque, no_redistributor_read, too_small_read, base_read, twice_read, leaf_read, arch_opaque, giccs_read}
+use Rattle.acpi_lint.proofs.NeededEntries.{sci_io_apic, zero_of_io_apic, id_of_io_apic, nonzero_of_io_apic, past_override, timer_of_override, two_overrides, nmi_somewhere, lint_of_nmi, local_below_255, source_named, madt_needs, entries_need, number_needs, fadt_madt_needs, madt_pptt_needs, field_read, is_empty_gicr, empty_read, mpidr_read, its_read, msi_frame_read, gicd_named, hart_read, reserved_read, unread_opaque, overlap_read, interface_named, no_redistributor_read, too_small_read, base_read, twice_read, leaf_read, arch_named, giccs_read}
 use Rattle.acpi_lint.proofs.advice.needed_entry.Goals as goal
 
 pub returns-in-SecondGicd : goal.returns-in-SecondGicd
 returns-in-SecondGicd c = rw c.in-SecondGicd.is
-    (number_needs needed.Opaque gicd gicd_opaque)
+    (number_needs needed.ArmOrRiscv gicd gicd_named)
 
 pub returns-in-MadtUnread : goal.returns-in-MadtUnread
 returns-in-MadtUnread c = rw c.in-MadtUnread.is
@@ -21,11 +21,11 @@ returns-in-MadtUnread c = rw c.in-MadtUnread.is
 
 pub returns-in-FadtForArch : goal.returns-in-FadtForArch
 returns-in-FadtForArch c = rw c.in-FadtForArch.is
-    (fadt_madt_needs needed.Opaque (λ q. IsFadtForArch) arch_opaque)
+    (fadt_madt_needs needed.ArmOrRiscv (λ q. IsFadtForArch) arch_named)
 
 pub returns-in-NoDistributor : goal.returns-in-NoDistributor
 returns-in-NoDistributor c = rw c.in-NoDistributor.is
-    (madt_needs needed.Opaque IsNoDistributor no_distributor_opaque)
+    (madt_needs needed.ArmOrRiscv IsNoDistributor interface_named)
 
 pub returns-in-LeafNowhere : goal.returns-in-LeafNowhere
 returns-in-LeafNowhere c = rw c.in-LeafNowhere.is
@@ -121,4 +121,8 @@ returns-in-LintNotOne c = rw c.in-LintNotOne.is
 
 pub returns-in-X2ApicBelow255 : goal.returns-in-X2ApicBelow255
 returns-in-X2ApicBelow255 c = rw c.in-X2ApicBelow255.is
-    (madt_needs needed.X2apic IsX2ApicBelow255 low_x2apic)
+    (madt_needs needed.LocalApic IsX2ApicBelow255 local_below_255)
+
+pub returns-in-NoIoApic : goal.returns-in-NoIoApic
+returns-in-NoIoApic c = rw c.in-NoIoApic.is
+    (madt_needs needed.Source IsNoIoApic source_named)

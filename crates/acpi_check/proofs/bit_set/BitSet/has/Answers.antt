@@ -1,9 +1,9 @@
 use Rattle.std.proofs.Common.{◌≤◌, ◌<◌, ◌/◌, length, ◌∙◌, arith}
 use Rattle.std.proofs.lemmas.Bool.{le-ltb}
 use Rattle.std.proofs.lemmas.List.{get_or_default}
-use Rattle.acpi_check.specs.OffsetSets.{IsIn}
+use Rattle.acpi_check.specs.BitSets.{IsIn}
 use Rattle.acpi_check.proofs.NodeLinks.OffsetBits.{bit_read, none_behind}
-use Rattle.acpi_check.proofs.offset_set.OffsetSet.has.Goals as goal
+use Rattle.acpi_check.proofs.bit_set.BitSet.has.Goals as goal
 
 pub returns-then-place-len : goal.returns-then-place-len
 unfolding IsIn

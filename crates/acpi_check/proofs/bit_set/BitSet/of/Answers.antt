@@ -1,7 +1,7 @@
 use Rattle.std.proofs.Common.{ℕ, get_or}
 use Rattle.std.proofs.lemmas.List.{get_or_default}
 use Rattle.acpi_check.proofs.NodeLinks.OffsetsAdded.{none_added, one_added, all_added}
-use Rattle.acpi_check.proofs.offset_set.OffsetSet.of.Goals as goal
+use Rattle.acpi_check.proofs.bit_set.BitSet.of.Goals as goal
 
 pub loop-offset-init : goal.loop-offset-init
 loop-offset-init c = none_added c.args.offsets.now c.new-set.result c.new-set.ensures

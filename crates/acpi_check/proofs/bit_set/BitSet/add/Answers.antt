@@ -1,9 +1,9 @@
 use Rattle.std.proofs.Common.{◌/◌, ◌%◌, ◌<◌, length, ◌∙◌, inl, inr, arith}
 use Rattle.std.proofs.lemmas.List.{get_or_default}
 use Rattle.std.proofs.lemmas.Nat.{one_shl}
-use Rattle.acpi_check.specs.OffsetSets.{IsIn}
+use Rattle.acpi_check.specs.BitSets.{IsIn}
 use Rattle.acpi_check.proofs.NodeLinks.OffsetBits.{same_bits, bit_added}
-use Rattle.acpi_check.proofs.offset_set.OffsetSet.add.Goals as goal
+use Rattle.acpi_check.proofs.bit_set.BitSet.add.Goals as goal
 
 pub returns : goal.returns
 unfolding IsIn

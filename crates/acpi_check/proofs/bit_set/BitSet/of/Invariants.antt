@@ -1,5 +1,5 @@
 use Rattle.acpi_check.proofs.NodeLinks.OffsetsAdded.{AreAdded}
-use Rattle.acpi_check.proofs.offset_set.OffsetSet.of.Given as goal
+use Rattle.acpi_check.proofs.bit_set.BitSet.of.Given as goal
 
 -- the offsets so far are in the set
 abbrev pub invariant-loop-offset : goal.invariant-loop-offset

@@ -1,7 +1,7 @@
 use Rattle.std.proofs.Common.{[], arith}
-use Rattle.acpi_check.specs.OffsetSets.{IsIn}
+use Rattle.acpi_check.specs.BitSets.{IsIn}
 use Rattle.acpi_check.proofs.NodeLinks.OffsetBits.{none_behind}
-use Rattle.acpi_check.proofs.offset_set.OffsetSet.new.Goals as goal
+use Rattle.acpi_check.proofs.bit_set.BitSet.new.Goals as goal
 
 pub returns : goal.returns
 unfolding IsIn

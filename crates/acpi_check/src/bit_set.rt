@@ -1,18 +1,18 @@
-//! Sets of offsets of a table, as bits.
+//! Sets of numbers that are not large, such as offsets of a table, as bits.
 
 ghost use Rattle.std.specs.Prelude.{◌≡◌, ◌<◌, ◌↔◌, ℕ, Contains, IfOk, OnOk, MatchBool, vec_len, slice_index, true};
-ghost use Rattle.acpi_check.specs.OffsetSets.{IsIn, Adds};
+ghost use Rattle.acpi_check.specs.BitSets.{IsIn, Adds};
 
 use std::alloc::{AllocError, Global};
 
-/// How many offsets a word represents.
+/// How many numbers a word represents.
 const WORD: u64 = 64;
 
-/// Offsets of a table, as a bit for each byte of the table up to the last of them, or to twice its offset. Looking one
-/// up takes constant time.
+/// Numbers, as a bit for each number up to the largest of them, or up to twice as many: for offsets of a table, a bit
+/// for each of its bytes. Looking one up takes constant time.
 #[derive(Drop)]
-pub struct OffsetSet {
-    /// The offset `o` is the bit `o % 64` of the word `o / 64`.
+pub struct BitSet {
+    /// The number `n` is the bit `n % 64` of the word `n / 64`.
     words: Vec<u64>,
 }
 
@@ -29,29 +29,29 @@ fn make_room(words: &mut Vec<u64>, place: usize) -> Result<(), AllocError>
     Ok(())
 }
 
-impl OffsetSet {
+impl BitSet {
     /// The empty set. Allocates nothing.
-    pub(crate) fn new(alloc: Global) -> OffsetSet
+    pub fn new(alloc: Global) -> BitSet
         ensures { (o : ℕ) → ¬ IsIn result o }
     {
-        OffsetSet {
+        BitSet {
             words: Vec::new(alloc),
         }
     }
 
-    /// The set of these offsets. Allocates for the bits up to the last of them.
-    pub fn of(alloc: Global, offsets: &[u64]) -> Result<OffsetSet, AllocError>
+    /// The set of these numbers. Allocates for the bits up to the largest of them.
+    pub fn of(alloc: Global, offsets: &[u64]) -> Result<BitSet, AllocError>
         ensures { IfOk result (λ set. (o : ℕ) → IsIn set o ↔ Contains offsets.now o) }
     {
-        let mut set = OffsetSet::new(alloc);
+        let mut set = BitSet::new(alloc);
         for offset in offsets {
             set.add(*offset)?;
         }
         Ok(set)
     }
 
-    /// Adds an offset. Allocates for the bits up to it, if none after it was added before.
-    pub(crate) fn add(&mut self, offset: u64) -> Result<(), AllocError>
+    /// Adds a number. Allocates for the bits up to it, if none above it was added before.
+    pub fn add(&mut self, offset: u64) -> Result<(), AllocError>
         ensures { OnOk result (Adds true offset self.old self.new) }
     {
         let place = (offset / WORD) as usize;
@@ -60,7 +60,7 @@ impl OffsetSet {
         Ok(())
     }
 
-    /// Whether an offset of 32 bits, the size of references in a PPTT (ACPI 6.5, 5.2.30), is in the set.
+    /// Whether a number of 32 bits, the size of references in a PPTT (ACPI 6.5, 5.2.30), is in the set.
     pub fn has(&self, offset: u32) -> bool
         ensures { MatchBool result (IsIn self.now offset) (¬ IsIn self.now offset) }
     {
