@@ -24,6 +24,7 @@
 //! ```
 #![tactic(auto)]
 
+mod bit_set;
 mod chains;
 mod collecting;
 mod domains;
@@ -35,7 +36,6 @@ mod interrupts;
 mod later_stages;
 mod leaves;
 mod nodes;
-mod bit_set;
 mod overrides;
 mod places;
 mod processors;
@@ -52,6 +52,7 @@ mod slit;
 mod stages;
 mod tables;
 
+pub use bit_set::BitSet;
 pub use chains::{first_cycle, named_offset};
 pub use collecting::collected;
 pub use domains::check_domains;
@@ -59,7 +60,6 @@ pub use entries::check_entries;
 pub use interrupts::check_interrupts;
 pub use leaves::{HAS_LEAVES, check_leaves};
 pub use nodes::Chain;
-pub use bit_set::BitSet;
 pub use overrides::check_overrides;
 pub use ranges::check_ranges;
 pub use references::first_dangling;

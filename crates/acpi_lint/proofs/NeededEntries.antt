@@ -303,7 +303,7 @@ interface_named madt at other point (lacks, place, unused) = of_gicc madt lacks.
 
 of_gicd : (type n : ℕ) → (if type == 12 then Some 0 else None) ≡ Some n → type ≡ 12
 of_gicd type n some =
-    elim (cases_eq type 12) [ | inl is ↦ is | inr other ↦ absurd (let none = rw (ne_eqb type 12 other) at some in cc) ]
+    elim (cases_eq type 12) [ inl is ↦ is | inr other ↦ absurd (let none = rw (ne_eqb type 12 other) at some in cc) ]
 
 pub gicd_named : IsNumberOf needed.ArmOrRiscv gicd
 gicd_named (Opaque e) n some = inr (inl (of_gicd (slice_index e 0) n some))

@@ -13,7 +13,8 @@ ghost use Rattle.acpi_lint.specs.Rules.Processors.{IsOpaqueProcessor, IsUnreadPr
 
 use crate::gic::{ITS, ITS_LEN, is_gicd, is_gicr, is_its, is_msi_frame, is_usable_gicc};
 use crate::processors::{
-    CORE_PIC, CORE_PIC_LEN, GICD, RINTC, RINTC_LEN, is_core_pic, is_gicc, is_rintc, opaque_processor,
+    CORE_PIC, CORE_PIC_LEN, GICD, RINTC, RINTC_LEN, is_core_pic, is_gicc, is_rintc,
+    opaque_processor,
 };
 use acpi_base::field::u32_at;
 use acpi_read::{GICC, GICC_LEN, MadtEntry, Table};

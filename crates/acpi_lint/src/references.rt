@@ -13,7 +13,7 @@ ghost use Rattle.acpi_lint.specs.References.{is_linked, is_resource, offset_wher
 use crate::passes::first_picked;
 use crate::place::Place;
 use acpi_base::Code;
-use acpi_check::{Chain, BitSet, collected, first_dangling, named_offset};
+use acpi_check::{BitSet, Chain, collected, first_dangling, named_offset};
 use acpi_read::{EntryAt, PpttEntry, Table};
 use std::alloc::{AllocError, Global};
 

@@ -83,4 +83,4 @@ tells_in set n = is_bit (bit_at (slice_index set.words.items (n / 64)) (n % 64))
 pub told_in : (set : BitSet) (n : ℕ) (has : Bool) → MatchBool has (IsIn set n) (¬ IsIn set n) → has ≡ is_in set n
 told_in set n true is = sym ((tells_in set n).0 is)
 told_in set n false is =
-    elim (cases_Bool (is_in set n)) [ | inl has ↦ absurd (is ((tells_in set n).1 has)) | inr none ↦ sym none ]
+    elim (cases_Bool (is_in set n)) [ inl has ↦ absurd (is ((tells_in set n).1 has)) | inr none ↦ sym none ]
