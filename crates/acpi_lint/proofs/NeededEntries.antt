@@ -53,8 +53,13 @@ not_needed m q wanted {tables = tables} are none = without m q wanted tables.mad
 
 either : (old is : Bool) {P : Type 0} → IsTrue is ↔ P → IsTrue (old || is) ↔ (IsTrue old ⊎ P)
 either true is decides = (λ any. inl refl, λ holds. refl)
-either false is decides =
-    (λ any. inr (decides.0 any), λ holds. elim holds [ inl before ↦ absurd (let never : false ≡ true = before in cc) | inr here ↦ decides.1 here ])
+either false is decides = (
+  λ any. inr (decides.0 any),
+  λ holds. elim holds [
+    | inl before ↦ absurd (let never : false ≡ true = before in cc)
+    | inr here ↦ decides.1 here
+  ],
+)
 
 pub seen_too : (old : SeenEntries) (e : MadtEntry)
     (io_apic override_entry local_nmi local_apic source opaque read arm_or_riscv : Bool)

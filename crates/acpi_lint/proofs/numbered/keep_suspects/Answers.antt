@@ -8,5 +8,5 @@ pub returns : goal.returns
 returns c =
     are_suspects c.args.given.now.items c.retain.new.self.items c.mark_count-marks.result c.in_ok-shared.shared
     (rw c.deref-2.ensures.value at c.in_ok-shared.ensures)
-    (filter_same _ (has_shared c.in_ok-shared.shared c.mark_count-marks.result) _ (λ x b f' k. search (rules, told_in)) _ _
-    c.retain.ensures.filtered)
+    (filter_same _ (has_shared c.in_ok-shared.shared c.mark_count-marks.result) _
+    (λ x b f' k. search (rules, told_in)) _ _ c.retain.ensures.filtered)

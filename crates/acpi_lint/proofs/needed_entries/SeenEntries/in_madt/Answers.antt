@@ -14,10 +14,11 @@ loop-at-init c =
 
 pub loop-at-preserved : goal.loop-at-preserved
 loop-at-preserved c =
+    let madt = madt_contents c.args.madt.now in
     let (passed, are) = rw c.in-Some.ensures.steps.0 at c.loop-at.invariant in (
       one_more passed (λ wanted is. (c.with-seen.ensures wanted).1 (inr is))
           (λ o e earlier seen wanted is. (c.with-seen.ensures wanted).1 (inl (seen wanted is))),
-      seen_one_more c.loop-at.seen c.with-seen.result (madt_contents c.args.madt.now) _ _ (next_stands passed) c.with-seen.ensures are,
+      seen_one_more c.loop-at.seen c.with-seen.result madt _ _ (next_stands passed) c.with-seen.ensures are,
     )
 
 pub returns : goal.returns
