@@ -21,7 +21,7 @@ mod LeafNumbers
 mod LeastPlaces
 mod ListedSlots
 mod NamedPlaces
-mod NeededEntries
+mod NeededTypes
 mod OddFields
 mod OfTables
 mod OnceTables

@@ -23,7 +23,7 @@ use Rattle.acpi_check.proofs.EntryPasses.Kept.{AreRising, srat_rising, pptt_risi
 use Rattle.acpi_lint.specs.MadtNumbers.{NamesWith}
 use Rattle.acpi_lint.specs.Places.{PicksFirst, FindsOwn, FindsLeast}
 use Rattle.acpi_lint.specs.CompleteTables.{IsFound, IsLong, AreEntries, AreCompleteTables, table_of}
-use Rattle.acpi_lint.specs.NeededEntries.{AreSeenEntries}
+use Rattle.acpi_lint.specs.SeenTypes.{AreSeenTypes}
 use Rattle.acpi_lint.specs.declared.place.Place.{Place}
 use Rattle.acpi_lint.specs.declared.complete_tables.CompleteTables.{CompleteTables}
 use Rattle.acpi_lint.proofs.CollectedNumbers.{each_ok}
@@ -83,7 +83,7 @@ pub are_whole : {m : Memory} {p : ℕ} (tables : CompleteTables)
     → IsRootOf m p tables.root → AreSlots m (IsSlot m p) tables.slots.items → AreFirstSlots m p tables.firsts
     → IsFound m p fadt_signature tables.fadt → IsFound m p madt_signature tables.madt
     → IsFound m p srat_signature tables.srat → IsFound m p slit_signature tables.slit
-    → IsFound m p pptt_signature tables.pptt → AreSeenEntries tables.seen tables.madt → AreCompleteTables m p tables
+    → IsFound m p pptt_signature tables.pptt → AreSeenTypes tables.seen tables.madt → AreCompleteTables m p tables
 are_whole {m} {p} tables root slots firsts fadt madt srat slit pptt seen =
     record { root = root; slots = slots; firsts = firsts; listed = listed; seen = seen }
   where

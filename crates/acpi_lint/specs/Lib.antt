@@ -11,7 +11,6 @@ pub mod Hierarchy
 pub mod Leaves
 pub mod MadtForms
 pub mod MadtNumbers
-pub mod NeededEntries
 pub mod Numbered
 pub mod Overrides
 pub mod Places
@@ -21,5 +20,6 @@ pub mod Reserved
 pub mod ReservedLayouts
 pub mod RuleGroups
 pub mod Rules
+pub mod SeenTypes
 pub mod Slots
 pub mod StageFaults

@@ -7,11 +7,10 @@ use Rattle.acpi_base.specs.Pptt.{PpttEntry, PpttContents}
 use Rattle.acpi_base.specs.Slit.{SlitContents, HasSlitSize}
 use Rattle.acpi_base.specs.Srat.{SratEntry, SratContents}
 use Rattle.acpi_lint.specs.CompleteTables.{AreCompleteTables}
-use Rattle.acpi_lint.specs.NeededEntries.{HasNeeded}
+use Rattle.acpi_lint.specs.SeenTypes.{HasAnyType}
 use Rattle.acpi_lint.specs.Places.{FindsLeast}
 use Rattle.acpi_lint.specs.Rules.Broken.{OfMadt, Condition, HoldsAt, Slots, Set, OnFadt, OnMadt, OnSrat, OnPptt, Fadt, FadtMemory, FadtMadt, Madt, MadtEntries, MadtNumbers, MadtBytes, MadtSrat, MadtPptt, Srat, SratEntries, SratBytes, SratSlit, Slit, Pptt, PpttEntries, PpttBytes}
 use Rattle.acpi_lint.specs.declared.complete_tables.CompleteTables.{CompleteTables}
-use Rattle.acpi_lint.specs.declared.needed_entries.NeededEntry.{NeededEntry}
 use Rattle.acpi_lint.specs.declared.place.Place.{Place}
 use Rattle.acpi_lint.specs.declared.rule_group.RuleGroup.{RuleGroup}
 use Rattle.acpi_lint.specs.declared.rule_group.RuleGroup.TheVariants as group
@@ -144,11 +143,11 @@ as_group group.PpttBytes c = OnPptt (PpttBytes (in_pptt_bytes c))
 
 -- ---- conditions that need an entry of the MADT
 
--- the condition holds only in a set with a MADT that has such an entry
-abbrev pub NeedsEntry : NeededEntry → Condition → Type 0
-NeedsEntry kind c =
+-- the condition holds only in a set with a MADT that has an entry of one of these types
+abbrev pub NeedsType : List ℕ → Condition → Type 0
+NeedsType types c =
     (m : Memory) (q : PolicyValue) (at other point : ℕ) → HoldsAt c m q at other point
-    → OfMadt m q (λ madt. HasNeeded madt kind)
+    → OfMadt m q (λ madt. HasAnyType madt types)
 
 -- ---- what is found for a condition in the tables of a set
 

@@ -4,7 +4,7 @@
 ghost use Rattle.std.specs.Prelude.{◌≡◌, IfOk, IfSome, IsTrue, None};
 ghost use Rattle.acpi_lint.specs.CompleteTables.{AreCompleteTables};
 ghost use Rattle.acpi_lint.specs.Places.{FindsLeast};
-ghost use Rattle.acpi_lint.specs.RuleGroups.{as_group, NeedsEntry, Finds, FindsBy, FindsIn};
+ghost use Rattle.acpi_lint.specs.RuleGroups.{as_group, NeedsType, Finds, FindsBy, FindsIn};
 ghost use Rattle.acpi_lint.specs.Rules.Broken.{condition, IsBroken};
 ghost use Rattle.acpi_lint.specs.Rules.Findings.{AreFirstAdvice};
 ghost use Rattle.acpi_lint.specs.StageFaults.{FindsFirstAdvice};
@@ -13,67 +13,83 @@ ghost use Rattle.acpi_lint.specs.declared.rule_group.RuleGroup.TheVariants as gr
 use crate::complete_tables::CompleteTables;
 use crate::fadt_advice::fadt_place;
 use crate::fadt_memory::fadt_memory_place;
-use crate::needed_entries::NeededEntry;
+use crate::gic::{GICR, ITS, MSI_FRAME};
 use crate::nowhere::{madt_place, madt_pptt_place, madt_srat_place};
 use crate::own::{
     first_own_place, madt_entries_place, pptt_entry_place, srat_entry_place, srat_slit_entry_place,
 };
 use crate::place::Place;
+use crate::processors::{CORE_PIC, GICD, RINTC};
 use crate::repeated::{madt_numbers_place, pptt_place, srat_place};
 use crate::reserved::{madt_bytes_place, pptt_bytes_place, srat_bytes_place};
 use crate::rule::{Advice, Rule};
 use crate::rule_group::RuleGroup;
 use crate::sci::fadt_madt_place;
+use crate::seen_types::OTHER;
 use crate::set_advice::set_place;
 use crate::slit::{rows, slit_place};
 use crate::slot_advice::slot_place;
 use acpi_base::{LentImage, Policy, TableKind};
+use acpi_read::GICC;
 use std::alloc::{AllocError, Global};
 
-/// An entry of the MADT without which a rule is kept, so that a MADT which has none is not gone over for it. None for a
-/// rule that needs none of these.
-fn needed_entry(rule: Rule) -> Option<NeededEntry>
-    ensures { IfSome result (λ needed. NeedsEntry needed (condition rule)) }
+/// Types of entries of a MADT that the stages read (ACPI 6.5, 5.2.12.3 to 5.2.12.13).
+const IO_APIC: u8 = 1;
+
+const OVERRIDE: u8 = 2;
+
+const NMI_SOURCE: u8 = 3;
+
+const LOCAL_NMI: u8 = 4;
+
+const X2APIC: u8 = 9;
+
+const X2APIC_NMI: u8 = 10;
+
+/// The types of entries of the MADT without which a rule is kept, so that a MADT without one of these is not gone over
+/// for it. None for a rule that needs none of them.
+fn needed_types(rule: Rule) -> Option<&'static [u8]>
+    ensures { IfSome result (λ types. NeedsType types.now (condition rule)) }
 {
     match rule {
-        Rule::SciNowhere => Some(NeededEntry::IoApic),
-        Rule::IoApicAtZero => Some(NeededEntry::IoApic),
-        Rule::SameIoApicId => Some(NeededEntry::IoApic),
-        Rule::SameIoApicAddress => Some(NeededEntry::IoApic),
-        Rule::OverridePastIsa => Some(NeededEntry::Override),
-        Rule::TimerLevel => Some(NeededEntry::Override),
-        Rule::TwoSourcesOneGsi => Some(NeededEntry::Override),
-        Rule::NmiNowhere => Some(NeededEntry::LocalNmi),
-        Rule::LintNotOne => Some(NeededEntry::LocalNmi),
-        Rule::X2ApicBelow255 => Some(NeededEntry::LocalApic),
-        Rule::NoIoApic => Some(NeededEntry::Source),
-        Rule::SecondGicd => Some(NeededEntry::ArmOrRiscv),
-        Rule::MadtUnread => Some(NeededEntry::Opaque),
-        Rule::FadtForArch => Some(NeededEntry::ArmOrRiscv),
-        Rule::NoDistributor => Some(NeededEntry::ArmOrRiscv),
-        Rule::LeafNowhere => Some(NeededEntry::ReadOpaque),
-        Rule::NoRedistributor => Some(NeededEntry::ReadOpaque),
-        Rule::GicrTooSmall => Some(NeededEntry::ReadOpaque),
-        Rule::GiccBaseDiffers => Some(NeededEntry::ReadOpaque),
-        Rule::SameMpidr => Some(NeededEntry::ReadOpaque),
-        Rule::MpidrReserved => Some(NeededEntry::ReadOpaque),
-        Rule::GicrEmpty => Some(NeededEntry::ReadOpaque),
-        Rule::SameIts => Some(NeededEntry::ReadOpaque),
-        Rule::SameMsiFrame => Some(NeededEntry::ReadOpaque),
-        Rule::GicOverlap => Some(NeededEntry::ReadOpaque),
-        Rule::RedistributorTwice => Some(NeededEntry::ReadOpaque),
-        Rule::NoBootMethod => Some(NeededEntry::ReadOpaque),
-        Rule::SameHart => Some(NeededEntry::ReadOpaque),
+        Rule::SciNowhere => Some(&[IO_APIC]),
+        Rule::IoApicAtZero => Some(&[IO_APIC]),
+        Rule::SameIoApicId => Some(&[IO_APIC]),
+        Rule::SameIoApicAddress => Some(&[IO_APIC]),
+        Rule::OverridePastIsa => Some(&[OVERRIDE]),
+        Rule::TimerLevel => Some(&[OVERRIDE]),
+        Rule::TwoSourcesOneGsi => Some(&[OVERRIDE]),
+        Rule::NoIoApic => Some(&[OVERRIDE, NMI_SOURCE]),
+        Rule::NmiNowhere => Some(&[LOCAL_NMI, X2APIC_NMI]),
+        Rule::LintNotOne => Some(&[LOCAL_NMI, X2APIC_NMI]),
+        Rule::X2ApicBelow255 => Some(&[X2APIC]),
+        Rule::FadtForArch => Some(&[GICC, RINTC]),
+        Rule::NoDistributor => Some(&[GICC]),
+        Rule::GiccBaseDiffers => Some(&[GICC]),
+        Rule::SameMpidr => Some(&[GICC]),
+        Rule::MpidrReserved => Some(&[GICC]),
+        Rule::RedistributorTwice => Some(&[GICC]),
+        Rule::NoBootMethod => Some(&[GICC]),
+        Rule::SecondGicd => Some(&[GICD]),
+        Rule::NoRedistributor => Some(&[GICD]),
+        Rule::GicrTooSmall => Some(&[GICD]),
+        Rule::SameMsiFrame => Some(&[MSI_FRAME]),
+        Rule::GicrEmpty => Some(&[GICR]),
+        Rule::SameIts => Some(&[ITS]),
+        Rule::GicOverlap => Some(&[GICD, MSI_FRAME, GICR, ITS]),
+        Rule::SameHart => Some(&[RINTC]),
+        Rule::LeafNowhere => Some(&[GICC, CORE_PIC, RINTC]),
+        Rule::MadtUnread => Some(&[GICC, GICD, MSI_FRAME, GICR, ITS, CORE_PIC, RINTC, OTHER]),
         _ => None,
     }
 }
 
-/// Whether the MADT lacks the entry without which a rule is kept.
+/// Whether the MADT lacks the entries without which a rule is kept.
 fn lacks_needed(tables: &CompleteTables<'_>, rule: Rule) -> bool
     ensures { IsTrue result → Finds (condition rule) tables.now None }
 {
-    match needed_entry(rule) {
-        Some(needed) => !tables.may_have(needed),
+    match needed_types(rule) {
+        Some(types) => !tables.has_any_type(types),
         None => false,
     }
 }

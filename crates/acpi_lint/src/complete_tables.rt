@@ -1,17 +1,17 @@
 //! The tables of a set that the finders read.
 
-ghost use Rattle.std.specs.Prelude.{◌≡◌, ℕ, IfOk, option_map};
+ghost use Rattle.std.specs.Prelude.{◌≡◌, ◌↔◌, ℕ, IfOk, IsTrue, option_map};
 ghost use Rattle.acpi_base.specs.Entries.{entries_read_by};
 ghost use Rattle.acpi_base.specs.Pptt.{pptt_contents, pptt_entry};
 ghost use Rattle.acpi_base.specs.Srat.{srat_contents, srat_entry};
 ghost use Rattle.acpi_base.specs.TableKinds.{signature_of};
 ghost use Rattle.acpi_lint.specs.Slots.{AreFirstSlots};
 ghost use Rattle.acpi_lint.specs.CompleteTables.{IsFound, IsLong, AreEntries, table_of, AreCompleteTables};
-ghost use Rattle.acpi_lint.specs.NeededEntries.{is_seen};
+ghost use Rattle.acpi_lint.specs.SeenTypes.{IsAnySeen};
 
 use crate::first_slots::FirstSlots;
 use crate::listed_slots::{Slot, listed_slots};
-use crate::needed_entries::{NeededEntry, SeenEntries};
+use crate::seen_types::SeenTypes;
 use acpi_base::{LentImage, TableKind};
 use acpi_read::{Fadt, MadtEntry, PpttEntry, Root, SratEntry, Table, TableEntry, TypedEntries};
 use std::alloc::{AllocError, Global};
@@ -36,8 +36,8 @@ pub struct CompleteTables<'a> {
     pub slit: Option<Table<'a>>,
     /// The PPTT.
     pub pptt: Option<Table<'a>>,
-    /// Which of the entries that rules need the MADT has.
-    seen: SeenEntries,
+    /// Which types the entries of the MADT have.
+    seen: SeenTypes,
 }
 
 /// The first listed table of a kind in a set with these first slots.
@@ -64,7 +64,7 @@ impl<'a> CompleteTables<'a> {
         let madt = found(image, &firsts, TableKind::Madt);
         Ok(CompleteTables {
             fadt: found(image, &firsts, TableKind::Fadt),
-            seen: SeenEntries::of(&madt),
+            seen: SeenTypes::of(&madt),
             madt,
             srat: found(image, &firsts, TableKind::Srat),
             slit: found(image, &firsts, TableKind::Slit),
@@ -75,11 +75,11 @@ impl<'a> CompleteTables<'a> {
         })
     }
 
-    /// Whether the MADT may have an entry that a rule needs; false only if it has none.
-    pub fn may_have(&self, needed: NeededEntry) -> bool
-        ensures { result ≡ is_seen self.now.seen needed }
+    /// Whether the MADT has an entry of one of these types.
+    pub fn has_any_type(&self, types: &[u8]) -> bool
+        ensures { IsTrue result ↔ IsAnySeen self.now.seen types.now }
     {
-        self.seen.has(needed)
+        self.seen.has_any(types)
     }
 
     /// The table of a kind, if there is one.

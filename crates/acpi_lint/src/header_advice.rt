@@ -153,7 +153,7 @@ pub fn second_other(alloc: Global, tables: &CompleteTables<'_>) -> Result<Option
         → IfOk result (FindsLeast (IsSecondOther m p)) }
 {
     let given = numbered_once(alloc, &tables.slots)?;
-    let Some(place) = first_unlike(alloc, given, Order::Later)? else {
+    let Some(place) = first_unlike(given, Order::Later)? else {
         return Ok(None);
     };
     Ok(Some(Place {

@@ -53,7 +53,7 @@ pub fn two_sources_one_gsi(alloc: Global, madt: &Table<'_>) -> Result<Option<Pla
     ensures { IfOk result (FindsLeast (IsTwoSourcesOneGsi (madt_contents madt.now))) }
 {
     let sources = collected(alloc, madt.entries::<MadtEntry<'_>>(), source_of_gsi)?;
-    first_unlike(alloc, sources, Order::Later)
+    first_unlike(sources, Order::Later)
 }
 
 /// Whether a MADT has an entry of one of these two types, of any length.

@@ -5,17 +5,13 @@ ghost use Rattle.acpi_base.specs.Across.{IsIoApic};
 ghost use Rattle.acpi_base.specs.Madt.{madt_contents};
 ghost use Rattle.acpi_read.specs.Madts.{madt_value};
 ghost use Rattle.acpi_lint.specs.MadtForms.{IsOfForm, HasForm};
-ghost use Rattle.acpi_lint.specs.NeededEntries.{IsOpaque, IsReadOpaque, IsOverride, IsLocalNmi, IsLocalApic, IsOfSource, IsArmOrRiscv, is_read_opaque};
 ghost use Rattle.acpi_lint.specs.Rules.EntryTypes.{type_of, HasType};
 ghost use Rattle.acpi_lint.specs.Rules.FadtWithMadt.{IsParking};
 ghost use Rattle.acpi_lint.specs.Rules.Its.{IsOtherIts};
 ghost use Rattle.acpi_lint.specs.Rules.Processors.{IsOpaqueProcessor, IsUnreadProcessor};
 
-use crate::gic::{ITS, ITS_LEN, is_gicd, is_gicr, is_its, is_msi_frame, is_usable_gicc};
-use crate::processors::{
-    CORE_PIC, CORE_PIC_LEN, GICD, RINTC, RINTC_LEN, is_core_pic, is_gicc, is_rintc,
-    opaque_processor,
-};
+use crate::gic::{ITS, ITS_LEN, is_usable_gicc};
+use crate::processors::{CORE_PIC, CORE_PIC_LEN, RINTC, RINTC_LEN, opaque_processor};
 use acpi_base::field::u32_at;
 use acpi_read::{GICC, GICC_LEN, MadtEntry, Table};
 
@@ -66,7 +62,7 @@ fn first_byte(bytes: &[u8]) -> u8
 
 /// The type of an entry.
 #[inline(always)]
-fn type_of(entry: &MadtEntry<'_>) -> u8
+pub fn type_of(entry: &MadtEntry<'_>) -> u8
     ensures { result ≡ type_of (madt_value entry.now) }
 {
     match entry {
@@ -79,42 +75,6 @@ fn type_of(entry: &MadtEntry<'_>) -> u8
         MadtEntry::X2apic(_) => 9,
         MadtEntry::X2apicNmi(_) => 10,
         MadtEntry::Opaque(bytes) => first_byte(bytes),
-    }
-}
-
-/// Whether an entry is one that the stages do not read.
-#[inline(always)]
-pub fn is_opaque(entry: &MadtEntry<'_>) -> bool
-    ensures { IsTrue result ↔ IsOpaque (madt_value entry.now) }
-{
-    match entry {
-        MadtEntry::Opaque(_) => true,
-        _ => false,
-    }
-}
-
-/// Whether the bytes are an entry that the stages do not read and that rules do.
-#[inline(always)]
-fn is_read_opaque(bytes: &[u8]) -> bool
-    ensures { result ≡ is_read_opaque bytes.now }
-{
-    is_gicc(bytes)
-        || is_rintc(bytes)
-        || is_core_pic(bytes)
-        || is_gicd(bytes)
-        || is_msi_frame(bytes)
-        || is_gicr(bytes)
-        || is_its(bytes)
-}
-
-/// Whether an entry is one that the stages do not read and that rules do.
-#[inline(always)]
-pub fn is_read_opaque_entry(entry: &MadtEntry<'_>) -> bool
-    ensures { IsTrue result ↔ IsReadOpaque (madt_value entry.now) }
-{
-    match entry {
-        MadtEntry::Opaque(bytes) => is_read_opaque(bytes),
-        _ => false,
     }
 }
 
@@ -163,63 +123,13 @@ fn is_other_its(entry: &MadtEntry<'_>) -> bool
 
 /// Whether it is an I/O APIC.
 #[inline(always)]
-pub fn is_io_apic(entry: &MadtEntry<'_>) -> bool
+fn is_io_apic(entry: &MadtEntry<'_>) -> bool
     ensures { IsTrue result ↔ IsIoApic (madt_value entry.now) }
 {
     match entry {
         MadtEntry::IoApic(_) => true,
         _ => false,
     }
-}
-
-/// Whether it is an override.
-#[inline(always)]
-pub fn is_override(entry: &MadtEntry<'_>) -> bool
-    ensures { IsTrue result ↔ IsOverride (madt_value entry.now) }
-{
-    match entry {
-        MadtEntry::Override(_) => true,
-        _ => false,
-    }
-}
-
-/// Whether it is an NMI of local APICs or of local x2APICs.
-#[inline(always)]
-pub fn is_local_nmi(entry: &MadtEntry<'_>) -> bool
-    ensures { IsTrue result ↔ IsLocalNmi (madt_value entry.now) }
-{
-    match entry {
-        MadtEntry::LocalNmi(_) => true,
-        MadtEntry::X2apicNmi(_) => true,
-        _ => false,
-    }
-}
-
-/// Whether it is a local APIC.
-#[inline(always)]
-pub fn is_local_apic(entry: &MadtEntry<'_>) -> bool
-    ensures { IsTrue result ↔ IsLocalApic (madt_value entry.now) }
-{
-    match entry {
-        MadtEntry::LocalApic(_) => true,
-        _ => false,
-    }
-}
-
-/// Whether it has the type of an override or of an NMI source.
-#[inline(always)]
-pub fn is_of_source(entry: &MadtEntry<'_>) -> bool
-    ensures { IsTrue result ↔ IsOfSource (madt_value entry.now) }
-{
-    matches!(type_of(entry), 2 | 3)
-}
-
-/// Whether it has the type of a GIC CPU interface, of a GIC distributor or of a hart.
-#[inline(always)]
-pub fn is_arm_or_riscv(entry: &MadtEntry<'_>) -> bool
-    ensures { IsTrue result ↔ IsArmOrRiscv (madt_value entry.now) }
-{
-    matches!(type_of(entry), GICC | GICD | RINTC)
 }
 
 /// Whether it is a usable GIC CPU interface with a version of the parking protocol.

@@ -107,6 +107,14 @@ pub fn sort_numbers(given: &mut Vec<Numbered>) -> Result<(), AllocError>
     sort_unless_sorted(given)
 }
 
+/// The lowest place of a number whose value differs from that at its first place. Allocates while it sorts them.
+pub fn first_unlike(mut given: Vec<Numbered>, order: Order) -> Result<Option<Place>, AllocError>
+    ensures { IfOk result (FindsLeast (IsUnlikeAt order given.items)) }
+{
+    sort_numbers(&mut given)?;
+    Ok(least_unlike(&given, order))
+}
+
 /// How many marks so many numbers get: 16 for each, up to 2^27, so that few share one. It is odd, so that those at
 /// distances of a power of 2 don't.
 fn mark_count(len: usize) -> u64
@@ -149,26 +157,13 @@ fn keep_suspects(alloc: Global, given: &mut Vec<Numbered>) -> Result<(), AllocEr
     Ok(())
 }
 
-/// The lowest place of a number whose value differs from that at its first place. Allocates while it looks for numbers
-/// that occur twice, and while it sorts these.
-pub fn first_unlike(
-    alloc: Global,
-    mut given: Vec<Numbered>,
-    order: Order,
-) -> Result<Option<Place>, AllocError>
-    ensures { IfOk result (FindsLeast (IsUnlikeAt order given.items)) }
-{
-    keep_suspects(alloc, &mut given)?;
-    sort_numbers(&mut given)?;
-    Ok(least_unlike(&given, order))
-}
-
 /// The first place of a number that also occurs at an earlier one; `other` is the first of these, and `point` the
 /// number. The value that is given to a number is its place. Allocates while it looks for numbers that occur twice, and
 /// while it sorts these.
-pub fn first_repeated(alloc: Global, given: Vec<Numbered>) -> Result<Option<Place>, AllocError>
+pub fn first_repeated(alloc: Global, mut given: Vec<Numbered>) -> Result<Option<Place>, AllocError>
     requires { (g : Numbered) → Contains given.items g → g.value ≡ g.at }
     ensures { IfOk result (FindsLeast (IsLater (HasAt given.items))) }
 {
-    first_unlike(alloc, given, Order::Later)
+    keep_suspects(alloc, &mut given)?;
+    first_unlike(given, Order::Later)
 }

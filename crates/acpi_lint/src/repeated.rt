@@ -140,7 +140,7 @@ fn two_uid_domains(alloc: Global, srat: &Table<'_>) -> Result<Option<Place>, All
     ensures { IfOk result (FindsLeast (IsTwoUidDomains (srat_contents srat.now))) }
 {
     let domains = collected(alloc, srat.entries::<SratEntry<'_>>(), domain_of_uid)?;
-    first_unlike(alloc, domains, Order::First)
+    first_unlike(domains, Order::First)
 }
 
 /// The place where a rule on the numbers in an SRAT is broken. None for another rule.

@@ -1,8 +1,13 @@
+use Rattle.acpi_lint.specs.declared.numbered.Order.TheVariants.{Later}
 use Rattle.acpi_lint.proofs.CollectedNumbers.{each_ok}
 use Rattle.acpi_lint.proofs.SameNumbers.{found_later}
+use Rattle.acpi_lint.proofs.SharedMarks.{found_kept}
 use Rattle.acpi_lint.proofs.numbered.first_repeated.Goals as goal
 
 pub returns : goal.returns
 returns c =
-    each_ok c.first_unlike.result (λ found least. found_later c.args.given.items found c.requires least)
+    let given = c.args.given.items in
+    each_ok c.first_unlike.result
+    (λ found least. found_later given found c.requires
+    (found_kept Later given c.keep_suspects.new.given.items found c.in_ok-keep_suspects.ensures least))
     c.first_unlike.ensures
