@@ -1,6 +1,6 @@
 -- Numbers that are collected from the entries of a table, each with its place as its value.
 use Rattle.std.proofs.Common.{◌≡◌, ℕ, List, Option, Some, None, Result, Ok, Err, Vec, Global, refl, sym, ◌∙◌, ap, subst}
-use Rattle.std.specs.Prelude.{◌↔◌, Contains, IfOk, option_map}
+use Rattle.std.specs.Prelude.{◌↔◌, ◌<◌, AllPairs, Contains, IfOk, option_map}
 use Rattle.std.specs.List.{filter_map}
 use Rattle.std.proofs.lemmas.List.{map-id}
 use Rattle.std.proofs.lemmas.Option.{same_Some}
@@ -122,7 +122,9 @@ each_ok (Ok a) follows holds = follows a holds
 each_ok (Err e) follows holds = tt
 
 pub found_twice : {X : Type 0} {StandsAt : ℕ → ℕ → Type 0} (given : List Numbered) (r : Result (Option Place) X)
-    → AreNumbersAt StandsAt given → IfOk r (FindsLeast (IsLater (HasAt given))) → IfOk r (FindsLeast (IsLater StandsAt))
+    → AreNumbersAt StandsAt given
+    → (AllPairs (λ a b. a.at < b.at) given → IfOk r (FindsLeast (IsLater (HasAt given))))
+    → IfOk r (FindsLeast (IsLater StandsAt))
 found_twice given r are least =
     each_ok r (λ found holds.
     least_as found
@@ -130,7 +132,7 @@ found_twice given r are least =
     (λ p n stands. (are.all p n).1 stands) later)
     (λ at other point later. same_later at other point (λ p n stands. (are.all p n).1 stands)
     (λ p n has. (are.all p n).0 has) later)
-    holds) least
+    holds) (least are.rise)
 
 -- ---- numbers that are gathered from entries, if each call returns the number that `read` gives
 

@@ -13,6 +13,7 @@ mod FirstNumbers
 mod FirstOfCodes
 mod FirstPlaces
 mod FirstSlots
+mod HeadNumbers
 mod HeaderTexts
 mod HeldStages
 mod HierarchyPlaces

@@ -1,11 +1,12 @@
 //! Numbers with values at places, and those that occur again with another value.
 
-ghost use Rattle.std.specs.Prelude.{◌≡◌, ◌<◌, ◌^◌, ◌⊎◌, AllPairs, Contains, IfOk, IfSome, OnOk};
+ghost use Rattle.std.specs.Prelude.{◌≡◌, ◌<◌, ◌^◌, ◌≤◌, ◌⊎◌, length, take, AllPairs, Contains, IfOk, IfSome, OnOk};
 ghost use Rattle.std.specs.List.Sorted.{IsPermutation};
 ghost use Rattle.std.specs.Option.{option_map};
 ghost use Rattle.acpi_lint.specs.Rules.Numbered.{IsLater};
 ghost use Rattle.acpi_lint.specs.Numbered.{IsNotAbove, IsUnlikeAt, HasAt, AreSharedMarks, AreSuspects, at_place, unlike_place};
 ghost use Rattle.acpi_lint.specs.Places.{FindsLeast, IsNotAfter};
+ghost use Rattle.acpi_lint.specs.declared.numbered.Order.TheVariants.{Later};
 
 use crate::place::Place;
 use acpi_check::BitSet;
@@ -157,13 +158,31 @@ fn keep_suspects(alloc: Global, given: &mut Vec<Numbered>) -> Result<(), AllocEr
     Ok(())
 }
 
+/// How many numbers are looked at before all are: where most occur twice, one of these does.
+const HEAD: usize = 1024;
+
+/// The lowest place of one of the first numbers whose value differs from that at its first place. Allocates for them.
+fn first_in_head(alloc: Global, given: &[Numbered]) -> Result<Option<Place>, AllocError>
+    requires { HEAD ≤ length given.now }
+    ensures { IfOk result (FindsLeast (IsUnlikeAt Later (take HEAD given.now))) }
+{
+    let head = Vec::from_slice(alloc, &given[..HEAD])?;
+    first_unlike(head, Order::Later)
+}
+
 /// The first place of a number that also occurs at an earlier one; `other` is the first of these, and `point` the
-/// number. The value that is given to a number is its place. Allocates while it looks for numbers that occur twice, and
-/// while it sorts these.
+/// number. The value that is given to a number is its place, and places rise. Allocates while it looks for numbers that
+/// occur twice, and while it sorts these.
 pub fn first_repeated(alloc: Global, mut given: Vec<Numbered>) -> Result<Option<Place>, AllocError>
     requires { (g : Numbered) → Contains given.items g → g.value ≡ g.at }
-    ensures { IfOk result (FindsLeast (IsLater (HasAt given.items))) }
+    ensures { AllPairs (λ a b. a.at < b.at) given.items
+        → IfOk result (FindsLeast (IsLater (HasAt given.items))) }
 {
+    if given.len() > HEAD {
+        if let Some(place) = first_in_head(alloc, &given)? {
+            return Ok(Some(place));
+        }
+    }
     keep_suspects(alloc, &mut given)?;
     first_unlike(given, Order::Later)
 }
