@@ -95,7 +95,9 @@ found_in_head n given p rise found =
       least = λ at other point (h, e, differs, same).
           let (j, there) = to_given given h differs.listed in
           elim (cases_lt j n) [
-            | inl inside ↦ found.least at other point (h, e, unlike_in_head n given h e j rise there inside differs, same)
+            | inl inside ↦
+                let here = unlike_in_head n given h e j rise there inside differs in
+                found.least at other point (h, e, here, same)
             | inr behind ↦
                 let before = rises given i j g h rise here there (omega (arith, below, behind)) in
                 inl (omega (arith, before, ap (λ (q : Place). q.at) is, ap (λ (q : Place). q.at) same))
