@@ -1,6 +1,7 @@
 """`check` and `lint` on tables of up to a million entries, clean or all at fault, of each of which they gather a number, and on a set of
 many slots, unsorted, that list tables each in its own segment of the image. A rule that gave up on this many would be out of memory by
-its contract, and one that looked through all of them for each one would not end, so only these sets show it."""
+its contract, and one that looked through all of them for each one would not end, so only these sets show it. `lint` may take so many
+times as long as `check` of the first set of its kind."""
 
 import random
 import struct
@@ -46,6 +47,16 @@ def processors():
     last = 44 + 16 * LAST
     advice = f"SameUid {last:#x} 0x2c {COUNT:#x}", f"SameApicId {last:#x} 0x2c", f"NoLeaf 0x3c 0x0 {COUNT - 1:#x}"
     yield "the last", (madt(entries), pptt(core(COUNT), core(1))), advised(*advice, first="no 18 LeafUnknown 0x38 0x0 0x1")
+
+
+def io_apics():
+    """A processor, and I/O APICs whose addresses rise or are in no order, with IDs from 0 to 255 again and again."""
+    entry = struct.Struct("<BBBBII")
+    apics = lambda address: b"".join(entry.pack(1, 12, place % 256, 0, address(place), 24 * place) for place in range(COUNT))
+    repeated = advised(f"SameIoApicId {52 + 12 * 256:#x} 0x34")
+    yield "rising", madt(lapic(0, 0), apics(lambda place: 0x1000 * (place + 1))), repeated
+    order = random.Random(5).sample(range(COUNT), COUNT)
+    yield "in no order", madt(lapic(0, 0), apics(lambda place: 0x1000 * (order[place] + 1))), repeated
 
 
 def x2apics():
@@ -193,26 +204,33 @@ def caches():
     yield "the last", pptt(right * LAST, wrong), advised(f"CacheNumbers {36 + 24 * LAST:#x} 0x8001 0x8000")
 
 
-WITH_CHECK = (interrupt_sources, processors)
 OF_ENTRIES = (
-    x2apics, unread_entries, giccs, harts, overrides, redistributors, its_and_frames, distributors, ranges, affinities_of_its, localities,
-    nodes, caches,
+    interrupt_sources, processors, io_apics, x2apics, unread_entries, giccs, harts, overrides, redistributors, its_and_frames,
+    distributors, ranges, affinities_of_its, localities, nodes, caches,
 )
 
 
 def large_sets():
-    """The name of each set, the tables beside its FADT, its lines, and the commands that are run on it."""
-    for made in (*WITH_CHECK, *OF_ENTRIES):
-        for name, tables, lines in made():
+    """The name of each set, the tables beside its FADT, and its lines. `check` is run on the first of each kind."""
+    for made in OF_ENTRIES:
+        for place, (name, tables, lines) in enumerate(made()):
             tables = tables if isinstance(tables, tuple) else (tables,)
-            yield f"{made.__name__}, {name}", tables, lines, ("check", "lint") if made in WITH_CHECK else ("lint",)
+            yield f"{made.__name__}, {name}", tables, lines, place == 0
+
+
+# `lint` of many entries may take this many times the processor time of `check` of the first set of their kind, and this many seconds more.
+TIMES_OF_ENTRIES, MORE_OF_ENTRIES = 4, 0.3
 
 
 def many_entries(cases):
-    for name, tables, lines, commands in large_sets():
+    for name, tables, lines, is_first in large_sets():
         text = text_with(*tables)
-        for command in commands:
-            cases.writes(f"{command} on many entries, {name}", command, text, lines[:1] if command == "check" else lines)
+        asks = lambda command, due: cases.writes(f"{command} on many entries, {name}", command, text, due)
+        if is_first:
+            _, checked = timed(lambda: asks("check", lines[:1]))
+        _, linted = timed(lambda: asks("lint", lines))
+        slow = linted > TIMES_OF_ENTRIES * checked + MORE_OF_ENTRIES
+        cases.count(f"time with many entries, {name}", f"{linted} seconds, and check {checked}" if slow else "")
 
 
 # ---- slots
