@@ -13,7 +13,7 @@ mod FirstNumbers
 mod FirstOfCodes
 mod FirstPlaces
 mod FirstSlots
-mod HeadNumbers
+mod PrefixNumbers
 mod HeaderTexts
 mod HeldStages
 mod HierarchyPlaces
@@ -47,7 +47,7 @@ pub mod RuleNumbers
 mod SameNumbers
 mod SciGsis
 mod SecondTables
-mod SharedMarks
+mod SharedRemainders
 mod ShortTables
 mod SlitFaults
 mod SomeEntries

@@ -52,25 +52,25 @@ pub record AreNumbersAt (StandsAt : ℕ → ℕ → Type 0) (given : List Number
   pub placed : (g : Numbered) → Contains given g → g.value ≡ g.at
   pub all : (at n : ℕ) → HasAt given at n ↔ StandsAt at n
 
--- the mark of the number at i: its remainder
-abbrev pub mark_at : List Numbered → ℕ → ℕ → ℕ
-mark_at given marks i = (get_or given i (at_place 0 0)).number % marks
+-- the remainder of the number at i
+abbrev pub remainder_at : List Numbered → ℕ → ℕ → ℕ
+remainder_at given modulus i = (get_or given i (at_place 0 0)).number % modulus
 
--- two of the first n have this mark
-pub record HaveMark (given : List Numbered) (marks n mark : ℕ) : Type 0 where
+-- two of the first n have this remainder
+pub record ShareRemainder (given : List Numbered) (modulus n remainder : ℕ) : Type 0 where
   pub i : ℕ
   pub j : ℕ
   pub before : i < j
   pub within : j < n
-  pub one : mark_at given marks i ≡ mark
-  pub other : mark_at given marks j ≡ mark
+  pub one : remainder_at given modulus i ≡ remainder
+  pub other : remainder_at given modulus j ≡ remainder
 
--- the set has the marks that two of these have
-abbrev pub AreSharedMarks : List Numbered → ℕ → BitSet → Type 0
-AreSharedMarks given marks shared = (mark : ℕ) → IsIn shared mark ↔ HaveMark given marks (length given) mark
+-- the set has the remainders that two of these have
+abbrev pub AreSharedRemainders : List Numbered → ℕ → BitSet → Type 0
+AreSharedRemainders given modulus shared = (remainder : ℕ) → IsIn shared remainder ↔ ShareRemainder given modulus (length given) remainder
 
--- these are of those that were given, and all whose number occurs twice among those are among these
-pub record AreSuspects (given kept : List Numbered) : Type 0 where
+-- these are some of those that were given, among them each that has the number of another, different one
+pub record AreSharing (given kept : List Numbered) : Type 0 where
   pub listed : (g : Numbered) → Contains kept g → Contains given g
   pub twice : (g h : Numbered) → Contains given g → Contains given h → g.number ≡ h.number → g ≢ h → Contains kept g
 

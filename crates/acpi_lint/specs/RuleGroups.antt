@@ -143,7 +143,7 @@ as_group group.PpttBytes c = OnPptt (PpttBytes (in_pptt_bytes c))
 
 -- ---- conditions that need an entry of the MADT
 
--- the condition holds only in a set with a MADT that has an entry of one of these types
+-- the condition holds only in a set with a MADT that has an entry that is told as one of these types
 abbrev pub NeedsType : List ℕ → Condition → Type 0
 NeedsType types c =
     (m : Memory) (q : PolicyValue) (at other point : ℕ) → HoldsAt c m q at other point

@@ -1,4 +1,5 @@
--- The types of a MADT's entries without which rules are kept, and which of them were seen (ACPI 6.5, 5.2.12).
+-- Which types the entries of a MADT have; those that neither the stages nor the rules read are told as one (ACPI 6.5,
+-- 5.2.12).
 use Rattle.std.specs.Prelude.{◌≡◌, ◌↔◌, ◌⊎◌, ◌&&◌, ◌||◌, ◌==◌, ℕ, Bool, true, false, List, Option, MatchOption, Contains, get_or, nat_le, if◌then◌else◌}
 use Rattle.acpi_base.specs.Entries.{StandsWith}
 use Rattle.acpi_base.specs.Madt.{MadtEntry, MadtContents, madt_contents}

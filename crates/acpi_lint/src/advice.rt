@@ -14,6 +14,7 @@ use crate::complete_tables::CompleteTables;
 use crate::fadt_advice::fadt_place;
 use crate::fadt_memory::fadt_memory_place;
 use crate::gic::{GICR, ITS, MSI_FRAME};
+use crate::madt_forms::{IO_APIC, LOCAL_NMI, NMI_SOURCE, OVERRIDE, X2APIC, X2APIC_NMI};
 use crate::nowhere::{madt_place, madt_pptt_place, madt_srat_place};
 use crate::own::{
     first_own_place, madt_entries_place, pptt_entry_place, srat_entry_place, srat_slit_entry_place,
@@ -25,7 +26,7 @@ use crate::reserved::{madt_bytes_place, pptt_bytes_place, srat_bytes_place};
 use crate::rule::{Advice, Rule};
 use crate::rule_group::RuleGroup;
 use crate::sci::fadt_madt_place;
-use crate::seen_types::OTHER;
+use crate::seen_types::UNREAD_TYPE;
 use crate::set_advice::set_place;
 use crate::slit::{rows, slit_place};
 use crate::slot_advice::slot_place;
@@ -33,21 +34,8 @@ use acpi_base::{LentImage, Policy, TableKind};
 use acpi_read::GICC;
 use std::alloc::{AllocError, Global};
 
-/// Types of entries of a MADT that the stages read (ACPI 6.5, 5.2.12.3 to 5.2.12.13).
-const IO_APIC: u8 = 1;
-
-const OVERRIDE: u8 = 2;
-
-const NMI_SOURCE: u8 = 3;
-
-const LOCAL_NMI: u8 = 4;
-
-const X2APIC: u8 = 9;
-
-const X2APIC_NMI: u8 = 10;
-
-/// The types of entries of the MADT without which a rule is kept, so that a MADT without one of these is not gone over
-/// for it. None for a rule that needs none of them.
+/// Types, of one of which the MADT has an entry wherever the rule is broken: a MADT with none of them is not gone over
+/// for it. None for a rule that is always looked for.
 fn needed_types(rule: Rule) -> Option<&'static [u8]>
     ensures { IfSome result (λ types. NeedsType types.now (condition rule)) }
 {
@@ -79,7 +67,16 @@ fn needed_types(rule: Rule) -> Option<&'static [u8]>
         Rule::GicOverlap => Some(&[GICD, MSI_FRAME, GICR, ITS]),
         Rule::SameHart => Some(&[RINTC]),
         Rule::LeafNowhere => Some(&[GICC, CORE_PIC, RINTC]),
-        Rule::MadtUnread => Some(&[GICC, GICD, MSI_FRAME, GICR, ITS, CORE_PIC, RINTC, OTHER]),
+        Rule::MadtUnread => Some(&[
+            GICC,
+            GICD,
+            MSI_FRAME,
+            GICR,
+            ITS,
+            CORE_PIC,
+            RINTC,
+            UNREAD_TYPE,
+        ]),
         _ => None,
     }
 }

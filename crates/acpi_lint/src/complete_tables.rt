@@ -36,7 +36,7 @@ pub struct CompleteTables<'a> {
     pub slit: Option<Table<'a>>,
     /// The PPTT.
     pub pptt: Option<Table<'a>>,
-    /// Which types the entries of the MADT have.
+    /// As which types the entries of the MADT are told.
     seen: SeenTypes,
 }
 
@@ -75,7 +75,7 @@ impl<'a> CompleteTables<'a> {
         })
     }
 
-    /// Whether the MADT has an entry of one of these types.
+    /// Whether an entry of the MADT is told as one of these types: as its own, or as `UNREAD_TYPE`.
     pub fn has_any_type(&self, types: &[u8]) -> bool
         ensures { IsTrue result ↔ IsAnySeen self.now.seen types.now }
     {

@@ -68,7 +68,7 @@ pub fn is_gicd(bytes: &[u8]) -> bool
 
 /// Whether they are an MSI frame.
 #[inline(always)]
-pub fn is_msi_frame(bytes: &[u8]) -> bool
+fn is_msi_frame(bytes: &[u8]) -> bool
     ensures value { result ≡ is_msi_frame bytes.now }
     ensures size { IsTrue result → length bytes.now ≡ 24 }
 {
@@ -77,7 +77,7 @@ pub fn is_msi_frame(bytes: &[u8]) -> bool
 
 /// Whether they are a range of redistributors.
 #[inline(always)]
-pub fn is_gicr(bytes: &[u8]) -> bool
+fn is_gicr(bytes: &[u8]) -> bool
     ensures value { result ≡ is_gicr bytes.now }
     ensures size { IsTrue result → length bytes.now ≡ 16 }
 {
@@ -86,7 +86,7 @@ pub fn is_gicr(bytes: &[u8]) -> bool
 
 /// Whether they are an interrupt translation service.
 #[inline(always)]
-pub fn is_its(bytes: &[u8]) -> bool
+fn is_its(bytes: &[u8]) -> bool
     ensures value { result ≡ is_its bytes.now }
     ensures size { IsTrue result → length bytes.now ≡ 20 }
 {

@@ -10,7 +10,7 @@ ghost use Rattle.acpi_lint.specs.Rules.EntryTypes.{HasType};
 ghost use Rattle.acpi_lint.specs.Rules.GicAdvice.{LacksDistributor, IsNoDistributor, LacksRedistributor, IsNoRedistributor, AreGicrsKnown, IsGicrTooSmall, IsGiccBaseDiffers, IsRedistributorTwice, HasVersion};
 
 use crate::gic::GICR;
-use crate::madt_forms::has_type;
+use crate::madt_forms::{IO_APIC, NMI_SOURCE, OVERRIDE, has_type};
 use crate::madt_numbers::{MadtNumber, all_numbers, first_number, has_number};
 use crate::numbered::{Numbered, Order, first_unlike};
 use crate::place::Place;
@@ -64,6 +64,9 @@ fn has_either_type(madt: &Table<'_>, low: u8, high: u8) -> bool
     has_type(madt, low) || has_type(madt, high)
 }
 
+/// The type of an I/O SAPIC (ACPI 6.5, 5.2.12.9), which no rule reads.
+const IO_SAPIC: u8 = 6;
+
 /// Whether a MADT that is well-formed has no I/O APIC or I/O SAPIC, though a local APIC or a local x2APIC is usable,
 /// and there is an override or an NMI source.
 fn lacks_io_apic(policy: &Policy, madt: &Table<'_>) -> bool
@@ -72,10 +75,10 @@ fn lacks_io_apic(policy: &Policy, madt: &Table<'_>) -> bool
     if !has_number(madt, MadtNumber::LocalId) {
         return false;
     }
-    if !has_either_type(madt, 2, 3) {
+    if !has_either_type(madt, OVERRIDE, NMI_SOURCE) {
         return false;
     }
-    if has_either_type(madt, 1, 6) {
+    if has_either_type(madt, IO_APIC, IO_SAPIC) {
         return false;
     }
     is_madt_well_formed(policy, madt)

@@ -15,6 +15,24 @@ use crate::processors::{CORE_PIC, CORE_PIC_LEN, RINTC, RINTC_LEN, opaque_process
 use acpi_base::field::u32_at;
 use acpi_read::{GICC, GICC_LEN, MadtEntry, Table};
 
+/// The type of an I/O APIC (ACPI 6.5, 5.2.12.3).
+pub const IO_APIC: u8 = 1;
+
+/// Of an interrupt source override (5.2.12.5).
+pub const OVERRIDE: u8 = 2;
+
+/// Of an NMI source (5.2.12.6).
+pub const NMI_SOURCE: u8 = 3;
+
+/// Of an NMI of local APICs (5.2.12.7).
+pub const LOCAL_NMI: u8 = 4;
+
+/// Of a local x2APIC (5.2.12.12).
+pub const X2APIC: u8 = 9;
+
+/// Of an NMI of local x2APICs (5.2.12.13).
+pub const X2APIC_NMI: u8 = 10;
+
 /// What an entry of a MADT may be.
 #[derive(Clone, Copy)]
 pub enum MadtForm {
@@ -67,13 +85,13 @@ pub fn type_of(entry: &MadtEntry<'_>) -> u8
 {
     match entry {
         MadtEntry::LocalApic(_) => 0,
-        MadtEntry::IoApic(_) => 1,
-        MadtEntry::Override(_) => 2,
-        MadtEntry::NmiSource(_) => 3,
-        MadtEntry::LocalNmi(_) => 4,
+        MadtEntry::IoApic(_) => IO_APIC,
+        MadtEntry::Override(_) => OVERRIDE,
+        MadtEntry::NmiSource(_) => NMI_SOURCE,
+        MadtEntry::LocalNmi(_) => LOCAL_NMI,
         MadtEntry::AddressOverride(_) => 5,
-        MadtEntry::X2apic(_) => 9,
-        MadtEntry::X2apicNmi(_) => 10,
+        MadtEntry::X2apic(_) => X2APIC,
+        MadtEntry::X2apicNmi(_) => X2APIC_NMI,
         MadtEntry::Opaque(bytes) => first_byte(bytes),
     }
 }

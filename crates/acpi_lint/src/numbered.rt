@@ -4,7 +4,7 @@ ghost use Rattle.std.specs.Prelude.{◌≡◌, ◌<◌, ◌^◌, ◌≤◌, ◌�
 ghost use Rattle.std.specs.List.Sorted.{IsPermutation};
 ghost use Rattle.std.specs.Option.{option_map};
 ghost use Rattle.acpi_lint.specs.Rules.Numbered.{IsLater};
-ghost use Rattle.acpi_lint.specs.Numbered.{IsNotAbove, IsUnlikeAt, HasAt, AreSharedMarks, AreSuspects, at_place, unlike_place};
+ghost use Rattle.acpi_lint.specs.Numbered.{IsNotAbove, IsUnlikeAt, HasAt, AreSharedRemainders, AreSharing, at_place, unlike_place};
 ghost use Rattle.acpi_lint.specs.Places.{FindsLeast, IsNotAfter};
 ghost use Rattle.acpi_lint.specs.declared.numbered.Order.TheVariants.{Later};
 
@@ -116,73 +116,73 @@ pub fn first_unlike(mut given: Vec<Numbered>, order: Order) -> Result<Option<Pla
     Ok(least_unlike(&given, order))
 }
 
-/// How many marks so many numbers get: 16 for each, up to 2^27, so that few share one. It is odd, so that those at
-/// distances of a power of 2 don't.
-fn mark_count(len: usize) -> u64
+/// By what the remainders of so many numbers are taken: 16 times as many, of at most 2^27, and one more. It is odd, so
+/// that numbers whose difference is a power of 2 have different remainders.
+fn modulus_of(len: usize) -> u64
     ensures positive { 0 < result }
     ensures narrow { result < 2 ^ 32 }
 {
     (len as u64).min(1 << 27) * 16 + 1
 }
 
-/// The marks, remainders of this division, that several of these numbers have. Allocates for each mark.
-fn shared_marks(alloc: Global, given: &[Numbered], marks: u64) -> Result<BitSet, AllocError>
-    requires positive { 0 < marks }
-    requires narrow { marks < 2 ^ 32 }
-    ensures { IfOk result (AreSharedMarks given.now marks) }
+/// The remainders that several of these numbers have. Allocates two sets of a bit or two for each remainder.
+fn shared_remainders(alloc: Global, given: &[Numbered], modulus: u64) -> Result<BitSet, AllocError>
+    requires positive { 0 < modulus }
+    requires narrow { modulus < 2 ^ 32 }
+    ensures { IfOk result (AreSharedRemainders given.now modulus) }
 {
     let mut seen = BitSet::new(alloc);
     let mut shared = BitSet::new(alloc);
     for one in given {
-        let mark = one.number % marks;
-        if seen.has(mark as u32) {
-            shared.add(mark)?;
+        let remainder = one.number % modulus;
+        if seen.has(remainder as u32) {
+            shared.add(remainder)?;
         } else {
-            seen.add(mark)?;
+            seen.add(remainder)?;
         }
     }
     Ok(shared)
 }
 
-/// Keeps the numbers that have a mark in common with another one: all that occur twice are among them. Keeps all, if
-/// they are few or in order, since these are soon sorted. Otherwise it allocates for each mark.
-fn keep_suspects(alloc: Global, given: &mut Vec<Numbered>) -> Result<(), AllocError>
-    ensures { OnOk result (AreSuspects given.old.items given.new.items) }
+/// Keeps the numbers that share a remainder with another one, among them all that occur twice. Few numbers, and those
+/// in order, are soon sorted: they are all kept, without allocating. Otherwise it allocates two sets of remainders.
+fn keep_sharing(alloc: Global, given: &mut Vec<Numbered>) -> Result<(), AllocError>
+    ensures { OnOk result (AreSharing given.old.items given.new.items) }
 {
     if given.len() <= FEW || given.is_sorted() {
         return Ok(());
     }
-    let marks = mark_count(given.len());
-    let shared = shared_marks(alloc, given, marks)?;
-    given.retain(|one| shared.has((one.number % marks) as u32));
+    let modulus = modulus_of(given.len());
+    let shared = shared_remainders(alloc, given, modulus)?;
+    given.retain(|one| shared.has((one.number % modulus) as u32));
     Ok(())
 }
 
-/// How many numbers are looked at before all are: where most occur twice, one of these does.
-const HEAD: usize = 1024;
+/// How many numbers are looked at before all are: if each occurs many times, two of these are mostly equal.
+const PREFIX: usize = 1024;
 
 /// The lowest place of one of the first numbers whose value differs from that at its first place. Allocates for them.
-fn first_in_head(alloc: Global, given: &[Numbered]) -> Result<Option<Place>, AllocError>
-    requires { HEAD ≤ length given.now }
-    ensures { IfOk result (FindsLeast (IsUnlikeAt Later (take HEAD given.now))) }
+fn first_in_prefix(alloc: Global, given: &[Numbered]) -> Result<Option<Place>, AllocError>
+    requires { PREFIX ≤ length given.now }
+    ensures { IfOk result (FindsLeast (IsUnlikeAt Later (take PREFIX given.now))) }
 {
-    let head = Vec::from_slice(alloc, &given[..HEAD])?;
-    first_unlike(head, Order::Later)
+    let prefix = Vec::from_slice(alloc, &given[..PREFIX])?;
+    first_unlike(prefix, Order::Later)
 }
 
-/// The first place of a number that also occurs at an earlier one; `other` is the first of these, and `point` the
-/// number. The value that is given to a number is its place, and places rise. Allocates while it looks for numbers that
-/// occur twice, and while it sorts these.
+/// If places rise: the first place of a number that also occurs at an earlier one; `other` is the first of these, and
+/// `point` the number. The value that is given to a number is its place. Allocates for the first `PREFIX` numbers, for
+/// two sets of remainders, and while it sorts the numbers that share one.
 pub fn first_repeated(alloc: Global, mut given: Vec<Numbered>) -> Result<Option<Place>, AllocError>
     requires { (g : Numbered) → Contains given.items g → g.value ≡ g.at }
     ensures { AllPairs (λ a b. a.at < b.at) given.items
         → IfOk result (FindsLeast (IsLater (HasAt given.items))) }
 {
-    if given.len() > HEAD {
-        if let Some(place) = first_in_head(alloc, &given)? {
+    if given.len() > PREFIX {
+        if let Some(place) = first_in_prefix(alloc, &given)? {
             return Ok(Some(place));
         }
     }
-    keep_suspects(alloc, &mut given)?;
+    keep_sharing(alloc, &mut given)?;
     first_unlike(given, Order::Later)
 }

@@ -96,7 +96,7 @@ pub fn is_rintc(bytes: &[u8]) -> bool
 
 /// Whether they are the interrupt controller of a LoongArch core.
 #[inline(always)]
-pub fn is_core_pic(bytes: &[u8]) -> bool
+fn is_core_pic(bytes: &[u8]) -> bool
     ensures value { result ≡ is_core_pic bytes.now }
     ensures size { IsTrue result → length bytes.now ≡ 15 }
 {

@@ -1,4 +1,4 @@
-//! The types of a MADT's entries: which of them it has.
+//! Which types the entries of a MADT have.
 
 ghost use Rattle.std.specs.Prelude.{◌≡◌, ◌↔◌, ◌<◌, ℕ, IsTrue, Some};
 ghost use Rattle.acpi_base.specs.Madt.{madt_contents};
@@ -9,26 +9,25 @@ use crate::madt_forms::type_of;
 use crate::processors::{CORE_PIC, RINTC};
 use acpi_read::{MadtEntry, Table};
 
-/// How many types are told apart.
+/// Types are told as numbers below this.
 const TYPES: usize = 32;
 
-/// What all types are told as that neither the stages nor the rules read.
-pub const OTHER: u8 = 31;
+/// As what all types are told that neither the stages nor the rules read. It is none that they read.
+pub const UNREAD_TYPE: u8 = 31;
 
-/// The type of an entry, or `OTHER`.
+/// The type of an entry, or `UNREAD_TYPE`.
 #[inline(always)]
 fn told_type(entry: &MadtEntry<'_>) -> u8
     ensures is { result ≡ told_type (madt_value entry.now) }
     ensures small { result < 32 }
 {
-    let its = type_of(entry);
-    if its <= 5 || (9 <= its && its <= 15) || its == CORE_PIC || its == RINTC {
-        return its;
+    match type_of(entry) {
+        read @ (0..=5 | 9..=15 | CORE_PIC | RINTC) => read,
+        _ => UNREAD_TYPE,
     }
-    OTHER
 }
 
-/// Which types the entries of a MADT have.
+/// As which types the entries of a MADT are told.
 #[derive(Drop)]
 pub struct SeenTypes {
     /// Whether an entry is told as each type.
@@ -74,23 +73,23 @@ impl SeenTypes {
         }
     }
 
-    /// Whether one of these types was seen.
+    /// Whether an entry is told as one of these types.
     pub fn has_any(&self, types: &[u8]) -> bool
         ensures { IsTrue result ↔ IsAnySeen self.now types.now }
     {
-        for one in types {
-            if self.has(*one) {
+        for wanted in types {
+            if self.has(*wanted) {
                 return true;
             }
         }
         false
     }
 
-    /// Whether a type was seen.
-    fn has(&self, one: u8) -> bool
-        ensures { IsTrue result ↔ IsSeen self.now one }
+    /// Whether an entry is told as a type.
+    fn has(&self, wanted: u8) -> bool
+        ensures { IsTrue result ↔ IsSeen self.now wanted }
     {
-        match self.types.get(usize::from(one)) {
+        match self.types.get(usize::from(wanted)) {
             Some(seen) => *seen,
             None => false,
         }

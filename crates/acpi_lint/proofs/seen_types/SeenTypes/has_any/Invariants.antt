@@ -3,5 +3,5 @@ use Rattle.acpi_lint.specs.SeenTypes.{IsSeen}
 use Rattle.acpi_lint.proofs.seen_types.SeenTypes.has_any.Given as goal
 
 -- none of the types so far was seen
-abbrev pub invariant-loop-one : goal.invariant-loop-one
-invariant-loop-one l = (k : ℕ) → k < l.one-index → ¬ IsSeen l.self (get_or l.types k 0)
+abbrev pub invariant-loop-wanted : goal.invariant-loop-wanted
+invariant-loop-wanted l = (k : ℕ) → k < l.wanted-index → ¬ IsSeen l.self (get_or l.types k 0)

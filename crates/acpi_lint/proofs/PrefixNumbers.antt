@@ -1,10 +1,10 @@
--- Numbers at rising places: what repeats among the first of them comes before all that repeats behind these.
+-- Numbers at rising places: what repeats among the first n of them comes before all that repeats behind these.
 use Rattle.std.proofs.Common.{◌≡◌, ℕ, ◌<◌, ◌≤◌, List, length, get_or, take, sym, ◌∙◌, ap, inl, inr, arith}
-use Rattle.std.specs.Prelude.{AllPairs, Contains, min}
+use Rattle.std.specs.Prelude.{AllPairs, Contains}
 use Rattle.std.proofs.lemmas.Bool.{cases_lt}
 use Rattle.std.proofs.lemmas.List.{get_or_default, get_or-take, length-take}
 use Rattle.acpi_lint.specs.Numbered.{IsNoLater, IsUnlike, IsUnlikeAt}
-use Rattle.acpi_lint.specs.Places.{IsNotAfter, IsLeast}
+use Rattle.acpi_lint.specs.Places.{IsLeast}
 use Rattle.acpi_lint.specs.declared.numbered.Numbered.{Numbered}
 use Rattle.acpi_lint.specs.declared.numbered.Order.TheVariants.{Later}
 use Rattle.acpi_lint.specs.declared.place.Place.{Place}
@@ -13,13 +13,13 @@ use Rattle.acpi_lint.specs.declared.place.Place.{Place}
 abbrev IsAt : List Numbered → ℕ → Numbered → Type 0
 IsAt given i g = (i < length given) × (get_or given i g ≡ g)
 
-in_head : (n : ℕ) (given : List Numbered) (i : ℕ) (g : Numbered) → IsAt given i g → i < n → Contains (take n given) g
-in_head n given i g (within, is) below =
+in_prefix : (n : ℕ) (given : List Numbered) (i : ℕ) (g : Numbered) → IsAt given i g → i < n → Contains (take n given) g
+in_prefix n given i g (within, is) below =
     (i, omega (arith, length-take n given, within, below), get_or-take n given i g below ∙ is)
 
-of_head : (n : ℕ) (given : List Numbered) (g : Numbered) → Contains (take n given) g
+of_prefix : (n : ℕ) (given : List Numbered) (g : Numbered) → Contains (take n given) g
     → (i : ℕ) × (i < n) × IsAt given i g
-of_head n given g (i, within, is) =
+of_prefix n given g (i, within, is) =
     let below : i < n = omega (arith, length-take n given, within) in
     (i, below, (omega (arith, length-take n given, within), sym (get_or-take n given i g below) ∙ is))
 
@@ -40,12 +40,12 @@ upto : (f g : Numbered) → IsNoLater f g → f.at ≤ g.at
 upto f g (inl before) = omega arith
 upto f g (inr (same, value)) = omega (arith, same)
 
--- what is unlike in the head is unlike in all
-unlike_of_head : (n : ℕ) (given : List Numbered) (g f : Numbered) → AllPairs (λ a b. a.at < b.at) given
+-- what is unlike among the first n is unlike among all
+unlike_of_prefix : (n : ℕ) (given : List Numbered) (g f : Numbered) → AllPairs (λ a b. a.at < b.at) given
     → IsUnlike (take n given) g f → IsUnlike given g f
-unlike_of_head n given g f rise unlike =
-    let (i, below, here) = of_head n given f unlike.first.listed in
-    let (k, under, there) = of_head n given g unlike.listed in
+unlike_of_prefix n given g f rise unlike =
+    let (i, below, here) = of_prefix n given f unlike.first.listed in
+    let (k, under, there) = of_prefix n given g unlike.listed in
     record {
       first =
           record {
@@ -53,7 +53,7 @@ unlike_of_head n given g f rise unlike =
             least = λ x listed same.
                 let (j, at) = to_given given x listed in
                 elim (cases_lt j n) [
-                  | inl inside ↦ unlike.first.least x (in_head n given j x at inside) same
+                  | inl inside ↦ unlike.first.least x (in_prefix n given j x at inside) same
                   | inr behind ↦ inl (rises given i j f x rise here at (omega (arith, below, behind)))
                 ];
           };
@@ -62,10 +62,10 @@ unlike_of_head n given g f rise unlike =
       differ = unlike.differ;
     }
 
--- what is unlike in all, in the head, is unlike there
-unlike_in_head : (n : ℕ) (given : List Numbered) (g f : Numbered) (j : ℕ) → AllPairs (λ a b. a.at < b.at) given
+-- what is unlike among all, and one of the first n, is unlike among these
+unlike_in_prefix : (n : ℕ) (given : List Numbered) (g f : Numbered) (j : ℕ) → AllPairs (λ a b. a.at < b.at) given
     → IsAt given j g → j < n → IsUnlike given g f → IsUnlike (take n given) g f
-unlike_in_head n given g f j rise at inside unlike =
+unlike_in_prefix n given g f j rise at inside unlike =
     let (i, here) = to_given given f unlike.first.listed in
     let early = upto f g (unlike.first.least g unlike.listed unlike.same) in
     let below : i < n = elim (cases_lt i n) [
@@ -75,28 +75,28 @@ unlike_in_head n given g f j rise at inside unlike =
     record {
       first =
           record {
-            listed = in_head n given i f here below;
+            listed = in_prefix n given i f here below;
             least = λ x listed same.
-                let (k, under, there) = of_head n given x listed in
+                let (k, under, there) = of_prefix n given x listed in
                 unlike.first.least x (of_given given k x there) same;
           };
-      listed = in_head n given j g at inside;
+      listed = in_prefix n given j g at inside;
       same = unlike.same;
       differ = unlike.differ;
     }
 
-pub found_in_head : (n : ℕ) (given : List Numbered) (p : Place) → AllPairs (λ a b. a.at < b.at) given
+pub found_in_prefix : (n : ℕ) (given : List Numbered) (p : Place) → AllPairs (λ a b. a.at < b.at) given
     → IsLeast (IsUnlikeAt Later (take n given)) p → IsLeast (IsUnlikeAt Later given) p
-found_in_head n given p rise found =
+found_in_prefix n given p rise found =
     let (g, f, unlike, is) = found.here in
-    let (i, below, here) = of_head n given g unlike.listed in
+    let (i, below, here) = of_prefix n given g unlike.listed in
     record {
-      here = (g, f, unlike_of_head n given g f rise unlike, is);
+      here = (g, f, unlike_of_prefix n given g f rise unlike, is);
       least = λ at other point (h, e, differs, same).
           let (j, there) = to_given given h differs.listed in
           elim (cases_lt j n) [
             | inl inside ↦
-                let here = unlike_in_head n given h e j rise there inside differs in
+                let here = unlike_in_prefix n given h e j rise there inside differs in
                 found.least at other point (h, e, here, same)
             | inr behind ↦
                 let before = rises given i j g h rise here there (omega (arith, below, behind)) in
