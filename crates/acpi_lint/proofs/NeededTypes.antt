@@ -1,8 +1,8 @@
 -- Rules that are kept by a MADT without an entry of some types.
-use Rattle.std.proofs.Common.{◌≡◌, ◌∙◌, ℕ, ◌+◌, ◌<◌, ◌≤◌, List, [], ◌∷◌, length, get_or, set, replicate, Bool, true, false, true≢false, Option, Some, None, arith, refl, sym, subst, inl, inr}
-use Rattle.std.specs.Prelude.{◌↔◌, ◌⊎◌, IsSome, MatchOption, Contains, ◌==◌, ◌&&◌, ◌||◌, ◌^◌, nat_le, option_map, slice_index, if◌then◌else◌}
+use Rattle.std.proofs.Common.{◌≡◌, ◌∙◌, ℕ, ◌<◌, List, [], ◌∷◌, length, get_or, set, replicate, Bool, true, false, true≢false, Option, Some, None, arith, refl, sym, subst, inl, inr}
+use Rattle.std.specs.Prelude.{◌↔◌, ◌⊎◌, IsSome, Contains, ◌==◌, ◌&&◌, ◌^◌, nat_le, option_map, slice_index, if◌then◌else◌}
 use Rattle.std.specs.Option.{option_or}
-use Rattle.std.proofs.lemmas.Bool.{and_parts, cases_Bool, cases_eq, cases_lt, ne_eqb}
+use Rattle.std.proofs.lemmas.Bool.{and_parts, cases_eq, cases_lt, ne_eqb}
 use Rattle.std.proofs.lemmas.Bool.Decides.{nat_tests}
 use Rattle.std.proofs.lemmas.List.{get_or-replicate, get_or_past, get_or-set_same, get_or-set_other}
 use Rattle.std.proofs.lemmas.Option.{option_and_then_some}
@@ -289,9 +289,9 @@ has_typed : (madt : MadtContents) (types : List ℕ) (type : ℕ) → Contains t
     → HasType madt type → HasAnyType madt types
 has_typed madt types type listed read (o, (e, stands, is)) = (o, (e, stands, of_type types e type listed read is))
 
-pub source_named : (madt : MadtContents) (at other point : ℕ) → IsNoIoApic madt at other point
+pub source_typed : (madt : MadtContents) (at other point : ℕ) → IsNoIoApic madt at other point
     → HasAnyType madt (2 ∷ 3 ∷ [])
-source_named madt at other point (lacks, place, unused) =
+source_typed madt at other point (lacks, place, unused) =
     elim lacks.named [
       | inl override ↦ has_typed madt (2 ∷ 3 ∷ []) 2 (first_element 2 (3 ∷ [])) refl override
       | inr source ↦
@@ -301,33 +301,33 @@ source_named madt at other point (lacks, place, unused) =
 gicc_there : (madt : MadtContents) → HasType madt 11 → HasAnyType madt (11 ∷ 24 ∷ [])
 gicc_there madt has = has_typed madt (11 ∷ 24 ∷ []) 11 (first_element 11 (24 ∷ [])) refl has
 
-pub arch_named : (q : PolicyValue) (fadt : List ℕ) (madt : MadtContents) (at other point : ℕ)
+pub arch_typed : (q : PolicyValue) (fadt : List ℕ) (madt : MadtContents) (at other point : ℕ)
     → IsFadtForArch fadt madt at other point → HasAnyType madt (11 ∷ 24 ∷ [])
-arch_named q fadt madt at other point (inl (place, unused, reduced, inl gicc)) = gicc_there madt gicc
-arch_named q fadt madt at other point (inl (place, unused, reduced, inr hart)) =
+arch_typed q fadt madt at other point (inl (place, unused, reduced, inl gicc)) = gicc_there madt gicc
+arch_typed q fadt madt at other point (inl (place, unused, reduced, inr hart)) =
     has_typed madt (11 ∷ 24 ∷ []) 24 (later_element 11 24 (24 ∷ []) (first_element 24 [])) refl hart
-arch_named q fadt madt at other point (inr (place, version, gicc, older)) = gicc_there madt gicc
+arch_typed q fadt madt at other point (inr (place, version, gicc, older)) = gicc_there madt gicc
 
-pub interface_named : (madt : MadtContents) (at other point : ℕ) → IsNoDistributor madt at other point
+pub interface_typed : (madt : MadtContents) (at other point : ℕ) → IsNoDistributor madt at other point
     → HasAnyType madt (11 ∷ [])
-interface_named madt at other point (lacks, place, unused) =
+interface_typed madt at other point (lacks, place, unused) =
     has_typed madt (11 ∷ []) 11 (first_element 11 []) refl lacks.has_interface
 
 of_gicd : (type n : ℕ) → (if type == 12 then Some 0 else None) ≡ Some n → type ≡ 12
 of_gicd type n some =
     elim (cases_eq type 12) [ inl is ↦ is | inr other ↦ absurd (let none = rw (ne_eqb type 12 other) at some in cc) ]
 
-pub gicd_named : IsNumberOf (12 ∷ []) gicd
-gicd_named (Opaque e) n some =
+pub gicd_typed : IsNumberOf (12 ∷ []) gicd
+gicd_typed (Opaque e) n some =
     of_type (12 ∷ []) (Opaque e) 12 (first_element 12 []) refl (of_gicd (slice_index e 0) n some)
-gicd_named (LocalApic v) n some = cc
-gicd_named (IoApic v) n some = cc
-gicd_named (Override v) n some = cc
-gicd_named (NmiSource v) n some = cc
-gicd_named (LocalNmi v) n some = cc
-gicd_named (AddressOverride v) n some = cc
-gicd_named (X2apic v) n some = cc
-gicd_named (X2apicNmi v) n some = cc
+gicd_typed (LocalApic v) n some = cc
+gicd_typed (IoApic v) n some = cc
+gicd_typed (Override v) n some = cc
+gicd_typed (NmiSource v) n some = cc
+gicd_typed (LocalNmi v) n some = cc
+gicd_typed (AddressOverride v) n some = cc
+gicd_typed (X2apic v) n some = cc
+gicd_typed (X2apicNmi v) n some = cc
 
 -- the types of entries that the stages do not read
 abbrev unread_types : List ℕ
@@ -370,8 +370,8 @@ unread_type type size unread true is =
         let ten : ¬ (type ≡ 10) = λ same. unread (inr (inr (inl same))) in
         grind (arith, nat_tests, is, low, nine, ten, a, b, c, d, e, f, g)
 
-pub unread_named : (e : MadtEntry) (other point : ℕ) → IsMadtUnread e other point → IsOf unread_types e
-unread_named e other point ((bytes, is, unread, type), zero) =
+pub unread_typed : (e : MadtEntry) (other point : ℕ) → IsMadtUnread e other point → IsOf unread_types e
+unread_typed e other point ((bytes, is, unread, type), zero) =
     rw is (unread_type (slice_index bytes 0) (length bytes) unread (is_read_type (slice_index bytes 0)) refl)
 
 -- ---- entries of a type and length

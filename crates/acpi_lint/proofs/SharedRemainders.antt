@@ -1,5 +1,5 @@
 -- Remainders of numbers, and those that several numbers have: a number that occurs twice has such a one.
-use Rattle.std.proofs.Common.{◌≡◌, ◌≢◌, ℕ, ◌%◌, ◌+◌, ◌<◌, ◌≤◌, List, [], ◌∷◌, length, get_or, filter, Option, Bool, true, false, cond, refl, sym, ◌∙◌, ap, subst, inl, inr, ◌⊎◌, arith}
+use Rattle.std.proofs.Common.{◌≡◌, ◌≢◌, ℕ, ◌%◌, ◌+◌, ◌<◌, List, [], ◌∷◌, length, get_or, filter, Option, Bool, true, false, cond, sym, ◌∙◌, ap, subst, inl, inr, ◌⊎◌, arith}
 use Rattle.std.specs.Prelude.{◌↔◌, Contains}
 use Rattle.std.proofs.lemmas.Bool.{cases_eq, cases_lt}
 use Rattle.std.proofs.lemmas.List.{get_or_default}
@@ -13,32 +13,32 @@ use Rattle.acpi_lint.specs.declared.numbered.Numbered.{Numbered}
 use Rattle.acpi_lint.specs.declared.numbered.Order.{Order}
 use Rattle.acpi_lint.specs.declared.place.Place.{Place}
 use Rattle.acpi_lint.proofs.LeastPlaces.{least_as}
-use Rattle.acpi_lint.proofs.UnlikeNumbers.{same_numbered}
 
 -- ---- a pass over numbers: the remainders that were seen, and those that were seen again
 
 -- one of the first n has this remainder
 abbrev pub HasRemainder : List Numbered → ℕ → ℕ → ℕ → Type 0
-HasRemainder given modulus n remainder = (k : ℕ) × (k < n) × (remainder_at given modulus k ≡ remainder)
+HasRemainder given modulus n r = (k : ℕ) × (k < n) × (remainder_at given modulus k ≡ r)
 
 pub record AreNoted (given : List Numbered) (modulus n : ℕ) (seen shared : BitSet) : Type 0 where
-  pub seen_remainders : (remainder : ℕ) → IsIn seen remainder ↔ HasRemainder given modulus n remainder
-  pub shared_remainders : (remainder : ℕ) → IsIn shared remainder ↔ ShareRemainder given modulus n remainder
+  pub seen_remainders : (r : ℕ) → IsIn seen r ↔ HasRemainder given modulus n r
+  pub shared_remainders : (r : ℕ) → IsIn shared r ↔ ShareRemainder given modulus n r
 
 pub none_noted : (given : List Numbered) (modulus : ℕ) (seen shared : BitSet) → ((o : ℕ) → ¬ IsIn seen o)
     → ((o : ℕ) → ¬ IsIn shared o) → AreNoted given modulus 0 seen shared
 none_noted given modulus seen shared none also =
     record {
-      seen_remainders = λ remainder. (λ is. absurd (none remainder is), λ (k, below, is). absurd (omega arith));
-      shared_remainders = λ remainder. (λ is. absurd (also remainder is), λ two. absurd (omega (arith, two.before, two.within)));
+      seen_remainders = λ r. (λ is. absurd (none r is), λ (k, below, is). absurd (omega arith));
+      shared_remainders = λ r. (λ is. absurd (also r is), λ two. absurd (omega (arith, two.before, two.within)));
     }
 
-more_seen : (given : List Numbered) (modulus n remainder : ℕ) → HasRemainder given modulus n remainder → HasRemainder given modulus (n + 1) remainder
-more_seen given modulus n remainder (k, below, is) = (k, omega arith, is)
+more_seen : (given : List Numbered) (modulus n r : ℕ) → HasRemainder given modulus n r
+    → HasRemainder given modulus (n + 1) r
+more_seen given modulus n r (k, below, is) = (k, omega arith, is)
 
-more_shared : (given : List Numbered) (modulus n remainder : ℕ) → ShareRemainder given modulus n remainder
-    → ShareRemainder given modulus (n + 1) remainder
-more_shared given modulus n remainder two =
+more_shared : (given : List Numbered) (modulus n r : ℕ) → ShareRemainder given modulus n r
+    → ShareRemainder given modulus (n + 1) r
+more_shared given modulus n r two =
     record {
       i = two.i;
       j = two.j;
@@ -49,9 +49,9 @@ more_shared given modulus n remainder two =
     }
 
 -- a remainder of the first n + 1 is that of the last of these, or one of the others has it
-last_or_seen : (given : List Numbered) (modulus n remainder : ℕ) → HasRemainder given modulus (n + 1) remainder
-    → (remainder ≡ remainder_at given modulus n) ⊎ HasRemainder given modulus n remainder
-last_or_seen given modulus n remainder (k, below, is) =
+last_or_seen : (given : List Numbered) (modulus n r : ℕ) → HasRemainder given modulus (n + 1) r
+    → (r ≡ remainder_at given modulus n) ⊎ HasRemainder given modulus n r
+last_or_seen given modulus n r (k, below, is) =
     elim (cases_lt k n) [
       | inl before ↦ inr (k, before, is)
       | inr upto ↦
@@ -59,9 +59,9 @@ last_or_seen given modulus n remainder (k, below, is) =
           inl (sym is ∙ ap (remainder_at given modulus) same)
     ]
 
-last_or_shared : (given : List Numbered) (modulus n remainder : ℕ) → ShareRemainder given modulus (n + 1) remainder
-    → ((remainder ≡ remainder_at given modulus n) × HasRemainder given modulus n remainder) ⊎ ShareRemainder given modulus n remainder
-last_or_shared given modulus n remainder two =
+last_or_shared : (given : List Numbered) (modulus n r : ℕ) → ShareRemainder given modulus (n + 1) r
+    → ((r ≡ remainder_at given modulus n) × HasRemainder given modulus n r) ⊎ ShareRemainder given modulus n r
+last_or_shared given modulus n r two =
     elim (cases_lt two.j n) [
       | inl before ↦ inr (record {
         i = two.i;
@@ -76,76 +76,79 @@ last_or_shared given modulus n remainder two =
           inl (sym two.other ∙ ap (remainder_at given modulus) same, (two.i, omega (arith, two.before), two.one))
     ]
 
-seen_there : (given : List Numbered) (modulus n remainder : ℕ) → (remainder ≡ remainder_at given modulus n) ⊎ HasRemainder given modulus n remainder
-    → HasRemainder given modulus (n + 1) remainder
-seen_there given modulus n remainder (inl is) = (n, omega arith, sym is)
-seen_there given modulus n remainder (inr before) = more_seen given modulus n remainder before
+seen_there : (given : List Numbered) (modulus n r : ℕ)
+    → (r ≡ remainder_at given modulus n) ⊎ HasRemainder given modulus n r
+    → HasRemainder given modulus (n + 1) r
+seen_there given modulus n r (inl is) = (n, omega arith, sym is)
+seen_there given modulus n r (inr before) = more_seen given modulus n r before
 
 -- the next remainder was seen before
-pub seen_again : (given : List Numbered) (modulus n : ℕ) (seen shared new : BitSet) → IsIn seen (remainder_at given modulus n)
+pub seen_again : (given : List Numbered) (modulus n : ℕ) (seen shared new : BitSet)
+    → IsIn seen (remainder_at given modulus n)
     → Adds true (remainder_at given modulus n) shared new → AreNoted given modulus n seen shared
     → AreNoted given modulus (n + 1) seen new
 seen_again given modulus n seen shared new again adds before =
-    record { seen_remainders = λ remainder. (seen_to remainder, seen_from remainder); shared_remainders = λ remainder. (to remainder, from remainder) }
+    record { seen_remainders = λ r. (seen_to r, seen_from r); shared_remainders = λ r. (to r, from r) }
   where
-    seen_to : (remainder : ℕ) → IsIn seen remainder → HasRemainder given modulus (n + 1) remainder
-    seen_to remainder is = more_seen given modulus n remainder ((before.seen_remainders remainder).0 is)
+    seen_to : (r : ℕ) → IsIn seen r → HasRemainder given modulus (n + 1) r
+    seen_to r is = more_seen given modulus n r ((before.seen_remainders r).0 is)
 
-    seen_from : (remainder : ℕ) → HasRemainder given modulus (n + 1) remainder → IsIn seen remainder
-    seen_from remainder has =
-        elim (last_or_seen given modulus n remainder has) [
+    seen_from : (r : ℕ) → HasRemainder given modulus (n + 1) r → IsIn seen r
+    seen_from r has =
+        elim (last_or_seen given modulus n r has) [
           | inl is ↦ subst (IsIn seen) (sym is) again
-          | inr earlier ↦ (before.seen_remainders remainder).1 earlier
+          | inr earlier ↦ (before.seen_remainders r).1 earlier
         ]
 
-    to : (remainder : ℕ) → IsIn new remainder → ShareRemainder given modulus (n + 1) remainder
-    to remainder is =
-        elim ((adds remainder).0 is) [
+    to : (r : ℕ) → IsIn new r → ShareRemainder given modulus (n + 1) r
+    to r is =
+        elim ((adds r).0 is) [
           | inl same ↦
-              let (k, below, first) = (before.seen_remainders remainder).0 (subst (IsIn seen) (sym same) again) in
+              let (k, below, first) = (before.seen_remainders r).0 (subst (IsIn seen) (sym same) again) in
               record { i = k; j = n; before = below; within = omega arith; one = first; other = sym same }
-          | inr old ↦ more_shared given modulus n remainder ((before.shared_remainders remainder).0 old)
+          | inr old ↦ more_shared given modulus n r ((before.shared_remainders r).0 old)
         ]
 
-    from : (remainder : ℕ) → ShareRemainder given modulus (n + 1) remainder → IsIn new remainder
-    from remainder two =
-        elim (last_or_shared given modulus n remainder two) [
-          | inl last ↦ (adds remainder).1 (inl last.0)
-          | inr earlier ↦ (adds remainder).1 (inr ((before.shared_remainders remainder).1 earlier))
+    from : (r : ℕ) → ShareRemainder given modulus (n + 1) r → IsIn new r
+    from r two =
+        elim (last_or_shared given modulus n r two) [
+          | inl last ↦ (adds r).1 (inl last.0)
+          | inr earlier ↦ (adds r).1 (inr ((before.shared_remainders r).1 earlier))
         ]
 
 -- the next remainder was not seen before
-pub seen_first : (given : List Numbered) (modulus n : ℕ) (seen shared new : BitSet) → ¬ IsIn seen (remainder_at given modulus n)
+pub seen_first : (given : List Numbered) (modulus n : ℕ) (seen shared new : BitSet)
+    → ¬ IsIn seen (remainder_at given modulus n)
     → Adds true (remainder_at given modulus n) seen new → AreNoted given modulus n seen shared
     → AreNoted given modulus (n + 1) new shared
 seen_first given modulus n seen shared new first adds before =
-    record { seen_remainders = λ remainder. (seen_to remainder, seen_from remainder); shared_remainders = λ remainder. (to remainder, from remainder) }
+    record { seen_remainders = λ r. (seen_to r, seen_from r); shared_remainders = λ r. (to r, from r) }
   where
-    seen_to : (remainder : ℕ) → IsIn new remainder → HasRemainder given modulus (n + 1) remainder
-    seen_to remainder is =
-        seen_there given modulus n remainder
-        (elim ((adds remainder).0 is) [ inl same ↦ inl same | inr old ↦ inr ((before.seen_remainders remainder).0 old) ])
+    seen_to : (r : ℕ) → IsIn new r → HasRemainder given modulus (n + 1) r
+    seen_to r is =
+        seen_there given modulus n r
+        (elim ((adds r).0 is) [ inl same ↦ inl same | inr old ↦ inr ((before.seen_remainders r).0 old) ])
 
-    seen_from : (remainder : ℕ) → HasRemainder given modulus (n + 1) remainder → IsIn new remainder
-    seen_from remainder has =
-        elim (last_or_seen given modulus n remainder has) [
-          | inl is ↦ (adds remainder).1 (inl is)
-          | inr earlier ↦ (adds remainder).1 (inr ((before.seen_remainders remainder).1 earlier))
+    seen_from : (r : ℕ) → HasRemainder given modulus (n + 1) r → IsIn new r
+    seen_from r has =
+        elim (last_or_seen given modulus n r has) [
+          | inl is ↦ (adds r).1 (inl is)
+          | inr earlier ↦ (adds r).1 (inr ((before.seen_remainders r).1 earlier))
         ]
 
-    to : (remainder : ℕ) → IsIn shared remainder → ShareRemainder given modulus (n + 1) remainder
-    to remainder is = more_shared given modulus n remainder ((before.shared_remainders remainder).0 is)
+    to : (r : ℕ) → IsIn shared r → ShareRemainder given modulus (n + 1) r
+    to r is = more_shared given modulus n r ((before.shared_remainders r).0 is)
 
-    from : (remainder : ℕ) → ShareRemainder given modulus (n + 1) remainder → IsIn shared remainder
-    from remainder two =
-        elim (last_or_shared given modulus n remainder two) [
-          | inl (is, earlier) ↦ absurd (first (subst (IsIn seen) is ((before.seen_remainders remainder).1 earlier)))
-          | inr earlier ↦ (before.shared_remainders remainder).1 earlier
+    from : (r : ℕ) → ShareRemainder given modulus (n + 1) r → IsIn shared r
+    from r two =
+        elim (last_or_shared given modulus n r two) [
+          | inl (is, earlier) ↦ absurd (first (subst (IsIn seen) is ((before.seen_remainders r).1 earlier)))
+          | inr earlier ↦ (before.shared_remainders r).1 earlier
         ]
 
 pub all_noted : (given : List Numbered) (modulus n : ℕ) (seen shared : BitSet) → n ≡ length given
     → AreNoted given modulus n seen shared → AreSharedRemainders given modulus shared
-all_noted given modulus n seen shared end marked = λ remainder. rw end at (marked.shared_remainders remainder)
+all_noted given modulus n seen shared end marked = λ r. rw end at (marked.shared_remainders r)
 
 -- ---- those that are kept
 
@@ -208,7 +211,8 @@ two_share given modulus g h (i, inside, is) (j, within, at) same differ =
     alike here =
         sym is ∙ get_or_default given i g h inside ∙ ap (λ (k : ℕ). get_or given k h) here ∙ at
 
-pub are_sharing : (given kept : List Numbered) (modulus : ℕ) (shared : BitSet) → AreSharedRemainders given modulus shared
+pub are_sharing : (given kept : List Numbered) (modulus : ℕ) (shared : BitSet)
+    → AreSharedRemainders given modulus shared
     → kept ≡ filter (has_shared shared modulus) given → AreSharing given kept
 are_sharing given kept modulus shared are is =
     record {

@@ -8,24 +8,24 @@ use Rattle.acpi_lint.specs.Rules.GicRanges.{IsGicOverlap}
 use Rattle.acpi_lint.specs.Rules.MadtAdvice.{io_apic_id, nonzero_io_apic_address, IsIoApicAtZero, IsNmiNowhere, gicd, IsMadtUnread}
 use Rattle.acpi_lint.specs.Rules.Numbered.{HasNumber}
 use Rattle.acpi_lint.specs.Rules.PpttAdvice.{IsLeafNowhere}
-use Rattle.acpi_lint.proofs.NeededTypes.{sci_io_apic, zero_of_io_apic, id_of_io_apic, nonzero_of_io_apic, past_override, timer_of_override, two_overrides, nmi_somewhere, lint_of_nmi, low_x2apic, source_named, madt_needs, entries_need, number_needs, fadt_madt_needs, madt_pptt_needs, field_typed, is_empty_gicr, empty_type, mpidr_type, its_type, msi_frame_type, gicd_named, hart_typed, reserved_typed, unread_named, overlap_typed, interface_named, no_redistributor_typed, too_small_typed, base_typed, twice_typed, leaf_typed, arch_named, giccs_typed}
+use Rattle.acpi_lint.proofs.NeededTypes.{sci_io_apic, zero_of_io_apic, id_of_io_apic, nonzero_of_io_apic, past_override, timer_of_override, two_overrides, nmi_somewhere, lint_of_nmi, low_x2apic, source_typed, madt_needs, entries_need, number_needs, fadt_madt_needs, madt_pptt_needs, field_typed, is_empty_gicr, empty_type, mpidr_type, its_type, msi_frame_type, gicd_typed, hart_typed, reserved_typed, unread_typed, overlap_typed, interface_typed, no_redistributor_typed, too_small_typed, base_typed, twice_typed, leaf_typed, arch_typed, giccs_typed}
 use Rattle.acpi_lint.proofs.advice.needed_types.Goals as goal
 
 pub returns-in-SecondGicd : goal.returns-in-SecondGicd
 returns-in-SecondGicd c = rw c.in-SecondGicd.is
-    (number_needs (12 ∷ []) gicd gicd_named)
+    (number_needs (12 ∷ []) gicd gicd_typed)
 
 pub returns-in-MadtUnread : goal.returns-in-MadtUnread
 returns-in-MadtUnread c = rw c.in-MadtUnread.is
-    (entries_need (11 ∷ 12 ∷ 13 ∷ 14 ∷ 15 ∷ 17 ∷ 24 ∷ 31 ∷ []) IsMadtUnread unread_named)
+    (entries_need (11 ∷ 12 ∷ 13 ∷ 14 ∷ 15 ∷ 17 ∷ 24 ∷ 31 ∷ []) IsMadtUnread unread_typed)
 
 pub returns-in-FadtForArch : goal.returns-in-FadtForArch
 returns-in-FadtForArch c = rw c.in-FadtForArch.is
-    (fadt_madt_needs (11 ∷ 24 ∷ []) (λ q. IsFadtForArch) arch_named)
+    (fadt_madt_needs (11 ∷ 24 ∷ []) (λ q. IsFadtForArch) arch_typed)
 
 pub returns-in-NoDistributor : goal.returns-in-NoDistributor
 returns-in-NoDistributor c = rw c.in-NoDistributor.is
-    (madt_needs (11 ∷ []) IsNoDistributor interface_named)
+    (madt_needs (11 ∷ []) IsNoDistributor interface_typed)
 
 pub returns-in-LeafNowhere : goal.returns-in-LeafNowhere
 returns-in-LeafNowhere c = rw c.in-LeafNowhere.is
@@ -125,4 +125,4 @@ returns-in-X2ApicBelow255 c = rw c.in-X2ApicBelow255.is
 
 pub returns-in-NoIoApic : goal.returns-in-NoIoApic
 returns-in-NoIoApic c = rw c.in-NoIoApic.is
-    (madt_needs (2 ∷ 3 ∷ []) IsNoIoApic source_named)
+    (madt_needs (2 ∷ 3 ∷ []) IsNoIoApic source_typed)
