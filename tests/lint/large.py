@@ -1,7 +1,6 @@
 """`check` and `lint` on tables of up to a million entries, clean or all at fault, of each of which they gather a number, and on a set of
 many slots, unsorted, that list tables each in its own segment of the image. A rule that gave up on this many would be out of memory by
-its contract, and one that looked through all of them for each one would not end, so only these sets show it. `lint` may take so many
-times as long as `check` of the first set of its kind."""
+its contract, and one that looked through all of them for each one would not end, so only these sets show it."""
 
 import random
 import struct
@@ -50,7 +49,7 @@ def processors():
 
 
 def io_apics():
-    """A processor, and I/O APICs whose addresses rise or are in no order, with IDs from 0 to 255 again and again."""
+    """A processor, and I/O APICs whose addresses rise or are in no order, with IDs that count from 0 to 255 and begin again."""
     entry = struct.Struct("<BBBBII")
     apics = lambda address: b"".join(entry.pack(1, 12, place % 256, 0, address(place), 24 * place) for place in range(COUNT))
     repeated = advised(f"SameIoApicId {52 + 12 * 256:#x} 0x34")
@@ -211,14 +210,14 @@ OF_ENTRIES = (
 
 
 def large_sets():
-    """The name of each set, the tables beside its FADT, and its lines. `check` is run on the first of each kind."""
+    """The name of each set, the tables beside its FADT, its lines, and whether it is the first of its kind, on which `check` is run too."""
     for made in OF_ENTRIES:
         for place, (name, tables, lines) in enumerate(made()):
             tables = tables if isinstance(tables, tuple) else (tables,)
             yield f"{made.__name__}, {name}", tables, lines, place == 0
 
 
-# `lint` of many entries may take this many times the processor time of `check` of the first set of their kind, and this many seconds more.
+# `lint` of many entries may take this many times the processor time of `check` of the first set of its kind, and this many seconds more.
 TIMES_OF_ENTRIES, MORE_OF_ENTRIES = 4, 0.3
 
 
