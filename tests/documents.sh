@@ -94,7 +94,7 @@ functions() {
     part == "body" {
       lines++
       if (lines == 1) is_built = $0 ~ /^ *[A-Z][A-Za-z]* [{]( [a-z_, ]* [}])?$/
-      else if (!/^ *([a-z_]+(: (None|Some\([a-z_]+\)|self\.[a-z_]+|Vec::new\(alloc\)))?,|[}])$/) is_built = 0
+      else if (!/^ *([a-z_]+(: (None|Some\([a-z_]+\)|self\.[a-z_]+))?,|[}])$/) is_built = 0
       is_plain = /^ *self\.[a-z_]+( = [a-z_]+;)?$/ || $0 ~ "^ *self\\.[a-z_]+\\." method "\\(\\)$"
     }
   ' $(find "crates/$1/src" -name '*.rt' ! -name laws.rt ! -path '*/tests*')

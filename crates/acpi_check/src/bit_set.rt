@@ -31,8 +31,8 @@ fn make_room(words: &mut Vec<u64>, place: usize) -> Result<(), AllocError>
 
 impl BitSet {
     /// The empty set. Allocates nothing.
-    pub fn new(alloc: Global) -> BitSet
-        ensures { (o : ℕ) → ¬ IsIn result o }
+    pub(crate) fn new(alloc: Global) -> BitSet
+        ensures { (n : ℕ) → ¬ IsIn result n }
     {
         BitSet {
             words: Vec::new(alloc),
@@ -40,32 +40,31 @@ impl BitSet {
     }
 
     /// The set of these numbers. Allocates for the bits up to the largest of them.
-    pub fn of(alloc: Global, offsets: &[u64]) -> Result<BitSet, AllocError>
-        ensures { IfOk result (λ set. (o : ℕ) → IsIn set o ↔ Contains offsets.now o) }
+    pub fn of(alloc: Global, numbers: &[u64]) -> Result<BitSet, AllocError>
+        ensures { IfOk result (λ set. (n : ℕ) → IsIn set n ↔ Contains numbers.now n) }
     {
         let mut set = BitSet::new(alloc);
-        for offset in offsets {
-            set.add(*offset)?;
+        for number in numbers {
+            set.add(*number)?;
         }
         Ok(set)
     }
 
     /// Adds a number. Allocates for the bits up to it, if none above it was added before.
-    pub fn add(&mut self, offset: u64) -> Result<(), AllocError>
-        ensures { OnOk result (Adds true offset self.old self.new) }
+    pub fn add(&mut self, number: u64) -> Result<(), AllocError>
+        ensures { OnOk result (Adds true number self.old self.new) }
     {
-        let place = (offset / WORD) as usize;
+        let place = (number / WORD) as usize;
         make_room(&mut self.words, place)?;
-        self.words[place] |= 1 << (offset % WORD);
+        self.words[place] |= 1 << (number % WORD);
         Ok(())
     }
 
-    /// Whether a number of 32 bits, the size of references in a PPTT (ACPI 6.5, 5.2.30), is in the set.
-    pub fn has(&self, offset: u32) -> bool
-        ensures { MatchBool result (IsIn self.now offset) (¬ IsIn self.now offset) }
+    /// Whether a number is in the set.
+    pub fn has(&self, number: u64) -> bool
+        ensures { MatchBool result (IsIn self.now number) (¬ IsIn self.now number) }
     {
-        let offset = u64::from(offset);
-        let place = (offset / WORD) as usize;
-        place < self.words.len() && self.words[place] >> (offset % WORD) & 1 == 1
+        let place = (number / WORD) as usize;
+        place < self.words.len() && self.words[place] >> (number % WORD) & 1 == 1
     }
 }

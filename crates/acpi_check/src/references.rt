@@ -75,7 +75,7 @@ pub fn first_dangling(offsets: &BitSet, count: u32, references: &[u8]) -> Option
 {
     for j in 0..count {
         let offset = u32_at(references, 4 * j as usize);
-        if !offsets.has(offset) {
+        if !offsets.has(u64::from(offset)) {
             return Some((j, offset));
         }
     }
@@ -88,7 +88,7 @@ fn link_fault(code: Code, at: u64, offsets: &BitSet, offset: u32) -> Option<Witn
         (λ w. (w ≡ record { code = code; at = at; other = offset; point = 0 }) × (offset ≢ 0)
         × ¬ IsIn offsets.now offset) }
 {
-    if offset == 0 || offsets.has(offset) {
+    if offset == 0 || offsets.has(u64::from(offset)) {
         return None;
     }
     Some(Witness {

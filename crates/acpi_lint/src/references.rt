@@ -43,7 +43,7 @@ fn unlinked_place(chain: Chain, offsets: &BitSet, at: &EntryAt<PpttEntry<'_>>) -
     ensures { FindsOwn (NamesNoLink chain offsets.now) (entry_at_value pptt_value at.now) result }
 {
     let offset = named_offset(chain, &at.entry)?;
-    if offset == 0 || offsets.has(offset) {
+    if offset == 0 || offsets.has(u64::from(offset)) {
         return None;
     }
     Some(Place {

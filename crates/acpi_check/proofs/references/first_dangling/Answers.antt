@@ -3,4 +3,5 @@ use Rattle.acpi_check.proofs.references.first_dangling.Goals as goal
 
 pub loop-j-preserved : goal.loop-j-preserved
 loop-j-preserved c =
-    below_more _ _ c.loop-j.invariant (rw c.u32_at-offset.ensures at (rw c.if-not-has.false at c.has.ensures))
+    below_more _ _ c.loop-j.invariant
+    (rw (c.from.ensures, c.u32_at-offset.ensures) at (rw c.if-not-has.false at c.has.ensures))

@@ -9,14 +9,14 @@ pub returns : goal.returns
 unfolding IsIn
 returns c =
     let words = c.make_room.new.words in
-    let place = c.args.offset / 64 in
+    let place = c.args.number / 64 in
     let room : place < length words.items = omega (arith, c.in_ok-make_room.ensures.room, words.ok.0) in
     let word = c.index_mut.result.now in
     λ o.
-    let added = bit_added words.items c.args.offset word room
+    let added = bit_added words.items c.args.number word room
     (c.index_mut.ensures.value ∙ get_or_default words.items place word 0 room) o in
     let was = same_bits _ words.items c.in_ok-make_room.ensures.same o in
-    rw (one_shl (c.args.offset % 64) 64 (omega arith)) (
+    rw (one_shl (c.args.number % 64) 64 (omega arith)) (
       λ is. elim (added.0 is) [ inl same ↦ inl same | inr old ↦ inr (was.0 old) ],
       λ either. added.1 (elim either [ inl same ↦ inl same | inr old ↦ inr (was.1 old) ]),
     )
