@@ -64,8 +64,10 @@ def x2apics():
     ids, uids = (random.Random(seed).sample(range(2**32 - 1), COUNT) for seed in (3, 4))
     alike = [entry.pack(9, 16, 0, apic_id, 1, uid) for apic_id, uid in zip(ids, uids)]
     yield "clean", madt(*alike), advised()
-    repeated = f"SameUid {44 + 16 * LAST:#x} 0x2c {uids[0]:#x}", f"SameApicId {44 + 16 * LAST:#x} 0x2c {ids[0]:#x}"
-    yield "the last", madt(*alike[:-1], alike[0]), advised(*repeated)
+    repeated = lambda at: (f"SameUid {at:#x} 0x2c {uids[0]:#x}", f"SameApicId {at:#x} 0x2c {ids[0]:#x}")
+    yield "the last", madt(*alike[:-1], alike[0]), advised(*repeated(44 + 16 * LAST))
+    half = COUNT // 2
+    yield "each twice", madt(*alike[:half], *alike[:half]), advised(*repeated(44 + 16 * half))
 
 
 def unread_entries():
@@ -101,12 +103,17 @@ def harts():
 
 
 def overrides():
-    """A processor, an I/O APIC and overrides of 16 sources, each to a number of its own, or all to one."""
+    """A processor, an I/O APIC and overrides of 16 sources, each to a number of its own, with one of another source behind them; all to one
+    number; and of 256 sources."""
     before = lapic(0, 0) + io_apic(0xFEC00000, 0)
     alike = b"".join(override(source, source) for source in range(16)) * (COUNT // 16)
     yield "clean", madt(before, alike), advised()
+    last = 64 + 10 * COUNT
+    yield "the last", madt(before, alike, override(19, 3)), advised(f"OverridePastIsa {last:#x} 0x13 0x3", f"TwoSourcesOneGsi {last:#x} 0x5e 0x3")
     one = b"".join(override(source, 2) for source in range(16)) * (COUNT // 16)
     yield "all", madt(before, one), advised("TwoSourcesOneGsi 0x4a 0x40 0x2")
+    many = b"".join(override(source, source % 24) for source in range(256)) * (COUNT // 256)
+    yield "256 sources", madt(before, many), advised("OverridePastIsa 0xe0 0x10 0x10", "TwoSourcesOneGsi 0x130 0x40")
 
 
 def redistributors():

@@ -57,6 +57,7 @@ mod StageVerdicts
 mod StartOverlaps
 mod StructureRanges
 mod TablesAt
+mod ThinnedNumbers
 mod TwoGiccs
 mod UidDomains
 mod UnknownOnes

@@ -1,10 +1,10 @@
 -- Numbers at rising places: what repeats among the first n of them comes before all that repeats behind these.
-use Rattle.std.proofs.Common.{◌≡◌, ℕ, ◌<◌, ◌≤◌, List, length, get_or, take, sym, ◌∙◌, ap, inl, inr, arith}
+use Rattle.std.proofs.Common.{◌≡◌, ℕ, ◌<◌, ◌≤◌, List, length, get_or, take, Option, Some, None, is_some, true, sym, ◌∙◌, ap, subst, ◌⊎◌, inl, inr, arith}
 use Rattle.std.specs.Prelude.{AllPairs, Contains}
 use Rattle.std.proofs.lemmas.Bool.{cases_lt}
-use Rattle.std.proofs.lemmas.List.{get_or_default, get_or-take, length-take}
+use Rattle.std.proofs.lemmas.List.{get_or_default, get_or-take, length-take, take_all}
 use Rattle.acpi_lint.specs.Numbered.{IsNoLater, IsUnlike, IsUnlikeAt}
-use Rattle.acpi_lint.specs.Places.{IsLeast}
+use Rattle.acpi_lint.specs.Places.{IsLeast, FindsLeast}
 use Rattle.acpi_lint.specs.declared.numbered.Numbered.{Numbered}
 use Rattle.acpi_lint.specs.declared.numbered.Order.TheVariants.{Later}
 use Rattle.acpi_lint.specs.declared.place.Place.{Place}
@@ -85,7 +85,7 @@ unlike_in_prefix n given g f j rise at inside unlike =
       differ = unlike.differ;
     }
 
-pub found_in_prefix : (n : ℕ) (given : List Numbered) (p : Place) → AllPairs (λ a b. a.at < b.at) given
+found_in_prefix : (n : ℕ) (given : List Numbered) (p : Place) → AllPairs (λ a b. a.at < b.at) given
     → IsLeast (IsUnlikeAt Later (take n given)) p → IsLeast (IsUnlikeAt Later given) p
 found_in_prefix n given p rise found =
     let (g, f, unlike, is) = found.here in
@@ -103,3 +103,15 @@ found_in_prefix n given p rise found =
                 inl (omega (arith, before, ap (λ (q : Place). q.at) is, ap (λ (q : Place). q.at) same))
           ];
     }
+
+-- something was found among the first n, or these are all
+abbrev pub IsWhole : ℕ → List Numbered → Option Place → Type 0
+IsWhole n given found = (is_some found ≡ true) ⊎ (length given ≤ n)
+
+pub found_among_first : (n : ℕ) (given : List Numbered) (found : Option Place) → AllPairs (λ a b. a.at < b.at) given
+    → IsWhole n given found → FindsLeast (IsUnlikeAt Later (take n given)) found
+    → FindsLeast (IsUnlikeAt Later given) found
+found_among_first n given (Some p) rise whole found = found_in_prefix n given p rise found
+found_among_first n given None rise (inl some) found = absurd cc
+found_among_first n given None rise (inr all) found =
+    subst (λ (xs : List Numbered). FindsLeast (IsUnlikeAt Later xs) None) (take_all n given all) found

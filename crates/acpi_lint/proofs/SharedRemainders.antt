@@ -1,12 +1,12 @@
 -- Remainders of numbers, and those that several numbers have: a number that occurs twice has such a one.
-use Rattle.std.proofs.Common.{◌≡◌, ◌≢◌, ℕ, ◌%◌, ◌+◌, ◌<◌, List, [], ◌∷◌, length, get_or, filter, Option, Bool, true, false, cond, sym, ◌∙◌, ap, subst, inl, inr, ◌⊎◌, arith}
+use Rattle.std.proofs.Common.{◌≡◌, ◌≢◌, ℕ, ◌%◌, ◌+◌, ◌<◌, ◌≤◌, List, [], ◌∷◌, ◌++◌, length, get_or, take, true, Option, sym, ◌∙◌, ap, subst, inl, inr, ◌⊎◌, arith}
 use Rattle.std.specs.Prelude.{◌↔◌, Contains}
 use Rattle.std.proofs.lemmas.Bool.{cases_eq, cases_lt}
-use Rattle.std.proofs.lemmas.List.{get_or_default}
-use Rattle.acpi_base.proofs.Elements.{first_element, later_element, first_or_later, no_element}
+use Rattle.std.proofs.lemmas.List.{get_or_default, get_or-take, length-take}
+use Rattle.std.proofs.lemmas.List.Elements.{Contains-append_left, Contains-append_right, Contains-append_cases, Contains-get_or}
+use Rattle.acpi_base.proofs.Elements.{first_element, first_or_later, no_element}
 use Rattle.acpi_check.specs.BitSets.{IsIn, Adds}
 use Rattle.acpi_check.specs.declared.bit_set.BitSet.{BitSet}
-use Rattle.acpi_check.proofs.NodeLinks.OffsetBits.{is_in, tells_in}
 use Rattle.acpi_lint.specs.Numbered.{IsNoLater, IsFirstOfNumber, IsUnlike, IsUnlikeAt, at_place, remainder_at, ShareRemainder, AreSharedRemainders, AreSharing}
 use Rattle.acpi_lint.specs.Places.{FindsLeast}
 use Rattle.acpi_lint.specs.declared.numbered.Numbered.{Numbered}
@@ -16,6 +16,10 @@ use Rattle.acpi_lint.proofs.LeastPlaces.{least_as}
 
 -- ---- a pass over numbers: the remainders that were seen, and those that were seen again
 
+-- the one at i
+abbrev pub one_at : List Numbered → ℕ → Numbered
+one_at given i = get_or given i (at_place 0 0)
+
 -- one of the first n has this remainder
 abbrev pub HasRemainder : List Numbered → ℕ → ℕ → ℕ → Type 0
 HasRemainder given modulus n r = (k : ℕ) × (k < n) × (remainder_at given modulus k ≡ r)
@@ -23,14 +27,6 @@ HasRemainder given modulus n r = (k : ℕ) × (k < n) × (remainder_at given mod
 pub record AreNoted (given : List Numbered) (modulus n : ℕ) (seen shared : BitSet) : Type 0 where
   pub seen_remainders : (r : ℕ) → IsIn seen r ↔ HasRemainder given modulus n r
   pub shared_remainders : (r : ℕ) → IsIn shared r ↔ ShareRemainder given modulus n r
-
-pub none_noted : (given : List Numbered) (modulus : ℕ) (seen shared : BitSet) → ((o : ℕ) → ¬ IsIn seen o)
-    → ((o : ℕ) → ¬ IsIn shared o) → AreNoted given modulus 0 seen shared
-none_noted given modulus seen shared none also =
-    record {
-      seen_remainders = λ r. (λ is. absurd (none r is), λ (k, below, is). absurd (omega arith));
-      shared_remainders = λ r. (λ is. absurd (also r is), λ two. absurd (omega (arith, two.before, two.within)));
-    }
 
 more_seen : (given : List Numbered) (modulus n r : ℕ) → HasRemainder given modulus n r
     → HasRemainder given modulus (n + 1) r
@@ -146,43 +142,43 @@ seen_first given modulus n seen shared new first adds before =
           | inr earlier ↦ (before.shared_remainders r).1 earlier
         ]
 
-pub all_noted : (given : List Numbered) (modulus n : ℕ) (seen shared : BitSet) → n ≡ length given
-    → AreNoted given modulus n seen shared → AreSharedRemainders given modulus shared
-all_noted given modulus n seen shared end marked = λ r. rw end at (marked.shared_remainders r)
+pub all_noted : (given : List Numbered) (modulus n : ℕ) (seen shared : BitSet) → n ≤ length given
+    → AreNoted given modulus n seen shared → AreSharedRemainders (take n given) modulus shared
+all_noted given modulus n seen shared inside noted = λ r. (
+  λ is. into r ((noted.shared_remainders r).0 is),
+  λ two. (noted.shared_remainders r).1 (back r two),
+)
+  where
+    first : List Numbered
+    first = take n given
+
+    same : (i : ℕ) → i < n → remainder_at first modulus i ≡ remainder_at given modulus i
+    same i below = ap (λ (g : Numbered). g.number % modulus) (get_or-take n given i (at_place 0 0) below)
+
+    into : (r : ℕ) → ShareRemainder given modulus n r → ShareRemainder first modulus (length first) r
+    into r two =
+        record {
+          i = two.i;
+          j = two.j;
+          before = two.before;
+          within = omega (arith, length-take n given, inside, two.within);
+          one = same two.i (omega (arith, two.before, two.within)) ∙ two.one;
+          other = same two.j two.within ∙ two.other;
+        }
+
+    back : (r : ℕ) → ShareRemainder first modulus (length first) r → ShareRemainder given modulus n r
+    back r two =
+        let below : two.j < n = omega (arith, length-take n given, inside, two.within) in
+        record {
+          i = two.i;
+          j = two.j;
+          before = two.before;
+          within = below;
+          one = sym (same two.i (omega (arith, two.before, below))) ∙ two.one;
+          other = sym (same two.j below) ∙ two.other;
+        }
 
 -- ---- those that are kept
-
-kept_of : {X : Type 0} (test : X → Bool) (xs : List X) (x : X) → Contains (filter test xs) x → Contains xs x
-kept_of test [] x has = absurd (no_element x has)
-kept_of {X} test (y ∷ xs) x has = from (test y) (λ later. kept_of test xs x later) has
-  where
-    from : (kept : Bool) → (Contains (filter test xs) x → Contains xs x)
-        → Contains (cond kept (y ∷ filter test xs) (filter test xs)) x → Contains (y ∷ xs) x
-    from true rest here =
-        elim (first_or_later y x (filter test xs) here) [
-          | inl is ↦ subst (Contains (y ∷ xs)) is (first_element y xs)
-          | inr later ↦ later_element y x xs (rest later)
-        ]
-    from false rest later = later_element y x xs (rest later)
-
-kept_in : {X : Type 0} (test : X → Bool) (xs : List X) (x : X) → Contains xs x → test x ≡ true
-    → Contains (filter test xs) x
-kept_in test [] x has passes = absurd (no_element x has)
-kept_in {X} test (y ∷ xs) x has passes =
-    elim (first_or_later y x xs has) [
-      | inl is ↦
-          let here : test y ≡ true = ap test is ∙ passes in
-          rw here (subst (Contains (y ∷ filter test xs)) is (first_element y (filter test xs)))
-      | inr later ↦ into (test y) (kept_in test xs x later passes)
-    ]
-  where
-    into : (kept : Bool) → Contains (filter test xs) x → Contains (cond kept (y ∷ filter test xs) (filter test xs)) x
-    into true later = later_element y x (filter test xs) later
-    into false later = later
-
--- the number's remainder is in the set
-abbrev pub has_shared : BitSet → ℕ → Numbered → Bool
-has_shared shared modulus g = is_in shared (g.number % modulus)
 
 remainder_of : (given : List Numbered) (modulus i : ℕ) (g : Numbered) → i < length given → get_or given i g ≡ g
     → remainder_at given modulus i ≡ g.number % modulus
@@ -211,19 +207,69 @@ two_share given modulus g h (i, inside, is) (j, within, at) same differ =
     alike here =
         sym is ∙ get_or_default given i g h inside ∙ ap (λ (k : ℕ). get_or given k h) here ∙ at
 
-pub are_sharing : (given kept : List Numbered) (modulus : ℕ) (shared : BitSet)
-    → AreSharedRemainders given modulus shared
-    → kept ≡ filter (has_shared shared modulus) given → AreSharing given kept
-are_sharing given kept modulus shared are is =
+-- some of those that were given are kept, among them those of the first n whose remainder is in the set
+pub record AreSharingTo (given : List Numbered) (modulus : ℕ) (shared : BitSet) (n : ℕ) (kept : List Numbered) :
+    Type 0 where
+  pub listed : (g : Numbered) → Contains kept g → Contains given g
+  pub sharing : (i : ℕ) → i < n → IsIn shared (remainder_at given modulus i) → Contains kept (one_at given i)
+
+one_more : (given : List Numbered) (modulus : ℕ) (shared : BitSet) (n : ℕ) (kept more : List Numbered)
+    → ((g : Numbered) → Contains kept g → Contains more g)
+    → ((i : ℕ) → i < n → IsIn shared (remainder_at given modulus i) → Contains kept (one_at given i))
+    → (IsIn shared (remainder_at given modulus n) → Contains more (one_at given n))
+    → (i : ℕ) → i < n + 1 → IsIn shared (remainder_at given modulus i) → Contains more (one_at given i)
+one_more given modulus shared n kept more there before here i below is =
+    elim (cases_lt i n) [
+      | inl less ↦ there (one_at given i) (before i less is)
+      | inr upto ↦
+          let same : i ≡ n = omega arith in
+          rw same (here (rw same at is))
+    ]
+
+pub one_kept : (given : List Numbered) (modulus : ℕ) (shared : BitSet) (n : ℕ) (kept : List Numbered)
+    → n < length given → AreSharingTo given modulus shared n kept
+    → AreSharingTo given modulus shared (n + 1) (kept ++ one_at given n ∷ [])
+one_kept given modulus shared n kept within before =
     record {
-      listed = λ g has. kept_of (has_shared shared modulus) given g (rw is at has);
-      twice = λ g h has also same differ. rw is (kept_in (has_shared shared modulus) given g has
-          ((tells_in shared (g.number % modulus)).0
-          ((are (g.number % modulus)).1 (two_share given modulus g h has also same differ))));
+      listed = λ g has. elim (Contains-append_cases kept (one ∷ []) g has) [
+        | inl old ↦ before.listed g old
+        | inr new ↦
+            elim (first_or_later one g [] new) [
+              | inl same ↦ subst (Contains given) same (Contains-get_or given n (at_place 0 0) within)
+              | inr none ↦ absurd (no_element g none)
+            ]
+      ];
+      sharing =
+          one_more given modulus shared n kept (kept ++ one ∷ []) (λ g. Contains-append_left kept (one ∷ []) g)
+          before.sharing (λ is. Contains-append_right kept (one ∷ []) one (first_element one []));
+    }
+  where
+    one : Numbered
+    one = one_at given n
+
+pub one_left_out : (given : List Numbered) (modulus : ℕ) (shared : BitSet) (n : ℕ) (kept : List Numbered)
+    → ¬ IsIn shared (remainder_at given modulus n)
+    → AreSharingTo given modulus shared n kept → AreSharingTo given modulus shared (n + 1) kept
+one_left_out given modulus shared n kept none before =
+    record {
+      listed = before.listed;
+      sharing =
+          one_more given modulus shared n kept kept (λ g has. has) before.sharing (λ is. absurd (none is));
     }
 
-pub all_sharing : (given : List Numbered) → AreSharing given given
-all_sharing given = record { listed = λ g has. has; twice = λ g h has also same differ. has }
+pub are_sharing : (given kept : List Numbered) (modulus n : ℕ) (shared : BitSet) → length given ≤ n
+    → AreSharedRemainders given modulus shared → AreSharingTo given modulus shared n kept
+    → AreSharing given kept
+are_sharing given kept modulus n shared end are to =
+    record {
+      listed = to.listed;
+      twice = λ g h has also same differ.
+          let (i, within, is) = has in
+          let here : get_or given i (at_place 0 0) ≡ g = get_or_default given i (at_place 0 0) g within ∙ is in
+          let shares = (are (g.number % modulus)).1 (two_share given modulus g h has also same differ) in
+          subst (Contains kept) here
+          (to.sharing i (omega (arith, within, end)) (rw (remainder_of given modulus i g within is) shares));
+    }
 
 -- ---- what is found among them
 

@@ -74,6 +74,19 @@ pub record AreSharing (given kept : List Numbered) : Type 0 where
   pub listed : (g : Numbered) → Contains kept g → Contains given g
   pub twice : (g h : Numbered) → Contains given g → Contains given h → g.number ≡ h.number → g ≢ h → Contains kept g
 
+-- g gives its number the value that another one gives it at the same place or before
+abbrev pub IsRepeat : Numbered → Numbered → Type 0
+IsRepeat earlier g = (g.number ≡ earlier.number) × (g.value ≡ earlier.value) × (earlier.at ≤ g.at)
+
+-- one of these gives g's number its value at the same place or before
+abbrev pub IsRepeated : List Numbered → Numbered → Type 0
+IsRepeated kept g = (earlier : Numbered) × Contains kept earlier × IsRepeat earlier g
+
+-- these are some of those that were given, and each other one repeats one of them
+pub record AreThinned (given kept : List Numbered) : Type 0 where
+  pub listed : (g : Numbered) → Contains kept g → Contains given g
+  pub repeated : (g : Numbered) → Contains given g → IsRepeated kept g
+
 -- ---- ranges of numbers: each is at its name, and its value says how many numbers it has
 
 -- the range with the name o of n numbers from s on

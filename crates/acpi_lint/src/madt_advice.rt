@@ -12,7 +12,7 @@ ghost use Rattle.acpi_lint.specs.Rules.GicAdvice.{LacksDistributor, IsNoDistribu
 use crate::gic::GICR;
 use crate::madt_forms::{IO_APIC, NMI_SOURCE, OVERRIDE, has_type};
 use crate::madt_numbers::{MadtNumber, all_numbers, first_number, has_number};
-use crate::numbered::{Numbered, Order, first_unlike};
+use crate::numbered::{Numbered, Order, first_unlike, thinned};
 use crate::place::Place;
 use crate::processors::GICD;
 use crate::well_formed::is_madt_well_formed;
@@ -53,7 +53,7 @@ pub fn two_sources_one_gsi(alloc: Global, madt: &Table<'_>) -> Result<Option<Pla
     ensures { IfOk result (FindsLeast (IsTwoSourcesOneGsi (madt_contents madt.now))) }
 {
     let sources = collected(alloc, madt.entries::<MadtEntry<'_>>(), source_of_gsi)?;
-    first_unlike(sources, Order::Later)
+    first_unlike(thinned(alloc, sources)?, Order::Later)
 }
 
 /// Whether a MADT has an entry of one of these two types, of any length.

@@ -1,10 +1,10 @@
 //! Numbers with values at places, and those that occur again with another value.
 
-ghost use Rattle.std.specs.Prelude.{◌≡◌, ◌<◌, ◌^◌, ◌≤◌, ◌⊎◌, length, take, AllPairs, Contains, IfOk, IfSome, OnOk};
+ghost use Rattle.std.specs.Prelude.{◌≡◌, ◌<◌, ◌≤◌, ◌⊎◌, ◌↔◌, length, take, AllPairs, Contains, IfOk, IfSome, IsTrue, OnOk};
 ghost use Rattle.std.specs.List.Sorted.{IsPermutation};
 ghost use Rattle.std.specs.Option.{option_map};
 ghost use Rattle.acpi_lint.specs.Rules.Numbered.{IsLater};
-ghost use Rattle.acpi_lint.specs.Numbered.{IsNotAbove, IsUnlikeAt, HasAt, AreSharedRemainders, AreSharing, at_place, unlike_place};
+ghost use Rattle.acpi_lint.specs.Numbered.{IsNotAbove, IsUnlikeAt, HasAt, AreSharedRemainders, AreSharing, IsRepeat, AreThinned, at_place, unlike_place};
 ghost use Rattle.acpi_lint.specs.Places.{FindsLeast, IsNotAfter};
 ghost use Rattle.acpi_lint.specs.declared.numbered.Order.TheVariants.{Later};
 
@@ -116,73 +116,117 @@ pub fn first_unlike(mut given: Vec<Numbered>, order: Order) -> Result<Option<Pla
     Ok(least_unlike(&given, order))
 }
 
+/// Whether one gives its number the value that another one gives it, at the same place or before.
+fn is_repeat(one: &Numbered, earlier: &Numbered) -> bool
+    ensures { IsTrue result ↔ IsRepeat earlier.now one.now }
+{
+    one.number == earlier.number && one.value == earlier.value && earlier.at <= one.at
+}
+
+/// How many values `without_repeats` tells apart: as many as a byte has, such as the Source of an override.
+const VALUES: u64 = 256;
+
+/// Leaves out each that repeats the last one kept whose value has the same lowest byte. Allocates for the others.
+fn without_repeats(alloc: Global, given: &[Numbered]) -> Result<Vec<Numbered>, AllocError>
+    ensures { IfOk result (λ kept. AreThinned given.now kept.items) }
+{
+    let mut kept = Vec::new(alloc);
+    let Some(first) = given.first() else {
+        return Ok(kept);
+    };
+    kept.push(*first)?;
+    let mut last = [*first; VALUES as usize];
+    for one in given {
+        let value = (one.value % VALUES) as usize;
+        if !is_repeat(one, &last[value]) {
+            last[value] = *one;
+            kept.push(*one)?;
+        }
+    }
+    Ok(kept)
+}
+
+/// Leaves out most of those that repeat an earlier one's value, unless there are few. Allocates for the others.
+pub fn thinned(alloc: Global, given: Vec<Numbered>) -> Result<Vec<Numbered>, AllocError>
+    ensures { IfOk result (λ kept. AreThinned given.items kept.items) }
+{
+    // For a set of firmware, clearing 6 KiB would take as long as all finders.
+    if given.len() <= FEW {
+        return Ok(given);
+    }
+    without_repeats(alloc, &given)
+}
+
 /// By what the remainders of so many numbers are taken: 16 times as many, of at most 2^27, and one more. It is odd, so
 /// that numbers whose difference is a power of 2 have different remainders.
 fn modulus_of(len: usize) -> u64
-    ensures positive { 0 < result }
-    ensures narrow { result < 2 ^ 32 }
+    ensures { 0 < result }
 {
     (len as u64).min(1 << 27) * 16 + 1
 }
 
-/// The remainders that several of these numbers have. Allocates two sets of a bit or two for each remainder.
-fn shared_remainders(alloc: Global, given: &[Numbered], modulus: u64) -> Result<BitSet, AllocError>
-    requires positive { 0 < modulus }
-    requires narrow { modulus < 2 ^ 32 }
-    ensures { IfOk result (AreSharedRemainders given.now modulus) }
+/// The remainders that several of the first numbers have, and how many the first are: all, or those up to where more
+/// than `FEW` and a sixteenth of them have the remainder of an earlier one, as half as many of different random numbers
+/// have. Allocates two sets of a bit or two for each remainder.
+fn shared_remainders(
+    alloc: Global,
+    given: &[Numbered],
+    modulus: u64,
+) -> Result<(BitSet, usize), AllocError>
+    requires { 0 < modulus }
+    ensures { IfOk result (λ found. (found.1 ≤ length given.now)
+        × AreSharedRemainders (take found.1 given.now) modulus found.0) }
 {
-    let mut seen = BitSet::new(alloc);
-    let mut shared = BitSet::new(alloc);
-    for one in given {
-        let remainder = one.number % modulus;
-        if seen.has(remainder as u32) {
+    let mut seen = BitSet::of(alloc, &[])?;
+    let mut shared = BitSet::of(alloc, &[])?;
+    let mut again = 0;
+    for count in 0..given.len() {
+        if again > count / 16 + FEW {
+            return Ok((shared, count));
+        }
+        let remainder = given[count].number % modulus;
+        if seen.has(remainder) {
             shared.add(remainder)?;
+            again += 1;
         } else {
             seen.add(remainder)?;
         }
     }
-    Ok(shared)
+    Ok((shared, given.len()))
 }
 
-/// Keeps the numbers that share a remainder with another one, among them all that occur twice. Few numbers, and those
-/// in order, are soon sorted: they are all kept, without allocating. Otherwise it allocates two sets of remainders.
-fn keep_sharing(alloc: Global, given: &mut Vec<Numbered>) -> Result<(), AllocError>
-    ensures { OnOk result (AreSharing given.old.items given.new.items) }
+/// Those of the first numbers that share a remainder with another one of these, among them all that occur twice, and
+/// how many the first are. Allocates for those that share one, and two sets of remainders.
+fn sharing(alloc: Global, given: &[Numbered]) -> Result<(Vec<Numbered>, usize), AllocError>
+    ensures { IfOk result (λ found. (found.1 ≤ length given.now)
+        × AreSharing (take found.1 given.now) found.0.items) }
 {
-    if given.len() <= FEW || given.is_sorted() {
-        return Ok(());
-    }
     let modulus = modulus_of(given.len());
-    let shared = shared_remainders(alloc, given, modulus)?;
-    given.retain(|one| shared.has((one.number % modulus) as u32));
-    Ok(())
-}
-
-/// How many numbers are looked at before all are: if each occurs many times, two of these are mostly equal.
-const PREFIX: usize = 1024;
-
-/// The lowest place of one of the first numbers whose value differs from that at its first place. Allocates for them.
-fn first_in_prefix(alloc: Global, given: &[Numbered]) -> Result<Option<Place>, AllocError>
-    requires { PREFIX ≤ length given.now }
-    ensures { IfOk result (FindsLeast (IsUnlikeAt Later (take PREFIX given.now))) }
-{
-    let prefix = Vec::from_slice(alloc, &given[..PREFIX])?;
-    first_unlike(prefix, Order::Later)
+    let (shared, count) = shared_remainders(alloc, given, modulus)?;
+    let mut kept = Vec::new(alloc);
+    for one in &given[..count] {
+        if shared.has(one.number % modulus) {
+            kept.push(*one)?;
+        }
+    }
+    Ok((kept, count))
 }
 
 /// If places rise: the first place of a number that also occurs at an earlier one; `other` is the first of these, and
-/// `point` the number. The value that is given to a number is its place. Allocates for the first `PREFIX` numbers, for
-/// two sets of remainders, and while it sorts the numbers that share one.
-pub fn first_repeated(alloc: Global, mut given: Vec<Numbered>) -> Result<Option<Place>, AllocError>
+/// `point` the number. The value that is given to a number is its place. If there are more than `FEW`, which are not in
+/// order, it allocates two sets of remainders, and for those that share one, also while it sorts these, or all, if many
+/// share one although none occurs twice.
+pub fn first_repeated(alloc: Global, given: Vec<Numbered>) -> Result<Option<Place>, AllocError>
     requires { (g : Numbered) → Contains given.items g → g.value ≡ g.at }
     ensures { AllPairs (λ a b. a.at < b.at) given.items
         → IfOk result (FindsLeast (IsLater (HasAt given.items))) }
 {
-    if given.len() > PREFIX {
-        if let Some(place) = first_in_prefix(alloc, &given)? {
-            return Ok(Some(place));
+    if given.len() > FEW && !given.is_sorted() {
+        let (kept, count) = sharing(alloc, &given)?;
+        let found = first_unlike(kept, Order::Later)?;
+        if found.is_some() || count == given.len() {
+            return Ok(found);
         }
     }
-    keep_sharing(alloc, &mut given)?;
     first_unlike(given, Order::Later)
 }
