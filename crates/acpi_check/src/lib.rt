@@ -62,7 +62,7 @@ pub use leaves::{HAS_LEAVES, check_leaves};
 pub use nodes::Chain;
 pub use overrides::check_overrides;
 pub use ranges::check_ranges;
-pub use references::first_dangling;
+pub use references::{check_references, first_dangling};
 pub use refusal::Refusal;
 pub use search::{binary_search, has, sorted_unique};
 pub use served::check_served;

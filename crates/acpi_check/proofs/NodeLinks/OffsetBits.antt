@@ -1,13 +1,12 @@
 -- Offsets as bits of words.
-use Rattle.std.proofs.Common.{◌≡◌, ℕ, ◌/◌, ◌%◌, ◌^◌, ◌<◌, ◌≤◌, List, length, set, bit_and, bit_or, nat_eq, Bool, true, false, ap, sym, inl, inr, arith}
+use Rattle.std.proofs.Common.{◌≡◌, ℕ, ◌/◌, ◌%◌, ◌^◌, ◌<◌, ◌≤◌, List, length, set, bit_and, bit_or, nat_eq, ap, inl, inr, arith}
 use Rattle.std.specs.Prelude.{◌⊎◌, ◌↔◌, MatchBool, slice_index}
 use Rattle.std.specs.Int.{bit_at}
 use Rattle.std.proofs.lemmas.Bool.{cases_eq, cases_Bool}
 use Rattle.std.proofs.lemmas.Bool.Decides.{nat_tests}
 use Rattle.std.proofs.lemmas.List.{get_or_past, get_or-set_same, get_or-set_other}
 use Rattle.std.proofs.lemmas.Nat.Bits.{bit_at-zero, shr_and_one, bit_at_or, bit_at-lt, bit_at-pow_same, bit_at-pow_other}
-use Rattle.acpi_check.specs.BitSets.{HasBit, IsIn}
-use Rattle.acpi_check.specs.declared.bit_set.BitSet.{BitSet}
+use Rattle.acpi_check.specs.BitSets.{HasBit}
 
 pub same_bits : (old new : List ℕ) → ((i : ℕ) → slice_index new i ≡ slice_index old i) → (o : ℕ)
     → HasBit new o ↔ HasBit old o
@@ -67,20 +66,3 @@ bit_added words offset w within was o =
   where
     word : ℕ
     word = bit_or w (2 ^ (offset % 64))
-
--- ---- whether a number is in a set
-
-pub is_in : BitSet → ℕ → Bool
-is_in set n = nat_eq (bit_at (slice_index set.words.items (n / 64)) (n % 64)) 1
-
-is_bit : (n : ℕ) → (n ≡ 1) ↔ (nat_eq n 1 ≡ true)
-is_bit n = (λ is. grind (arith, nat_tests, is), λ is. grind (arith, nat_tests, is))
-
-pub tells_in : (set : BitSet) (n : ℕ) → IsIn set n ↔ (is_in set n ≡ true)
-unfolding IsIn is_in
-tells_in set n = is_bit (bit_at (slice_index set.words.items (n / 64)) (n % 64))
-
-pub told_in : (set : BitSet) (n : ℕ) (has : Bool) → MatchBool has (IsIn set n) (¬ IsIn set n) → has ≡ is_in set n
-told_in set n true is = sym ((tells_in set n).0 is)
-told_in set n false is =
-    elim (cases_Bool (is_in set n)) [ inl has ↦ absurd (is ((tells_in set n).1 has)) | inr none ↦ sym none ]
