@@ -6,13 +6,15 @@ use Rattle.std.proofs.lemmas.List.{map-id}
 use Rattle.std.proofs.lemmas.Option.{same_Some}
 use denote.Ref.{Bor}
 use Rattle.acpi_base.specs.Entries.{PlacedEntry}
-use Rattle.acpi_lint.specs.Rules.Numbered.{NamesAt, IsNamed, IsLater}
+use Rattle.acpi_base.specs.Madt.{MadtEntry}
+use Rattle.acpi_lint.specs.Rules.Numbered.{NamesAt, IsNamed, IsLater, numbers_of}
 use Rattle.acpi_read.specs.Entries.{entry_at_value}
 use Rattle.acpi_read.specs.declared.typed_entries.EntryAt.{EntryAt}
 use Rattle.acpi_check.specs.CollectedValues.{Picks, Collects}
 use Rattle.acpi_check.proofs.EntryPasses.Collecting.{are_collected, gathered_same, itself}
 use Rattle.acpi_check.proofs.EntryPasses.Kept.{AreRising, kept_has, kept_from, keys_rise}
 use Rattle.acpi_lint.specs.EntryNumbers.{AreGathered, AreKnown}
+use Rattle.acpi_lint.specs.MadtNumbers.{Makes}
 use Rattle.acpi_lint.specs.Numbered.{at_place, HasAt, AreNumbersAt}
 use Rattle.acpi_lint.specs.Places.{FindsLeast}
 use Rattle.acpi_lint.specs.declared.numbered.Numbered.{Numbered}
@@ -105,6 +107,54 @@ numbers_as given same are =
       all = λ at n. (λ has. (same at n).0 ((are.all at n).0 has), λ stands. (are.all at n).1 ((same at n).1 stands));
     }
 
+-- ---- what is made of the numbers of a MADT's entries
+
+pub each_ok : {A X : Type 0} {P Q : A → Type 0} (r : Result A X) → ((a : A) → P a → Q a) → IfOk r P → IfOk r Q
+each_ok (Ok a) follows holds = follows a holds
+each_ok (Err e) follows holds = tt
+
+none_mapped : (at : ℕ) (number : Option ℕ) → None ≡ option_map (at_place at) number → number ≡ None
+none_mapped at None is = refl
+none_mapped at (Some n) is = absurd cc
+
+pub makes_none : {T : Type 0} (Answers : Numbered → T → Type 0) (read : MadtEntry → Option ℕ)
+    (s : PlacedEntry MadtEntry) → None ≡ option_map (at_place s.offset) (read s.entry) → Makes read Answers s None
+makes_none Answers read s is = none_mapped s.offset (read s.entry) is
+
+number_made : {Answers : Numbered → ℕ → Type 0} (read : MadtEntry → Option ℕ) (s : PlacedEntry MadtEntry)
+    (picked : Option ℕ) → ((g : Numbered) (n : ℕ) → Answers g n → n ≡ g.number) → Makes read Answers s picked
+    → picked ≡ read s.entry
+number_made read s None each makes = sym makes
+number_made read s (Some n) each (g, is, answers) =
+    ap Some (each g n answers) ∙ sym (at_its_place s.offset (read s.entry) g is).2
+
+-- if the number itself is made of each, those of all entries are made
+pub numbers_made : {X : Type 0} {Answers : Numbered → ℕ → Type 0} (read : MadtEntry → Option ℕ)
+    (entries : List (PlacedEntry MadtEntry)) (r : Result (Vec ℕ Global) X)
+    → IfOk r (λ v. Collects (Makes read Answers) entries v.items)
+    → ((g : Numbered) (n : ℕ) → Answers g n → n ≡ g.number) → IfOk r (λ v. v.items ≡ numbers_of read entries)
+numbers_made read entries r made each =
+    each_ok r
+    (λ v collects. collected_same (λ s. read s.entry) entries v.items collects
+    (λ s picked makes. number_made read s picked each makes)) made
+
+place_made : {Answers : Numbered → Numbered → Type 0} (read : MadtEntry → Option ℕ) (s : PlacedEntry MadtEntry)
+    (picked : Option Numbered) → ((g h : Numbered) → Answers g h → h ≡ g) → Makes read Answers s picked
+    → picked ≡ option_map (at_place s.offset) (read s.entry)
+place_made read s None each makes = rw makes refl
+place_made read s (Some h) each (g, is, answers) = ap Some (each g h answers) ∙ sym is
+
+-- if each is made as it is, those of all entries are made, each at its place
+pub places_made : {X : Type 0} {Answers : Numbered → Numbered → Type 0} (read : MadtEntry → Option ℕ) (low : ℕ)
+    (entries : List (PlacedEntry MadtEntry)) (r : Result (Vec Numbered Global) X) → AreRising low entries
+    → IfOk r (λ v. Collects (Makes read Answers) entries v.items) → ((g h : Numbered) → Answers g h → h ≡ g)
+    → IfOk r (λ v. AreNumbersAt (NamesAt read entries) v.items)
+places_made read low entries r rises made each =
+    each_ok r
+    (λ v collects. are_numbers (λ s. read s.entry) (NamesAt read entries) low entries v.items rises
+    (collected_same (λ s. option_map (at_place s.offset) (read s.entry)) entries v.items collects
+    (λ s picked makes. place_made read s picked each makes)) (as_named read entries)) made
+
 -- ---- the first number that occurs twice
 
 pub same_later : {A B : ℕ → ℕ → Type 0} (at other x : ℕ) → ((p n : ℕ) → A p n → B p n) → ((p n : ℕ) → B p n → A p n)
@@ -116,10 +166,6 @@ same_later at other x to from later =
       before = later.before;
       first = λ p there. later.first p (from p x there);
     }
-
-pub each_ok : {A X : Type 0} {P Q : A → Type 0} (r : Result A X) → ((a : A) → P a → Q a) → IfOk r P → IfOk r Q
-each_ok (Ok a) follows holds = follows a holds
-each_ok (Err e) follows holds = tt
 
 pub found_twice : {X : Type 0} {StandsAt : ℕ → ℕ → Type 0} (given : List Numbered) (r : Result (Option Place) X)
     → AreNumbersAt StandsAt given

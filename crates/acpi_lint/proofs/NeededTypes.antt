@@ -1,8 +1,8 @@
 -- Rules that are kept by a MADT without an entry of some types.
 use Rattle.std.proofs.Common.{◌≡◌, ◌∙◌, ℕ, ◌<◌, List, [], ◌∷◌, length, get_or, set, replicate, Bool, true, false, true≢false, Option, Some, None, arith, refl, sym, subst, inl, inr}
 use Rattle.std.specs.Prelude.{◌↔◌, ◌⊎◌, IsSome, Contains, ◌==◌, ◌&&◌, ◌^◌, nat_le, option_map, slice_index, if◌then◌else◌}
-use Rattle.std.specs.Option.{option_or}
-use Rattle.std.proofs.lemmas.Bool.{and_parts, cases_eq, cases_lt, ne_eqb}
+use Rattle.std.specs.Option.{option_and_then, option_or}
+use Rattle.std.proofs.lemmas.Bool.{and_parts, cases_Bool, cases_eq, cases_lt, ne_eqb}
 use Rattle.std.proofs.lemmas.Bool.Decides.{nat_tests}
 use Rattle.std.proofs.lemmas.List.{get_or-replicate, get_or_past, get_or-set_same, get_or-set_other}
 use Rattle.std.proofs.lemmas.Option.{option_and_then_some}
@@ -29,7 +29,7 @@ use Rattle.acpi_lint.specs.Rules.ApicAdvice.{usable_hart_id, low_x2apic_id, leve
 use Rattle.acpi_lint.specs.Rules.MadtAdvice.{io_apic_id, io_apic_address, nonzero_io_apic_address, IsIoApicAtZero, nmi_uid, IsNmiNowhere, gicd, IsReadForm, IsMadtUnread}
 use Rattle.acpi_lint.specs.Rules.Numbered.{NamesAt}
 use Rattle.acpi_lint.specs.Rules.PpttAdvice.{IsLeafNowhere}
-use Rattle.acpi_lint.specs.Rules.Processors.{Processor, is_gicc, is_rintc, is_core_pic, is_usable, IsOpaqueProcessor}
+use Rattle.acpi_lint.specs.Rules.Processors.{Processor, is_gicc, is_rintc, is_core_pic, is_usable, opaque_processor, usable_apic_id, usable_uid, IsOpaqueProcessor}
 use Rattle.acpi_lint.specs.SeenTypes.{is_read_type, told_type, HasAnyType, IsTypeFound, IsSeen, IsSeenToo, AreSeenTypes, IsAnySeen}
 use Rattle.acpi_lint.specs.declared.complete_tables.CompleteTables.{CompleteTables}
 use Rattle.acpi_lint.specs.declared.seen_types.SeenTypes.{SeenTypes}
@@ -545,7 +545,7 @@ pub twice_typed : (madt : MadtContents) (at other point : ℕ) → IsRedistribut
 twice_typed madt at other point (names, first) =
     named_typed (11 ∷ []) own_redistributor (field_typed 11 refl names_redistributor own_type 60 8) madt at point names
 
--- ---- the rule on leaves that have no processor
+-- ---- processors
 
 -- the types of processors that the stages do not read
 abbrev processor_types : List ℕ
@@ -585,3 +585,53 @@ pub leaf_typed : (madt : MadtContents) (pptt : PpttContents) (at other point : �
     → IsLeafNowhere madt pptt at other point → HasAnyType madt processor_types
 leaf_typed madt pptt at other point (known, (o, (e, stands, is)), leaf, none, zero) =
     (o, (e, stands, processor_form e is))
+
+processor_there : (e : List ℕ) (p : Processor) → opaque_processor e ≡ Some p → IsOf processor_types (Opaque e)
+processor_there e p is = processor_form (Opaque e) (subst IsSome (sym is) refl)
+
+pub uid_typed : IsNumberOf (0 ∷ 9 ∷ 11 ∷ 17 ∷ 24 ∷ []) usable_uid
+uid_typed (Opaque e) n some =
+    option_and_then_some (λ p. if p.usable then Some p.uid else None) (opaque_processor e) n some
+    (λ p is usable. later_element 0 (told_type (Opaque e)) (9 ∷ processor_types)
+    (later_element 9 (told_type (Opaque e)) processor_types (processor_there e p is)))
+uid_typed (LocalApic v) n some = first_element 0 (9 ∷ processor_types)
+uid_typed (X2apic v) n some = later_element 0 9 (9 ∷ processor_types) (first_element 9 processor_types)
+uid_typed (IoApic v) n some = cc
+uid_typed (Override v) n some = cc
+uid_typed (NmiSource v) n some = cc
+uid_typed (LocalNmi v) n some = cc
+uid_typed (AddressOverride v) n some = cc
+uid_typed (X2apicNmi v) n some = cc
+
+no_id : (p : Processor) (n : ℕ) → p.apic_id ≡ None → ¬ ((if p.usable then p.apic_id else None) ≡ Some n)
+no_id p n none some =
+    elim (cases_Bool p.usable) [
+      | inl is ↦ (let no = rw (is, none) at some in cc)
+      | inr is ↦ (let no = rw is at some in cc)
+    ]
+
+of_core : (gicc rintc core_pic : Bool) (p q r : Processor) (n : ℕ) → p.apic_id ≡ None → q.apic_id ≡ None
+    → option_and_then (λ p. if p.usable then p.apic_id else None)
+    (if gicc then Some p else if rintc then Some q else if core_pic then Some r else None) ≡ Some n
+    → core_pic ≡ true
+of_core true rintc core_pic p q r n none unused some = absurd (no_id p n none some)
+of_core false true core_pic p q r n unused none some = absurd (no_id q n none some)
+of_core false false true p q r n unused other some = refl
+of_core false false false p q r n unused other some = absurd (let none : None ≡ Some n = some in cc)
+
+pub apic_id_typed : IsNumberOf (0 ∷ 9 ∷ 17 ∷ []) usable_apic_id
+apic_id_typed (Opaque e) n some =
+    of_type (0 ∷ 9 ∷ 17 ∷ []) (Opaque e) 17 (2, omega arith, refl) refl
+    (core_pic_type e
+    (of_core (is_gicc e) (is_rintc e) (is_core_pic e)
+    (record { uid = field e 8 4; apic_id = None; usable = is_usable (field e 12 4) 3 })
+    (record { uid = field e 16 4; apic_id = None; usable = is_usable (field e 4 4) 1 })
+    (record { uid = field e 3 4; apic_id = Some (field e 7 4); usable = has_bit (field e 11 4) 0 }) n refl refl some))
+apic_id_typed (LocalApic v) n some = first_element 0 (9 ∷ 17 ∷ [])
+apic_id_typed (X2apic v) n some = later_element 0 9 (9 ∷ 17 ∷ []) (first_element 9 (17 ∷ []))
+apic_id_typed (IoApic v) n some = cc
+apic_id_typed (Override v) n some = cc
+apic_id_typed (NmiSource v) n some = cc
+apic_id_typed (LocalNmi v) n some = cc
+apic_id_typed (AddressOverride v) n some = cc
+apic_id_typed (X2apicNmi v) n some = cc

@@ -12,6 +12,7 @@ abbrev pub is_held : HeldStages → Stage → Bool
 is_held held stage.Madt = held.madt
 is_held held stage.Srat = held.srat
 is_held held stage.Pptt = held.pptt
+is_held held stage.References = held.references
 is_held held _ = false
 
 -- these hold

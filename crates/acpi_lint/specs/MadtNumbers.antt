@@ -1,6 +1,6 @@
 -- Numbers that entries of a MADT may have, where they are looked for.
 use Rattle.std.specs.Prelude.{◌≡◌, ℕ, List, Option, Some, None, not, ◌==◌, if◌then◌else◌}
-use Rattle.std.specs.Option.{option_and_then}
+use Rattle.std.specs.Option.{option_and_then, option_map}
 use Rattle.acpi_base.specs.Entries.{PlacedEntry}
 use Rattle.acpi_base.specs.Madt.{MadtEntry, Override}
 use Rattle.acpi_lint.specs.Rules.Gic.{gicc_base, gicd_version, gicr_base, gicr_length, its_id, msi_frame_id, usable_gicc_uid, usable_mpidr, own_redistributor}
@@ -8,6 +8,7 @@ use Rattle.acpi_lint.specs.Rules.GicAdvice.{empty_gicr, other_gicr, reserved_mpi
 use Rattle.acpi_lint.specs.Rules.ApicAdvice.{usable_local_id, usable_hart_id, plain_apic_id, low_x2apic_id, broadcast_id, both_flags, level_timer, other_lint}
 use Rattle.acpi_lint.specs.Rules.MadtAdvice.{gicd, io_apic_id, nonzero_io_apic_address}
 use Rattle.acpi_lint.specs.Rules.Processors.{uid_of, apic_id_of, usable_uid, usable_apic_id}
+use Rattle.acpi_lint.specs.Numbered.{at_place}
 use Rattle.acpi_lint.specs.Rules.Numbered.{NamesAt}
 use Rattle.acpi_lint.specs.declared.madt_numbers.MadtNumber.{MadtNumber}
 use Rattle.acpi_lint.specs.declared.madt_numbers.MadtNumber.TheVariants as number
@@ -55,6 +56,13 @@ HasNumberWith read k at e other point = (read e ≡ Some point) × (other ≡ k)
 -- such an entry is at `at`
 abbrev pub NamesWith : (MadtEntry → Option ℕ) → ℕ → List (PlacedEntry MadtEntry) → ℕ → ℕ → ℕ → Type 0
 NamesWith read k entries at other point = NamesAt read entries at point × (other ≡ k)
+
+-- what a call returns for the number of an entry at the entry's place; nothing for an entry that has none
+abbrev pub Makes : {T : Type 0} → (MadtEntry → Option ℕ) → (Numbered → T → Type 0) → PlacedEntry MadtEntry → Option T
+    → Type 0
+Makes read Answers s None = read s.entry ≡ None
+Makes read Answers s (Some made) =
+    (g : Numbered) × (option_map (at_place s.offset) (read s.entry) ≡ Some g) × Answers g made
 
 -- the source of an override at a place, by the interrupt number that it is given
 abbrev pub source_of_gsi : ℕ → MadtEntry → Option Numbered

@@ -14,7 +14,7 @@ use crate::complete_tables::CompleteTables;
 use crate::fadt_advice::fadt_place;
 use crate::fadt_memory::fadt_memory_place;
 use crate::gic::{GICR, ITS, MSI_FRAME};
-use crate::madt_forms::{IO_APIC, LOCAL_NMI, NMI_SOURCE, OVERRIDE, X2APIC, X2APIC_NMI};
+use crate::madt_forms::{IO_APIC, LOCAL_APIC, LOCAL_NMI, NMI_SOURCE, OVERRIDE, X2APIC, X2APIC_NMI};
 use crate::nowhere::{madt_place, madt_pptt_place, madt_srat_place};
 use crate::own::{
     first_own_place, madt_entries_place, pptt_entry_place, srat_entry_place, srat_slit_entry_place,
@@ -40,6 +40,8 @@ fn needed_types(rule: Rule) -> Option<&'static [u8]>
     ensures { IfSome result (λ types. NeedsType types.now (condition rule)) }
 {
     match rule {
+        Rule::SameUid => Some(&[LOCAL_APIC, X2APIC, GICC, CORE_PIC, RINTC]),
+        Rule::SameApicId => Some(&[LOCAL_APIC, X2APIC, CORE_PIC]),
         Rule::SciNowhere => Some(&[IO_APIC]),
         Rule::IoApicAtZero => Some(&[IO_APIC]),
         Rule::SameIoApicId => Some(&[IO_APIC]),

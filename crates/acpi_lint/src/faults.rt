@@ -99,7 +99,7 @@ pub fn first_faults(
     requires { AreCompleteTables image.now policy.now.rsdp tables.now }
     ensures { IfOk result (λ faults. AreFirstFaults image.now policy.now faults.items) }
 {
-    let held = HeldStages::of(tables, policy);
+    let held = HeldStages::of(alloc, tables, policy)?;
     let mut faults = Vec::new(alloc);
     let mut number = 1;
     while let Some(code) = Code::new(number) {

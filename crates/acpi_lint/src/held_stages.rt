@@ -1,16 +1,20 @@
 //! Stages that hold for a set, whatever others find. No code of theirs has a fault.
 
-ghost use Rattle.std.specs.Prelude.{◌≡◌, IsTrue, List, Some, ℕ};
+ghost use Rattle.std.specs.Prelude.{◌≡◌, IfOk, IsTrue, List, Some, ℕ};
 ghost use Rattle.acpi_base.specs.Memory.{Memory};
+ghost use Rattle.acpi_base.specs.Pptt.{pptt_contents, IsCutPptt, AreReferencesValid};
 ghost use Rattle.acpi_lint.specs.CompleteTables.{AreCompleteTables};
 ghost use Rattle.acpi_lint.specs.HeldStages.{is_held, AreHeld};
 
 use crate::complete_tables::CompleteTables;
+use crate::verdicts::place_of;
 use acpi_base::{Policy, Stage};
-use acpi_check::check_entries;
+use acpi_check::{check_entries, check_references};
 use acpi_read::{MadtEntry, PpttEntry, SratEntry, Table, TableEntry};
+use std::alloc::{AllocError, Global};
 
-/// Whether the stages on entries by themselves hold for a set: each is one pass, and a pass for each code is spared.
+/// Whether the stages with several codes on the entries of a table hold for a set: each is one pass or two, and those
+/// for each code are spared.
 #[derive(Drop)]
 pub struct HeldStages {
     /// That on the MADT.
@@ -19,6 +23,8 @@ pub struct HeldStages {
     srat: bool,
     /// That on the PPTT.
     pptt: bool,
+    /// That on the references of its entries.
+    references: bool,
 }
 
 /// Whether the entries of a table are valid, each by itself, if there is a table.
@@ -32,17 +38,36 @@ fn are_valid<'a, E: TableEntry<'a> + Copy>(policy: &Policy, table: &Option<Table
     }
 }
 
+/// Whether the references of a PPTT's entries are valid, if there is a PPTT. Allocates as the stage does.
+fn are_references_valid(alloc: Global, pptt: &Option<Table<'_>>) -> Result<bool, AllocError>
+    requires { (whole : List ℕ) → pptt.now ≡ Some whole → IsCutPptt (pptt_contents whole) }
+    ensures { IfOk result (λ valid. IsTrue valid → (whole : List ℕ) → pptt.now ≡ Some whole
+        → AreReferencesValid (pptt_contents whole)) }
+{
+    let Some(pptt) = pptt else {
+        return Ok(true);
+    };
+    let place = place_of(check_references(alloc, pptt))?;
+    Ok(place.is_none())
+}
+
 impl HeldStages {
-    /// Which of them hold for the set with these tables.
-    pub fn of(tables: &CompleteTables<'_>, policy: &Policy) -> HeldStages
-        ensures { (m : Memory) → AreCompleteTables m policy.now.rsdp tables.now
-            → AreHeld result m policy.now }
+    /// Which of them hold for the set with these tables. Allocates a bit for each byte of the PPTT, three times.
+    pub fn of(
+        alloc: Global,
+        tables: &CompleteTables<'_>,
+        policy: &Policy,
+    ) -> Result<HeldStages, AllocError>
+        ensures { IfOk result (λ held. (m : Memory) → AreCompleteTables m policy.now.rsdp tables.now
+            → AreHeld held m policy.now) }
     {
-        HeldStages {
+        let pptt = are_valid::<PpttEntry<'_>>(policy, &tables.pptt);
+        Ok(HeldStages {
             madt: are_valid::<MadtEntry<'_>>(policy, &tables.madt),
             srat: are_valid::<SratEntry<'_>>(policy, &tables.srat),
-            pptt: are_valid::<PpttEntry<'_>>(policy, &tables.pptt),
-        }
+            pptt,
+            references: pptt && are_references_valid(alloc, &tables.pptt)?,
+        })
     }
 
     /// Whether a stage is known to hold.
@@ -53,6 +78,7 @@ impl HeldStages {
             Stage::Madt => self.madt,
             Stage::Srat => self.srat,
             Stage::Pptt => self.pptt,
+            Stage::References => self.references,
             _ => false,
         }
     }

@@ -15,7 +15,10 @@ use crate::processors::{CORE_PIC, CORE_PIC_LEN, RINTC, RINTC_LEN, opaque_process
 use acpi_base::field::u32_at;
 use acpi_read::{GICC, GICC_LEN, MadtEntry, Table};
 
-/// The type of an I/O APIC (ACPI 6.5, 5.2.12.3).
+/// The type of a local APIC (ACPI 6.5, 5.2.12.2).
+pub const LOCAL_APIC: u8 = 0;
+
+/// Of an I/O APIC (5.2.12.3).
 pub const IO_APIC: u8 = 1;
 
 /// Of an interrupt source override (5.2.12.5).

@@ -5,7 +5,8 @@ ghost use Rattle.acpi_base.specs.Madt.{madt_contents};
 ghost use Rattle.acpi_read.specs.Madts.{madt_value};
 ghost use Rattle.acpi_read.specs.Entries.{entry_at_value};
 ghost use Rattle.acpi_lint.specs.EntryNumbers.{AreKnown, IsAnyNamed};
-ghost use Rattle.acpi_lint.specs.MadtNumbers.{number_of, HasNumberWith, NamesWith};
+ghost use Rattle.acpi_check.specs.CollectedValues.{Collects};
+ghost use Rattle.acpi_lint.specs.MadtNumbers.{number_of, HasNumberWith, Makes, NamesWith};
 ghost use Rattle.acpi_lint.specs.Numbered.{at_place, AreNumbersAt};
 ghost use Rattle.acpi_lint.specs.Places.{FindsOwn, FindsLeast};
 ghost use Rattle.acpi_lint.specs.Rules.Numbered.{IsNamed, NamesAt, Repeats, numbers_of};
@@ -23,7 +24,7 @@ use crate::place::Place;
 use crate::processors::{
     apic_id_of, gicd, io_apic_id, nonzero_io_apic_address, uid_of, usable_apic_id, usable_uid,
 };
-use acpi_check::{collected, sorted_unique};
+use acpi_check::sorted_unique;
 use acpi_read::{EntryAt, MadtEntry, Table};
 use std::alloc::{AllocError, Global};
 
@@ -167,35 +168,6 @@ pub fn has_number(madt: &Table<'_>, number: MadtNumber) -> bool
     first_number(madt, number, 0).is_some()
 }
 
-/// The numbers of all entries of a MADT that have one. Allocates for each.
-pub fn all_numbers(
-    alloc: Global,
-    madt: &Table<'_>,
-    number: MadtNumber,
-) -> Result<Vec<u64>, AllocError>
-    ensures { IfOk result (λ numbers. numbers.items
-        ≡ numbers_of (number_of number) (madt_contents madt.now).entries) }
-{
-    collected(
-        alloc,
-        madt.entries::<MadtEntry<'_>>(),
-        |at| number.of(&at.entry),
-    )
-}
-
-/// The numbers of all entries of a MADT that have one, in rising order. Allocates for each.
-pub fn rising_numbers(
-    alloc: Global,
-    madt: &Table<'_>,
-    number: MadtNumber,
-) -> Result<Vec<u64>, AllocError>
-    ensures { IfOk result (λ known. AreKnown
-        (IsNamed (number_of number) (madt_contents madt.now).entries) known.items) }
-{
-    let numbers = all_numbers(alloc, madt, number)?;
-    sorted_unique(numbers)
-}
-
 /// The number of an entry at the entry's offset.
 #[inline(always)]
 fn number_at(number: MadtNumber, at: &EntryAt<MadtEntry<'_>>) -> Option<Numbered>
@@ -210,6 +182,55 @@ fn number_at(number: MadtNumber, at: &EntryAt<MadtEntry<'_>>) -> Option<Numbered
     })
 }
 
+/// What `make` returns for the number of each entry of a MADT that has one, at the entry's offset. Allocates for each.
+// Not by `collected`: in a function that is passed to it, the kind of number would be told apart for each entry.
+#[inline(always)]
+fn made_of_numbers<T: Drop, F: Fn(Numbered) -> T>(
+    alloc: Global,
+    madt: &Table<'_>,
+    number: MadtNumber,
+    make: F,
+) -> Result<Vec<T>, AllocError>
+    requires { (numbered : Numbered) → F.pre make numbered }
+    ensures { IfOk result (λ made. Collects (Makes (number_of number) (F.post make))
+        (madt_contents madt.now).entries made.items) }
+{
+    let mut made = Vec::new(alloc);
+    for at in madt.entries::<MadtEntry<'_>>() {
+        if let Some(numbered) = number_at(number, &at) {
+            made.push(make(numbered))?;
+        }
+    }
+    Ok(made)
+}
+
+/// The numbers of all entries of a MADT that have one. Allocates for each.
+#[inline(always)]
+pub fn all_numbers(
+    alloc: Global,
+    madt: &Table<'_>,
+    number: MadtNumber,
+) -> Result<Vec<u64>, AllocError>
+    ensures { IfOk result (λ numbers. numbers.items
+        ≡ numbers_of (number_of number) (madt_contents madt.now).entries) }
+{
+    made_of_numbers(alloc, madt, number, |numbered| numbered.number)
+}
+
+/// The numbers of all entries of a MADT that have one, in rising order. Allocates for each.
+#[inline(always)]
+pub fn rising_numbers(
+    alloc: Global,
+    madt: &Table<'_>,
+    number: MadtNumber,
+) -> Result<Vec<u64>, AllocError>
+    ensures { IfOk result (λ known. AreKnown
+        (IsNamed (number_of number) (madt_contents madt.now).entries) known.items) }
+{
+    let numbers = all_numbers(alloc, madt, number)?;
+    sorted_unique(numbers)
+}
+
 /// The numbers of all entries of a MADT that have one, each at its entry's offset. Allocates for each.
 #[inline(always)]
 fn numbers_at(
@@ -220,11 +241,7 @@ fn numbers_at(
     ensures { IfOk result (λ given. AreNumbersAt
         (NamesAt (number_of number) (madt_contents madt.now).entries) given.items) }
 {
-    collected(
-        alloc,
-        madt.entries::<MadtEntry<'_>>(),
-        |at| number_at(number, at),
-    )
+    made_of_numbers(alloc, madt, number, |numbered| numbered)
 }
 
 /// The first entry of a MADT that has the number of an earlier one; `other` is the first that has it, and `point` the

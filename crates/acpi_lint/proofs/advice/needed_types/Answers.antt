@@ -8,7 +8,8 @@ use Rattle.acpi_lint.specs.Rules.GicRanges.{IsGicOverlap}
 use Rattle.acpi_lint.specs.Rules.MadtAdvice.{io_apic_id, nonzero_io_apic_address, IsIoApicAtZero, IsNmiNowhere, gicd, IsMadtUnread}
 use Rattle.acpi_lint.specs.Rules.Numbered.{HasNumber}
 use Rattle.acpi_lint.specs.Rules.PpttAdvice.{IsLeafNowhere}
-use Rattle.acpi_lint.proofs.NeededTypes.{sci_io_apic, zero_of_io_apic, id_of_io_apic, nonzero_of_io_apic, past_override, timer_of_override, two_overrides, nmi_somewhere, lint_of_nmi, low_x2apic, source_typed, madt_needs, entries_need, number_needs, fadt_madt_needs, madt_pptt_needs, field_typed, is_empty_gicr, empty_type, mpidr_type, its_type, msi_frame_type, gicd_typed, hart_typed, reserved_typed, unread_typed, overlap_typed, interface_typed, no_redistributor_typed, too_small_typed, base_typed, twice_typed, leaf_typed, arch_typed, giccs_typed}
+use Rattle.acpi_lint.specs.Rules.Processors.{usable_apic_id, usable_uid}
+use Rattle.acpi_lint.proofs.NeededTypes.{sci_io_apic, zero_of_io_apic, id_of_io_apic, nonzero_of_io_apic, past_override, timer_of_override, two_overrides, nmi_somewhere, lint_of_nmi, low_x2apic, source_typed, madt_needs, entries_need, number_needs, fadt_madt_needs, madt_pptt_needs, field_typed, is_empty_gicr, empty_type, mpidr_type, its_type, msi_frame_type, gicd_typed, hart_typed, reserved_typed, unread_typed, overlap_typed, interface_typed, no_redistributor_typed, too_small_typed, base_typed, twice_typed, leaf_typed, uid_typed, apic_id_typed, arch_typed, giccs_typed}
 use Rattle.acpi_lint.proofs.advice.needed_types.Goals as goal
 
 pub returns-in-SecondGicd : goal.returns-in-SecondGicd
@@ -126,3 +127,11 @@ returns-in-X2ApicBelow255 c = rw c.in-X2ApicBelow255.is
 pub returns-in-NoIoApic : goal.returns-in-NoIoApic
 returns-in-NoIoApic c = rw c.in-NoIoApic.is
     (madt_needs (2 ∷ 3 ∷ []) IsNoIoApic source_typed)
+
+pub returns-in-SameUid : goal.returns-in-SameUid
+returns-in-SameUid c = rw c.in-SameUid.is
+    (number_needs (0 ∷ 9 ∷ 11 ∷ 17 ∷ 24 ∷ []) usable_uid uid_typed)
+
+pub returns-in-SameApicId : goal.returns-in-SameApicId
+returns-in-SameApicId c = rw c.in-SameApicId.is
+    (number_needs (0 ∷ 9 ∷ 17 ∷ []) usable_apic_id apic_id_typed)
