@@ -1,12 +1,13 @@
 #!/usr/bin/env python3
-"""Measures how the processor's time of the tools in user mode grows: on an input that is twice as large, a tool takes at most 2.5 times as
-long. That holds on a slow machine too, which a number of seconds, or a number of times that of `acpiset`, does not. On each input of
+"""Measures how the processor's time of the tools in user mode grows: on an input that is four times as large, a tool takes at most 6.25 times
+as long, which is 2.5 times for each doubling. That holds on a slow machine too, which a number of seconds, or a number of times that of
+`acpiset`, does not; and on one that other programs keep busy, where two runs of the same program differ by up to a half. On each input of
 tests/tools/hostile.py a tool also keeps the bounds of SECURITY.md: of time, of which the slowest one takes some four fifths on the
 machine of bench/README.md, of memory, and of what it writes.
 
 usage: times.py PROGRAM [--long]; the last line is 'times of the tools: N passed, M failed'. tests/all.sh runs this alone: a processor that
 other programs keep busy is slower, and not by the same factor for each run. A hostile input is doubled until a tool takes a third of a
-second for half of it; with --long, more than a second, which takes some minutes."""
+second for a quarter of it; with --long, more than a second, which takes some minutes."""
 
 import os
 import re
@@ -27,10 +28,12 @@ from files import dump_of
 from memory_dumps import small_set
 
 TOOLS = TESTS.parent / "tools"
-MOST_TIMES = 2.5
+# By how much an input is larger than its part, and how many times as long a tool takes at most for it: 2.5 times for each doubling.
+LARGER = 4
+MOST_TIMES = 2.5**2
 # Of so many runs the fastest counts: what else a machine does makes a run slower, never faster.
 RUNS = 3
-# What a tool takes for half of an input whose growth is measured, if an input that large can be made.
+# What a tool takes for a quarter of an input whose growth is measured, if an input that large can be made.
 MEASURED, MEASURED_LONG = 0.33, 1.0
 FIRST_SIZE, LAST_SIZE = 250_000, 16_000_000
 
@@ -157,43 +160,43 @@ class Times(Tests):
         self.count(given.name, told and f"{told}, on {size / 1e6:.1f} MB")
 
     def measured_size(self, make, seconds):
-        """The first size for which a tool takes as long, or the half of the largest one."""
+        """The first size for which a tool takes as long, or a quarter of the largest one."""
         size, last = hostile.FIRST_SIZES.get(make, FIRST_SIZE), hostile.LAST_SIZES.get(make, LAST_SIZE)
-        while 4 * size <= last:
+        while 2 * LARGER * size <= last:
             with Hostile(make, size) as given:
                 if given.run(self.environment())[1] >= seconds:
                     break
             size *= 2
         return size
 
-    def doubles(self, make, seconds):
-        """The time on a hostile input beside that on one of half its size, of the fastest of some runs where one is not enough."""
+    def grows_on(self, make, seconds):
+        """The time on a hostile input beside that on one of a quarter of its size, of the fastest of some runs where one is not enough."""
         size = self.measured_size(make, seconds)
-        with Hostile(make, size) as one, Hostile(make, 2 * size) as other:
-            half, whole = one.fastest(self.environment(), 2), other.fastest(self.environment(), 1)
-            if whole > MOST_TIMES * half:
-                half, whole = one.fastest(self.environment(), RUNS), other.fastest(self.environment(), RUNS)
-        told = f"{half:.2f} s, and {whole:.2f} s on {other.size / 1e6:.1f} MB, which are twice as much"
-        self.count(f"growth of {one.name}", whole > MOST_TIMES * half and told)
+        with Hostile(make, size) as one, Hostile(make, LARGER * size) as other:
+            part, whole = one.fastest(self.environment(), 2), other.fastest(self.environment(), 1)
+            if whole > MOST_TIMES * part:
+                part, whole = one.fastest(self.environment(), RUNS), other.fastest(self.environment(), RUNS)
+        told = f"{part:.2f} s, and {whole:.2f} s on {other.size / 1e6:.1f} MB, which are {LARGER} times as much"
+        self.count(f"growth of {one.name}", whole > MOST_TIMES * part and told)
 
     def grows(self, name, time, make, size):
-        """The time on what is made of twice this size, beside that on what is made of it."""
-        half, whole = time(make(size)), time(make(2 * size))
-        self.count(name, whole > MOST_TIMES * half and f"{half:.2f} s, and {whole:.2f} s on twice as much")
+        """The time on what is made of this size, beside that on what is made of a quarter of it."""
+        part, whole = time(make(size // LARGER)), time(make(size))
+        self.count(name, whole > MOST_TIMES * part and f"{part:.2f} s, and {whole:.2f} s on {LARGER} times as much")
 
 
 def main():
     with tempfile.TemporaryDirectory() as scratch:
         times = Times(os.path.realpath(sys.argv[1]), scratch)
-        times.grows("explain, pieces", times.explain, image_of_pieces, 100_000)
-        times.grows("explain, nodes", times.explain, image_of_nodes, 50_000)
-        times.grows("explain, UIDs", times.explain, image_of_uids, 50_000)
-        times.grows("acpidump2image", lambda data: times.convert("acpidump2image", data), dump_of_tables, 10_000)
-        times.grows("acpidump2image, addresses of 0", lambda data: times.convert("acpidump2image", data), dump_of_zeros, 10_000)
-        times.grows("memory2image", lambda data: times.convert("memory2image", data), memory_of, 64 << 20)
+        times.grows("explain, pieces", times.explain, image_of_pieces, 400_000)
+        times.grows("explain, nodes", times.explain, image_of_nodes, 200_000)
+        times.grows("explain, UIDs", times.explain, image_of_uids, 200_000)
+        times.grows("acpidump2image", lambda data: times.convert("acpidump2image", data), dump_of_tables, 40_000)
+        times.grows("acpidump2image, addresses of 0", lambda data: times.convert("acpidump2image", data), dump_of_zeros, 40_000)
+        times.grows("memory2image", lambda data: times.convert("memory2image", data), memory_of, 256 << 20)
         for make in hostile.INPUTS:
             times.is_bounded(make)
-            times.doubles(make, MEASURED_LONG if "--long" in sys.argv[2:] else MEASURED)
+            times.grows_on(make, MEASURED_LONG if "--long" in sys.argv[2:] else MEASURED)
     finish("times of the tools", times)
 
 

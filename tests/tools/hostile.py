@@ -236,7 +236,7 @@ INPUTS = [
     page_of_slots, lines_like_none,
 ]
 # The first size at which growth is measured where it is not the usual one: a square shows only with many tables.
-FIRST_SIZES = {falling_addresses: 19_000_000}
+FIRST_SIZES = {falling_addresses: 9_500_000}
 # The last size that a tool takes: more tables are refused, and the system refuses more words.
 LAST_SIZES = {
     tables_without_rows: 1_000_000, short_tables: 2_000_000, twins: 2_000_000, falling_addresses: 38_000_000, words_of_a_line: 4_000_000,
