@@ -87,6 +87,9 @@ fn is_capable_only(flags: u32, bit: u32) -> bool
     !is_set(flags, 0) && is_set(flags, bit)
 }
 
+/// The minor version of ACPI 6 since which all processors that have the bit may be so.
+const ALL_CAPABLE: u8 = 5;
+
 /// Of an entry with such flags, the minor version of ACPI 6 since which they may be so.
 fn capable_since(entry: &MadtEntry<'_>) -> Option<u8>
     ensures { result ≡ capable_since (madt_value entry.now) }
@@ -95,7 +98,7 @@ fn capable_since(entry: &MadtEntry<'_>) -> Option<u8>
         MadtEntry::LocalApic(processor) => is_capable_only(processor.flags, 1).then_some(3),
         MadtEntry::X2apic(processor) => is_capable_only(processor.flags, 1).then_some(3),
         MadtEntry::Opaque(bytes) => {
-            (is_gicc(bytes) && is_capable_only(u32_at(bytes, 12), 3)).then_some(5)
+            (is_gicc(bytes) && is_capable_only(u32_at(bytes, 12), 3)).then_some(ALL_CAPABLE)
         }
         _ => None,
     }
@@ -115,6 +118,9 @@ fn too_early(fadt: &Fadt<'_>, at: &EntryAt<MadtEntry<'_>>) -> Option<Place>
 pub fn capable_too_early(fadt: &Fadt<'_>, madt: &Table<'_>) -> Option<Place>
     ensures { FindsLeast (IsCapableTooEarly fadt.now (madt_contents madt.now)) result }
 {
+    if !is_older(fadt, 6, ALL_CAPABLE) {
+        return None;
+    }
     first_picked(madt.entries::<MadtEntry<'_>>(), |at| too_early(fadt, at))
 }
 

@@ -20,7 +20,8 @@ loop-at-preserved-in-Continue-1 g c =
 pub loop-at-preserved : goal.loop-at-preserved
 loop-at-preserved g c =
     one_passed (rw c.in-Some.ensures.steps.0 at c.loop-at.invariant)
-    (makes_none (goal.F-post g c.args.make) (number_of c.args.number) (entry_at_value madt_value c.in-Some.at) c.in_default.ensures)
+    (makes_none (goal.F-post g c.args.make) (number_of c.args.number) (entry_at_value madt_value c.in-Some.at)
+    c.in_default.ensures)
 
 pub returns : goal.returns
 returns g c = all_collected c.loop-at.invariant c.in-None.ensures.steps.0
