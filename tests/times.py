@@ -1,7 +1,6 @@
 #!/usr/bin/env python3
-"""Measures how the processor's time of the tools in user mode grows: on an input that is four times as large, a tool takes at most 6.25 times
-as long, which is 2.5 times for each doubling. That holds on a slow machine too, which a number of seconds, or a number of times that of
-`acpiset`, does not; and on one that other programs keep busy, where two runs of the same program differ by up to a half. On each input of
+"""Measures how the processor's time of the tools in user mode grows: on an input that is four times as large, a tool takes at most 5.7 times
+as long. That holds on a slow machine too, which a number of seconds, or a number of times that of `acpiset`, does not. On each input of
 tests/tools/hostile.py a tool also keeps the bounds of SECURITY.md: of time, of which the slowest one takes some four fifths on the
 machine of bench/README.md, of memory, and of what it writes.
 
@@ -28,9 +27,10 @@ from files import dump_of
 from memory_dumps import small_set
 
 TOOLS = TESTS.parent / "tools"
-# By how much an input is larger than its part, and how many times as long a tool takes at most for it: 2.5 times for each doubling.
-LARGER = 4
-MOST_TIMES = 2.5**2
+# By how much an input is larger than its part, and how many times as long a tool takes at most for it. A time that has a linear part, and
+# on the whole input a square part of two thirds of that, is 5.7 times as long. It is only 2.5 times as long as on half of the input, which
+# two runs of one program on a busy machine may differ by.
+LARGER, MOST_TIMES = 4, 5.7
 # Of so many runs the fastest counts: what else a machine does makes a run slower, never faster.
 RUNS = 3
 # What a tool takes for a quarter of an input whose growth is measured, if an input that large can be made.
@@ -78,6 +78,13 @@ class Hostile:
     def fastest(self, environment, runs):
         """The time in user mode of the fastest of so many runs."""
         return min(self.run(environment)[1] for _ in range(runs))
+
+    def start(self, environment):
+        """That of the fastest of some runs of the tool on nothing."""
+        words, self.words = self.words, ["--help"]
+        seconds = self.fastest(environment, RUNS)
+        self.words = words
+        return seconds
 
 
 def image_of_pieces(count):
@@ -170,12 +177,14 @@ class Times(Tests):
         return size
 
     def grows_on(self, make, seconds):
-        """The time on a hostile input beside that on one of a quarter of its size, of the fastest of some runs where one is not enough."""
+        """The time on a hostile input beside that on one of a quarter of its size, without what the tool takes to start, of the fastest of
+        some runs where one is not enough."""
         size = self.measured_size(make, seconds)
         with Hostile(make, size) as one, Hostile(make, LARGER * size) as other:
-            part, whole = one.fastest(self.environment(), 2), other.fastest(self.environment(), 1)
+            start = one.start(self.environment())
+            part, whole = one.fastest(self.environment(), 2) - start, other.fastest(self.environment(), 1) - start
             if whole > MOST_TIMES * part:
-                part, whole = one.fastest(self.environment(), RUNS), other.fastest(self.environment(), RUNS)
+                part, whole = one.fastest(self.environment(), RUNS) - start, other.fastest(self.environment(), RUNS) - start
         told = f"{part:.2f} s, and {whole:.2f} s on {other.size / 1e6:.1f} MB, which are {LARGER} times as much"
         self.count(f"growth of {one.name}", whole > MOST_TIMES * part and told)
 
@@ -193,7 +202,7 @@ def main():
         times.grows("explain, UIDs", times.explain, image_of_uids, 200_000)
         times.grows("acpidump2image", lambda data: times.convert("acpidump2image", data), dump_of_tables, 40_000)
         times.grows("acpidump2image, addresses of 0", lambda data: times.convert("acpidump2image", data), dump_of_zeros, 40_000)
-        times.grows("memory2image", lambda data: times.convert("memory2image", data), memory_of, 256 << 20)
+        times.grows("memory2image", lambda data: times.convert("memory2image", data), memory_of, 128 << 20)
         for make in hostile.INPUTS:
             times.is_bounded(make)
             times.grows_on(make, MEASURED_LONG if "--long" in sys.argv[2:] else MEASURED)

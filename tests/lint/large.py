@@ -1,11 +1,19 @@
+#!/usr/bin/env python3
 """`check` and `lint` on tables of up to a million entries, clean or all at fault, of each of which they gather a number, and on a set of
 many slots, unsorted, that list tables each in its own segment of the image. A rule that gave up on this many would be out of memory by
-its contract, and one that looked through all of them for each one would not end, so only these sets show it."""
+its contract, and one that looked through all of them for each one would not end, so only these sets show it.
+
+usage: large.py PROGRAM; the last line is 'lint of large sets: N passed, M failed'. It also compares the times of both commands, so
+tests/all.sh runs this alone."""
 
 import random
 import struct
+import sys
+from pathlib import Path
 
-from acpi_images.program import timed
+sys.path.insert(0, str(Path(__file__).resolve().parents[1]))
+
+from acpi_images.program import main, timed
 from acpi_images.tables import *
 from acpi_images.text import text_of
 
@@ -59,7 +67,8 @@ def io_apics():
 
 
 def x2apics():
-    """x2APICs whose UIDs and IDs are in no order, and the last of which has the UID and the ID of the first."""
+    """x2APICs whose UIDs and IDs are in no order: all differ, the last one has those of the first, each occurs twice, or they differ by
+    multiples of the number by which `lint` takes remainders."""
     entry = struct.Struct("<BBHIII")
     ids, uids = (random.Random(seed).sample(range(2**32 - 1), COUNT) for seed in (3, 4))
     alike = [entry.pack(9, 16, 0, apic_id, 1, uid) for apic_id, uid in zip(ids, uids)]
@@ -68,6 +77,11 @@ def x2apics():
     yield "the last", madt(*alike[:-1], alike[0]), advised(*repeated(44 + 16 * LAST))
     half = COUNT // 2
     yield "each twice", madt(*alike[:half], *alike[:half]), advised(*repeated(44 + 16 * half))
+    modulus = 16 * COUNT + 1
+    multiples = range(0, 2**32 - modulus, modulus)
+    same = [rest + multiple for rest in range(COUNT // len(multiples) + 1) for multiple in multiples]
+    ids, uids = (random.Random(seed).sample(same, COUNT) for seed in (5, 6))
+    yield "with the same remainders", madt(*(entry.pack(9, 16, 0, apic_id, 1, uid) for apic_id, uid in zip(ids, uids))), advised()
 
 
 def unread_entries():
@@ -224,17 +238,25 @@ def large_sets():
             yield f"{made.__name__}, {name}", tables, lines, place == 0
 
 
+# Of so many runs the fastest counts: what else a machine does makes a run slower, never faster.
+RUNS = 3
+
+
+def fastest(cases, name, words, text, lines):
+    """Compares what a command writes, and returns the processor time of the fastest of some runs."""
+    return min(timed(lambda: cases.writes(name, words, text, lines))[1] for _ in range(RUNS))
+
+
 # `lint` of many entries may take this many times the processor time of `check` of the first set of its kind, and this many seconds more.
-TIMES_OF_ENTRIES, MORE_OF_ENTRIES = 4, 0.3
+TIMES_OF_ENTRIES, MORE_OF_ENTRIES = 4, 0.1
 
 
 def many_entries(cases):
     for name, tables, lines, is_first in large_sets():
         text = text_with(*tables)
-        asks = lambda command, due: cases.writes(f"{command} on many entries, {name}", command, text, due)
         if is_first:
-            _, checked = timed(lambda: asks("check", lines[:1]))
-        _, linted = timed(lambda: asks("lint", lines))
+            checked = fastest(cases, f"check on many entries, {name}", "check", text, lines[:1])
+        linted = fastest(cases, f"lint on many entries, {name}", "lint", text, lines)
         slow = linted > TIMES_OF_ENTRIES * checked + MORE_OF_ENTRIES
         cases.count(f"time with many entries, {name}", f"{linted} seconds, and check {checked}" if slow else "")
 
@@ -261,9 +283,8 @@ def listed_in_no_order():
 def many_slots(cases):
     pieces, lines, _ = listed_in_no_order()
     text = text_of(pieces)
-    asks = lambda command, due: cases.writes(f"{command} on {SLOTS} slots", f"{command} --rsdp e0000", text, due)
-    _, checked = timed(lambda: asks("check", lines[:1]))
-    _, linted = timed(lambda: asks("lint", lines))
+    checked = fastest(cases, f"check on {SLOTS} slots", "check --rsdp e0000", text, lines[:1])
+    linted = fastest(cases, f"lint on {SLOTS} slots", "lint --rsdp e0000", text, lines)
     slow = linted > TIMES * checked + MORE
     cases.count(f"time with {SLOTS} slots", f"{linted} seconds, and check {checked}" if slow else "")
 
@@ -286,3 +307,7 @@ def two_roots():
 def many_slots_of_two_roots(cases):
     for name, pieces, lines in two_roots():
         cases.writes(f"lint on {SLOTS} slots, {name}", "lint --rsdp e0000", text_of(pieces), lines)
+
+
+if __name__ == "__main__":
+    main("lint of large sets", many_entries, many_slots, many_slots_of_two_roots)

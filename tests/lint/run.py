@@ -20,7 +20,6 @@ from acpi_images.known.linted import EXPECTED
 from acpi_images.known.mistakes import MISTAKES, UNCHANGED
 from acpi_images.program import beside, firmware_text, main, refusal
 from acpi_images.text import read, text_of
-from large import many_entries, many_slots, many_slots_of_two_roots
 from sets import AT_SEED, by_hand, of_other_tests
 
 # Cases that are run with --strict too, by their names, and the status.
@@ -148,4 +147,4 @@ def judged_by_hand(cases):
             cases.count(name, f"{line} is a fault: {is_fault}, judged {lines}" if wrong else "")
 
 
-main("lint", linted_sets, strict, allowed, refused, mistakes, judged_by_hand, many_entries, many_slots, many_slots_of_two_roots)
+main("lint", linted_sets, strict, allowed, refused, mistakes, judged_by_hand)

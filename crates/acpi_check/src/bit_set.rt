@@ -39,7 +39,10 @@ impl BitSet {
         }
     }
 
-    /// The set of these numbers. Allocates for the bits up to the largest of them.
+    /// The set of these numbers.
+    ///
+    /// Refuses with `AllocError` if out of memory: it allocates a byte for each 8 numbers up to the largest of them, or
+    /// twice as many.
     pub fn of(alloc: Global, numbers: &[u64]) -> Result<BitSet, AllocError>
         ensures { IfOk result (λ set. (n : ℕ) → IsIn set n ↔ Contains numbers.now n) }
     {
@@ -50,7 +53,10 @@ impl BitSet {
         Ok(set)
     }
 
-    /// Adds a number. Allocates for the bits up to it, if none above it was added before.
+    /// Adds a number.
+    ///
+    /// Refuses with `AllocError` if out of memory: if none above it was added before, it allocates a byte for each 8
+    /// numbers up to it, or twice as many.
     pub fn add(&mut self, number: u64) -> Result<(), AllocError>
         ensures { OnOk result (Adds true number self.old self.new) }
     {

@@ -14,8 +14,7 @@ use std::alloc::{AllocError, Global};
 /// are those of a MADT (ACPI 6.5, 5.2.12), an SRAT (5.2.16) or a PPTT (5.2.30).
 ///
 /// Refuses with `AllocError` if out of memory: it allocates for each value.
-// Inlined, so that what a caller passes to `pick` for all entries, such as a kind of number, is tested once and not for
-// each entry.
+// Inlined, so that a `pick` that is passed in one place alone is inlined too, and not called for each entry.
 #[inline(always)]
 pub fn collected<'a, E: TableEntry<'a> + Copy, T: Drop, F: Fn(&EntryAt<E>) -> Option<T>>(
     alloc: Global,

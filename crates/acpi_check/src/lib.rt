@@ -11,8 +11,9 @@
 //!
 //! The finders of stages that have one code are public: `check_interrupts`, `check_overrides`, `check_ranges`,
 //! `first_cycle`, `check_domains`, `check_served` and `check_leaves` require nothing of earlier stages, and may be
-//! called on any table. Public too are the functions that read an entry of a PPTT (`named_offset`, `first_dangling`),
-//! `collected`, which gathers values, and the searches that look them up.
+//! called on any table. So may `check_entries`, stages 6, 9 and 12; `check_references`, stage 13, requires that stage 12
+//! holds for the table. Public too are the functions that read an entry of a PPTT (`named_offset`, `first_dangling`),
+//! `collected`, which gathers values, the searches that look them up, and `BitSet`.
 //!
 //! An example, from `crates/acpi_cli/src/check.rt`, where the set at an address is checked under a policy up to a
 //! stage:

@@ -152,8 +152,11 @@ fn first_fault(places: &Places, pptt: &Table<'_>) -> Result<(), Refusal>
     Ok(())
 }
 
-/// Whether there is an entry at each offset that a PPTT's entries refer to, of the required kind. The first fault is
-/// at the offset of the entry with the reference. Allocates a bit for each byte of the table, three times.
+/// Whether there is an entry at each offset that a PPTT's entries refer to, of the required kind. Stage 12 has to hold
+/// for the table. The first fault is at the offset of the entry with the reference.
+///
+/// Refuses with `Refusal::OutOfMemory` if out of memory: it allocates a bit or two for each byte of the table, three
+/// times.
 pub fn check_references(alloc: Global, pptt: &Table<'_>) -> Result<(), Refusal>
     requires { IsCutPptt (pptt_contents pptt.now) }
     ensures { FindsFirst Stage.References (AreReferencesValid (pptt_contents pptt.now))

@@ -87,8 +87,9 @@ fn is_capable_only(flags: u32, bit: u32) -> bool
     !is_set(flags, 0) && is_set(flags, bit)
 }
 
-/// The minor version of ACPI 6 since which all processors that have the bit may be so.
-const ALL_CAPABLE: u8 = 5;
+/// The latest minor version of ACPI 6 in which a kind of processor got the bit: a FADT of this version is too old for
+/// none.
+const LAST_CAPABLE: u8 = 5;
 
 /// Of an entry with such flags, the minor version of ACPI 6 since which they may be so.
 fn capable_since(entry: &MadtEntry<'_>) -> Option<u8>
@@ -98,7 +99,7 @@ fn capable_since(entry: &MadtEntry<'_>) -> Option<u8>
         MadtEntry::LocalApic(processor) => is_capable_only(processor.flags, 1).then_some(3),
         MadtEntry::X2apic(processor) => is_capable_only(processor.flags, 1).then_some(3),
         MadtEntry::Opaque(bytes) => {
-            (is_gicc(bytes) && is_capable_only(u32_at(bytes, 12), 3)).then_some(ALL_CAPABLE)
+            (is_gicc(bytes) && is_capable_only(u32_at(bytes, 12), 3)).then_some(LAST_CAPABLE)
         }
         _ => None,
     }
@@ -113,12 +114,12 @@ fn too_early(fadt: &Fadt<'_>, at: &EntryAt<MadtEntry<'_>>) -> Option<Place>
     is_older(fadt, 6, minor).then_some(version_at(fadt, at.offset))
 }
 
-/// The first entry that is Online Capable and not Enabled, with the FADT's version, if the FADT
-/// is older than that flag.
+/// The first entry that is Online Capable and not Enabled, with the FADT's version, if the FADT is older than that flag.
+/// It looks at no entry if the FADT is older than none.
 pub fn capable_too_early(fadt: &Fadt<'_>, madt: &Table<'_>) -> Option<Place>
     ensures { FindsLeast (IsCapableTooEarly fadt.now (madt_contents madt.now)) result }
 {
-    if !is_older(fadt, 6, ALL_CAPABLE) {
+    if !is_older(fadt, 6, LAST_CAPABLE) {
         return None;
     }
     first_picked(madt.entries::<MadtEntry<'_>>(), |at| too_early(fadt, at))

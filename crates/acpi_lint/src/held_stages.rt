@@ -1,4 +1,4 @@
-//! Stages that hold for a set, whatever others find. No code of theirs has a fault.
+//! Stages that are known to hold for a set. No code of theirs has a fault.
 
 ghost use Rattle.std.specs.Prelude.{◌≡◌, IfOk, IsTrue, List, Some, ℕ};
 ghost use Rattle.acpi_base.specs.Memory.{Memory};
@@ -13,8 +13,8 @@ use acpi_check::{check_entries, check_references};
 use acpi_read::{MadtEntry, PpttEntry, SratEntry, Table, TableEntry};
 use std::alloc::{AllocError, Global};
 
-/// Whether the stages with several codes on the entries of a table hold for a set: each is one pass or two, and those
-/// for each code are spared.
+/// Whether the stages with several codes on the entries of a table hold for a set. One or two passes for a stage that
+/// holds replace those for each of its codes.
 #[derive(Drop)]
 pub struct HeldStages {
     /// That on the MADT.
@@ -23,7 +23,7 @@ pub struct HeldStages {
     srat: bool,
     /// That on the PPTT.
     pptt: bool,
-    /// That on the references of its entries.
+    /// Stage 13, on the references of its entries; false where that on the PPTT does not hold.
     references: bool,
 }
 
@@ -38,7 +38,8 @@ fn are_valid<'a, E: TableEntry<'a> + Copy>(policy: &Policy, table: &Option<Table
     }
 }
 
-/// Whether the references of a PPTT's entries are valid, if there is a PPTT. Allocates as the stage does.
+/// Whether the references of a PPTT's entries are valid, if there is a PPTT. Refuses if out of memory: it allocates as
+/// the stage does.
 fn are_references_valid(alloc: Global, pptt: &Option<Table<'_>>) -> Result<bool, AllocError>
     requires { (whole : List ℕ) → pptt.now ≡ Some whole → IsCutPptt (pptt_contents whole) }
     ensures { IfOk result (λ valid. IsTrue valid → (whole : List ℕ) → pptt.now ≡ Some whole
@@ -52,7 +53,7 @@ fn are_references_valid(alloc: Global, pptt: &Option<Table<'_>>) -> Result<bool,
 }
 
 impl HeldStages {
-    /// Which of them hold for the set with these tables. Allocates a bit for each byte of the PPTT, three times.
+    /// Which of them hold for the set with these tables. Refuses if out of memory: it allocates as stage 13 does.
     pub fn of(
         alloc: Global,
         tables: &CompleteTables<'_>,

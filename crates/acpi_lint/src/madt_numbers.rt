@@ -183,7 +183,7 @@ fn number_at(number: MadtNumber, at: &EntryAt<MadtEntry<'_>>) -> Option<Numbered
 }
 
 /// What `make` returns for the number of each entry of a MADT that has one, at the entry's offset. Allocates for each.
-// Not by `collected`: in a function that is passed to it, the kind of number would be told apart for each entry.
+// Not by `collected`: a function that is passed to it for several kinds of numbers would tell them apart for each entry.
 #[inline(always)]
 fn made_of_numbers<T: Drop, F: Fn(Numbered) -> T>(
     alloc: Global,

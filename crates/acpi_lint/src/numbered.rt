@@ -116,8 +116,8 @@ pub fn first_unlike(mut given: Vec<Numbered>, order: Order) -> Result<Option<Pla
     Ok(least_unlike(&given, order))
 }
 
-/// Whether one gives its number the value that another one gives it, at the same place or before.
-fn is_repeat(one: &Numbered, earlier: &Numbered) -> bool
+/// Whether one gives its number the value that an earlier one gives it, at the same place or before.
+fn is_repeat(earlier: &Numbered, one: &Numbered) -> bool
     ensures { IsTrue result ↔ IsRepeat earlier.now one.now }
 {
     one.number == earlier.number && one.value == earlier.value && earlier.at <= one.at
@@ -126,7 +126,8 @@ fn is_repeat(one: &Numbered, earlier: &Numbered) -> bool
 /// How many values `without_repeats` tells apart: as many as a byte has, such as the Source of an override.
 const VALUES: u64 = 256;
 
-/// Leaves out each that repeats the last one kept whose value has the same lowest byte. Allocates for the others.
+/// Leaves out each that repeats the last one kept whose value has the same lowest byte. Refuses if out of memory: it
+/// allocates for the others.
 fn without_repeats(alloc: Global, given: &[Numbered]) -> Result<Vec<Numbered>, AllocError>
     ensures { IfOk result (λ kept. AreThinned given.now kept.items) }
 {
@@ -138,7 +139,7 @@ fn without_repeats(alloc: Global, given: &[Numbered]) -> Result<Vec<Numbered>, A
     let mut last = [*first; VALUES as usize];
     for one in given {
         let value = (one.value % VALUES) as usize;
-        if !is_repeat(one, &last[value]) {
+        if !is_repeat(&last[value], one) {
             last[value] = *one;
             kept.push(*one)?;
         }
@@ -146,28 +147,32 @@ fn without_repeats(alloc: Global, given: &[Numbered]) -> Result<Vec<Numbered>, A
     Ok(kept)
 }
 
-/// Leaves out most of those that repeat an earlier one's value, unless there are few. Allocates for the others.
+/// Leaves out the same, unless there are few, all of which are kept. Refuses if out of memory: it allocates for the
+/// others.
 pub fn thinned(alloc: Global, given: Vec<Numbered>) -> Result<Vec<Numbered>, AllocError>
     ensures { IfOk result (λ kept. AreThinned given.items kept.items) }
 {
-    // For a set of firmware, clearing 6 KiB would take as long as all finders.
+    // For a set of firmware, filling 6 KiB would take as long as all finders.
     if given.len() <= FEW {
         return Ok(given);
     }
     without_repeats(alloc, &given)
 }
 
-/// By what the remainders of so many numbers are taken: 16 times as many, of at most 2^27, and one more. It is odd, so
-/// that numbers whose difference is a power of 2 have different remainders.
+/// How many remainders there are for each number. Of different random numbers, half of one in so many share one.
+const SPREAD: usize = 16;
+
+/// The modulus for the remainders of so many numbers: `SPREAD` times as many, of at most 2^27, which bounds the sets of
+/// remainders, and one more. It is odd, so that numbers whose difference is a power of 2 have different remainders.
 fn modulus_of(len: usize) -> u64
     ensures { 0 < result }
 {
-    (len as u64).min(1 << 27) * 16 + 1
+    (len.min(1 << 27) * SPREAD) as u64 + 1
 }
 
 /// The remainders that several of the first numbers have, and how many the first are: all, or those up to where more
-/// than `FEW` and a sixteenth of them have the remainder of an earlier one, as half as many of different random numbers
-/// have. Allocates two sets of a bit or two for each remainder.
+/// than `FEW` and one in `SPREAD` have the remainder of an earlier one, of which half as many do if they are different
+/// random numbers. Refuses if out of memory: it allocates two sets of a bit or two for each remainder.
 fn shared_remainders(
     alloc: Global,
     given: &[Numbered],
@@ -181,7 +186,7 @@ fn shared_remainders(
     let mut shared = BitSet::of(alloc, &[])?;
     let mut again = 0;
     for count in 0..given.len() {
-        if again > count / 16 + FEW {
+        if again > count / SPREAD + FEW {
             return Ok((shared, count));
         }
         let remainder = given[count].number % modulus;
@@ -196,7 +201,7 @@ fn shared_remainders(
 }
 
 /// Those of the first numbers that share a remainder with another one of these, among them all that occur twice, and
-/// how many the first are. Allocates for those that share one, and two sets of remainders.
+/// how many the first are. Refuses if out of memory: it allocates for those that share one, and two sets of remainders.
 fn sharing(alloc: Global, given: &[Numbered]) -> Result<(Vec<Numbered>, usize), AllocError>
     ensures { IfOk result (λ found. (found.1 ≤ length given.now)
         × AreSharing (take found.1 given.now) found.0.items) }
@@ -213,9 +218,10 @@ fn sharing(alloc: Global, given: &[Numbered]) -> Result<(Vec<Numbered>, usize), 
 }
 
 /// If places rise: the first place of a number that also occurs at an earlier one; `other` is the first of these, and
-/// `point` the number. The value that is given to a number is its place. If there are more than `FEW`, which are not in
-/// order, it allocates two sets of remainders, and for those that share one, also while it sorts these, or all, if many
-/// share one although none occurs twice.
+/// `point` the number. The value that is given to a number is its place.
+///
+/// Refuses if out of memory: more than `FEW` that are not in order are copied where they share a remainder, and these
+/// are sorted, or all, if many share one and none of the first occurs twice.
 pub fn first_repeated(alloc: Global, given: Vec<Numbered>) -> Result<Option<Place>, AllocError>
     requires { (g : Numbered) → Contains given.items g → g.value ≡ g.at }
     ensures { AllPairs (λ a b. a.at < b.at) given.items
