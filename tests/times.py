@@ -177,16 +177,17 @@ class Times(Tests):
         return size
 
     def grows_on(self, make, seconds):
-        """The time on a hostile input beside that on one of a quarter of its size, without what the tool takes to start, of the fastest of
-        some runs where one is not enough."""
+        """The time on a hostile input beside that on one of a quarter of its size, of the fastest of some runs where one is not enough. What
+        the tool takes to start does not grow, and may differ by as much."""
         size = self.measured_size(make, seconds)
         with Hostile(make, size) as one, Hostile(make, LARGER * size) as other:
             start = one.start(self.environment())
-            part, whole = one.fastest(self.environment(), 2) - start, other.fastest(self.environment(), 1) - start
-            if whole > MOST_TIMES * part:
-                part, whole = one.fastest(self.environment(), RUNS) - start, other.fastest(self.environment(), RUNS) - start
+            most = lambda part: MOST_TIMES * (part - start) + 2 * start
+            part, whole = one.fastest(self.environment(), 2), other.fastest(self.environment(), 1)
+            if whole > most(part):
+                part, whole = one.fastest(self.environment(), RUNS), other.fastest(self.environment(), RUNS)
         told = f"{part:.2f} s, and {whole:.2f} s on {other.size / 1e6:.1f} MB, which are {LARGER} times as much"
-        self.count(f"growth of {one.name}", whole > MOST_TIMES * part and told)
+        self.count(f"growth of {one.name}", whole > most(part) and told)
 
     def grows(self, name, time, make, size):
         """The time on what is made of this size, beside that on what is made of a quarter of it."""

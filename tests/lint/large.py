@@ -123,7 +123,8 @@ def overrides():
     alike = b"".join(override(source, source) for source in range(16)) * (COUNT // 16)
     yield "clean", madt(before, alike), advised()
     last = 64 + 10 * COUNT
-    yield "the last", madt(before, alike, override(19, 3)), advised(f"OverridePastIsa {last:#x} 0x13 0x3", f"TwoSourcesOneGsi {last:#x} 0x5e 0x3")
+    past = advised(f"OverridePastIsa {last:#x} 0x13 0x3", f"TwoSourcesOneGsi {last:#x} 0x5e 0x3")
+    yield "the last", madt(before, alike, override(19, 3)), past
     one = b"".join(override(source, 2) for source in range(16)) * (COUNT // 16)
     yield "all", madt(before, one), advised("TwoSourcesOneGsi 0x4a 0x40 0x2")
     many = b"".join(override(source, source % 24) for source in range(256)) * (COUNT // 256)

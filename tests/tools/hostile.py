@@ -235,9 +235,10 @@ INPUTS = [
     entries_of_show, page_of_entries, short_entries_of_show, page_of_short_entries, page_of_distances, page_of_memory, page_of_nodes,
     page_of_slots, lines_like_none,
 ]
-# The first size at which growth is measured where it is not the usual one: a square shows only with many tables.
-FIRST_SIZES = {falling_addresses: 9_500_000}
-# The last size that a tool takes: more tables are refused, and the system refuses more words.
+# The first size at which growth is measured where it is not the usual one: a square shows only with many tables; a larger input is refused.
+FIRST_SIZES = {falling_addresses: 9_500_000, tables_at_each_byte: 125_000}
+# The last size that a tool takes: more tables or lines are refused, and the system refuses more words.
 LAST_SIZES = {
-    tables_without_rows: 1_000_000, short_tables: 2_000_000, twins: 2_000_000, falling_addresses: 38_000_000, words_of_a_line: 4_000_000,
+    tables_without_rows: 1_000_000, short_tables: 2_000_000, short_lines: 4_000_000, twins: 2_000_000, falling_addresses: 38_000_000,
+    tables_at_each_byte: 500_000, words_of_a_line: 4_000_000,
 }
