@@ -5,7 +5,7 @@
 ghost use Rattle.std.specs.Prelude.{◌<◌, AllPairs, IfOk};
 ghost use Rattle.acpi_lint.specs.Rules.MadtAdvice.{nmi_uid, IsNmiNowhere, IsNoProcessor};
 ghost use Rattle.acpi_lint.specs.Rules.PpttAdvice.{IsNoLeaf, IsLeafNowhere};
-ghost use Rattle.acpi_lint.specs.Rules.Processors.{usable_uid, AreProcessorsRead, AreProcessorsKnown};
+ghost use Rattle.acpi_lint.specs.Rules.Processors.{uid_of, usable_uid, AreProcessorsRead, AreProcessorsKnown};
 ghost use Rattle.acpi_lint.specs.Rules.SratAdvice.{IsAffinityNowhere, IsNoDomain};
 ghost use Rattle.acpi_base.specs.Madt.{madt_contents};
 ghost use Rattle.acpi_base.specs.Pptt.{pptt_contents};
@@ -15,8 +15,9 @@ ghost use Rattle.acpi_read.specs.Srats.{srat_value};
 ghost use Rattle.acpi_read.specs.Entries.{entry_at_value};
 ghost use Rattle.acpi_lint.specs.RuleGroups.{in_madt, in_madt_srat, in_madt_pptt};
 ghost use Rattle.acpi_lint.specs.Rules.Broken.{condition};
+ghost use Rattle.acpi_lint.specs.Rules.Numbered.{IsNamed};
 ghost use Rattle.acpi_lint.specs.Places.{FindsOwn, FindsLeast};
-ghost use Rattle.acpi_lint.specs.EntryNumbers.{IsUnknown, IsUnknownOf, IsUnknownAffinity, IsUnplaced, IsUnknownAt, IsWhere};
+ghost use Rattle.acpi_lint.specs.EntryNumbers.{AreKnown, IsUnknown, IsUnknownOf, IsUnknownAffinity, IsUnplaced, IsUnknownAt, IsWhere};
 
 use crate::gic_overlap::gic_overlap;
 use crate::its::its_nowhere;
@@ -95,6 +96,16 @@ fn unknown_nmi(uids: &[u64], at: &EntryAt<MadtEntry<'_>>) -> Option<Place>
     unknown_place(uids, at.offset, nmi_uid(&at.entry))
 }
 
+/// The UIDs of the processors of a MADT, in rising order. Refuses if out of memory: it allocates for each.
+// Not inlined: three rules look UIDs up, and one copy of the loop is enough.
+#[inline(never)]
+fn processor_uids(alloc: Global, madt: &Table<'_>) -> Result<Vec<u64>, AllocError>
+    ensures { IfOk result (λ known. AreKnown
+        (IsNamed uid_of (madt_contents madt.now).entries) known.items) }
+{
+    rising_numbers(alloc, madt, MadtNumber::Uid)
+}
+
 /// The first local NMI for a UID that no processor has, if all processors are known; `point` is the UID. Allocates for
 /// the UID of each processor.
 fn nmi_nowhere(
@@ -104,7 +115,7 @@ fn nmi_nowhere(
 ) -> Result<Option<Place>, AllocError>
     ensures { IfOk result (FindsLeast (IsNmiNowhere (madt_contents madt.now))) }
 {
-    let uids = rising_numbers(alloc, madt, MadtNumber::Uid)?;
+    let uids = processor_uids(alloc, madt)?;
     let uids = uids.as_slice();
     let place = first_picked(madt.entries::<MadtEntry<'_>>(), |at| unknown_nmi(uids, at));
     Ok(where_known(policy, madt, place))
@@ -162,7 +173,7 @@ fn affinity_nowhere(
         (IsAffinityNowhere (madt_contents madt.now) (srat_contents srat.now))) }
 {
     let ids = rising_numbers(alloc, madt, MadtNumber::ApicId)?;
-    let uids = rising_numbers(alloc, madt, MadtNumber::Uid)?;
+    let uids = processor_uids(alloc, madt)?;
     let ids = ids.as_slice();
     let uids = uids.as_slice();
     let place = first_picked(
@@ -296,7 +307,7 @@ fn leaf_nowhere(
     if !has_opaque_processor(madt) {
         return Ok(None);
     }
-    let uids = rising_numbers(alloc, madt, MadtNumber::Uid)?;
+    let uids = processor_uids(alloc, madt)?;
     let leaves = leaves_of(alloc, policy, pptt)?;
     Ok(where_known(policy, madt, first_unknown(&uids, &leaves)))
 }
