@@ -1,6 +1,6 @@
 //! Numbers with values at places, and those that occur again with another value.
 
-ghost use Rattle.std.specs.Prelude.{◌≡◌, ◌<◌, ◌≤◌, ◌⊎◌, ◌↔◌, length, take, AllPairs, Contains, IfOk, IfSome, IsTrue, OnOk};
+ghost use Rattle.std.specs.Prelude.{◌≡◌, ◌<◌, ◌≤◌, ◌+◌, ◌*◌, ◌^◌, ◌⊎◌, ◌↔◌, length, take, AllPairs, Contains, IfOk, IfSome, IsTrue, OnOk};
 ghost use Rattle.std.specs.List.Sorted.{IsPermutation};
 ghost use Rattle.std.specs.Option.{option_map};
 ghost use Rattle.acpi_lint.specs.Rules.Numbered.{IsLater};
@@ -165,7 +165,9 @@ const SPREAD: usize = 16;
 /// The modulus for the remainders of so many numbers: `SPREAD` times as many, of at most 2^27, which bounds the sets of
 /// remainders, and one more. It is odd, so that numbers whose difference is a power of 2 have different remainders.
 fn modulus_of(len: usize) -> u64
-    ensures { 0 < result }
+    ensures above { 0 < result }
+    ensures each { result ≤ 16 * len + 1 }
+    ensures most { result ≤ 2 ^ 31 + 1 }
 {
     (len.min(1 << 27) * SPREAD) as u64 + 1
 }
@@ -178,7 +180,8 @@ fn shared_remainders(
     given: &[Numbered],
     modulus: u64,
 ) -> Result<(BitSet, usize), AllocError>
-    requires { 0 < modulus }
+    requires above { 0 < modulus }
+    requires most { modulus ≤ 2 ^ 31 + 1 }
     ensures { IfOk result (λ found. (found.1 ≤ length given.now)
         × AreSharedRemainders (take found.1 given.now) modulus found.0) }
 {
