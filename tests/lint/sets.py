@@ -3,6 +3,7 @@ images of real firmware."""
 
 from __future__ import annotations
 
+import random
 from dataclasses import dataclass
 
 from acpi_images.known.further import FURTHER, WHOLE
@@ -13,7 +14,9 @@ from acpi_images.known.mistakes import MISTAKES, UNCHANGED
 from acpi_images.known.rows import ROWS, words_of
 from acpi_images.known.shown import SHOWN
 from acpi_images.program import IMAGES, firmware_text
+from acpi_images.tables import *
 from acpi_images.text import text_of
+from large import advised, text_with
 
 AT_SEED = ["--rsdp", "e0000"]
 
@@ -52,6 +55,26 @@ def by_hand():
         yield Case(f"{it.rule}, {it.name}", text_of(it.pieces), it.words.split(), rule=it.rule, line=it.line or "")
     for name, pieces, lines in WHOLE:
         yield Case(name, text_of(pieces), AT_SEED, lines)
+    for count in range(18, 24):
+        yield from of_few(count)
+
+
+def of_few(count):
+    """So many entries, of which `lint` looks for numbers that occur twice: it has one way for up to 20 of them, and one for more."""
+    order = random.Random(count).sample(range(count), count)
+    apics = [x2apic(1000 + place, 2000 + place) for place in order]
+    last = f"{44 + 16 * (count - 1):#x} 0x2c"
+    again = advised(f"SameUid {last} {1000 + order[0]:#x}", f"SameApicId {last} {2000 + order[0]:#x}")
+    overrides = [override(place % 16, place % 16) for place in range(count - 1)]
+    before, last = (lapic(0, 0), io_apic(0xFEC00000, 0)), f"{64 + 10 * (count - 1):#x}"
+    two = advised(f"OverridePastIsa {last} 0x13 0x3", f"TwoSourcesOneGsi {last} {64 + 10 * 3:#x} 0x3")
+    for name, tables, lines in (
+        ("x2APICs in no order", apics, advised()),
+        ("x2APICs, the last like the first", [*apics[:-1], apics[0]], again),
+        ("overrides", [*before, *overrides, override(0, 0)], advised()),
+        ("overrides, the last to a number of another source", [*before, *overrides, override(19, 3)], two),
+    ):
+        yield Case(f"{count} {name}", text_with(madt(*tables)), AT_SEED, lines)
 
 
 def of_row(row):
