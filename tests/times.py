@@ -28,8 +28,8 @@ from memory_dumps import small_set
 
 TOOLS = TESTS.parent / "tools"
 # By how much an input is larger than its part, and how many times as long a tool takes at most for it. A time that has a linear part, and
-# on the whole input a square part of two thirds of that, is 5.7 times as long. It is only 2.5 times as long as on half of the input, which
-# two runs of one program on a busy machine may differ by.
+# on the whole input a square part of two thirds of that, is 5.7 times as long. Beside half of the input it is 2.5 times as long in place of
+# twice, and two runs of one program on a busy machine differ by as much.
 LARGER, MOST_TIMES = 4, 5.7
 # Of so many runs the fastest counts: what else a machine does makes a run slower, never faster.
 RUNS = 3
