@@ -56,14 +56,13 @@ inner_slot : HasSlot near_bytes 4 1 0x2024
 unfolding field
 inner_slot = record { inside = omega arith; address = refl; listed = λ same. omega arith }
 
-near_slot : (size k a : ℕ) → IsSlot (nested_set size) rsdp_at k a
-    → ((k ≡ 0) × (a ≡ 0x2000)) ⊎ ((k ≡ 1) × (a ≡ 0x2024))
+near_slot : (size k a : ℕ) → IsSlot (nested_set size) rsdp_at k a → (a ≡ 0x2000) ⊎ (a ≡ 0x2024)
 near_slot size k a slot =
     of k (slot_of_root (nested_set size) rsdp_at 0x1000 4 k a near_bytes (nested_root size) (near_table size) slot)
   where
-    of : (k : ℕ) → HasSlot near_bytes 4 k a → ((k ≡ 0) × (a ≡ 0x2000)) ⊎ ((k ≡ 1) × (a ≡ 0x2024))
-    of zero slot = inl (refl, one_slot near_bytes 4 0 a 0x2000 slot outer_slot)
-    of (suc zero) slot = inr (refl, one_slot near_bytes 4 1 a 0x2024 slot inner_slot)
+    of : (k : ℕ) → HasSlot near_bytes 4 k a → (a ≡ 0x2000) ⊎ (a ≡ 0x2024)
+    of zero slot = inl (one_slot near_bytes 4 0 a 0x2000 slot outer_slot)
+    of (suc zero) slot = inr (one_slot near_bytes 4 1 a 0x2024 slot inner_slot)
     of (suc (suc k)) slot = absurd (omega (arith, slot.inside))
 
 -- the two tables, the first with these bytes, as many as its Length says
@@ -123,16 +122,13 @@ no_fadt : (size : ℕ) {whole : List ℕ} → AreNested size whole → (fadt : L
 no_fadt size are fadt listed =
     let first = listed.first in
     let slot = root_slot first.root first.table first.first.slot in
-    elim (near_slot size first.first.k listed.a slot) [
-      | inl (_, is) ↦ not_signed size are listed.a (inl is) first.first.signed
-      | inr (_, is) ↦ not_signed size are listed.a (inr is) first.first.signed
-    ]
+    not_signed size are listed.a (near_slot size first.first.k listed.a slot) first.first.signed
 
 -- the RSDP, the root table, and the two tables
 structures : (size : ℕ) (whole : List ℕ) → AreNested size whole → (o s n : ℕ)
     → IsStructure (nested_set size) rsdp_at o s n
     → (s ≡ rsdp_at) ⊎ ((s ≡ 0x1000) × (n ≡ 44)) ⊎ ((o ≡ 4) × (s ≡ 0x2000) × (n ≡ size))
-    ⊎ ((o ≡ 5) × (s ≡ 0x2024) × (n ≡ 36))
+    ⊎ ((o ≡ 4) × (s ≡ 0x2024) × (n ≡ 36))
 structures size whole are o s n (inl (_, (begin, _))) = inl begin
 structures size whole are o s n (inr (inl (_, (d, bytes, named, table, count)))) =
     inr (inl (
@@ -143,19 +139,19 @@ structures size whole are o s n (inr (inl (_, (d, bytes, named, table, count))))
     ))
 structures size whole are o s n (inr (inr (inl (_, (fadt, listed, _))))) = absurd (no_fadt size are fadt listed)
 structures size whole are o s n (inr (inr (inr (inl (_, (fadt, listed, _)))))) = absurd (no_fadt size are fadt listed)
-structures size whole are o s n (inr (inr (inr (inr (k, is, slot, (header, bytes, table, count)))))) =
+structures size whole are o s n (inr (inr (inr (inr (is, (k, slot), (header, bytes, table, count)))))) =
     elim (near_slot size k s slot) [
-      | inl (first, begin) ↦
+      | inl begin ↦
           let same = one_frame (rw begin at table) are.outer in
           inr (inr (inl (
-            omega (arith, is, first),
+            is,
             begin,
             count ∙ ap (λ (b : List ℕ). length b) same ∙ are.count,
           )))
-      | inr (second, begin) ↦
+      | inr begin ↦
           let same = one_frame (rw begin at table) are.inner in
           inr (inr (inr (
-            omega (arith, is, second),
+            is,
             begin,
             count ∙ ap (λ (b : List ℕ). length b) same,
           )))
@@ -180,9 +176,8 @@ outer_first size whole are =
       named = refl;
       o = 4;
       here = inr (inr (inr (inr (
-        0,
         refl,
-        root_slot (nested_root size) (near_table size) outer_slot,
+        (0, root_slot (nested_root size) (near_table size) outer_slot),
         (take 36 (nested_bytes size), whole, are.outer, sym are.count),
       ))));
       first = λ k c other. elim (structures size whole are k 0x2000 c other) [
@@ -198,11 +193,10 @@ inner_first : (size : ℕ) (whole : List ℕ) → AreNested size whole
 inner_first size whole are =
     record {
       named = refl;
-      o = 5;
+      o = 4;
       here = inr (inr (inr (inr (
-        1,
         refl,
-        root_slot (nested_root size) (near_table size) inner_slot,
+        (1, root_slot (nested_root size) (near_table size) inner_slot),
         (inner_bytes, inner_bytes, are.inner, refl),
       ))));
       first = λ k c other. elim (structures size whole are k 0x2024 c other) [

@@ -1,7 +1,7 @@
 -- Since which version of the FADT a processor may be Online Capable and not Enabled.
-use Rattle.std.proofs.Common.{◌≡◌, ◌≤◌, ◌<◌, ℕ, List, Bool, true, false, Some, None, arith, inl, inr}
+use Rattle.std.proofs.Common.{◌≡◌, ◌≤◌, ℕ, List, Bool, true, false, Some, None, arith, inl, inr}
 use Rattle.acpi_base.specs.Madt.{MadtEntry, LocalApic, IoApic, Override, NmiSource, LocalNmi, AddressOverride, X2apic, X2apicNmi, Opaque, MadtContents}
-use Rattle.acpi_base.specs.Number.{field, has_bit}
+use Rattle.acpi_base.specs.Number.{field}
 use Rattle.std.specs.Prelude.{◌&&◌, if◌then◌else◌}
 use Rattle.std.proofs.lemmas.Option.{same_Some}
 use Rattle.acpi_lint.specs.Rules.FadtWithMadt.{IsOlder, is_capable_only, capable_since, IsCapableTooEarly}

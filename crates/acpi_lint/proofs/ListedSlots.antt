@@ -3,11 +3,11 @@ use Rattle.std.proofs.Common.{◌≡◌, ℕ, ◌<◌, ◌≤◌, ◌+◌, ◌*�
 use Rattle.std.specs.Prelude.{◌⊎◌, Contains}
 use Rattle.std.proofs.lemmas.Bool.{cases_lt}
 use Rattle.std.proofs.lemmas.List.{get_or-map, length-map}
-use Rattle.std.proofs.lemmas.List.Elements.{Contains-append_left, Contains-append_right, Contains-append_cases, Contains-get_or}
+use Rattle.std.proofs.lemmas.List.Elements.{Contains-append_left, Contains-push, Contains-push_cases, Contains-get_or}
 use Rattle.acpi_base.specs.Memory.{Memory}
 use Rattle.acpi_base.specs.Number.{field}
 use Rattle.acpi_base.specs.Root.{HasSlot, IsSlot}
-use Rattle.acpi_base.proofs.Elements.{first_element, first_or_later, no_element, element_of_map}
+use Rattle.acpi_base.proofs.Elements.{no_element, element_of_map}
 use Rattle.acpi_base.proofs.Root.Slots.{one_slot, slot_of_root, root_slot}
 use Rattle.acpi_read.specs.Roots.{RootValue, IsCompleteRoot}
 use Rattle.acpi_check.proofs.EntryPasses.Kept.{map_has}
@@ -25,7 +25,6 @@ no_slot =
       table =
           record {
             address = 0;
-            length = 0;
             signature = 0;
             odd_text = None;
             fault = None;
@@ -56,13 +55,9 @@ one_more {m} {whole} {d} {n} s slots before number slot there =
     record {
       rise = rise_more (λ x. x.number) slots s before.rise
           (λ x here. let lists = (before.listed x here).0 in omega (arith, lists.0, number));
-      listed = λ x here. elim (Contains-append_cases slots (s ∷ []) x here) [
+      listed = λ x here. elim (Contains-push_cases slots s x here) [
         | inl early ↦ (let (lists, is) = before.listed x early in ((omega (arith, lists.0), lists.1), is))
-        | inr late ↦
-            elim (first_or_later s x [] late) [
-              | inl same ↦ rw (← same) ((omega (arith, number), rw number slot), there)
-              | inr later ↦ absurd (no_element x later)
-            ]
+        | inr same ↦ rw (← same) ((omega (arith, number), rw number slot), there)
       ];
       all = λ k a (below, lists). elim (cases_lt k n) [
         | inl less ↦
@@ -71,7 +66,7 @@ one_more {m} {whole} {d} {n} s slots before number slot there =
         | inr least ↦
             let place : k ≡ n = omega arith in (
               s,
-              Contains-append_right slots (s ∷ []) s (first_element s []),
+              Contains-push slots s,
               number ∙ sym place,
               one_slot whole d n s.table.address a slot (rw place at lists),
             )

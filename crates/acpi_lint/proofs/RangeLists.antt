@@ -4,8 +4,8 @@ use Rattle.std.specs.Prelude.{◌⊎◌, AllPairs, Contains}
 use Rattle.std.specs.Option.{option_to_list}
 use Rattle.std.proofs.lemmas.Bool.{cases_lt}
 use Rattle.std.proofs.lemmas.List.{append-nil}
-use Rattle.std.proofs.lemmas.List.Elements.{Contains-append_left, Contains-append_right, Contains-append_cases, Contains-get_or}
-use Rattle.acpi_base.proofs.Elements.{first_element, first_or_later, no_element}
+use Rattle.std.proofs.lemmas.List.Elements.{Contains-append_left, Contains-push, Contains-push_cases, Contains-get_or}
+use Rattle.acpi_base.proofs.Elements.{no_element}
 use Rattle.acpi_check.specs.RangeSpans.{BeginLow}
 use Rattle.acpi_graph.specs.declared.span.Span.{Span}
 use Rattle.acpi_lint.specs.Ranges.{HasRange, IsRangeSpan, AreRanges, FindsRange}
@@ -58,19 +58,14 @@ one_until {IsRange} {end} spans (Some span) before (n, of, low, here, only) =
     record {
       rise = rise_more (λ s. s.name) spans span before.rise
           (λ x listed. let below = (before.listed x listed).below in omega (arith, below, of.name));
-      listed = λ x listed. elim (Contains-append_cases spans (span ∷ []) x listed) [
+      listed = λ x listed. elim (Contains-push_cases spans span x listed) [
         | inl early ↦ (let l = before.listed x early
             in record { below = omega (arith, l.below); low = l.low; is = l.is })
-        | inr late ↦
-            elim (first_or_later span x [] late) [
-              | inl same ↦ rw (← same) (record {
-                below = omega (arith, of.name);
-                low = low;
-                is =
-                    (n, rw of.name here, of.end);
-              })
-              | inr later ↦ absurd (no_element x later)
-            ]
+        | inr same ↦ rw (← same) (record {
+          below = omega (arith, of.name);
+          low = low;
+          is = (n, rw of.name here, of.end);
+        })
       ];
       all = λ o s c below is some. elim (cases_lt o end) [
         | inl less ↦
@@ -80,7 +75,7 @@ one_until {IsRange} {end} spans (Some span) before (n, of, low, here, only) =
             let same : o ≡ end = omega arith in
             let (begin, count) = only s c (rw same at is) in (
               span,
-              Contains-append_right spans (span ∷ []) span (first_element span []),
+              Contains-push spans span,
               record { name = of.name ∙ sym same; start = sym begin; end = rw (begin, count) of.end },
             )
       ];

@@ -5,8 +5,8 @@ use Rattle.std.proofs.Math.ListN.{get_or-append}
 use Rattle.std.proofs.Math.Seq.{get_or-append_seam}
 use Rattle.std.proofs.lemmas.Bool.{cases_lt, cases_eq, cases_order}
 use Rattle.std.proofs.lemmas.List.{get_or_default, length-append}
-use Rattle.std.proofs.lemmas.List.Elements.{Contains-append_left, Contains-append_right, Contains-append_cases, Contains-get_or}
-use Rattle.acpi_base.proofs.Elements.{first_element, first_or_later, no_element}
+use Rattle.std.proofs.lemmas.List.Elements.{Contains-append_left, Contains-push, Contains-push_cases, Contains-get_or}
+use Rattle.acpi_base.proofs.Elements.{no_element}
 
 -- these are all with P whose keys are below n, and their keys rise
 pub record IsUpTo {X : Type 0} (P : X → Type 0) (key : X → ℕ) (n : ℕ) (xs : List X) : Type 0 where
@@ -57,23 +57,16 @@ pub one_next : {X : Type 0} {P : X → Type 0} {key : X → ℕ} {n : ℕ} {xs :
     → key y ≡ n → ((x : X) → P x → key x ≡ n → x ≡ y) → IsUpTo P key (n + 1) (xs ++ y ∷ [])
 one_next {X} {P} {key} {n} {xs} y before holds next one =
     record {
-      listed = λ x here. elim (Contains-append_cases xs (y ∷ []) x here) [
+      listed = λ x here. elim (Contains-push_cases xs y x here) [
         | inl early ↦ (let (holds, below) = before.listed x early in (holds, omega arith))
-        | inr late ↦ last x late
+        | inr same ↦ rw (← same) (holds, omega (arith, next))
       ];
       all = λ x also below. elim (cases_eq (key x) n) [
-        | inl same ↦ rw (one x also same) (Contains-append_right xs (y ∷ []) y (first_element y []))
+        | inl same ↦ rw (one x also same) (Contains-push xs y)
         | inr differs ↦ Contains-append_left xs (y ∷ []) x (before.all x also (omega (arith, differs, below)))
       ];
       rise = rise_more key xs y before.rise (λ x here. omega (arith, (before.listed x here).1, next));
     }
-  where
-    last : (x : X) → Contains (y ∷ []) x → P x × (key x < n + 1)
-    last x late =
-        elim (first_or_later y x [] late) [
-          | inl same ↦ rw (← same) (holds, omega (arith, next))
-          | inr none ↦ absurd (no_element x none)
-        ]
 
 pub one_of_key : {X : Type 0} (key : X → ℕ) (xs : List X) → AllPairs (λ x y. key x < key y) xs → (a b : X)
     → Contains xs a → Contains xs b → key a ≡ key b → a ≡ b

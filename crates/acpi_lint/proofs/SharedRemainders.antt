@@ -3,8 +3,7 @@ use Rattle.std.proofs.Common.{◌≡◌, ◌≢◌, ℕ, ◌%◌, ◌+◌, ◌<�
 use Rattle.std.specs.Prelude.{◌↔◌, Contains}
 use Rattle.std.proofs.lemmas.Bool.{cases_eq, cases_lt}
 use Rattle.std.proofs.lemmas.List.{get_or_default, get_or-take, length-take}
-use Rattle.std.proofs.lemmas.List.Elements.{Contains-append_left, Contains-append_right, Contains-append_cases, Contains-get_or}
-use Rattle.acpi_base.proofs.Elements.{first_element, first_or_later, no_element}
+use Rattle.std.proofs.lemmas.List.Elements.{Contains-append_left, Contains-push, Contains-push_cases, Contains-get_or}
 use Rattle.acpi_check.specs.BitSets.{IsIn, Adds}
 use Rattle.acpi_check.specs.declared.bit_set.BitSet.{BitSet}
 use Rattle.acpi_lint.specs.Numbered.{IsNoLater, IsFirstOfNumber, IsUnlike, IsUnlikeAt, at_place, remainder_at, ShareRemainder, AreSharedRemainders, AreSharing}
@@ -231,17 +230,13 @@ pub one_kept : (given : List Numbered) (modulus : ℕ) (shared : BitSet) (n : �
     → AreSharingTo given modulus shared (n + 1) (kept ++ one_at given n ∷ [])
 one_kept given modulus shared n kept within before =
     record {
-      listed = λ g has. elim (Contains-append_cases kept (one ∷ []) g has) [
+      listed = λ g has. elim (Contains-push_cases kept one g has) [
         | inl old ↦ before.listed g old
-        | inr new ↦
-            elim (first_or_later one g [] new) [
-              | inl same ↦ subst (Contains given) same (Contains-get_or given n (at_place 0 0) within)
-              | inr none ↦ absurd (no_element g none)
-            ]
+        | inr same ↦ subst (Contains given) same (Contains-get_or given n (at_place 0 0) within)
       ];
       sharing =
           one_more given modulus shared n kept (kept ++ one ∷ []) (λ g. Contains-append_left kept (one ∷ []) g)
-          before.sharing (λ is. Contains-append_right kept (one ∷ []) one (first_element one []));
+          before.sharing (λ is. Contains-push kept one);
     }
   where
     one : Numbered

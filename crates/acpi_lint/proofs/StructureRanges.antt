@@ -1,21 +1,22 @@
--- The structures of a set, as they are collected by their names.
-use Rattle.std.proofs.Common.{◌≡◌, ◌≢◌, ℕ, ◌+◌, ◌^◌, ◌<◌, ◌≤◌, List, [], length, get_or, ◌++◌, true, Option, Some, None, refl, sym, ap, ◌∙◌, inl, inr, arith}
+-- The structures of a set, as they are collected.
+use Rattle.std.proofs.Common.{◌≡◌, ◌≢◌, ℕ, ◌+◌, ◌<◌, ◌≤◌, List, [], ◌∷◌, length, get_or, map, ◌++◌, true, Option, Some, None, refl, sym, ap, subst, ◌∙◌, inl, inr, arith}
 use Rattle.std.specs.Prelude.{Contains}
 use Rattle.std.specs.List.Sorted.{IsPermutation}
 use Rattle.std.specs.Option.{option_to_list}
 use Rattle.std.proofs.Math.Nat.{eq-or-lt_of_le}
 use Rattle.std.proofs.lemmas.Bool.{cases_lt}
-use Rattle.std.proofs.lemmas.List.{append-nil}
-use Rattle.std.proofs.lemmas.List.Elements.{Contains-get_or}
+use Rattle.std.proofs.lemmas.List.{append-nil, get_or_default}
+use Rattle.std.proofs.lemmas.List.Elements.{Contains-append_left, Contains-push, Contains-push_cases}
 use Rattle.std.proofs.lemmas.List.Sorted.{Contains-permutation, IsPermutation-sym}
 use Rattle.acpi_base.specs.Fadt.{dsdt_address}
 use Rattle.acpi_base.specs.Memory.{Memory, bytes_at}
 use Rattle.acpi_base.specs.Policy.{new_policy}
 use Rattle.acpi_base.specs.Root.{IsSlot}
 use Rattle.acpi_base.specs.Signature.{has_signature}
+use Rattle.acpi_base.proofs.Elements.{element_of_map}
 use Rattle.acpi_base.proofs.Frames.{length_frame, one_frame}
-use Rattle.acpi_base.proofs.Root.Named.{one_root, one_root_table, root_width}
-use Rattle.acpi_base.proofs.Root.Slots.{slot_of_root}
+use Rattle.acpi_base.proofs.Root.Named.{one_root, one_root_table}
+use Rattle.acpi_check.proofs.EntryPasses.Kept.{map_has}
 use Rattle.acpi_read.specs.Roots.{RootValue, IsCompleteRoot}
 use Rattle.acpi_lint.specs.CompleteTables.{AreCompleteTables, IsLong}
 use Rattle.acpi_lint.specs.Numbered.{IsNoLater, AreNumberedRanges, FindsNumbered, IsFirstRange, range_at}
@@ -23,28 +24,26 @@ use Rattle.acpi_lint.specs.Places.{FindsLeast}
 use Rattle.acpi_lint.specs.Rules.Overlaps.{IsInRange, IsRangeOverlap}
 use Rattle.acpi_lint.specs.Rules.Structures.{IsRsdpRange, IsRootRange, IsFacsRange, IsDsdtRange, IsTableRange, OfNamingFadt, IsStructure, IsFirstStructure, IsTablesOverlap}
 use Rattle.acpi_lint.specs.Rules.Slots.{dsdt_signature}
-use Rattle.acpi_lint.specs.Slots.{IsLengthAt, AreSlots}
+use Rattle.acpi_lint.specs.Slots.{AreSlots, listed_address}
 use Rattle.acpi_lint.specs.declared.complete_tables.CompleteTables.{CompleteTables}
 use Rattle.acpi_lint.specs.declared.listed_slots.Slot.{Slot}
 use Rattle.acpi_lint.specs.declared.numbered.Numbered.{Numbered}
 use Rattle.acpi_lint.specs.declared.place.Place.{Place}
-use Rattle.acpi_lint.proofs.FirstSlots.{one_listed}
-use Rattle.acpi_lint.proofs.ListedSlots.{no_slot}
 use Rattle.acpi_lint.proofs.OfTables.{fadt_lifts}
 use Rattle.acpi_lint.proofs.RangeOverlaps.{overlap_as, range_moved}
-use Rattle.acpi_lint.proofs.RisingLists.{IsUpTo, none_below, none_until, none_next, one_next, one_of_key, at_or_behind, none_such}
+use Rattle.acpi_lint.proofs.RisingLists.{IsUpTo, none_below, none_until, none_next, one_next, one_of_key}
 use Rattle.acpi_lint.proofs.UnlikeNumbers.{same_numbered}
 
--- ---- collected by their names
+-- ---- collected by their kinds
 
--- these are the structures with names below `end`, by their names
-abbrev pub AreNamedBelow : Memory → ℕ → ℕ → List Numbered → Type 0
-AreNamedBelow m p end given = IsUpTo (λ g. IsStructure m p g.at g.number g.value) (λ g. g.at) end given
+-- these are the structures of the kinds below `end`, by their kinds
+abbrev pub AreKindsBelow : Memory → ℕ → ℕ → List Numbered → Type 0
+AreKindsBelow m p end given = IsUpTo (λ g. IsStructure m p g.at g.number g.value) (λ g. g.at) end given
 
--- after a push of what is found for the next name
+-- after a push of what is found for the next kind
 pub pushed : {m : Memory} {p end : ℕ} {after : List Numbered} (given : List Numbered) (found : Option Numbered)
-    → after ≡ given ++ option_to_list found → AreNamedBelow m p end given
-    → FindsNumbered end (IsStructure m p end) found → AreNamedBelow m p (end + 1) after
+    → after ≡ given ++ option_to_list found → AreKindsBelow m p end given
+    → FindsNumbered end (IsStructure m p end) found → AreKindsBelow m p (end + 1) after
 pushed given None is before none =
     rw (is, append-nil given) (none_next before (λ x here same. none x.number x.value (rw same at here)))
 pushed {m} {p} given (Some g) is before (name, here, only) =
@@ -56,18 +55,18 @@ pushed {m} {p} given (Some g) is before (name, here, only) =
 
 -- after the first push
 pub first_pushed : {m : Memory} {p : ℕ} {given after : List Numbered} (found : Option Numbered) → given ≡ []
-    → after ≡ given ++ option_to_list found → FindsNumbered 0 (IsStructure m p 0) found → AreNamedBelow m p 1 after
+    → after ≡ given ++ option_to_list found → FindsNumbered 0 (IsStructure m p 0) found → AreKindsBelow m p 1 after
 first_pushed {m} {p} {given} found none is finds =
     pushed given found is
     (rw none (none_below (λ g. IsStructure m p g.at g.number g.value) (λ g. g.at) 0 (λ x here. omega arith))) finds
 
-pub all_ranges : {m : Memory} {p end : ℕ} (given : List Numbered) → AreNamedBelow m p end given
+pub all_ranges : {m : Memory} {p end : ℕ} (given : List Numbered) → AreKindsBelow m p end given
     → ((o s n : ℕ) → IsStructure m p o s n → o < end) → AreNumberedRanges (IsStructure m p) given
 all_ranges given are within =
     record {
       listed = λ g here. (are.listed g here).0;
       all = λ o s n is. are.all (range_at o s n) is (within o s n is);
-      one = one_of_key (λ g. g.at) given are.rise;
+      one = λ a b one other same start. one_of_key (λ g. g.at) given are.rise a b one other same;
     }
 
 -- ---- one structure
@@ -103,19 +102,6 @@ one_length : {m : Memory} {a n c : ℕ} → IsTableRange m a n → IsTableRange 
 one_length (header, whole, table, count) (also, other, same, size) =
     count ∙ ap (λ (bytes : List ℕ). length bytes) (one_frame table same) ∙ sym size
 
--- the table of a slot
-pub slot_listed : (m : Memory) (o a n : ℕ) (found : Numbered) → IsLengthAt m a n → n ≢ 0 → found ≡ range_at o a n
-    → FindsNumbered o (λ s c. (s ≡ a) × IsTableRange m s c) (Some found)
-slot_listed m o a n found (inl range) some same =
-    range_found o a n (λ s c. (s ≡ a) × IsTableRange m s c) found same (refl, range)
-    (λ t c (here, other). (here, one_length (rw here at other) range))
-slot_listed m o a n found (inr (zero, none)) some same = absurd (some zero)
-
-pub slot_empty : (m : Memory) (a n : ℕ) → IsLengthAt m a n → n ≡ 0 → (s c : ℕ) → ¬ ((s ≡ a) × IsTableRange m s c)
-slot_empty m a n (inl (header, whole, table, count)) zero = λ s c _.
-    omega (arith, zero, count, length_frame table, table.least)
-slot_empty m a n (inr (_, none)) zero = λ s c (same, is). none c (rw same at is)
-
 -- ---- each of them among all
 
 pub rsdp_range : (m : Memory) (p : ℕ) (found : Option Numbered) → FindsNumbered 0 (IsRsdpRange m p) found
@@ -127,7 +113,7 @@ rsdp_range m p found =
       | inr (inl (off, _)) ↦ absurd (omega (arith, off))
       | inr (inr (inl (off, _))) ↦ absurd (omega (arith, off))
       | inr (inr (inr (inl (off, _)))) ↦ absurd (omega (arith, off))
-      | inr (inr (inr (inr (k, off, _, _)))) ↦ absurd (omega (arith, off))
+      | inr (inr (inr (inr (off, _, _)))) ↦ absurd (omega (arith, off))
     ])
 
 root_range : (m : Memory) (p : ℕ) (found : Option Numbered) → FindsNumbered 1 (IsRootRange m p) found
@@ -139,7 +125,7 @@ root_range m p found =
       | inr (inl (_, here)) ↦ here
       | inr (inr (inl (off, _))) ↦ absurd (omega (arith, off))
       | inr (inr (inr (inl (off, _)))) ↦ absurd (omega (arith, off))
-      | inr (inr (inr (inr (k, off, _, _)))) ↦ absurd (omega (arith, off))
+      | inr (inr (inr (inr (off, _, _)))) ↦ absurd (omega (arith, off))
     ])
 
 facs_range : (m : Memory) (p : ℕ) (found : Option Numbered)
@@ -152,7 +138,7 @@ facs_range m p found =
       | inr (inl (off, _)) ↦ absurd (omega (arith, off))
       | inr (inr (inl (_, here))) ↦ here
       | inr (inr (inr (inl (off, _)))) ↦ absurd (omega (arith, off))
-      | inr (inr (inr (inr (k, off, _, _)))) ↦ absurd (omega (arith, off))
+      | inr (inr (inr (inr (off, _, _)))) ↦ absurd (omega (arith, off))
     ])
 
 dsdt_range : (m : Memory) (p : ℕ) (found : Option Numbered)
@@ -165,24 +151,7 @@ dsdt_range m p found =
       | inr (inl (off, _)) ↦ absurd (omega (arith, off))
       | inr (inr (inl (off, _))) ↦ absurd (omega (arith, off))
       | inr (inr (inr (inl (_, here)))) ↦ here
-      | inr (inr (inr (inr (k, off, _, _)))) ↦ absurd (omega (arith, off))
-    ])
-
--- the table of a slot
-slot_range : {m : Memory} {p : ℕ} (k address : ℕ) (found : Option Numbered) → IsSlot m p k address
-    → FindsNumbered (4 + k) (λ s n. (s ≡ address) × IsTableRange m s n) found
-    → FindsNumbered (4 + k) (IsStructure m p (4 + k)) found
-slot_range {m} {p} k address found lists =
-    found_as (4 + k) found
-    (λ s n (is, here). inr (inr (inr (inr (k, refl, rw is lists, here)))))
-    (λ s n of. elim of [
-      | inl (off, _) ↦ absurd (omega (arith, off))
-      | inr (inl (off, _)) ↦ absurd (omega (arith, off))
-      | inr (inr (inl (off, _))) ↦ absurd (omega (arith, off))
-      | inr (inr (inr (inl (off, _)))) ↦ absurd (omega (arith, off))
-      | inr (inr (inr (inr (j, same, slot, here)))) ↦
-          let one : k ≡ j = omega arith in
-          (one_listed (rw one slot) lists, here)
+      | inr (inr (inr (inr (off, _, _)))) ↦ absurd (omega (arith, off))
     ])
 
 -- ---- the root table
@@ -216,7 +185,7 @@ rootless none o s n (inr (inr (inr (inl (_, (fadt, listed, _)))))) =
     let first = listed.first in
     absurd (none (record { address = first.r; width = first.d; bytes = first.whole })
     (record { named = first.root; table = first.table }))
-rootless none o s n (inr (inr (inr (inr (k, _, slot, _))))) =
+rootless none o s n (inr (inr (inr (inr (_, (k, slot), _))))) =
     absurd (none (record { address = slot.r; width = slot.d; bytes = slot.whole })
     (record { named = slot.root; table = slot.table }))
 
@@ -244,7 +213,7 @@ dsdt_found {m} {p} {tables} {view} {fadt} found are long is finds =
 -- without a FADT it names nothing
 pub none_named : {m : Memory} {p : ℕ} {tables : CompleteTables} {view : Option (List ℕ)}
     → AreCompleteTables m p tables → IsLong 116 tables.fadt view → view ≡ None → (given : List Numbered)
-    → AreNamedBelow m p 2 given → AreNamedBelow m p 4 given
+    → AreKindsBelow m p 2 given → AreKindsBelow m p 4 given
 none_named {m} {p} {tables} {view} are long none given before =
     none_until 4 before (omega arith) (λ x is from below. no x.at x.number x.value from below is)
   where
@@ -256,103 +225,117 @@ none_named {m} {p} {tables} {view} are long none given before =
     no o s n from below (inr (inl (is, _))) = omega (arith, is, from)
     no o s n from below (inr (inr (inl (_, here)))) = nothing (λ fadt. IsFacsRange m fadt s n) here
     no o s n from below (inr (inr (inr (inl (_, here))))) = nothing (λ fadt. IsDsdtRange m fadt s n) here
-    no o s n from below (inr (inr (inr (inr (k, is, _, _))))) = omega (arith, is, below)
+    no o s n from below (inr (inr (inr (inr (is, _, _))))) = omega (arith, is, below)
 
--- ---- all slots
+-- ---- the tables that slots list
 
--- these are the structures before the table of the slot with index i; the slots before it have numbers below `end`
-pub record AreStructuresBefore (m : Memory) (p : ℕ) (slots : List Slot) (i : ℕ) (given : List Numbered) : Type 0 where
-  pub end : ℕ
-  pub ranges : AreNamedBelow m p (4 + end) given
-  pub passed : (j : ℕ) → j < i → (get_or slots j no_slot).number < end
-  pub coming : (j : ℕ) → i ≤ j → j < length slots → end ≤ (get_or slots j no_slot).number
+-- these are the structures of the kinds below 4, and the tables at the first i addresses
+pub record AreStructuresBefore (m : Memory) (p : ℕ) (addresses : List ℕ) (i : ℕ) (given : List Numbered) : Type 0 where
+  pub listed : (g : Numbered) → Contains given g → IsStructure m p g.at g.number g.value
+  pub early : (o s n : ℕ) → IsStructure m p o s n → o < 4 → Contains given (range_at o s n)
+  pub tables : (j n : ℕ) → j < i → IsTableRange m (get_or addresses j 0) n
+      → Contains given (range_at 4 (get_or addresses j 0) n)
+  pub one : (a b : Numbered) → Contains given a → Contains given b → a.at < 4 → a.at ≡ b.at → a ≡ b
 
-pub no_slots_yet : {m : Memory} {p : ℕ} (slots : List Slot) (given : List Numbered) → AreNamedBelow m p 4 given
-    → AreStructuresBefore m p slots 0 given
-no_slots_yet slots given ranges =
+pub no_tables_yet : {m : Memory} {p : ℕ} (addresses : List ℕ) (given : List Numbered) → AreKindsBelow m p 4 given
+    → AreStructuresBefore m p addresses 0 given
+no_tables_yet addresses given are =
     record {
-      end = 0;
-      ranges = ranges;
-      passed = λ j before. absurd (omega (arith, before));
-      coming = λ j from within. omega arith;
+      listed = λ g here. (are.listed g here).0;
+      early = λ o s n is below. are.all (range_at o s n) is below;
+      tables = λ j n before is. absurd (omega (arith, before));
+      one = λ a b one other below same. one_of_key (λ g. g.at) given are.rise a b one other same;
     }
 
-pub slot_passed : {m : Memory} {p : ℕ} {given after : List Numbered} (slots : List Slot) (i : ℕ)
-    (found : Option Numbered) → AreSlots m (IsSlot m p) slots → i < length slots
-    → after ≡ given ++ option_to_list found → AreStructuresBefore m p slots i given
-    → FindsNumbered (4 + (get_or slots i no_slot).number)
-    (λ s n. (s ≡ (get_or slots i no_slot).table.address) × IsTableRange m s n) found
-    → AreStructuresBefore m p slots (i + 1) after
-slot_passed {m} {p} {given} {after} slots i found are within is before finds =
-    record {
-      end = number + 1;
-      ranges = rw next (pushed given found is (none_until (4 + number) before.ranges (omega (arith, low))
-          (λ x here from below. none x.at x.number x.value from below here))
-          (slot_range number slot.table.address found lists finds));
-      passed = λ j below. elim (eq-or-lt_of_le {n = j} {m = i} (omega (arith, below))) [
-        | inl same ↦ rw same (omega arith)
-        | inr less ↦ omega (arith, are.rise j i no_slot less within)
+pub some_slot_lists : {m : Memory} {p : ℕ} (slots : List Slot) (a : ℕ) → AreSlots m (IsSlot m p) slots
+    → Contains (map listed_address slots) a → (k : ℕ) × IsSlot m p k a
+some_slot_lists {m} {p} slots a are here =
+    let (s, listed, is) = element_of_map listed_address slots a here in
+    (s.number, subst (IsSlot m p s.number) is (are.listed s listed).0)
+
+-- the table at the next address, which a slot lists
+pub table_passed : {m : Memory} {p : ℕ} {given after : List Numbered} (addresses : List ℕ) (i : ℕ)
+    (found : Option Numbered) → (k : ℕ) × IsSlot m p k (get_or addresses i 0)
+    → after ≡ given ++ option_to_list found → AreStructuresBefore m p addresses i given
+    → FindsNumbered 4 (λ s n. (s ≡ get_or addresses i 0) × IsTableRange m s n) found
+    → AreStructuresBefore m p addresses (i + 1) after
+table_passed {m} {p} {given} addresses i None lists is before none =
+    rw (is, append-nil given) (record {
+      listed = before.listed;
+      early = before.early;
+      tables = λ j n below table. elim (cases_lt j i) [
+        | inl early ↦ before.tables j n early table
+        | inr late ↦
+            let same : j ≡ i = omega (arith, late, below) in
+            absurd (none (get_or addresses i 0) n (refl, rw same at table))
       ];
-      coming = λ j from inside. omega (arith, are.rise i j no_slot (omega (arith, from)) inside);
+      one = before.one;
+    })
+table_passed {m} {p} {given} addresses i (Some g) lists is before (kind, (start, table), only) =
+    rw is (record {
+      listed = λ x here. elim (Contains-push_cases given g x here) [
+        | inl early ↦ before.listed x early
+        | inr same ↦ rw (← same) (inr (inr (inr (inr (kind, rw start lists, table)))))
+      ];
+      early = λ o s n structure below. there (range_at o s n) (before.early o s n structure below);
+      tables = λ j n below other. elim (cases_lt j i) [
+        | inl early ↦ there (range_at 4 (get_or addresses j 0) n) (before.tables j n early other)
+        | inr late ↦
+            let place : j ≡ i = omega (arith, late, below) in
+            let (number, value) = only (get_or addresses i 0) n (refl, rw place at other) in
+            rw (place, same_numbered (range_at 4 (get_or addresses i 0) n) g number (sym kind) value)
+            (Contains-push given g)
+      ];
+      one = λ a b one other below same. elim (Contains-push_cases given g a one) [
+        | inl a_early ↦
+            elim (Contains-push_cases given g b other) [
+              | inl b_early ↦ before.one a b a_early b_early below same
+              | inr is ↦ absurd (omega (arith, below, same, kind, ap (λ (x : Numbered). x.at) is))
+            ]
+        | inr is ↦ absurd (omega (arith, below, kind, ap (λ (x : Numbered). x.at) is))
+      ];
+    })
+  where
+    there : (x : Numbered) → Contains given x → Contains (given ++ g ∷ []) x
+    there x here = Contains-append_left given (g ∷ []) x here
+
+-- what is of no other kind is a table that a slot lists
+listed_table : {m : Memory} {p o s n : ℕ} → IsStructure m p o s n → 4 ≤ o
+    → (o ≡ 4) × ((k : ℕ) × IsSlot m p k s) × IsTableRange m s n
+listed_table (inl (is, _)) least = absurd (omega (arith, is, least))
+listed_table (inr (inl (is, _))) least = absurd (omega (arith, is, least))
+listed_table (inr (inr (inl (is, _)))) least = absurd (omega (arith, is, least))
+listed_table (inr (inr (inr (inl (is, _))))) least = absurd (omega (arith, is, least))
+listed_table (inr (inr (inr (inr is)))) least = is
+
+-- the addresses are all that slots list
+pub all_passed : {m : Memory} {p : ℕ} (slots : List Slot) (addresses : List ℕ) (i : ℕ) (given : List Numbered)
+    → AreSlots m (IsSlot m p) slots → ((a : ℕ) → Contains (map listed_address slots) a → Contains addresses a)
+    → length addresses ≤ i → AreStructuresBefore m p addresses i given → AreNumberedRanges (IsStructure m p) given
+all_passed {m} {p} slots addresses i given are whole done before =
+    record {
+      listed = before.listed;
+      all = all;
+      one = λ a b one other same start. elim (cases_lt a.at 4) [
+        | inl below ↦ before.one a b one other below same
+        | inr least ↦
+            let (_, _, table) = listed_table (before.listed a one) least in
+            let (_, _, also) = listed_table (before.listed b other) (omega (arith, least, same)) in
+            same_numbered a b start same (one_length table (rw (← start) at also))
+      ];
     }
   where
-    slot : Slot
-    slot = get_or slots i no_slot
-
-    number : ℕ
-    number = slot.number
-
-    lists : IsSlot m p number slot.table.address
-    lists = (are.listed slot (Contains-get_or slots i no_slot within)).0
-
-    low : before.end ≤ number
-    low = before.coming i (omega arith) within
-
-    next : 4 + (number + 1) ≡ 4 + number + 1
-    next = omega arith
-
-    none : (o s n : ℕ) → 4 + before.end ≤ o → o < 4 + number → ¬ IsStructure m p o s n
-    none o s n from below (inl (off, _)) = omega (arith, off, from)
-    none o s n from below (inr (inl (off, _))) = omega (arith, off, from)
-    none o s n from below (inr (inr (inl (off, _)))) = omega (arith, off, from)
-    none o s n from below (inr (inr (inr (inl (off, _))))) = omega (arith, off, from)
-    none o s n from below (inr (inr (inr (inr (k, same, listed, _))))) =
-        let (x, here, at, _) = are.all k s listed in
-        elim (at_or_behind (λ (y : Slot). y.number) (λ (y : Slot). before.end ≤ y.number) slots i no_slot x are.rise
-        within (λ j less upto. omega (arith, before.passed j less, upto)) here (omega (arith, from, same, at))) [
-          | inl one ↦ omega (arith, ap (λ (y : Slot). y.number) one, at, same, below)
-          | inr more ↦ omega (arith, more, at, same, below)
+    all : (o s n : ℕ) → IsStructure m p o s n → Contains given (range_at o s n)
+    all o s n is =
+        elim (cases_lt o 4) [
+          | inl below ↦ before.early o s n is below
+          | inr least ↦
+              let (kind, (k, lists), here) = listed_table is least in
+              let (x, listed, _, address) = are.all k s lists in
+              let (j, within, at) = whole s (rw address at (map_has listed_address slots x listed)) in
+              let start : get_or addresses j 0 ≡ s = get_or_default addresses j 0 s within ∙ at in
+              rw (kind, ← start) (before.tables j n (omega (arith, within, done)) (rw (← start) at here))
         ]
-
-pub all_passed : {m : Memory} {p : ℕ} (slots : List Slot) (i : ℕ) (given : List Numbered)
-    → AreSlots m (IsSlot m p) slots → length slots ≤ i → AreStructuresBefore m p slots i given
-    → AreNumberedRanges (IsStructure m p) given
-all_passed {m} {p} slots i given are done before = all_ranges given before.ranges within
-  where
-    within : (o s n : ℕ) → IsStructure m p o s n → o < 4 + before.end
-    within o s n (inl (is, _)) = omega (arith, is)
-    within o s n (inr (inl (is, _))) = omega (arith, is)
-    within o s n (inr (inr (inl (is, _)))) = omega (arith, is)
-    within o s n (inr (inr (inr (inl (is, _))))) = omega (arith, is)
-    within o s n (inr (inr (inr (inr (k, same, listed, _))))) =
-        let (x, here, at, _) = are.all k s listed in
-        elim (cases_lt k before.end) [
-          | inl less ↦ omega (arith, less, same)
-          | inr upto ↦
-              absurd (none_such (λ (y : Slot). before.end ≤ y.number) slots i no_slot x done
-              (λ j less most. omega (arith, before.passed j less, most)) here (omega (arith, upto, at)))
-        ]
-
--- a slot of a root table of fewer than 2^32 bytes has a number that is far below
-pub slot_low : {m : Memory} {p : ℕ} {root : RootValue} (slots : List Slot) (i : ℕ) → IsCompleteRoot m p root
-    → AreSlots m (IsSlot m p) slots → i < length slots → length root.bytes < 2 ^ 32
-    → 4 + (get_or slots i no_slot).number < 2 ^ 32
-slot_low {m} {p} {root} slots i is are within size =
-    let slot : Slot = get_or slots i no_slot in
-    let lists = (are.listed slot (Contains-get_or slots i no_slot within)).0 in
-    let here =
-    slot_of_root m p root.address root.width slot.number slot.table.address root.bytes is.named is.table lists in
-    grind (arith, root_width is.named, here.inside)
 
 -- ---- their first overlap
 
@@ -362,7 +345,7 @@ ranges_moved given sorted moved are =
     record {
       listed = λ g here. are.listed g (back g here);
       all = λ o s n is. Contains-permutation given sorted (range_at o s n) moved (are.all o s n is);
-      one = λ a b one other same. are.one a b (back a one) (back b other) same;
+      one = λ a b one other same start. are.one a b (back a one) (back b other) same start;
     }
   where
     back : (x : Numbered) → Contains sorted x → Contains given x
@@ -401,7 +384,7 @@ of_structures {m} {p} given found are = overlap_as found to from
           range_at is.o s n,
           record {
             listed = are.all is.o s n is.here;
-            least = λ g there same. no_later g there
+            least = λ g there same. no_later g there same
                 (is.first g.at g.value (range_moved (IsStructure m p) (are.listed g there) refl same refl));
           },
           refl,
@@ -412,11 +395,12 @@ of_structures {m} {p} given found are = overlap_as found to from
       below,
     )
       where
-        no_later : (g : Numbered) → Contains given g → is.o ≤ g.at → IsNoLater (range_at is.o s n) g
-        no_later g there least =
+        no_later : (g : Numbered) → Contains given g → g.number ≡ s → is.o ≤ g.at
+            → IsNoLater (range_at is.o s n) g
+        no_later g there start least =
             elim (eq-or-lt_of_le {n = is.o} {m = g.at} least) [
               | inl same ↦
-                  let one = are.one (range_at is.o s n) g (are.all is.o s n is.here) there same in
+                  let one = are.one (range_at is.o s n) g (are.all is.o s n is.here) there same (sym start) in
                   inr (same, omega (arith, ap (λ (y : Numbered). y.value) one))
               | inr less ↦ inl less
             ]
@@ -431,5 +415,5 @@ not_empty m p o s n (inr (inr (inl (_, (fadt, _, (_, (_, _, (whole, facs, count)
     omega (arith, count, length_frame facs.frame, facs.frame.least)
 not_empty m p o s n (inr (inr (inr (inl (_, (fadt, _, (_, (_, _, _, (header, whole, table, count))))))))) =
     omega (arith, count, length_frame table, table.least)
-not_empty m p o s n (inr (inr (inr (inr (k, _, _, (header, whole, table, count)))))) =
+not_empty m p o s n (inr (inr (inr (inr (_, _, (header, whole, table, count)))))) =
     omega (arith, count, length_frame table, table.least)

@@ -13,7 +13,7 @@ use Rattle.acpi_base.specs.declared.table_kind.TableKind.{TableKind}
 use Rattle.acpi_base.proofs.Tables.Kinds.{one_kind}
 use Rattle.acpi_lint.specs.Headers.{IsFirstOdd}
 use Rattle.acpi_lint.specs.Rules.HeaderAdvice.{IsOddField, signature_number}
-use Rattle.acpi_lint.specs.Slots.{IsLengthAt, FindsOddAt, IsTableAt, HasSought, IsSought}
+use Rattle.acpi_lint.specs.Slots.{FindsOddAt, IsTableAt, HasSought, IsSought}
 use Rattle.acpi_lint.specs.declared.table_at.Sought.{Sought}
 use Rattle.acpi_lint.specs.declared.table_at.TableAt.{TableAt}
 use Rattle.acpi_lint.specs.declared.table_at.Sought.TheVariants as sought
@@ -48,15 +48,14 @@ odd_there m a header (Some first) present (is, least) = (
 )
 
 pub table_there : {m : Memory} (table : TableAt) (header : List ℕ)
-    → bytes_at m table.address 36 ≡ Some header → IsLengthAt m table.address table.length
+    → bytes_at m table.address 36 ≡ Some header
     → table.signature ≡ signature_number header → IsFirstOdd header table.odd_text
     → ((c : Code) → (table.fault ≡ Some c) ↔ TableFault m table.address c) → IsKindOf header table.kind
     → (IsTrue table.is_apart
     ↔ ((has_signature header dsdt_signature ≡ true) ⊎ (has_signature header facs_signature ≡ true)))
     → IsTableAt m table
-table_there {m} table header present long signature odd faults is tells =
+table_there {m} table header present signature odd faults is tells =
     record {
-      length = long;
       signature = signature ∙ (rw present refl);
       text = odd_there m table.address header table.odd_text present odd;
       tells = sides;

@@ -3,7 +3,7 @@ use Rattle.std.proofs.Common.{◌≡◌, ℕ, ◌+◌, ◌<◌, ◌≤◌, List,
 use Rattle.std.specs.Prelude.{Contains}
 use Rattle.std.proofs.lemmas.Bool.{cases_eq, cases_lt}
 use Rattle.std.proofs.lemmas.List.{get_or_default, get_or-replicate, get_or-set_same, get_or-set_other, length-set, length-replicate}
-use Rattle.std.proofs.lemmas.List.Elements.{Contains-append_left, Contains-append_right, Contains-append_cases, Contains-get_or}
+use Rattle.std.proofs.lemmas.List.Elements.{Contains-append_left, Contains-push, Contains-push_cases, Contains-get_or}
 use Rattle.acpi_base.proofs.Elements.{first_element, first_or_later, no_element}
 use Rattle.acpi_lint.specs.Numbered.{IsNoLater, IsFirstOfNumber, IsUnlike, IsUnlikeAt, IsRepeat, IsRepeated, AreThinned, at_place}
 use Rattle.acpi_lint.specs.Places.{FindsLeast, IsNotAfter}
@@ -66,13 +66,9 @@ pub one_kept : (given : List Numbered) (n v : ℕ) (kept last : List Numbered) �
     → AreThinnedTo given (n + 1) (kept ++ one_at given n ∷ []) (set last v (one_at given n))
 one_kept given n v kept last within inside before =
     record {
-      listed = λ g has. elim (Contains-append_cases kept (one ∷ []) g has) [
+      listed = λ g has. elim (Contains-push_cases kept one g has) [
         | inl old ↦ before.listed g old
-        | inr new ↦
-            elim (first_or_later one g [] new) [
-              | inl same ↦ subst (Contains given) same (Contains-get_or given n (at_place 0 0) within)
-              | inr none ↦ absurd (no_element g none)
-            ]
+        | inr same ↦ subst (Contains given) same (Contains-get_or given n (at_place 0 0) within)
       ];
       repeated =
           one_more given n kept more (λ g. Contains-append_left kept (one ∷ []) g) before.repeated
@@ -94,7 +90,7 @@ one_kept given n v kept last within inside before =
     more = kept ++ one ∷ []
 
     here : Contains more one
-    here = Contains-append_right kept (one ∷ []) one (first_element one [])
+    here = Contains-push kept one
 
 pub all_thinned : (given : List Numbered) (n : ℕ) (kept last : List Numbered) → length given ≤ n
     → AreThinnedTo given n kept last → AreThinned given kept

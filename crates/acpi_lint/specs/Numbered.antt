@@ -89,21 +89,21 @@ pub record AreThinned (given kept : List Numbered) : Type 0 where
 
 -- ---- ranges of numbers: each is at its name, and its value says how many numbers it has
 
--- the range with the name o of n numbers from s on
+-- a range with the name o of n numbers from s on
 abbrev pub range_at : ℕ → ℕ → ℕ → Numbered
 range_at o s n = record { number = s; at = o; value = n }
 
--- `Is s n` says that the range with the name o has n numbers from s on: this is it, or there is none
+-- `Is s n` says that a range with the name o has n numbers from s on: this is the only one, or there is none
 abbrev pub FindsNumbered : ℕ → (ℕ → ℕ → Type 0) → Option Numbered → Type 0
 FindsNumbered o Is None = (s n : ℕ) → ¬ Is s n
 FindsNumbered o Is (Some g) =
     (g.at ≡ o) × Is g.number g.value × ((s n : ℕ) → Is s n → (s ≡ g.number) × (n ≡ g.value))
 
--- these are all of the ranges, no two of which have one name
+-- these are all of the ranges; no two that have one name begin at one number
 pub record AreNumberedRanges (IsRange : ℕ → ℕ → ℕ → Type 0) (given : List Numbered) : Type 0 where
   pub listed : (g : Numbered) → Contains given g → IsRange g.at g.number g.value
   pub all : (o s n : ℕ) → IsRange o s n → Contains given (range_at o s n)
-  pub one : (a b : Numbered) → Contains given a → Contains given b → a.at ≡ b.at → a ≡ b
+  pub one : (a b : Numbered) → Contains given a → Contains given b → a.at ≡ b.at → a.number ≡ b.number → a ≡ b
 
 -- of those that begin at s the first has n numbers; its start is its name
 abbrev pub IsFirstRange : List Numbered → ℕ → ℕ → ℕ → Type 0

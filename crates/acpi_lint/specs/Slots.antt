@@ -4,7 +4,6 @@ use Rattle.std.specs.Option.{option_and_then}
 use Rattle.acpi_base.specs.Facs.{facs_signature}
 use Rattle.acpi_lint.specs.Rules.HeaderAdvice.{IsOddText, signature_number}
 use Rattle.acpi_lint.specs.Rules.Slots.{dsdt_signature}
-use Rattle.acpi_lint.specs.Rules.Structures.{IsTableRange}
 use Rattle.acpi_base.specs.Memory.{Memory, bytes_at}
 use Rattle.acpi_base.specs.Root.{IsSlot}
 use Rattle.acpi_base.specs.TableKinds.{signature_of}
@@ -38,10 +37,6 @@ HasSought (sought.Fault code) table = table.fault ≡ Some code
 HasSought (sought.Kind kind) table = table.kind ≡ Some kind
 HasSought sought.Apart table = IsTrue table.is_apart
 
--- the complete table at a has n bytes; or there is none, and n is 0
-abbrev pub IsLengthAt : Memory → ℕ → ℕ → Type 0
-IsLengthAt m a n = IsTableRange m a n ⊎ ((n ≡ 0) × ((c : ℕ) → ¬ IsTableRange m a c))
-
 -- the signature of the header at a as a number, 0 if there is none
 abbrev pub signature_at : Memory → ℕ → ℕ
 signature_at m a = unwrap_or (option_map signature_number (bytes_at m a 36)) 0
@@ -53,12 +48,15 @@ FindsOddAt m a (Some first) = IsOddText m a first × ((offset : ℕ) → IsOddTe
 
 -- what is recorded about an address is what is there
 pub record IsTableAt (m : Memory) (table : TableAt) : Type 0 where
-  pub length : IsLengthAt m table.address table.length
   pub signature : table.signature ≡ signature_at m table.address
   pub text : FindsOddAt m table.address table.odd_text
   pub tells : (sought : Sought) → HasSought sought table ↔ IsSought m sought table.address
 
 -- ---- slots
+
+-- the address that a slot lists
+abbrev pub listed_address : Slot → ℕ
+listed_address s = s.table.address
 
 -- this is the root table that the RSDP at p names, or there is no complete one
 abbrev pub IsRootOf : Memory → ℕ → Option RootValue → Type 0

@@ -50,7 +50,7 @@ fn found<'a>(image: &'a LentImage<'_>, firsts: &FirstSlots, kind: TableKind) -> 
 }
 
 impl<'a> CompleteTables<'a> {
-    /// The tables of the set that the RSDP at an address leads to. Allocates for each address that is listed.
+    /// The tables of the set that the RSDP at an address leads to. Allocates for each slot of its root table.
     pub fn of(
         alloc: Global,
         image: &'a LentImage<'_>,

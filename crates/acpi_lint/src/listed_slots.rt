@@ -19,13 +19,13 @@ pub struct Slot {
     pub table: TableAt,
 }
 
-/// What is at an address that comes after these slots. What slots in a row list is looked up once.
-fn next_table(image: &LentImage<'_>, slots: &[Slot], address: u64) -> TableAt
+/// What is at an address: copied from the slot with this index if that lists the address, otherwise looked up.
+fn table_at(image: &LentImage<'_>, slots: &[Slot], index: u32, address: u64) -> TableAt
     requires { (s : Slot) → Contains slots.now s → IsTableAt image.now s.table }
     ensures there { result.address ≡ address }
     ensures noted { IsTableAt image.now result }
 {
-    match slots.last() {
+    match slots.get(index as usize) {
         Some(slot) if slot.table.address == address => slot.table,
         _ => TableAt::of(image, address),
     }
@@ -36,11 +36,17 @@ fn slots_of(alloc: Global, image: &LentImage<'_>, root: &Root<'_>) -> Result<Vec
     ensures { IfOk result
         (λ slots. AreSlots image.now (HasSlot root.now.bytes root.now.width) slots.items) }
 {
+    // For each remainder of addresses, the index in `slots` of the last one that has it, or 0 if none does: millions of
+    // slots may list a few tables. The modulus is odd, since most tables begin at multiples of a power of 2.
+    let modulus = u64::from(root.slots()) / 2 * 2 + 1;
+    let mut last = vec![in alloc; 0; modulus as usize]?;
     let mut slots = Vec::new(alloc);
     for slot in 0..root.slots() {
         let address = root.slot(slot);
         if address != 0 {
-            let table = next_table(image, &slots, address);
+            let remainder = (address % modulus) as usize;
+            let table = table_at(image, &slots, last[remainder], address);
+            last[remainder] = slots.len() as u32;
             let number = u64::from(slot);
             slots.push(Slot { number, table })?;
         }
@@ -48,8 +54,8 @@ fn slots_of(alloc: Global, image: &LentImage<'_>, root: &Root<'_>) -> Result<Vec
     Ok(slots)
 }
 
-/// The slots of a set's root table that list an address, in their order. None if there is no root table. Each address
-/// is looked up once. Allocates for each of them.
+/// The slots of a set's root table that list an address, in their order. None if there is no root table. Allocates for
+/// each slot of the root table, also for those that are 0.
 pub fn listed_slots(
     alloc: Global,
     image: &LentImage<'_>,

@@ -1,11 +1,10 @@
 //! Advice on the structures that a set has in memory: two that overlap (ACPI 6.5, 5.2).
 
-ghost use Rattle.std.specs.Prelude.{◌≡◌, ◌+◌, ◌^◌, ◌<◌, AllPairs, Contains, IfOk};
-ghost use Rattle.acpi_base.specs.Memory.{Memory};
+ghost use Rattle.std.specs.Prelude.{◌≡◌, ◌<◌, ◌↔◌, ℕ, AllPairs, Contains, IfOk, map};
 ghost use Rattle.acpi_lint.specs.CompleteTables.{AreCompleteTables};
 ghost use Rattle.acpi_lint.specs.Numbered.{IsNotAbove, AreNumberedRanges, FindsNumbered, IsFirstRange, range_at};
 ghost use Rattle.acpi_lint.specs.Places.{FindsLeast};
-ghost use Rattle.acpi_lint.specs.Slots.{IsLengthAt};
+ghost use Rattle.acpi_lint.specs.Slots.{listed_address};
 ghost use Rattle.acpi_lint.specs.Rules.Overlaps.{IsRangeOverlap};
 ghost use Rattle.acpi_lint.specs.Rules.Structures.{IsRsdpRange, IsFacsRange, IsDsdtRange, IsTableRange, IsStructure, IsTablesOverlap};
 
@@ -15,13 +14,13 @@ use crate::numbered::{Numbered, sort_numbers};
 use crate::overlaps::push;
 use crate::place::Place;
 use crate::rsdp_advice::revision_of;
-use crate::table_at::TableAt;
 use acpi_base::LentImage;
 use acpi_base::field::is_signed;
+use acpi_check::sorted_unique;
 use acpi_read::{Facs, Fadt, Rsdp, Table};
 use std::alloc::{AllocError, Global};
 
-/// The names of the structures before those that slots list.
+/// The kinds of structures. A range has its structure's kind as its name.
 const RSDP: u64 = 0;
 
 const ROOT: u64 = 1;
@@ -30,16 +29,17 @@ const FACS: u64 = 2;
 
 const DSDT: u64 = 3;
 
-const FIRST_LISTED: u64 = 4;
+/// Each table that a slot lists.
+const LISTED: u64 = 4;
 
-/// A structure: its address is a number, its name the place and its length the value. An image may have millions, and
+/// A structure: its address is a number, its kind the place and its length the value. An image may have millions, and
 /// these are sorted with a buffer as long, so they are kept smaller than spans.
-fn structure(name: u64, address: u64, length: u64) -> Numbered
-    ensures { result ≡ range_at name address length }
+fn structure(kind: u64, address: u64, length: u64) -> Numbered
+    ensures { result ≡ range_at kind address length }
 {
     Numbered {
         number: address,
-        at: name,
+        at: kind,
         value: length,
     }
 }
@@ -65,11 +65,11 @@ fn facs_range(image: &LentImage<'_>, fadt: &Fadt<'_>) -> Option<Numbered>
 }
 
 /// The table at an address, if it is complete.
-fn table_range(image: &LentImage<'_>, name: u64, address: u64) -> Option<Numbered>
-    ensures { FindsNumbered name (λ s n. (s ≡ address) × IsTableRange image.now s n) result }
+fn table_range(image: &LentImage<'_>, kind: u64, address: u64) -> Option<Numbered>
+    ensures { FindsNumbered kind (λ s n. (s ≡ address) × IsTableRange image.now s n) result }
 {
     let table = Table::complete(image, address)?;
-    Some(structure(name, address, table.bytes().len() as u64))
+    Some(structure(kind, address, table.bytes().len() as u64))
 }
 
 /// The DSDT that a FADT names, if it is complete and has its signature.
@@ -83,25 +83,21 @@ fn dsdt_range(image: &LentImage<'_>, fadt: &Fadt<'_>) -> Option<Numbered>
     table_range(image, DSDT, address)
 }
 
-/// The table that a slot lists, if it is complete.
-fn slot_range(slot: &Slot) -> Option<Numbered>
-    requires low { 4 + slot.now.number < 2 ^ 32 }
-    ensures { (m : Memory) → IsLengthAt m slot.now.table.address slot.now.table.length
-        → FindsNumbered (4 + slot.now.number) (λ s n. (s ≡ slot.now.table.address) × IsTableRange m s n) result }
+/// The addresses that slots list, in rising order, each once. Allocates for each slot.
+fn listed_addresses(alloc: Global, slots: &[Slot]) -> Result<Vec<u64>, AllocError>
+    ensures rise { IfOk result (λ found. AllPairs (λ a b. a < b) found.items) }
+    ensures same { IfOk result
+        (λ found. (a : ℕ) → Contains found.items a ↔ Contains (map listed_address slots.now) a) }
 {
-    let TableAt {
-        address,
-        length,
-        ..
-    } = slot.table;
-    if length == 0 {
-        return None;
+    let mut addresses = Vec::new(alloc);
+    for slot in slots {
+        addresses.push(slot.table.address)?;
     }
-    Some(structure(FIRST_LISTED + slot.number, address, u64::from(length)))
+    sorted_unique(addresses)
 }
 
-/// The structures of a set in memory, by their names. The tables are those of the set that the RSDP at an address leads to.
-/// Allocates for each of them.
+/// The structures of a set in memory. The tables are those of the set that the RSDP at an address leads to. Allocates
+/// for each structure, and for each slot.
 fn structures(
     alloc: Global,
     image: &LentImage<'_>,
@@ -122,8 +118,8 @@ fn structures(
         push(&mut given, facs_range(image, &fadt))?;
         push(&mut given, dsdt_range(image, &fadt))?;
     }
-    for slot in &tables.slots {
-        push(&mut given, slot_range(slot))?;
+    for address in &listed_addresses(alloc, &tables.slots)? {
+        push(&mut given, table_range(image, LISTED, *address))?;
     }
     Ok(given)
 }
@@ -151,9 +147,9 @@ fn overlap_by_starts(sorted: &[Numbered]) -> Option<Place>
     None
 }
 
-/// The lowest address that is in two structures of a set in memory, and where the first two that contain it begin; of those
-/// that begin at one address only the first is compared. The tables are those of the set that the RSDP at an address leads
-/// to. Allocates for each structure.
+/// The lowest address that is in two structures of a set in memory, and where the first two that contain it begin; of
+/// those that begin at one address only the first is compared. The tables are those of the set that the RSDP at an
+/// address leads to. Allocates for each structure, and for each slot.
 pub fn tables_overlap(
     alloc: Global,
     image: &LentImage<'_>,

@@ -1,14 +1,14 @@
 //! What is at an address that a slot lists: the fault of the table there, and which table it is (ACPI 6.5, 5.2.6).
 
-ghost use Rattle.std.specs.Prelude.{◌≡◌, ◌↔◌, ◌⊎◌, ℕ, IsTrue, Some, true, length};
+ghost use Rattle.std.specs.Prelude.{◌≡◌, ◌↔◌, ◌⊎◌, IsTrue, Some, true, length};
 ghost use Rattle.acpi_base.specs.Facs.{facs_signature};
 ghost use Rattle.acpi_base.specs.Image.Runs.{AreBytesFrom};
 ghost use Rattle.acpi_lint.specs.Rules.Slots.{dsdt_signature};
-ghost use Rattle.acpi_base.specs.Memory.{Memory, bytes_at};
+ghost use Rattle.acpi_base.specs.Memory.{bytes_at};
 ghost use Rattle.acpi_base.specs.Signature.{has_signature};
 ghost use Rattle.acpi_base.specs.Tables.{TableFault};
 ghost use Rattle.acpi_base.specs.declared.code.Code.{Code};
-ghost use Rattle.acpi_lint.specs.Slots.{IsLengthAt, IsTableAt, HasSought};
+ghost use Rattle.acpi_lint.specs.Slots.{IsTableAt, HasSought};
 
 use crate::header_advice::odd_field;
 use acpi_base::field::{is_signed, u32_at};
@@ -31,8 +31,6 @@ pub enum Sought {
 pub struct TableAt {
     /// The address.
     pub address: u64,
-    /// How many bytes the complete table there has, otherwise 0.
-    pub length: u32,
     /// The signature of the header there as a number, otherwise 0.
     pub signature: u32,
     /// The offset of the first field of the header there whose text is odd, if there is one.
@@ -66,23 +64,6 @@ fn table_fault(image: &LentImage<'_>, address: u64, run: &[u8], header: &[u8]) -
     }
 }
 
-/// How many bytes the table has that a header belongs to, if it is complete, otherwise 0. `run` has the bytes from its
-/// address on.
-fn complete_length(run: &[u8], header: &[u8]) -> u32
-    requires long { length header.now ≡ 36 }
-    ensures { (m : Memory) (a : ℕ) → AreBytesFrom m a run.now → bytes_at m a 36 ≡ Some header.now
-        → IsLengthAt m a result }
-{
-    let said = u32_at(header, 4);
-    if said < 36 {
-        return 0;
-    }
-    match run.get(..said as usize) {
-        Some(_) => said,
-        None => 0,
-    }
-}
-
 /// Whether a header is that of a DSDT or of a FACS.
 fn is_apart(header: &[u8]) -> bool
     ensures { IsTrue result
@@ -102,7 +83,6 @@ impl TableAt {
         let Some(header) = run.get(..36) else {
             return TableAt {
                 address,
-                length: 0,
                 signature: 0,
                 odd_text: None,
                 fault: Some(Code::TableHeaderOut),
@@ -112,7 +92,6 @@ impl TableAt {
         };
         TableAt {
             address,
-            length: complete_length(run, header),
             signature: u32_at(header, 0),
             odd_text: odd_field(header),
             fault: table_fault(image, address, run, header),

@@ -1,5 +1,5 @@
 -- The structures that a set has in memory, and those that overlap (ACPI 6.5, 5.2). The RSDP is at p.
-use Rattle.std.specs.Prelude.{◌≡◌, ◌≢◌, ℕ, ◌+◌, ◌<◌, ◌≤◌, ◌⊎◌, List, length, Some}
+use Rattle.std.specs.Prelude.{◌≡◌, ◌≢◌, ℕ, ◌<◌, ◌≤◌, ◌⊎◌, List, length, Some}
 use Rattle.acpi_base.specs.Facs.{IsFacs}
 use Rattle.acpi_base.specs.Fadt.{facs_address, dsdt_address}
 use Rattle.acpi_base.specs.Listed.{fadt_signature, HasListed}
@@ -44,17 +44,17 @@ OfNamingFadt m p P = HasListed m p fadt_signature (λ fadt. (116 ≤ length fadt
 
 -- ---- all of them
 
--- the structure with the number o: the RSDP has 0, the root table 1, the FACS 2, the DSDT 3, and the table that slot k of the
--- root table lists 4 + k
+-- a structure of kind o is at s and has n bytes: of kind 0 is the RSDP, of 1 the root table, of 2 the FACS, of 3 the DSDT,
+-- and of 4 each table that a slot lists
 abbrev pub IsStructure : Memory → ℕ → ℕ → ℕ → ℕ → Type 0
 IsStructure m p o s n =
     ((o ≡ 0) × IsRsdpRange m p s n)
     ⊎ ((o ≡ 1) × IsRootRange m p s n)
     ⊎ ((o ≡ 2) × OfNamingFadt m p (λ fadt. IsFacsRange m fadt s n))
     ⊎ ((o ≡ 3) × OfNamingFadt m p (λ fadt. IsDsdtRange m fadt s n))
-    ⊎ ((k : ℕ) × (o ≡ 4 + k) × IsSlot m p k s × IsTableRange m s n)
+    ⊎ ((o ≡ 4) × ((k : ℕ) × IsSlot m p k s) × IsTableRange m s n)
 
--- the first structure that begins at s has n bytes; its start is its name
+-- the first structure, by kind, that begins at s has n bytes; its start is its name
 pub record IsFirstStructure (m : Memory) (p name s n : ℕ) : Type 0 where
   pub named : name ≡ s
   pub o : ℕ
