@@ -53,24 +53,32 @@ fn does_first_serve(policy: &Policy, madt: &Table<'_>) -> bool
     true
 }
 
-/// Spans that contain the same numbers, but end in rising order too: each ends at the greatest end of those up to it.
-fn rising_spans(alloc: Global, spans: &[Span]) -> Result<Vec<Span>, AllocError>
+/// Spans that contain the same numbers, but end in rising order too: those that overlap or touch are merged. All have
+/// one name.
+fn merged_spans(alloc: Global, spans: &[Span]) -> Result<Vec<Span>, AllocError>
     requires { DoStartsRise spans.now }
-    ensures rise { IfOk result (λ rising. DoRise rising.items) }
+    ensures rise { IfOk result (λ merged. DoRise merged.items) }
     ensures same { IfOk result
-        (λ rising. (g : ℕ) → IsInSpans rising.items g ↔ IsInSpans spans.now g) }
+        (λ merged. (g : ℕ) → IsInSpans merged.items g ↔ IsInSpans spans.now g) }
 {
-    let mut rising = Vec::with_capacity(alloc, spans.len())?;
-    let mut end = 0;
+    let mut merged = Vec::new(alloc);
+    let Some(first) = spans.first() else {
+        return Ok(merged);
+    };
+    let name = first.name;
+    let mut start = first.start;
+    let mut end = first.end;
     for span in spans {
-        end = span.end.max(end);
-        rising.push(Span {
-            start: span.start,
-            name: span.name,
-            end,
-        })?;
+        if span.start <= end {
+            end = end.max(span.end);
+        } else {
+            merged.push(Span { start, name, end })?;
+            start = span.start;
+            end = span.end;
+        }
     }
-    Ok(rising)
+    merged.push(Span { start, name, end })?;
+    Ok(merged)
 }
 
 /// How many of the spans end at the number or before it.
@@ -134,7 +142,7 @@ fn first_unserved(spans: &[Span], madt: &Table<'_>) -> Option<Witness>
 /// entry that names a number that is not served; `other` is 0, and `point` is the number, of 32 bits.
 ///
 /// Refuses with `OutOfMemory`: unless the first I/O APIC serves all of them and comes before these entries, it allocates
-/// two spans for each I/O APIC. These are sorted, and each number is looked up among them.
+/// two spans for each I/O APIC. These are sorted and merged, and each number is looked up among them.
 pub fn check_served(alloc: Global, policy: &Policy, madt: &Table<'_>) -> Result<(), Refusal>
     ensures { FindsFirst Stage.Served (AreNamedServed policy.now (madt_contents madt.now))
         (ServedFault policy.now (madt_contents madt.now)) result }
@@ -150,6 +158,6 @@ pub fn check_served(alloc: Global, policy: &Policy, madt: &Table<'_>) -> Result<
         return Ok(());
     }
     sort_unless_sorted(&mut spans)?;
-    let rising = rising_spans(alloc, &spans)?;
-    refuse(first_unserved(&rising, madt))
+    let merged = merged_spans(alloc, &spans)?;
+    refuse(first_unserved(&merged, madt))
 }

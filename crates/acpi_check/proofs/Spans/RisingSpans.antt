@@ -1,17 +1,17 @@
--- Spans that begin in rising order are turned into spans that also end in rising order, in which numbers are looked up.
-use Rattle.std.proofs.Common.{◌≡◌, ℕ, suc, ◌+◌, ◌<◌, ◌≤◌, List, [], ◌∷◌, ◌++◌, length, get_or, leb, leb-true, refl, sym, ◌∙◌, ap, subst, inl, inr, arith}
+-- Spans that begin in rising order are merged into spans that also end in rising order, in which numbers are looked up.
+use Rattle.std.proofs.Common.{◌≡◌, ℕ, suc, ◌+◌, ◌<◌, ◌≤◌, List, [], ◌∷◌, ◌++◌, length, get_or, leb, leb-true, sym, ◌∙◌, ap, subst, inl, inr, arith}
 use Rattle.std.specs.Prelude.{◌⊎◌, ◌↔◌, All, Contains, MatchBool, max}
 use Rattle.std.specs.List.Sorted.{IsNonDecreasingBy}
 use Rattle.std.proofs.lemmas.Bool.{cases_Bool, cases_eq, cases_lt, leb-false}
 use Rattle.std.proofs.lemmas.List.{get_or_default}
-use Rattle.std.proofs.lemmas.List.Elements.{Contains-append_left, Contains-append_right, Contains-append_cases, Contains-get_or}
+use Rattle.std.proofs.lemmas.List.Elements.{Contains-append_left, Contains-push, Contains-push_cases, Contains-get_or}
 use Rattle.std.proofs.lemmas.List.Kept.{AllPairs-cons}
-use Rattle.acpi_base.proofs.Elements.{first_element, later_element, first_or_later, no_element}
+use Rattle.acpi_base.proofs.Elements.{first_element, later_element, no_element}
 use Rattle.acpi_graph.specs.Spans.{HasNumber}
 use Rattle.acpi_graph.specs.declared.span.Span.{Span}
 use Rattle.acpi_check.specs.ServedGsis.{IsInSpans, DoStartsRise, DoRise, IsPlaceOf}
 
--- ---- made to rise
+-- ---- merged
 
 -- a pair of spans that begin and end in rising order
 abbrev Rises : Span → Span → Type 0
@@ -26,164 +26,171 @@ rise_with (x ∷ xs) y rise each =
   where
     from_first : (z : Span) → Contains (xs ++ y ∷ []) z → Rises x z
     from_first z here =
-        elim (Contains-append_cases xs (y ∷ []) z here) [
+        elim (Contains-push_cases xs y z here) [
           | inl (k, within, is) ↦ subst (Rises x) is (rise 0 (suc k) z (omega arith) (omega (arith, within)))
-          | inr last ↦ elim (first_or_later y z [] last) [
-            | inl same ↦ subst (Rises x) same (each x (first_element x xs))
-            | inr none ↦ absurd (no_element z none)
-          ]
+          | inr same ↦ subst (Rises x) same (each x (first_element x xs))
         ]
 
     behind : All (Rises x) (xs ++ y ∷ [])
     behind k d within = from_first (get_or (xs ++ y ∷ []) k d) (Contains-get_or (xs ++ y ∷ []) k d within)
 
--- the first k spans are turned into these, of which the greatest end is `end`, or 0
-pub record AreRising (spans : List Span) (k end : ℕ) (rising : List Span) : Type 0 where
-  pub rise : DoRise rising
-  pub low : (r : Span) → Contains rising r
-      → (r.end ≤ end) × ((j : ℕ) (d : Span) → k ≤ j → j < length spans → r.start ≤ (get_or spans j d).start)
-  pub most : (end ≡ 0) ⊎ ((r : Span) × Contains rising r × (r.end ≡ end))
-  pub from : (g : ℕ) → IsInSpans rising g → IsInSpans spans g
-  pub has : (j : ℕ) (d : Span) → j < k → (g : ℕ) → HasNumber (get_or spans j d) g → IsInSpans rising g
+-- the number is in one of these, or from start on and below end
+abbrev IsHeld : List Span → ℕ → ℕ → ℕ → Type 0
+IsHeld merged start end g = IsInSpans merged g ⊎ ((start ≤ g) × (g < end))
 
-pub none_rising : (spans rising : List Span) → rising ≡ [] → AreRising spans 0 0 rising
-none_rising spans rising is =
-    rw is (record {
-      rise = λ i j d before within. absurd (omega arith);
-      low = λ r here. absurd (no_element r here);
-      most = inl refl;
-      from = λ g h. absurd (no_element h.span h.listed);
-      has = λ j d below. absurd (omega (arith, below));
-    })
+-- the first k spans are merged into these and one from start on and below end
+pub record AreMerged (spans : List Span) (k : ℕ) (merged : List Span) (start end : ℕ) : Type 0 where
+  pub rise : DoRise merged
+  pub some : start < end
+  pub below : (r : Span) → Contains merged r → (r.start ≤ start) × (r.end ≤ end)
+  pub low : (j : ℕ) (d : Span) → k ≤ j → j < length spans → start ≤ (get_or spans j d).start
+  pub from : (g : ℕ) → IsHeld merged start end g → IsInSpans spans g
+  pub has : (j : ℕ) (d : Span) → j < k → (g : ℕ) → HasNumber (get_or spans j d) g → IsHeld merged start end g
 
-pub one_more : (spans : List Span) (k end raised : ℕ) (rising now : List Span) (span more d0 : Span)
-    → DoStartsRise spans → k < length spans → span ≡ get_or spans k d0 → raised ≡ max span.end end
-    → more.start ≡ span.start → more.end ≡ raised → now ≡ rising ++ more ∷ [] → AreRising spans k end rising
-    → AreRising spans (k + 1) raised now
-one_more spans k end raised rising now span more d0 starts within is greatest begins ends pushed before =
-    rw pushed (record { rise = rise; low = low; most = most; from = from; has = has })
+in_given : {spans : List Span} {k g : ℕ} (span d0 : Span) → k < length spans → get_or spans k d0 ≡ span
+    → span.start ≤ g → g < span.end → IsInSpans spans g
+in_given {spans} {k} span d0 within is from below =
+    record {
+      span = span;
+      listed = subst (Contains spans) is (Contains-get_or spans k d0 within);
+      holds = record { from_start = from; below_end = below };
+    }
+
+pub first_merged : (spans : List Span) (first d0 : Span) → DoStartsRise spans → 0 < length spans
+    → get_or spans 0 d0 ≡ first → first.start < first.end → AreMerged spans 0 [] first.start first.end
+first_merged spans first d0 starts within is some =
+    record {
+      rise = λ i j d before inside. absurd (omega arith);
+      some = some;
+      below = λ r here. absurd (no_element r here);
+      low = λ j d least inside. elim (cases_eq 0 j) [
+        | inl same ↦ subst (λ (i : ℕ). first.start ≤ (get_or spans i d).start) same
+            (omega (arith, ap (λ (s : Span). s.start) (here d)))
+        | inr other ↦
+            omega (arith, ap (λ (s : Span). s.start) (here d), starts 0 j d (omega (arith, other)) inside)
+      ];
+      from = λ g h. elim h [
+        | inl none ↦ absurd (no_element none.span none.listed)
+        | inr (from, below) ↦ in_given first d0 within is from below
+      ];
+      has = λ j d before. absurd (omega (arith, before));
+    }
+  where
+    here : (d : Span) → get_or spans 0 d ≡ first
+    here d = get_or_default spans 0 d d0 within ∙ is
+
+-- the next span begins before the last one ends, or where it ends
+pub one_merged : (spans : List Span) (k : ℕ) (merged : List Span) (start end raised : ℕ) (span d0 : Span)
+    → k < length spans → get_or spans k d0 ≡ span → span.start ≤ end → raised ≡ max end span.end
+    → AreMerged spans k merged start end → AreMerged spans (k + 1) merged start raised
+one_merged spans k merged start end raised span d0 within is touches greatest before =
+    record {
+      rise = before.rise;
+      some = omega (arith, before.some, greatest);
+      below = λ r there. let (begin, last) = before.below r there in (begin, omega (arith, last, greatest));
+      low = λ j d later inside. before.low j d (omega (arith, later)) inside;
+      from = λ g h. elim h [
+        | inl early ↦ before.from g (inl early)
+        | inr (from, below) ↦ elim (cases_lt g end) [
+          | inl inside ↦ before.from g (inr (from, inside))
+          | inr behind ↦
+              in_given span d0 within is (omega (arith, touches, behind)) (omega (arith, behind, below, greatest))
+        ]
+      ];
+      has = λ j d below g holds. elim (cases_eq j k) [
+        | inr other ↦ elim (before.has j d (omega (arith, other, below)) g holds) [
+          | inl early ↦ inl early
+          | inr (from, less) ↦ inr (from, omega (arith, less, greatest))
+        ]
+        | inl same ↦
+            let there = subst (λ (s : Span). HasNumber s g) (ap (λ (i : ℕ). get_or spans i d) same ∙ here d) holds in
+            inr (
+              omega (arith, before.low k d0 (omega arith) within, ap (λ (s : Span). s.start) is, there.from_start),
+              omega (arith, there.below_end, greatest),
+            )
+      ];
+    }
   where
     here : (d : Span) → get_or spans k d ≡ span
-    here d = get_or_default spans k d d0 within ∙ sym is
+    here d = get_or_default spans k d d0 within ∙ is
 
-    last : Contains (rising ++ more ∷ []) more
-    last = Contains-append_right rising (more ∷ []) more (first_element more [])
+-- with the last one, which is `more`
+with_last : (merged : List Span) (more : Span) (start end g : ℕ) → more.start ≡ start → more.end ≡ end
+    → IsInSpans (merged ++ more ∷ []) g ↔ IsHeld merged start end g
+with_last merged more start end g begins ends = (
+  λ h. elim (Contains-push_cases merged more h.span h.listed) [
+    | inl early ↦ inl (record { span = h.span; listed = early; holds = h.holds })
+    | inr same ↦
+        let holds = subst (λ (s : Span). HasNumber s g) (sym same) h.holds in
+        inr (omega (arith, begins, holds.from_start), omega (arith, ends, holds.below_end))
+  ],
+  λ h. elim h [
+    | inl early ↦ record {
+      span = early.span;
+      listed = Contains-append_left merged (more ∷ []) early.span early.listed;
+      holds = early.holds;
+    }
+    | inr (from, below) ↦ record {
+      span = more;
+      listed = Contains-push merged more;
+      holds = record { from_start = omega (arith, begins, from); below_end = omega (arith, ends, below) };
+    }
+  ],
+)
 
-    of_each : (r : Span) → Contains (rising ++ more ∷ []) r → Contains rising r ⊎ (more ≡ r)
-    of_each r there =
-        elim (Contains-append_cases rising (more ∷ []) r there) [
-          | inl earlier ↦ inl earlier
-          | inr later ↦ elim (first_or_later more r [] later) [
-            | inl same ↦ inr same
-            | inr none ↦ absurd (no_element r none)
-          ]
-        ]
+rise_to : {spans : List Span} {k start end : ℕ} (merged : List Span) (more : Span) → more.start ≡ start
+    → more.end ≡ end → AreMerged spans k merged start end → DoRise (merged ++ more ∷ [])
+rise_to merged more begins ends are =
+    rise_with merged more are.rise
+    (λ r there. let (begin, last) = are.below r there in (omega (arith, begin, begins), omega (arith, last, ends)))
 
-    rise : DoRise (rising ++ more ∷ [])
-    rise =
-        rise_with rising more before.rise
-        (λ r there. (
-          omega (
-            arith,
-            (before.low r there).1 k d0 (omega arith) within,
-            begins,
-            ap (λ (s : Span). s.start) (here d0),
-          ),
-          omega (arith, (before.low r there).0, ends, greatest),
-        ))
+-- the next span begins after the last one
+pub next_merged : (spans : List Span) (k : ℕ) (merged : List Span) (start end : ℕ) (more span d0 : Span)
+    → DoStartsRise spans → k < length spans → get_or spans k d0 ≡ span → end < span.start → span.start < span.end
+    → more.start ≡ start → more.end ≡ end → AreMerged spans k merged start end
+    → AreMerged spans (k + 1) (merged ++ more ∷ []) span.start span.end
+next_merged spans k merged start end more span d0 starts within is behind some begins ends before =
+    record {
+      rise = rise_to merged more begins ends before;
+      some = some;
+      below = λ r there. elim (Contains-push_cases merged more r there) [
+        | inl early ↦
+            let (begin, last) = before.below r early in
+            (omega (arith, begin, before.some, behind), omega (arith, last, behind, some))
+        | inr same ↦ subst (λ (s : Span). (s.start ≤ span.start) × (s.end ≤ span.end)) same
+            (omega (arith, begins, before.some, behind), omega (arith, ends, behind, some))
+      ];
+      low = λ j d later inside.
+          omega (arith, ap (λ (s : Span). s.start) (here d), starts k j d (omega (arith, later)) inside);
+      from = λ g h. elim h [
+        | inl early ↦ before.from g ((with_last merged more start end g begins ends).0 early)
+        | inr (from, below) ↦ in_given span d0 within is from below
+      ];
+      has = λ j d below g holds. elim (cases_eq j k) [
+        | inr other ↦ inl
+            ((with_last merged more start end g begins ends).1
+            (before.has j d (omega (arith, other, below)) g holds))
+        | inl same ↦
+            let there = subst (λ (s : Span). HasNumber s g) (ap (λ (i : ℕ). get_or spans i d) same ∙ here d) holds in
+            inr (there.from_start, there.below_end)
+      ];
+    }
+  where
+    here : (d : Span) → get_or spans k d ≡ span
+    here d = get_or_default spans k d d0 within ∙ is
 
-    low : (r : Span) → Contains (rising ++ more ∷ []) r
-        → (r.end ≤ raised)
-        × ((j : ℕ) (d : Span) → k + 1 ≤ j → j < length spans → r.start ≤ (get_or spans j d).start)
-    low r there =
-        elim (of_each r there) [
-          | inl earlier ↦ (
-            omega (arith, (before.low r earlier).0, greatest),
-            λ j d later inside. (before.low r earlier).1 j d (omega (arith, later)) inside,
-          )
-          | inr same ↦ subst (λ (s : Span). (s.end ≤ raised)
-              × ((j : ℕ) (d : Span) → k + 1 ≤ j → j < length spans → s.start ≤ (get_or spans j d).start)) same (
-                omega (arith, ends),
-                λ j d later inside. omega (
-                  arith,
-                  begins,
-                  ap (λ (s : Span). s.start) (here d),
-                  starts k j d (omega (arith, later)) inside,
-                ),
-              )
-        ]
-
-    most : (raised ≡ 0) ⊎ ((r : Span) × Contains (rising ++ more ∷ []) r × (r.end ≡ raised))
-    most = inr (more, last, ends)
-
-    in_more : (g : ℕ) → HasNumber more g → IsInSpans spans g
-    in_more g holds =
-        elim (cases_lt g span.end) [
-          | inl inside ↦ record {
-            span = get_or spans k d0;
-            listed = Contains-get_or spans k d0 within;
-            holds = subst (λ (s : Span). HasNumber s g) (sym (here d0)) (record {
-              from_start = omega (arith, begins, holds.from_start);
-              below_end = inside;
-            });
-          }
-          | inr behind ↦ elim before.most [
-            | inl nil ↦ absurd (omega (arith, nil, behind, holds.below_end, ends, greatest))
-            | inr (r, there, reaches) ↦ before.from g (record {
-              span = r;
-              listed = there;
-              holds = record {
-                from_start = omega (
-                  arith,
-                  (before.low r there).1 k d0 (omega arith) within,
-                  ap (λ (s : Span). s.start) (here d0),
-                  begins,
-                  holds.from_start,
-                );
-                below_end = omega (arith, behind, holds.below_end, ends, greatest, reaches);
-              };
-            })
-          ]
-        ]
-
-    from : (g : ℕ) → IsInSpans (rising ++ more ∷ []) g → IsInSpans spans g
-    from g h =
-        elim (of_each h.span h.listed) [
-          | inl earlier ↦ before.from g (record { span = h.span; listed = earlier; holds = h.holds })
-          | inr same ↦ in_more g (subst (λ (s : Span). HasNumber s g) (sym same) h.holds)
-        ]
-
-    has : (j : ℕ) (d : Span) → j < k + 1 → (g : ℕ) → HasNumber (get_or spans j d) g
-        → IsInSpans (rising ++ more ∷ []) g
-    has j d below g holds =
-        elim (cases_eq j k) [
-          | inr other ↦
-              let h = before.has j d (omega (arith, other, below)) g holds in
-              record {
-                span = h.span;
-                listed = Contains-append_left rising (more ∷ []) h.span h.listed;
-                holds = h.holds;
-              }
-          | inl same ↦
-              let in_span : HasNumber span g =
-              subst (λ (s : Span). HasNumber s g) (ap (λ (i : ℕ). get_or spans i d) same ∙ here d) holds in
-              record {
-                span = more;
-                listed = last;
-                holds = record {
-                  from_start = omega (arith, begins, in_span.from_start);
-                  below_end = omega (arith, ends, greatest, in_span.below_end);
-                };
-              }
-        ]
-
-pub same_numbers : (spans rising : List Span) (k end : ℕ) → length spans ≤ k → AreRising spans k end rising
-    → (g : ℕ) → IsInSpans rising g ↔ IsInSpans spans g
-same_numbers spans rising k end over are g = (
-  are.from g,
-  λ h. (
-      let (j, within, is) = h.listed in
-      are.has j h.span (omega (arith, within, over)) g (subst (λ (s : Span). HasNumber s g) (sym is) h.holds)),
+pub all_merged : (spans : List Span) (k : ℕ) (merged : List Span) (start end : ℕ) (more : Span) → length spans ≤ k
+    → more.start ≡ start → more.end ≡ end → AreMerged spans k merged start end
+    → DoRise (merged ++ more ∷ []) × ((g : ℕ) → IsInSpans (merged ++ more ∷ []) g ↔ IsInSpans spans g)
+all_merged spans k merged start end more over begins ends are = (
+  rise_to merged more begins ends are,
+  λ g. (
+    λ h. are.from g ((with_last merged more start end g begins ends).0 h),
+    λ h. (
+        let (j, within, is) = h.listed in
+        (with_last merged more start end g begins ends).1
+        (are.has j h.span (omega (arith, within, over)) g (subst (λ (s : Span). HasNumber s g) (sym is) h.holds))),
+  ),
 )
 
 -- ---- looked up

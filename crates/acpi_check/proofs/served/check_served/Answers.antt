@@ -14,8 +14,8 @@ returns-then-is_empty c =
     λ io. absurd (no_io_apic c.args.policy.now c.rsdp.ensures.policy (madt_contents c.args.madt.now) spans.items
     c.in_ok-spans.ensures.spans none io)
 
-pub rising_spans-requires : goal.rising_spans-requires
-rising_spans-requires c =
+pub merged_spans-requires : goal.merged_spans-requires
+merged_spans-requires c =
     let sorted = c.sort_unless_sorted.new.items.items in
     rw c.deref.ensures.value (starts_rise sorted (in_order sorted
     (names_permuted c.in_ok-spans.spans.items sorted c.sort_unless_sorted.ensures.permutation
@@ -32,5 +32,5 @@ returns c =
     (has_io_apic q madt spans.items c.in_ok-spans.ensures.spans some)
     (rising_served q madt spans.items c.sort_unless_sorted.new.items.items c.deref-2.result.now
     c.in_ok-spans.ensures.spans c.sort_unless_sorted.ensures.permutation
-    (rw (c.deref.ensures.value, ← c.deref-2.ensures.value) at c.in_ok-rising.ensures.same))
+    (rw (c.deref.ensures.value, ← c.deref-2.ensures.value) at c.in_ok-merged.ensures.same))
     c.first_unserved.result c.first_unserved.ensures)
