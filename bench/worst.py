@@ -12,7 +12,7 @@ import tempfile
 from dataclasses import dataclass
 
 from inputs import CHAINS, MOST_COUNTS, counts, long_run, many_rows, pieces_text, rows_text, set_of, text_of
-from measure import Program, written_by
+from measure import Program, run_in_turn, written_by
 
 MOST_TIMES = {"check": 40, "confirm": 40, "find": 40, "lint": 80}
 MEBIBYTES = 64
@@ -158,12 +158,9 @@ def measured(program, reader, shapes, divisor, scratch):
             words = command if command == "find" else f"{command} {rsdp} {shape.options.replace(WITH_COUNTS, '@' + counts_of)}"
             ours = Program(f"{shape.name} {command}", path, f"{program} {words}")
             model = Program("model", run, f"{reader} --one-run")
-            for _ in range(2):
-                model.run()
-            written = written_by(ours)
-            model.run()
-            ours.run()
-            yield Measured(shape.name, command.split()[0], ours.processor, model.processor, ours.memory, ours.size, written)
+            run_in_turn([model, ours])
+            took = ours.processor, model.processor, ours.memory
+            yield Measured(shape.name, command.split()[0], *took, ours.size, written_by(ours))
 
 
 def report(program, reader):

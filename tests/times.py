@@ -20,7 +20,7 @@ sys.path[:0] = [str(TESTS), str(TESTS / "explain"), str(TESTS / "tools")]
 
 import hostile
 import sets
-from acpi_images.program import finish, timed
+from acpi_images.program import fastest, finish, timed
 from acpi_images.tables import *
 from explained import IMAGES, Tests
 from files import dump_of
@@ -31,8 +31,8 @@ TOOLS = TESTS.parent / "tools"
 # on the whole input a square part of two thirds of that, is 5.7 times as long. Beside half of the input it is 2.5 times as long in place of
 # twice, and two runs of one program on a busy machine differ by as much.
 LARGER, MOST_TIMES = 4, 5.7
-# Of so many runs the fastest counts: what else a machine does makes a run slower, never faster.
-RUNS = 3
+# There are many hostile inputs.
+RUNS_OF_HOSTILE = 3
 # What a tool takes for a quarter of an input whose growth is measured, if an input that large can be made.
 MEASURED, MEASURED_LONG = 0.33, 1.0
 FIRST_SIZE, LAST_SIZE = 250_000, 16_000_000
@@ -75,14 +75,14 @@ class Hostile:
         run = subprocess.run(words, input=self.data, capture_output=True, cwd=self.folder.name, timeout=600, env=environment)
         return (*map(float, Path(self.folder.name, "used").read_text().split()), run)
 
-    def fastest(self, environment, runs):
-        """The time in user mode of the fastest of so many runs."""
-        return min(self.run(environment)[1] for _ in range(runs))
+    def seconds(self, environment):
+        """The time in user mode of a run."""
+        return self.run(environment)[1]
 
     def start(self, environment):
-        """That of the fastest of some runs of the tool on nothing."""
+        """That of a run of the tool on nothing."""
         words, self.words = self.words, ["--help"]
-        seconds = self.fastest(environment, RUNS)
+        seconds = self.seconds(environment)
         self.words = words
         return seconds
 
@@ -123,10 +123,9 @@ def memory_of(size):
     return bytes(memory)
 
 
-def fastest(words, **how):
-    """A run of a tool, and the processor time of the fastest of some."""
-    runs = [timed(lambda: subprocess.run(words, capture_output=True, timeout=600, **how)) for _ in range(RUNS)]
-    return runs[0][0], min(seconds for _, seconds in runs)
+def ran(words, **how):
+    """A run of a tool, and its processor time."""
+    return timed(lambda: subprocess.run(words, capture_output=True, timeout=600, **how))
 
 
 class Times(Tests):
@@ -134,14 +133,14 @@ class Times(Tests):
         """How long explain takes for what check says of this image, with what it says."""
         path = self.file(image)
         line = self.run("check", text=image, tool=self.program).stdout
-        run, seconds = fastest([self.tool, path], input=line, env={**os.environ, "PATH": self.path})
+        run, seconds = ran([self.tool, path], input=line, env={**os.environ, "PATH": self.path})
         assert run.stdout.startswith(line.strip()), run
         return seconds
 
     def convert(self, tool, data):
         """How long a tool takes that makes an image of this, which check then takes."""
         path = self.file(data)
-        made, seconds = fastest([sys.executable, TOOLS / tool, path])
+        made, seconds = ran([sys.executable, TOOLS / tool, path])
         told = re.search(rb"check it with --rsdp ([0-9a-f]+)$", made.stderr, re.M)
         said = self.run("check", *(["--rsdp", told[1].decode()] if told else []), text=made.stdout, tool=self.program)
         assert said.stdout == b"yes\n", (made.stderr, said)
@@ -155,7 +154,7 @@ class Times(Tests):
         with Hostile(make, SIZE) as given:
             status, user, system, memory, run = given.run(self.environment())
             seconds, most = user + system, SECONDS + SECONDS_OF_A_BYTE * given.size
-            for _ in range(RUNS - 1):
+            for _ in range(RUNS_OF_HOSTILE - 1):
                 if seconds > most:
                     seconds = min(seconds, sum(given.run(self.environment())[1:3]))
         size, written = given.size, len(run.stdout) + len(run.stderr)
@@ -171,27 +170,27 @@ class Times(Tests):
         size, last = hostile.FIRST_SIZES.get(make, FIRST_SIZE), hostile.LAST_SIZES.get(make, LAST_SIZE)
         while 2 * LARGER * size <= last:
             with Hostile(make, size) as given:
-                if given.run(self.environment())[1] >= seconds:
+                if given.seconds(self.environment()) >= seconds:
                     break
             size *= 2
         return size
 
     def grows_on(self, make, seconds):
-        """The time on a hostile input beside that on one of a quarter of its size, of the fastest of some runs where one is not enough. What
-        the tool takes to start does not grow, and may differ by as much."""
+        """The time on a hostile input beside that on one of a quarter of its size. What the tool takes to start does not grow, and may differ
+        by as much."""
         size = self.measured_size(make, seconds)
+        environment = self.environment()
         with Hostile(make, size) as one, Hostile(make, LARGER * size) as other:
-            start = one.start(self.environment())
-            most = lambda part: MOST_TIMES * (part - start) + 2 * start
-            part, whole = one.fastest(self.environment(), 2), other.fastest(self.environment(), 1)
-            if whole > most(part):
-                part, whole = one.fastest(self.environment(), RUNS), other.fastest(self.environment(), RUNS)
-        told = f"{part:.2f} s, and {whole:.2f} s on {other.size / 1e6:.1f} MB, which are {LARGER} times as much"
-        self.count(f"growth of {one.name}", whole > most(part) and told)
+            calls = [lambda: one.start(environment), lambda: one.seconds(environment), lambda: other.seconds(environment)]
+            start, part, whole = fastest(*calls, runs=RUNS_OF_HOSTILE)
+        grown = whole > MOST_TIMES * (part - start) + 2 * start
+        told = f"{part:.2f} s, and {whole:.2f} s on {other.size / 1e6:.1f} MB, which are {LARGER} times as much, {start:.2f} s to start"
+        self.count(f"growth of {one.name}", grown and told)
 
     def grows(self, name, time, make, size):
         """The time on what is made of this size, beside that on what is made of a quarter of it."""
-        part, whole = time(make(size // LARGER)), time(make(size))
+        one, other = make(size // LARGER), make(size)
+        part, whole = fastest(lambda: time(one), lambda: time(other))
         self.count(name, whole > MOST_TIMES * part and f"{part:.2f} s, and {whole:.2f} s on {LARGER} times as much")
 
 

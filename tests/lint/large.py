@@ -13,7 +13,7 @@ from pathlib import Path
 
 sys.path.insert(0, str(Path(__file__).resolve().parents[1]))
 
-from acpi_images.program import main, timed
+from acpi_images.program import fastest, main, timed
 from acpi_images.tables import *
 from acpi_images.text import text_of
 
@@ -239,13 +239,9 @@ def large_sets():
             yield f"{made.__name__}, {name}", tables, lines, place == 0
 
 
-# Of so many runs the fastest counts: what else a machine does makes a run slower, never faster.
-RUNS = 3
-
-
-def fastest(cases, name, words, text, lines):
-    """Compares what a command writes, and returns the processor time of the fastest of some runs."""
-    return min(timed(lambda: cases.writes(name, words, text, lines))[1] for _ in range(RUNS))
+def written(cases, name, words, text, lines):
+    """A call that compares what a command writes, and returns its processor time."""
+    return lambda: timed(lambda: cases.writes(name, words, text, lines))[1]
 
 
 # `lint` of many entries may take this many times the processor time of `check` of the first set of its kind, and this many seconds more.
@@ -256,8 +252,8 @@ def many_entries(cases):
     for name, tables, lines, is_first in large_sets():
         text = text_with(*tables)
         if is_first:
-            checked = fastest(cases, f"check on many entries, {name}", "check", text, lines[:1])
-        linted = fastest(cases, f"lint on many entries, {name}", "lint", text, lines)
+            check = written(cases, f"check on many entries, {name}", "check", text, lines[:1])
+        checked, linted = fastest(check, written(cases, f"lint on many entries, {name}", "lint", text, lines))
         slow = linted > TIMES_OF_ENTRIES * checked + MORE_OF_ENTRIES
         cases.count(f"time with many entries, {name}", f"{linted} seconds, and check {checked}" if slow else "")
 
@@ -284,8 +280,10 @@ def listed_in_no_order():
 def many_slots(cases):
     pieces, lines, _ = listed_in_no_order()
     text = text_of(pieces)
-    checked = fastest(cases, f"check on {SLOTS} slots", "check --rsdp e0000", text, lines[:1])
-    linted = fastest(cases, f"lint on {SLOTS} slots", "lint --rsdp e0000", text, lines)
+    checked, linted = fastest(
+        written(cases, f"check on {SLOTS} slots", "check --rsdp e0000", text, lines[:1]),
+        written(cases, f"lint on {SLOTS} slots", "lint --rsdp e0000", text, lines),
+    )
     slow = linted > TIMES * checked + MORE
     cases.count(f"time with {SLOTS} slots", f"{linted} seconds, and check {checked}" if slow else "")
 

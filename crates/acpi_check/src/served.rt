@@ -61,7 +61,7 @@ fn merged_spans(alloc: Global, spans: &[Span]) -> Result<Vec<Span>, AllocError>
     ensures same { IfOk result
         (λ merged. (g : ℕ) → IsInSpans merged.items g ↔ IsInSpans spans.now g) }
 {
-    let mut merged = Vec::new(alloc);
+    let mut merged = Vec::with_capacity(alloc, spans.len())?;
     let Some(first) = spans.first() else {
         return Ok(merged);
     };

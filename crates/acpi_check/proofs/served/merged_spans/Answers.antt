@@ -7,7 +7,7 @@ pub loop-span-init : goal.loop-span-init
 loop-span-init c =
     let first = c.in-Some.first.now in
     let item = c.in-Some.ensures.item in
-    rw c.new-merged.ensures.items
+    rw c.in_ok-merged.ensures.items
     (first_merged c.args.spans.now first first c.requires item.3.0 (sym item.1) first.not_empty)
 
 pub loop-span-preserved : goal.loop-span-preserved
