@@ -299,7 +299,7 @@ enum acpiset_rule {
     ACPISET_BLOCK_WIDTH = 135,          /* the length of a register block is not the width of its X_ structure */
     ACPISET_HALF_BLOCK = 136,           /* a register block has an address and no length, or a length and no address */
     ACPISET_PORTS_OVERLAP = 137,        /* two register blocks share an I/O port */
-    ACPISET_PORT_PAST_END = 138,        /* a register is at an I/O port above FFFFh */
+    ACPISET_PORT_PAST_END = 138,        /* a register is at an I/O port above 0xffff */
     ACPISET_GPE_OVERLAP = 139,          /* GPE1_BASE is an event number of the GPE0 block */
     ACPISET_SMI_HALF = 140,             /* SMI_CMD cannot switch between legacy mode and ACPI mode, or is 0 and its values are not */
     ACPISET_SCI_ZERO = 141,             /* SCI_INT is 0 */

@@ -110,7 +110,7 @@ class Rule(IntEnum):
     BlockWidth = 135  # the length of a register block is not the width of its X_ structure
     HalfBlock = 136  # a register block has an address and no length, or a length and no address
     PortsOverlap = 137  # two register blocks share an I/O port
-    PortPastEnd = 138  # a register is at an I/O port above FFFFh
+    PortPastEnd = 138  # a register is at an I/O port above 0xffff
     GpeOverlap = 139  # GPE1_BASE is an event number of the GPE0 block
     SmiHalf = 140  # SMI_CMD cannot switch between legacy mode and ACPI mode, or is 0 and its values are not
     SciZero = 141  # SCI_INT is 0

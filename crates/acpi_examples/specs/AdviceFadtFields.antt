@@ -116,7 +116,7 @@ pub record AreBlocksHalf : Type 0 where
   pub control : IsKept (IsHalfBlock (one_byte 116 69 5))
 
 -- PM1a_EVT, of 4 bytes from FFFDh on, and SMI_CMD and, on reduced hardware, RESET_REG at 10000h; not so from FFFCh
--- on, at FFFFh, or in a table of 128 bytes
+-- on, at 0xffff, or in a table of 128 bytes
 pub record ArePortsPastEnd : Type 0 where
   pub block : IsPortPastEnd (three_bytes 116 56 0xfd 57 0xff 88 4) 56 4 0xfffd
   pub smi : IsPortPastEnd (one_byte 116 50 1) 48 1 0x10000

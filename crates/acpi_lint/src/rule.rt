@@ -85,7 +85,7 @@ pub enum Rule {
     HalfBlock,
     /// Two register blocks share an I/O port (5.2.9).
     PortsOverlap,
-    /// A register is at an I/O port above FFFFh (5.2.9).
+    /// A register is at an I/O port above 0xffff (5.2.9).
     PortPastEnd,
     /// GPE1_BASE is an event number of the GPE0 block (5.2.9).
     GpeOverlap,

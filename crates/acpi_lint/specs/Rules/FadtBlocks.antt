@@ -83,7 +83,7 @@ IsHalfBlock whole at other point = (is_reduced whole ≡ false) × OnBlock (IsHa
 
 -- ---- ports past the last one
 
--- these bytes of system I/O, as many as `other`, from the port `point` on, end past the last one, FFFFh
+-- these bytes of system I/O, as many as `other`, from the port `point` on, end past the last one, 0xffff
 abbrev pub IsPastEnd : ℕ → ℕ → ℕ → ℕ → Type 0
 IsPastEnd first bytes other point =
     (other ≡ bytes) × (point ≡ first) × (1 ≤ bytes) × (2 ^ 16 < first + bytes)
