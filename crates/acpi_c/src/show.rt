@@ -29,7 +29,7 @@ fn shown(
     let policy = tested_policy(alloc, settings, inputs)?;
     let image = image_of_pieces(alloc, pieces)?;
     let rsdp = policy.rsdp();
-    let set = match read_set(&image, rsdp) {
+    let set = match read_set(alloc, &image, rsdp) {
         Ok(set) => set,
         Err(fault) => return Ok(Made::Fault(fault)),
     };

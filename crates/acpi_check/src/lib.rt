@@ -4,7 +4,7 @@
 //! first five pass on what they have read: the RSDP, the root table, the listed tables, the FADT, the FACS. The
 //! others read that, and pass on nothing. `check` runs all eighteen in their order, `check_to` those up to one.
 //! `read_set` and `check_set` return the set for which stages 1 to 3, or all eighteen, hold. Stages 7, 10 and 13 to 18
-//! allocate; the others do not.
+//! allocate; so does stage 3 for many slots, but it does without if out of memory. The others do not.
 //!
 //! A loop over the entries of a table is mostly a function that is not inlined: as a part of `check_to`, which has all of
 //! them, it would keep its counters in memory, and a check of 240 processors would take some 6 % more instructions.
@@ -42,6 +42,7 @@ mod places;
 mod processors;
 mod range_kind;
 mod ranges;
+mod read_addresses;
 mod references;
 mod refusal;
 mod root;

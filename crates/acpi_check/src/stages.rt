@@ -66,7 +66,7 @@ fn stages_to(
 ) -> Result<(), Refusal>
     ensures { IsResultTo last image.now policy.now (λ _. CleanTo last image.now policy.now) result }
 {
-    match valid_set(image, policy) {
+    match valid_set(alloc, image, policy) {
         Ok(set) => later_stages(alloc, &set, last),
         Err(fault) if fault.code.stage().number() <= last.number() => Err(Refusal::Fault(fault)),
         Err(_) => Ok(()),
@@ -75,14 +75,18 @@ fn stages_to(
 
 /// The set that the RSDP at an address leads to, if its RSDP, its root table and the tables that it lists are valid;
 /// otherwise its first fault, which is one of stages 1 to 3. These stages use nothing of a policy but the RSDP's
-/// address.
-pub fn read_set<'a>(image: &'a LentImage<'_>, rsdp: u64) -> Result<ListedSet<'a>, Witness>
+/// address. Allocates for a root table of more than 1,024 slots; if out of memory, it takes longer.
+pub fn read_set<'a>(
+    alloc: Global,
+    image: &'a LentImage<'_>,
+    rsdp: u64,
+) -> Result<ListedSet<'a>, Witness>
     ensures { (q : PolicyValue) → q.rsdp ≡ rsdp
         → ReadsTo Stage.Tables image.now q (IsListedSetOf image.now q.rsdp) result }
 {
     let rsdp = check_rsdp(image, rsdp)?;
     let root = check_root(image, &rsdp)?;
-    let tables = check_tables(image, &root)?;
+    let tables = check_tables(alloc, image, &root)?;
     Ok(ListedSet {
         image,
         rsdp,
@@ -92,10 +96,14 @@ pub fn read_set<'a>(image: &'a LentImage<'_>, rsdp: u64) -> Result<ListedSet<'a>
 }
 
 /// The set for which the stages up to the FACS hold, or its first fault, which is one of theirs.
-fn valid_set<'a, 'p>(image: &'a LentImage<'_>, policy: &'p Policy) -> Result<Set<'a, 'p>, Witness>
+fn valid_set<'a, 'p>(
+    alloc: Global,
+    image: &'a LentImage<'_>,
+    policy: &'p Policy,
+) -> Result<Set<'a, 'p>, Witness>
     ensures { ReadsTo Stage.Facs image.now policy.now (IsSetOf image.now policy.now) result }
 {
-    let listed = read_set(image, policy.rsdp())?;
+    let listed = read_set(alloc, image, policy.rsdp())?;
     let fadt = check_fadt(&listed.tables)?;
     let facs = check_facs(image, &fadt)?;
     Ok(Set {
@@ -130,7 +138,7 @@ pub fn check_set<'a>(
     ensures { IsResultTo Stage.Leaves image.now policy.now (IsCleanSetOf image.now policy.now)
         result }
 {
-    let set = valid_set(image, policy)?;
+    let set = valid_set(alloc, image, policy)?;
     later_stages(alloc, &set, Stage::LAST)?;
     Ok(CleanSet {
         listed: set.listed,

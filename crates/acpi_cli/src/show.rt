@@ -23,7 +23,7 @@ fn show_output(alloc: Global, image: &Image, given: Option<u64>) -> Result<Outpu
     let Some(address) = rsdp_address(image, given) else {
         return no_rsdp(alloc);
     };
-    let set = match read_set(image, address) {
+    let set = match read_set(alloc, image, address) {
         Ok(set) => set,
         Err(fault) => {
             let bytes = verdict_text(alloc, &Verdict::No(fault))?;
@@ -61,10 +61,10 @@ pub fn run_show<R: Read, W: Write>(
 }
 
 /// The verdict on the stages up to the listed tables, from the RSDP at an address.
-fn tables_verdict(image: &Image, rsdp: u64) -> Verdict
+fn tables_verdict(alloc: Global, image: &Image, rsdp: u64) -> Verdict
     ensures { IsVerdict Stage.Tables image.now (with_rsdp shown_policy rsdp) result }
 {
-    match read_set(image, rsdp) {
+    match read_set(alloc, image, rsdp) {
         Ok(_) => Verdict::Yes,
         Err(fault) => Verdict::No(fault),
     }
@@ -78,7 +78,7 @@ fn anyway_output(alloc: Global, image: &Image, given: Option<u64>) -> Result<Out
     let Some(address) = rsdp_address(image, given) else {
         return no_rsdp(alloc);
     };
-    let mut bytes = verdict_text(alloc, &tables_verdict(image, address))?;
+    let mut bytes = verdict_text(alloc, &tables_verdict(alloc, image, address))?;
     let Some(root) = Root::complete(image, address) else {
         let outcome = Outcome::No;
         return Ok(Output { bytes, outcome });

@@ -1,8 +1,7 @@
 -- References that all lead up, or all lead down, make no cycle.
-use Rattle.std.proofs.Common.{◌≡◌, ℕ, zero, suc, ◌<◌, ◌≤◌, Bool, true, false, List, [], Some, subst, arith}
+use Rattle.std.proofs.Common.{◌≡◌, ℕ, zero, suc, ◌≤◌, Bool, true, false, [], Some, subst, arith}
 use Rattle.std.specs.Prelude.{◌≢◌}
-use Rattle.acpi_base.specs.Chains.{IsCycle, IsStep, LeadsTo}
-use Rattle.acpi_base.specs.Entries.{PlacedEntry}
+use Rattle.acpi_base.specs.Chains.{IsCycle, LeadsTo}
 use Rattle.acpi_base.specs.Pptt.{PpttContents, PpttEntry}
 use Rattle.acpi_check.specs.Chains.{Leads, Names, named_offset}
 use Rattle.acpi_check.specs.declared.nodes.Chain.{Chain}

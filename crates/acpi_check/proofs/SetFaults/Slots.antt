@@ -120,13 +120,11 @@ below_repeat m bytes d i k a signature None before first again none = λ j b les
           none i b before (subst (λ (x : ℕ). HasSlot bytes d i x) (one_slot bytes d k a b again here) first)
     ]
 
-pub firsts_repeat : (m : Memory) (root : RootValue) (k : ℕ) {a b : ℕ} (firsts : FirstTables)
-    → IsReadBelow root k b → a ≡ b → HasSlot root.bytes root.width k a → AreFirstBelow m root k firsts
+pub firsts_repeat : (m : Memory) (root : RootValue) (k : ℕ) {a : ℕ} (firsts : FirstTables)
+    → IsReadBelow root k a → HasSlot root.bytes root.width k a → AreFirstBelow m root k firsts
     → AreFirstBelow m root (k + 1) firsts
-firsts_repeat m root k firsts (inl none) same again below = absurd (again.listed (same ∙ none))
-firsts_repeat m root k {a = a} firsts (inr (i, before, first)) same again below =
-    let there : HasSlot root.bytes root.width i a =
-    subst (λ (x : ℕ). HasSlot root.bytes root.width i x) (sym same) first in
+firsts_repeat m root k firsts (inl none) again below = absurd (again.listed none)
+firsts_repeat m root k {a = a} firsts (inr (i, before, there)) again below =
     record {
       valid = λ j b less here. elim (cases_lt j k) [
         | inl earlier ↦ below.valid j b earlier here
