@@ -82,10 +82,11 @@ READING = [
 ORDER = [order("shuffled-apart", 1, 5590000, Limit(0.9)), order("shuffled-far", 1, 5150000, Limit(0.9))]
 
 # What a real set takes is mostly the start of a program.
-LOOP = "sh -c 'while read -r rsdp text; do \"$0\" check --rsdp $rsdp <\"$text\" || [ $? = 1 ] || exit 3; done'"
+LOOP = "sh -c 'while read -r rsdp text; do \"$0\" {command} --rsdp $rsdp <\"$text\" || [ $? = 1 ] || exit 3; done'"
+CHECKS, LINTS = LOOP.format(command="check"), LOOP.format(command="lint")
 REAL = [
     Row("a region of real firmware", "region", "{acpiset} check --rsdp f59e0 --through 3", "{reader}"),
-    Row("131 checks of real sets", "real-sets 131", LOOP + " {acpiset}", LOOP + " {true}", label="true", unit="set"),
+    Row("131 checks of real sets", "real-sets 131", CHECKS + " {acpiset}", CHECKS + " {true}", label="true", unit="set"),
 ]
 
 # ---- the library
@@ -148,6 +149,26 @@ def confirmed(chain, count):
 
 CHAINS = [confirmed("falling-ring", 1670000), confirmed("shuffled-ring", 1670000), confirmed("short-entries-and-ring", 16700000)]
 
+
+def linted(kind, count):
+    """`lint` on a clean set with many entries of a kind, beside `check`."""
+    lint, check = (f"{{acpiset}} {command} --rsdp e0000 --default-inputs 1" for command in ("lint", "check"))
+    return Row(f"{count} {kind}", f"{kind} {count}", lint, check, label="check", unit="entry")
+
+
+LINTED = [
+    Row("131 lints of real sets", "real-sets 131", LINTS + " {acpiset}", CHECKS + " {acpiset}", label="check", unit="set"),
+    linted("overrides", 2000000),
+    linted("nmi-sources", 1600000),
+    linted("io-apics", 2000000),
+    linted("x2apics-in-a-bad-order", 1390000),
+    linted("processors", 800000),
+    linted("ranges", 800000),
+    linted("leaves", 800000),
+    linted("nodes-of-58-caches", 130000),
+    linted("reserved-entries", 16000000),
+]
+
 USUAL = {
     "reading just below 64 MiB of text": READING,
     "order of many rows: their size": ORDER,
@@ -158,5 +179,5 @@ USUAL = {
 MODES = {
     "--orders": {"reading rows in an order: their size": ORDERS},
     "--plain": {"without the time up to the listed tables": PLAIN},
-    "--instructions": {**USUAL, "rows in an order: their size": ORDERS, "without reading": PLAIN, "confirmed": CHAINS},
+    "--instructions": {**USUAL, "rows in an order: their size": ORDERS, "without reading": PLAIN, "confirmed": CHAINS, "lint": LINTED},
 }

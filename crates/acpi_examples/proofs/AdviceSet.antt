@@ -1,10 +1,11 @@
 -- The examples of advice on what the RSDP, the root tables and the FADT name, by computing.
-use Rattle.std.proofs.Common.{◌≡◌, ◌≢◌, ℕ, zero, suc, ◌+◌, ◌*◌, ◌<◌, ◌≤◌, ◌==◌, ◌&&◌, Bool, true, false, List, [], ◌∷◌, take, Option, Some, None, refl, sym, ap, subst, ◌∙◌, inl, inr, arith}
-use Rattle.std.specs.Prelude.{◌++◌, ◌⊎◌, slice_index, codes}
+use Rattle.std.proofs.Common.{◌≡◌, ◌≢◌, ℕ, zero, suc, ◌+◌, ◌*◌, ◌<◌, ◌≤◌, ◌==◌, ◌&&◌, nat_le, Bool, true, false, List, [], ◌∷◌, length, take, Option, Some, None, refl, sym, ap, subst, ◌∙◌, inl, inr, arith}
+use Rattle.std.specs.Prelude.{◌++◌, ◌⊎◌, slice_index, codes, replicate}
 use Rattle.std.specs.List.{cons_option}
 use Rattle.std.proofs.lemmas.Bool.{both_ways, and_parts, cases_eq}
 use Rattle.std.proofs.lemmas.Bool.Decides.{nat_tests}
 use Rattle.std.proofs.lemmas.Option.{none-some}
+use Rattle.acpi_base.specs.Facs.{IsFacs}
 use Rattle.acpi_base.specs.Fadt.{wide_address}
 use Rattle.acpi_base.specs.Frames.{IsFrame}
 use Rattle.acpi_base.specs.Image.Runs.{Run, lookup, memory_of}
@@ -15,12 +16,12 @@ use Rattle.acpi_base.specs.Rsdp.{addresses_at}
 use Rattle.acpi_base.specs.Signature.{has_signature}
 use Rattle.acpi_base.specs.Tables.{table_frame}
 use Rattle.acpi_base.specs.declared.frame.Question.TheVariants as question
-use Rattle.acpi_lint.specs.Rules.HeaderAdvice.{is_once, once_signatures, signature_number, ListsNumber}
-use Rattle.acpi_lint.specs.Rules.NamedAdvice.{IsBrokenDsdt}
+use Rattle.acpi_lint.specs.Rules.HeaderAdvice.{IsNoText, IsOddField, is_once, once_signatures, signature_number, ListsNumber}
+use Rattle.acpi_lint.specs.Rules.NamedAdvice.{IsBrokenDsdt, IsOddFacs}
 use Rattle.acpi_lint.specs.Rules.FixedFields.{IsUsed}
 use Rattle.acpi_lint.specs.Rules.RootAdvice.{IsNullIn, listed_signature, listed_signatures, times_in, IsXsdt, IsNamedRsdt}
 use Rattle.acpi_lint.specs.Rules.Slots.{dsdt_signature}
-use Rattle.acpi_examples.specs.AdviceSet.{short_rsdp, sized_rsdp, long_rsdp, rsdp_runs, one_xsdt, both_runs, no_rsdt_slot, late_rsdt_slot, cut_rsdt, same_rsdt, rsdt_runs, plain_header, odd_header, two_tables, header_runs, dsdt_runs, flagged_facs, AreRootsAdvised, AreRsdpsAdvised, AreHeadersAdvised, AreNamedAdvised, AreSetsAdvised}
+use Rattle.acpi_examples.specs.AdviceSet.{short_rsdp, sized_rsdp, long_rsdp, rsdp_runs, one_xsdt, both_runs, no_rsdt_slot, late_rsdt_slot, cut_rsdt, same_rsdt, rsdt_runs, plain_header, odd_header, two_tables, header_runs, dsdt_runs, flagged_facs, facs_runs, AreRootsAdvised, AreRsdpsAdvised, AreHeadersAdvised, AreNamedAdvised, AreSetsAdvised}
 use Rattle.acpi_examples.specs.AdviceSlots.{twice_bytes}
 use Rattle.acpi_examples.specs.Sets.{rsdp_at, rsdt_bytes, set_of, uid_bytes, new_leaf_bytes}
 use Rattle.acpi_examples.specs.Tables.{table}
@@ -364,20 +365,67 @@ plain (suc (suc i)) j order inside odd used =
     let last : j ≡ 2 = omega (arith, order, inside) in
     used (ap (slice_index (0x20 ∷ 0x7e ∷ 0 ∷ [])) last)
 
+-- this many bytes are printable
+abbrev are_letters : List ℕ → ℕ → ℕ → Bool
+are_letters text start zero = true
+are_letters text start (suc n) =
+    (nat_le 32 (slice_index text start) && nat_le (slice_index text start) 126) && are_letters text (suc start) n
+
+letter_at : (text : List ℕ) (start n at : ℕ) → are_letters text start n ≡ true → start ≤ at → at < start + n
+    → (32 ≤ slice_index text at) × (slice_index text at ≤ 126)
+letter_at text start zero at is from below = absurd (omega (arith, from, below))
+letter_at text start (suc n) at is from below =
+    let (here, more) = and_parts (nat_le 32 (slice_index text start) && nat_le (slice_index text start) 126)
+    (are_letters text (suc start) n) is in
+    elim (cases_eq at start) [
+      | inl same ↦ rw same (is_letter (slice_index text start) here)
+      | inr differs ↦ letter_at text (suc start) n at more (omega (arith, from, differs)) (omega (arith, below))
+    ]
+  where
+    is_letter : (k : ℕ) → (nat_le 32 k && nat_le k 126) ≡ true → (32 ≤ k) × (k ≤ 126)
+    is_letter k is = grind (arith, nat_tests)
+
+all_letters : (text : List ℕ) (n : ℕ) → length text ≡ n → are_letters text 0 n ≡ true → ¬ IsNoText text
+all_letters text n size are it =
+    let (low, high) = letter_at text 0 n it.i are (omega arith) (omega (arith, it.order, it.inside, size)) in
+    elim it.odd [ inl below ↦ omega (arith, low, below) | inr above ↦ omega (arith, high, above) ]
+
+all_zeros : ¬ IsNoText (0 ∷ 0 ∷ 0 ∷ 0 ∷ [])
+all_zeros it = it.used (zero_there it.j it.inside)
+  where
+    zero_there : (j : ℕ) → j < 4 → slice_index (0 ∷ 0 ∷ 0 ∷ 0 ∷ []) j ≡ 0
+    zero_there zero inside = refl
+    zero_there (suc zero) inside = refl
+    zero_there (suc (suc zero)) inside = refl
+    zero_there (suc (suc (suc zero))) inside = refl
+    zero_there (suc (suc (suc (suc j)))) inside = absurd (omega (arith, inside))
+
+no_odd_field : (offset : ℕ) → ¬ IsOddField (plain_header (codes "MCFG")) offset
+no_odd_field offset (size, inl (here, is), odd) = all_letters (codes "MCFG") 4 refl refl (rw (here, is) at odd)
+no_odd_field offset (size, inr (inl (here, is)), odd) =
+    all_letters (replicate 6 0x41) 6 refl refl (rw (here, is) at odd)
+no_odd_field offset (size, inr (inr (inl (here, is))), odd) =
+    all_letters (replicate 8 0x41) 8 refl refl (rw (here, is) at odd)
+no_odd_field offset (size, inr (inr (inr (here, is))), odd) = all_zeros (rw (here, is) at odd)
+
+-- the header that each of two slots lists
+header_in_two : (bytes header : List ℕ) (k a : ℕ) → bytes_at (set_of bytes bytes) 0x2000 36 ≡ Some bytes
+    → bytes_at (set_of bytes bytes) 0x3000 36 ≡ Some bytes → IsSlot (set_of bytes bytes) rsdp_at k a
+    → bytes_at (set_of bytes bytes) a 36 ≡ Some header → header ≡ bytes
+header_in_two bytes header k a one other slot present =
+    elim (in_two bytes bytes k a slot) [
+      | inl (first, here) ↦ same_value header bytes (rw here at present) one
+      | inr (second, here) ↦ same_value header bytes (rw here at present) other
+    ]
+
 ssdts : (k a n : ℕ) → ListsNumber (two_tables (codes "SSDT")) rsdp_at n k a → n ≡ 0x54445353
 unfolding run_of cons_both field
 ssdts k a n (slot, (header, present, is)) =
-    elim (in_two (plain_header (codes "SSDT")) (plain_header (codes "SSDT")) k a slot) [
-      | inl (first, here) ↦
-          number (same_value header (plain_header (codes "SSDT")) (rw here at present)
-          (bytes_of_runs (plain_header (codes "SSDT")) (plain_header (codes "SSDT")) 0x2000 36))
-      | inr (second, here) ↦
-          number (same_value header (plain_header (codes "SSDT")) (rw here at present)
-          (bytes_of_runs (plain_header (codes "SSDT")) (plain_header (codes "SSDT")) 0x3000 36))
-    ]
-  where
-    number : header ≡ plain_header (codes "SSDT") → n ≡ 0x54445353
-    number same = sym is ∙ ap signature_number same
+    sym is
+    ∙ ap signature_number
+    (header_in_two (plain_header (codes "SSDT")) header k a
+    (bytes_of_runs (plain_header (codes "SSDT")) (plain_header (codes "SSDT")) 0x2000 36)
+    (bytes_of_runs (plain_header (codes "SSDT")) (plain_header (codes "SSDT")) 0x3000 36) slot present)
 
 no_once : (n : ℕ) → n ≡ 0x54445353 → is_once n ≡ true → ⊥
 unfolding once_signatures field
@@ -437,6 +485,13 @@ headers_advised = record {
     used = λ same. (let here : 0x7f ≡ 0 = same in omega (arith, here));
   };
   text = λ it. plain it.i it.j it.order it.inside it.odd it.used;
+  letters = λ at other point (slot, (header, present, odd)).
+      no_odd_field other
+      (rw
+      (header_in_two (plain_header (codes "MCFG")) header at point
+      (bytes_of_runs (plain_header (codes "MCFG")) (plain_header (codes "MCFG")) 0x2000 36)
+      (bytes_of_runs (plain_header (codes "MCFG")) (plain_header (codes "MCFG")) 0x3000 36) slot present)
+      at odd);
   second = (
     0x4746434d,
     refl,
@@ -505,6 +560,30 @@ right_dsdt (inl signature) = both_ways _ (stands_wrong (question.Signature dsdt_
 right_dsdt (inr (inl size)) = stands_wrong question.Length size (dsdt_frame 23)
 right_dsdt (inr (inr sum)) = stands_wrong question.Sum sum (dsdt_frame 23) refl
 
+named_facs : (flags : ℕ) → IsFacs (memory_of (facs_runs (flagged_facs flags))) 0x3000 (flagged_facs flags)
+unfolding run_of cons_both has_signature field
+named_facs flags = record {
+  aligned = refl;
+  header = take 8 (flagged_facs flags);
+  frame = record {
+    header_present = bytes_in (facs_runs (flagged_facs flags)) 0x3000 8;
+    least = omega arith;
+    present = bytes_in (facs_runs (flagged_facs flags)) 0x3000 64;
+  };
+  signed = refl;
+}
+
+none_odd : (at other point : ℕ) → ¬ IsOddFacs (flagged_facs 3) at other point
+unfolding field
+none_odd at other point it =
+    elim it [
+      | inl (place, unused, is, more) ↦ (let three : point ≡ 3 = is in omega (arith, three, more))
+      | inr (inl (place, unused, is, more)) ↦ (let two : point ≡ 2 = is in omega (arith, two, more))
+      | inr (inr (inl used)) ↦ none_used (flagged_facs 3) 33 3 36 at other point refl refl used
+      | inr (inr (inr (inl (place, unused, is, more)))) ↦ (let one : point ≡ 1 = is in omega (arith, one, more))
+      | inr (inr (inr (inr used))) ↦ none_used (flagged_facs 3) 40 24 64 at other point refl refl used
+    ]
+
 named_advised : AreNamedAdvised
 unfolding wide_address field byte_sum
 named_advised = record {
@@ -529,13 +608,14 @@ named_advised = record {
   first = inr (inr (inl (omega arith, omega arith, refl, refl, (λ same. omega (arith, same)))));
   ospm = inr (inr (inr (inl (refl, refl, refl, omega arith))));
   last = inr (inr (inr (inr (omega arith, omega arith, refl, refl, (λ same. omega (arith, same))))));
-  two_flags = λ at other point it. elim it [
-    | inl (place, unused, is, more) ↦ (let three : point ≡ 3 = is in omega (arith, three, more))
-    | inr (inl (place, unused, is, more)) ↦ (let two : point ≡ 2 = is in omega (arith, two, more))
-    | inr (inr (inl used)) ↦ none_used (flagged_facs 3) 33 3 36 at other point refl refl used
-    | inr (inr (inr (inl (place, unused, is, more)))) ↦ (let one : point ≡ 1 = is in omega (arith, one, more))
-    | inr (inr (inr (inr used))) ↦ none_used (flagged_facs 3) 40 24 64 at other point refl refl used
-  ];
+  two_flags = none_odd;
+  named_flags = (
+    λ same. (let here : 0x3000 ≡ 0 = same in omega (arith, here)),
+    (flagged_facs 4, named_facs 4, inl (refl, refl, refl, omega arith)),
+  );
+  named_two = λ at other point (some, (facs, is, odd)).
+      let same : facs ≡ flagged_facs 3 = one_frame is.frame (named_facs 3).frame in
+      none_odd at other point (rw same at odd);
 }
 
 pub sets_advised : AreSetsAdvised

@@ -6,12 +6,12 @@ use Rattle.acpi_base.specs.Facs.{facs_signature}
 use Rattle.acpi_base.specs.Memory.{Memory}
 use Rattle.acpi_base.specs.Signature.{rsdp_signature, rsdt_signature, xsdt_signature}
 use Rattle.acpi_lint.specs.Rules.HeaderAdvice.{IsNoText, IsHeaderText, IsSecondOther}
-use Rattle.acpi_lint.specs.Rules.NamedAdvice.{IsDsdtWrong, IsOddFacs}
+use Rattle.acpi_lint.specs.Rules.NamedAdvice.{IsDsdtWrong, IsOddFacs, IsFacsReserved}
 use Rattle.acpi_lint.specs.Rules.RootAdvice.{IsNullSlot, IsRsdtDiffers}
 use Rattle.acpi_lint.specs.Rules.RsdpAdvice.{IsRsdpReserved}
 use Rattle.acpi_lint.specs.Rules.Slots.{dsdt_signature}
 use Rattle.acpi_examples.specs.Advice.{IsKept}
-use Rattle.acpi_examples.specs.AdviceFadt.{dsdt_fadt}
+use Rattle.acpi_examples.specs.AdviceFadt.{dsdt_fadt, facs_fadt}
 use Rattle.acpi_examples.specs.AdviceSlots.{twice_set}
 use Rattle.acpi_examples.specs.Sets.{rsdp_at, set_of, leaf_set}
 use Rattle.acpi_examples.specs.Tables.{table}
@@ -111,6 +111,10 @@ facs_of flags version first ospm last =
 abbrev pub flagged_facs : ℕ → List ℕ
 flagged_facs flags = facs_of flags 2 0 1 0
 
+-- the image of one of these at 0x3000
+abbrev pub facs_runs : List ℕ → List Run
+facs_runs facs = run_at 0x3000 facs ∷ []
+
 -- ---- what they state
 
 -- a slot of 0, not so three bytes of one; an RSDT that lists nothing, and one that lists the same
@@ -131,18 +135,19 @@ pub record AreRsdpsAdvised : Type 0 where
   pub none_reserved : IsKept (IsRsdpReserved (memory_of (rsdp_runs (long_rsdp 0))) rsdp_at)
 
 -- a zero before a letter of the OEM ID, and the bytes next to those that are printable; not so a zero after the
--- lowest and the highest of these; a second MCFG, not so at the same address, nor a second SSDT
+-- lowest and the highest of these, nor letters; a second MCFG, not so at the same address, nor a second SSDT
 pub record AreHeadersAdvised : Type 0 where
   pub odd : IsHeaderText odd_set rsdp_at 0 10 0x2000
   pub low : IsNoText (0x1f ∷ [])
   pub high : IsNoText (0x7f ∷ [])
   pub text : ¬ IsNoText (0x20 ∷ 0x7e ∷ 0 ∷ [])
+  pub letters : IsKept (IsHeaderText (two_tables (codes "MCFG")) rsdp_at)
   pub second : IsSecondOther (two_tables (codes "MCFG")) rsdp_at 1 0 0x3000
   pub same : IsKept (IsSecondOther (memory_of (rsdt_runs same_rsdt (plain_header (codes "MCFG")))) rsdp_at)
   pub several : IsKept (IsSecondOther (two_tables (codes "SSDT")) rsdp_at)
 
--- an SSDT in place of the DSDT, a Length of 35, a wrong checksum, and the right one; a FACS with a third flag,
--- Version 3, a reserved byte, or a second OSPM Flag, and with two flags
+-- an SSDT in place of the DSDT, a Length of 35, a wrong checksum, and the right one; a FACS with a third flag, also
+-- where the FADT names it, Version 3, a reserved byte, or a second OSPM Flag, and with two flags
 pub record AreNamedAdvised : Type 0 where
   pub signature : IsDsdtWrong (memory_of (header_runs (codes "SSDT") 36 0)) (dsdt_fadt 0 0x30) 40 0 0x3000
   pub short : IsDsdtWrong (memory_of (header_runs dsdt_signature 35 0)) (dsdt_fadt 0 0x30) 40 0 0x3000
@@ -154,6 +159,8 @@ pub record AreNamedAdvised : Type 0 where
   pub ospm : IsOddFacs (facs_of 0 2 0 2 0) 36 0 2
   pub last : IsOddFacs (facs_of 0 2 0 0 1) 63 0 1
   pub two_flags : IsKept (IsOddFacs (flagged_facs 3))
+  pub named_flags : IsFacsReserved (memory_of (facs_runs (flagged_facs 4))) (facs_fadt 0x30 0) 20 0 4
+  pub named_two : IsKept (IsFacsReserved (memory_of (facs_runs (flagged_facs 3))) (facs_fadt 0x30 0))
 
 -- all of these
 pub record AreSetsAdvised : Type 0 where
