@@ -234,6 +234,8 @@ def fields(tests):
     tests.says("no 3 TableLength 0x1 0x11000 0x0", "signature .[2J, Length 36", sets.ESCAPE, without=["\x1b"])
     texts = ["from locality 0 to locality 1 it is 20", "the other distance at offset 0x2e (46), at 0x502e:"]
     tests.says("advice SlitDiffers 0x2d 0x2e 0x0", texts, "example.img.txt")
+    texts = ["the SLIT has 3 localities, numbered from 0", "  0x11024  03 00 00 00 00 00 00 00", "from locality 1 to locality 2 it is 9"]
+    tests.says("no 11 SlitLow 0x31 0x0 0x0", texts, sets.LOW_DISTANCE, without=[MISMATCH])
     texts = ["an override of SCI_INT at offset 0x54 (84), at 0x3054:", "  0x3c serves 0 to 23 (0x0 to 0x17), with 24 inputs"]
     tests.says("advice SciNowhere 0x2e 0x0 0x0", texts, "example.img.txt")
     caches = ["q11-efi-virt-caches.img.txt", "--rsdp", "47fe0000"]
@@ -279,14 +281,101 @@ ADVISED = [
         [
             "  0x44 entry type 14 length 16: gicr base 0x80a0000 length 0x20000",
             "  0x54 entry type 11 length 76: gicc uid 1 flags 0x1 parking 0 base 0x0 gicr 0x0 mpidr 0x5",
+            "the first GIC distributor of 24 bytes at offset 0x2c (44), at 0x1102c:",
+            "  0x2c entry type 12 length 24: gicd base 0x8000000 version 3",
+            "  0x1102c  0c 18 00 00 00 00 00 00 00 00 00 08 00 00 00 00", "  0x1103c  00 00 00 00 03 00 00 00",
         ],
         sets.PARTS_OF_A_GIC,
     ),
+    (
+        "GicrTooSmall 0x594 0x2 0x22",
+        [
+            "..the MADT's redistributors:\n  0x594 entry type 14 length 16: gicr base 0x80a0000 length 0x20000\n",
+            "  0x5a4 entry type 14 length 16: gicr base 0x80c0000 length 0x20000",
+            "..  0x51c entry type 11 length 40: gicc uid 31 flags 0x1 parking 0 base 0x0\n  and 2 more\n",
+            "  0x2c entry type 12 length 24: gicd base 0x0 version 4",
+        ],
+        sets.MANY_GICCS,
+    ),
+    (
+        "NoRedistributor 0x2c 0x3 0x0",
+        [
+            "  0x2c entry type 12 length 24: gicd base 0x0 version 3", "..the MADT's redistributors:\n  none\nthe MADT's GICCs:\n",
+            "  0x44 entry type 11 length 80: gicc uid 9 flags 0x0 parking 0 base 0x0 gicr 0x80a0000 mpidr 0x9",
+        ],
+        sets.NO_REDISTRIBUTOR,
+    ),
+    (
+        "NoDistributor 0x0 0x0 0x0",
+        [
+            "..the MADT's GICCs:\n  0x2c entry type 11 length 80: gicc uid 21 flags 0x1 parking 0 base 0x0 gicr 0x0 mpidr 0x0\n",
+            "..the MADT's GIC distributors:\n  none\n",
+        ],
+        sets.ARM,
+    ),
+    (
+        "GiccBaseDiffers 0x83 0x5b 0x8020000",
+        [
+            "  0x83 entry type 11 length 40: gicc uid 2 flags 0x1 parking 0 base 0x8020000",
+            "  0x5b entry type 11 length 40: gicc uid 1 flags 0x1 parking 0 base 0x8010000",
+            "the first GIC distributor of 24 bytes at offset 0x43 (67), at 0x11043:",
+            "  0x43 entry type 12 length 24: gicd base 0x8000000 version 2", "  0x11053  00 00 00 00 02 00 00 00",
+        ],
+        sets.TWO_BASES,
+    ),
+    (
+        "X2ApicBelow255 0x3c 0x0 0x5",
+        [
+            "  0x3c x2apic uid 2 id 5 flags 0x1",
+            "the first usable local APIC with another APIC ID than 255 at offset 0x4c (76), at 0x1104c:",
+            "  0x4c lapic uid 3 id 7 flags 0x2", "  0x1104c  00 08 03 07 02 00 00 00",
+        ],
+        sets.BELOW_255,
+    ),
+    (
+        "NoIoApic 0x0 0x0 0x0",
+        [
+            "..the MADT's local APICs and local x2APICs:\n  0x2c lapic uid 1 id 1 flags 0x1\n  0x34 x2apic uid 300 id 9 flags 0x0\n",
+            "..the MADT's overrides and NMI sources:\n  0x44 override source 0 gsi 2 flags 0x0\n  0x4e nmi gsi 3 flags 0x0\n",
+            "..the MADT's I/O APICs and I/O SAPICs:\n  none\n",
+        ],
+        sets.NO_IO_APIC,
+    ),
+    (
+        "SecondOther 0x2 0x1 0x12000",
+        [
+            "slot 2 at offset 0x34 (52) of the XSDT or RSDT, at 0x1134:", "  0x1134  00 20 01 00 00 00 00 00",
+            "slot 1 at offset 0x2c (44) of the XSDT or RSDT, at 0x112c:", "  0x112c  00 10 01 00 00 00 00 00",
+        ],
+        sets.TWO_MCFGS,
+    ),
+    (
+        "ListedTwice 0x2 0x1 0x11000",
+        [
+            "slot 2 at offset 0x2c (44) of the XSDT or RSDT, at 0x102c:", "  0x102c  00 10 01 00",
+            "slot 1 at offset 0x28 (40) of the XSDT or RSDT, at 0x1028:", "  0x1028  00 10 01 00",
+        ],
+        sets.LISTED_TWICE,
+    ),
     ("SameMpidr 0xa0 0x54 0x5", ["the structure at offset 0xa0 (160), at 0x110a0:", "the other structure at offset 0x54 (84), at 0x11054:"], sets.PARTS_OF_A_GIC),
+    ("MadtReserved 0x2c 0x4 0x0", ["  0x2c lapic uid 0 id 0 flags 0x80000001", "its field flags, at 4, is 0x80000001"], sets.FLAGS),
+    (
+        "MadtReserved 0x2c 0x14 0x0",
+        ["  0x2c entry type 12 length 24: gicd base 0x0 version 5", "its field version, at 20, is 0x5"], sets.VERSION,
+    ),
+    ("SratReserved 0x30 0x1c 0x0", "its field flags, at 28, is 0x801", sets.VERSION),
+    ("PpttReserved 0x24 0x15 0x0", "its field attributes, at 21, is 0x20", sets.FLAGS),
     ("MadtReserved 0x2c 0x3 0x0", ["  0x2c ioapic id 0 address 0xfec00000 base 0", "byte 3 of it is 0x1"], sets.ODD),
     ("InitiatorOff 0x30 0x0 0x1", "  0x30 entry type 5 length 32: initiator domain 1 flags 0x0", sets.PARTS_OF_A_GIC),
     ("ItsNowhere 0x50 0x0 0x3", ["  0x50 entry type 4 length 12: its domain 0 id 3", "the MADT's ITSs have the IDs 4"], sets.PARTS_OF_A_GIC),
-    ("RemoteAsLocal 0x2d 0x0 0x1", "from locality 0 to locality 1 it is 10", sets.ODD),
+    (
+        "RemoteAsLocal 0x2d 0x0 0x1",
+        [
+            "the number of localities at offset 0x24 (36), at 0x12024:", "  0x12024  02 00 00 00 00 00 00 00",
+            "the SLIT has 2 localities, numbered from 0", "from locality 0 to locality 1 it is 10",
+        ],
+        sets.ODD,
+    ),
     ("NoPackage 0x38 0x0 0x0", ["  0x24 node flags 0x0 parent 0x0 id 0 resources", "none of them has the flag of a package, bit 0"], "example.img.txt"),
     ("CacheNumbers 0x24 0x8000 0x4000", "64 sets * 4 ways * 64 bytes of a line are 16384, and Size is 32768", sets.ODD),
 ]
@@ -301,6 +390,11 @@ def advised(tests):
         ("0x100", "type 13 length 24: msi-frame id 6 base 0x8020000"),
     ):
         tests.says(f"advice MadtReserved {at} 0x10 0x0", [f"  {at} entry {text}", "byte 16 of it is 0x0"], sets.PARTS_OF_A_GIC)
+    for line, text in (
+        ("X2ApicBelow255 0x2c 0x0 0x0", "the MADT has no usable local APIC with another APIC ID than 255"),
+        ("GicrTooSmall 0x2c 0x0 0x0", "the MADT has no GIC distributor of 24 bytes"),
+    ):
+        tests.says(f"advice {line}", f"{text}: i{MISMATCH}", sets.NONE_USABLE)
     tests.says("advice RsdpReserved 0x14 0x0 0x25", "Length is 0x24", "example.img.txt")
     tests.says("advice FacsReserved 0x20 0x0 0x3", ["the FACS at 0x7000:", "Version is 0x1"], "example.img.txt")
     tests.says("advice PortsOverlap 0x30 0x50 0x0", "..at offset 0x30 (48) is no register block: is this the image", "example.img.txt")
@@ -478,6 +572,20 @@ def many(tests):
     # Of two chains 1,000 structures are listed together, and of each one the first.
     lines = "no 14 ParentCycle 0x24 0x0 0x3e8\nno 14 ParentCycle 0x38 0x0 0x3e8"
     tests.says(lines, ["..node 1000 of the chain", "and 999 more, up to the one at 0x24"], sets.image_of(sets.long_pptt(1000)), without=["node 2 of the chain at offset 0x4c"])
+    texts = ["..parent 999 at offset 0x4e30 (20016)", "and 2 more, up to the one at 0x4e58"]
+    tests.says("advice NoPackage 0x24 0x0 0x0", texts, sets.LONG_PARENTS, without=[MISMATCH, "parent 1000"])
+    # What a line lists is not listed again for a later one.
+    for line, listed, image in (
+        ("advice NoProcessor 0x0 0x0 0x0", "the MADT's processors:", sets.NONE_USABLE),
+        ("advice SciNowhere 0x2e 0x0 0x0", "the overrides of SCI_INT:", sets.NO_IO_APIC),
+        ("advice SciNowhere 0x2e 0x0 0x0", "the MADT's I/O APICs:", sets.NO_IO_APIC),
+        ("no 16 TwoDomains 0x30 0x40 0x1", "the processors with the ID 1:", sets.TWO_IDS),
+    ):
+        tests.says(line, line, image, without=["as listed above"])
+        tests.says(f"{line}\n{line}", f"{listed} as listed above", image)
+    lines = "no 16 TwoDomains 0x30 0x40 0x1\nno 16 TwoDomains 0x50 0x60 0x2"
+    texts = ["..the processor at offset 0x2c (44)", "..the processor at offset 0x34 (52)"]
+    tests.says(lines, texts, sets.TWO_IDS, without=["as listed above"])
     # Many overrides of SCI_INT, which is 0 in this FADT.
     overrides = sets.madt(*[sets.override(0, 2)] * 40)
     tests.says("advice SciNowhere 0x2e 0x0 0x0", "and 8 more overrides of SCI_INT", sets.image_of(overrides))

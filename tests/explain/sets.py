@@ -101,6 +101,28 @@ PARTS_OF_A_GIC = image_of(
     ),
     srat(device_domain(5, 1, flags=0), bytes([4, 12]) + number(0, 4) + bytes(2) + number(3, 4)),
 )
+# Local APICs that are off or have the ID of all processors, before the one beside which the local x2APIC, at 0x3c, has too low an ID.
+BELOW_255 = image_of(madt(lapic(0, 3, flags=0), lapic(1, 255), x2apic(2, 5), lapic(3, 7, flags=2), lapic(4, 8)))
+NO_IO_APIC = image_of(madt(lapic(1, 1), x2apic(300, 9, flags=0), override(0, 2), nmi_source(3)))
+# A distributor of 23 bytes, which no rule reads, before the one whose version counts, at 0x43; and GICCs with two bases.
+BASES = [placed(gicc(uid, length=40), _32=number(base, 8)) for uid, base in ((1, 0x8010000), (2, 0x8020000))]
+TWO_BASES = image_of(madt(gicd(23), distributor(2, 0x8000000), *BASES))
+# More GICCs than are listed, and two redistributors after them, at 0x594 and 0x5a4.
+RANGES = redistributor(0x80A0000, 0x20000), redistributor(0x80C0000, 0x20000)
+MANY_GICCS = image_of(madt(distributor(4), *(gicc(uid, length=40) for uid in range(34)), *RANGES))
+# The one GICC that names a redistributor is off.
+NO_REDISTRIBUTOR = image_of(madt(distributor(3), placed(gicc(9, flags=0), _60=number(0x80A0000, 8))))
+# Reserved bits in the last byte of a field, a reserved version, and reserved attributes.
+FLAGS = image_of(madt(lapic(0, 0, flags=0x80000001)), pptt(cache(attributes=0x20)))
+VERSION = image_of(madt(distributor(5)), srat(memory(0, GIB, flags=0x801)))
+# The distance from locality 1 to locality 2 is 9.
+LOW_DISTANCE = image_of(slit(3, (10, 20, 30, 20, 10, 9, 30, 20, 10)))
+TWO_MCFGS = image_of(*[table(b"MCFG", bytes(8))] * 2)
+LISTED_TWICE = text_of({RSDP_AT: rsdp(), RSDT_AT: rsdt(0x10000, 0x11000, 0x11000), FACS_AT: facs(), 0x10000: FADT, 0x11000: hpet()})
+# A leaf and its 1,001 parents, none of which is a package.
+PARENTS_OF_A_LEAF = (*(36 + 20 * place for place in range(2, 1002)), 0)
+LONG_PARENTS = image_of(pptt(node(56, flags=10), *map(node, PARENTS_OF_A_LEAF)))
+TWO_IDS = image_of(madt(lapic(0, 1), lapic(1, 2)), srat(*(apic_domain(apic_id, domain) for apic_id in (1, 2) for domain in (0, 1))))
 # A reserved byte of an I/O APIC, and a processor that is Online Capable too early; a distance of 10 between two localities; a cache
 # of another size than that of its lines; a header with a byte that is no text.
 ODD = image_of(

@@ -162,6 +162,22 @@ def lines_on_one_chain(_):
     return asked(sets.image_of(sets.long_pptt(1000)), [f"no 14 ParentCycle {36 + 20 * place:#x} 0x0 0x1" for place in range(100)])
 
 
+def lines_on_equal_lists(_):
+    """Lines that are about lists of a small image, each as long as it may be."""
+    ones = gicc(0xFFFFFFFF, 0xFFFFFFFF)[:16] + b"\xff" * 64
+    entries = [x2apic(5, 9), override(0, 2), io_apic(0xFEC00000, 0), redistributor(1 << 63, 0xFFFFFFFF), ones]
+    table = madt(*(entry for entry in entries for _ in range(33)))
+    lines = ["NoProcessor 0x0", "NoIoApic 0x0", "GicrTooSmall 0x2c", *["SciNowhere 0x2e"] * 4]
+    lines = [*(f"advice {line} 0x0 0x0" for line in lines * 10), *["no 16 TwoDomains 0x30 0x48 0x9"] * 30]
+    return asked(sets.image_of(table, srat(x2apic_domain(9, 1), x2apic_domain(9, 2))), lines)
+
+
+def lines_that_look_for_one_structure(size):
+    """Lines that each look for a local APIC or a distributor, which is the last structure or is not there."""
+    table = madt(x2apic(0, 5), *[lapic(0, 255)] * (size // 30), *[gicd(23)] * (size // 400), lapic(0, 1))
+    return asked(sets.image_of(table), ["advice X2ApicBelow255 0x2c 0x0 0x5", "advice GiccBaseDiffers 0x2c 0x2c 0x0"] * 50)
+
+
 def pieces_of_a_byte(size):
     return asked(b"".join(b"@%x\n41\n" % (2 * at) for at in range(size // 9)), ["yes"])
 
@@ -231,9 +247,9 @@ INPUTS = [
     zeros_of_an_address, lines_like_titles, tables_without_rows, short_tables, short_lines, twins, falling_addresses, open_parentheses,
     log_of_tables, comments_that_end_in_cr, headers_of_the_same_bytes, slots_over_parts, tables_at_each_byte, absent_tables, empty_slots,
     rsdps_without_a_root, signatures_of_an_rsdp, long_rsdps, entries_of_uefi, equal_lines, equal_lines_on_unread_structures,
-    lines_on_many_processors, lines_on_long_chains, lines_on_one_chain, pieces_of_a_byte, words_of_a_line, lines_of_a_verdict,
-    entries_of_show, page_of_entries, short_entries_of_show, page_of_short_entries, page_of_distances, page_of_memory, page_of_nodes,
-    page_of_slots, lines_like_none,
+    lines_on_many_processors, lines_on_long_chains, lines_on_one_chain, lines_on_equal_lists, lines_that_look_for_one_structure,
+    pieces_of_a_byte, words_of_a_line, lines_of_a_verdict, entries_of_show, page_of_entries, short_entries_of_show, page_of_short_entries,
+    page_of_distances, page_of_memory, page_of_nodes, page_of_slots, lines_like_none,
 ]
 # The first size at which growth is measured where it is not the usual one: a square shows only with many tables; a larger input is refused.
 FIRST_SIZES = {falling_addresses: 9_500_000, tables_at_each_byte: 125_000}

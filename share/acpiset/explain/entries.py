@@ -4,6 +4,7 @@ from functools import lru_cache
 from itertools import islice
 
 from .fadt import field, found_fadt
+from .fixed import localities
 from .image import ADDRESSES
 from .program import MISMATCH
 from .report import both, known
@@ -17,6 +18,18 @@ RESERVED = {172, 178, 184}
 # Rules that say of the MADT as a whole that something is not there.
 OF_WHOLE_MADT = {116, 158, 159}
 PROCESSORS = (0, 9, 11, 17, 24)
+
+# What is listed of the MADT for a rule, also what it says is not there: what that is, and the types.
+LISTED = {
+    116: (("the MADT's processors:", PROCESSORS),),
+    158: (
+        ("the MADT's local APICs and local x2APICs:", (0, 9)), ("the MADT's overrides and NMI sources:", (2, 3)),
+        ("the MADT's I/O APICs and I/O SAPICs:", (1, 6)),
+    ),
+    159: (("the MADT's GICCs:", (11,)), ("the MADT's GIC distributors:", (12,))),
+    # Apart from the GICCs, of which a MADT may have more than are listed, before its redistributors.
+    **dict.fromkeys((160, 161), (("the MADT's redistributors:", (14,)), ("the MADT's GICCs:", (11,)))),
+}
 
 # Where a rule looks for a number and does not find it: the table, what is there, of which types, and which field.
 LOOKED_IN = {
@@ -98,8 +111,19 @@ def offsets(table, types, word):
     return found, count
 
 
+def is_listed_above(report, what):
+    """Whether this was listed for an earlier line, which is said: a hundred lines may be about one list."""
+    if what in report.tables.listed:
+        report.say(f"{what} as listed above")
+        return True
+    report.tables.listed.add(what)
+    return False
+
+
 def listing(report, what, table, types, word=None, say_more=None):
     """The first structures of some types, as `show` writes them, and how many more there are."""
+    if is_listed_above(report, what):
+        return
     found, count = offsets(table, types, word)
     report.say(what)
     for one in map(table.structure, found):
@@ -134,11 +158,18 @@ def madt(report, code, at, other, point):
         return
     if code in OF_WHOLE_MADT:
         report.field(table, "its beginning", 0, 44)
-        listing(report, "the MADT's processors:", table, PROCESSORS)
-        return
-    if code in RESERVED:
+    elif code in RESERVED:
         reserved(report, table, 40, at, other)
-        return
+    else:
+        madt_structures(report, table, code, at, other)
+    for what, types in LISTED.get(code, ()):
+        listing(report, what, table, types)
+    if code in BESIDE:
+        beside(report, table, *BESIDE[code])
+
+
+def madt_structures(report, table, code, at, other):
+    """The one or two structures of the MADT that a line names, and what else is said of them."""
     found = report.named(table, "the structure", at)
     second = report.named(table, "the other structure", other) if code in PAIRS else None
     if found and code == 35:
@@ -162,8 +193,34 @@ def madt(report, code, at, other, point):
         looked_for(report, code)
     elif code in (152, 154):
         of_fadt(report, code)
-    elif code in (160, 161):
-        listing(report, "the MADT's redistributors and GICCs:", table, (14, 11))
+
+
+def is_distributor(one):
+    return is_one(one, "gicd")
+
+
+def is_usable_below_255(one):
+    """Whether a structure is a local APIC that is Enabled or Online Capable, and whose ID is not the one that addresses all processors."""
+    return is_one(one, "lapic") and one.fields["flags"] & 3 != 0 and one.fields["id"] != 255
+
+
+# What a rule looks at in the MADT beside the structures that its line names: what that is, its type, and which one it is. The first one
+# is shown: the GIC's version is that of the first distributor.
+GICD = "GIC distributor of 24 bytes", 12, is_distributor
+BESIDE = {150: ("usable local APIC with another APIC ID than 255", 0, is_usable_below_255), 161: GICD, 162: GICD}
+
+
+def beside(report, table, what, kind, is_due):
+    at = first_of(table, kind, is_due)
+    if at is None:
+        report.say(f"the MADT has no {what}: {MISMATCH}")
+    else:
+        report.structure(table, f"the first {what}", at)
+
+
+@kept
+def first_of(table, kind, is_due):
+    return next((at for at in table.places(kind) if is_due(table.structure(at))), None)
 
 
 def of_fadt(report, code):
@@ -182,13 +239,16 @@ def version(fadt):
 
 
 def reserved(report, table, field_at, at, place):
-    """A reserved value: of the field of 4 bytes that the table has, or of a structure, with the byte at a place of it."""
+    """A reserved value: of the field of 4 bytes that the table has, or of a structure, with the field or the byte at a place of it."""
     if at == field_at:
         report.field(table, "the field", at, 4)
         report.say(f"it is {known(table.number(at, 4), '#x')}")
         return
     found = report.named(table, "the structure", at)
-    if found and place < found.size:
+    name = found and found.field_at(place)
+    if name:
+        report.say(f"its field {name}, at {place}, is {found.fields[name]:#x}")
+    elif found and place < found.size:
         report.say(f"byte {place} of it is {found.number(place, 1):#x}")
 
 
@@ -225,8 +285,7 @@ def srat(report, code, at, other, point):
     elif code == 128:
         count_unread(report, table)
     elif code == 120 and (slit := report.table("SLIT")):
-        report.field(slit, "the number of localities", 36, 8)
-        report.say(f"the SLIT has {known(slit.number(36, 8))} localities, numbered from 0")
+        localities(report, slit)
 
 
 def ranges(report, *two):
@@ -245,6 +304,8 @@ def processors(report, number):
     """The processors of the MADT that have an APIC ID or X2APIC ID."""
     table = report.table("APIC")
     found = with_ids(table).get(number, ()) if table else ()
+    if found and is_listed_above(report, f"the processors with the ID {number}:"):
+        return
     for at in found:
         report.structure(table, "the processor", at)
     if table and not found:
@@ -310,8 +371,7 @@ def cycle(report, table, code, at, counts):
     listed = report.tables.of_chain(len(steps))
     for offset in islice(steps, listed):
         report.structure(table, f"{word} {steps[offset] + 1} of the chain" if steps[offset] else f"the {word}", offset)
-    if len(steps) > listed:
-        report.say(f"and {len(steps) - listed} more, up to the one at {next(reversed(steps)):#x}")
+    say_unlisted(report, steps, listed)
     if named not in steps:
         report.say(f"the chain comes to no {word} again: {MISMATCH}")
         return
@@ -321,11 +381,18 @@ def cycle(report, table, code, at, counts):
         report.say(f"the line says {counts[0]} steps to it and {counts[1]} around it: {MISMATCH}")
 
 
+def say_unlisted(report, steps, listed):
+    if len(steps) > listed:
+        report.say(f"and {len(steps) - listed} more, up to the one at {next(reversed(steps)):#x}")
+
+
 def parents(report, table, at):
     """The nodes to which the Parents of one lead."""
     steps, _ = chain(table, "node", at)
-    for offset in islice(steps, 1, report.tables.of_chain(len(steps))):
+    listed = report.tables.of_chain(len(steps))
+    for offset in islice(steps, 1, listed):
         report.structure(table, f"parent {steps[offset]}", offset)
+    say_unlisted(report, steps, listed)
     report.say("none of them has the flag of a package, bit 0")
 
 
@@ -417,10 +484,11 @@ def sci(report, table):
     if not apic:
         return
     found = overrides(apic, source)
-    for at in found[:MOST_LISTED]:
-        report.structure(apic, "an override of SCI_INT", at)
-    if len(found) > MOST_LISTED:
-        report.say(f"and {len(found) - MOST_LISTED} more overrides of SCI_INT")
+    if found and not is_listed_above(report, "the overrides of SCI_INT:"):
+        for at in found[:MOST_LISTED]:
+            report.structure(apic, "an override of SCI_INT", at)
+        if len(found) > MOST_LISTED:
+            report.say(f"and {len(found) - MOST_LISTED} more overrides of SCI_INT")
     io_apics(report, apic)
 
 

@@ -2,11 +2,13 @@
 
 from .program import MISMATCH
 from .refusal import signature_of
-from .report import known
+from .report import both, known
 
 MOST_SLOTS = 32
 # Where a header has text: the name and the size of each field.
 TEXTS = {0: ("Signature", 4), 10: ("OEMID", 6), 16: ("OEM Table ID", 8), 28: ("Creator ID", 4)}
+# Rules on two slots.
+TWO_SLOTS = (101, 102, 149)
 
 
 def rsdp(report, code, at):
@@ -67,6 +69,8 @@ def listed(report, code, slot, other, point):
     if not report.has_root():
         return
     slots, address = report.tables.slots, other if code <= 18 else point
+    for number in (slot, other) if code in TWO_SLOTS else ():
+        slot_field(report, number)
     header(report, code, address, f"the table of slot {slot}")
     if code == 101:
         report.say(f"slot {other} lists it too")
@@ -90,14 +94,18 @@ def say_signatures(report, what, slots):
     report.say(f"{what}: {', '.join(names) or 'nothing'}{more}")
 
 
+def slot_field(report, slot):
+    place = 36 + report.tables.width * slot
+    report.say(f"slot {slot} at offset {both(place)} of the XSDT or RSDT, at {report.tables.root + place:#x}:")
+    report.bytes(report.tables.root + place, report.tables.width)
+
+
 def root_advice(report, code, at, other, point):
     """What a rule on a slot, on both roots, or on tables at one place is about."""
     if not report.has_root():
         return
     if code == 129:
-        place = 36 + report.tables.width * at
-        report.say(f"slot {at} at offset {place:#x} ({place}) of the XSDT or RSDT, at {report.tables.root + place:#x}:")
-        report.bytes(report.tables.root + place, report.tables.width)
+        slot_field(report, at)
     elif code == 130:
         both_roots(report, point)
     else:
@@ -165,9 +173,15 @@ def slit(report, code, at, other):
         if count is not None:
             report.say(f"for {count} localities Length must be 44 + {count} * {count} = {44 + count * count}, and is {table.length}")
     else:
+        localities(report, table)
         distance(report, table, "the distance", count, at)
         if code == 121:
             distance(report, table, "the other distance", count, other)
+
+
+def localities(report, table):
+    report.field(table, "the number of localities", 36, 8)
+    report.say(f"the SLIT has {known(table.number(36, 8))} localities, numbered from 0")
 
 
 def slit_advice(report, code, at, other, point):

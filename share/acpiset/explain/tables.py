@@ -121,6 +121,10 @@ class Structure:
     def number(self, at, size):
         return little(self.data, at, size)
 
+    def field_at(self, at):
+        """The name of the field that begins at an offset in the structure, or None."""
+        return next((name for name, parts, _ in self.places if parts[0][0] == at), None)
+
     def shown(self):
         """The line that `show` writes of it; of those that only rules of advice read, their fields are said too."""
         told = [self.word]
@@ -209,7 +213,7 @@ class Tables:
         self.rsdp = given if given is not None else self.found()
         self.named, self.root, self.width, self.slots = None, None, 4, ()
         self.signatures, self.firsts = {}, {}
-        self.chain_left = MOST_OF_CHAINS
+        self.chain_left, self.listed = MOST_OF_CHAINS, set()
         if self.rsdp is not None:
             self.read_root()
 
