@@ -111,6 +111,50 @@ def empty_slots(size):
     return root_of_slots([0] * (size // 4))
 
 
+def rsdt_beside_xsdt(slots, size=0):
+    """A dump in which lint alone reads the RSDT of these slots; so many bytes follow it."""
+    root = table(b"RSDT", b"".join(number(at, 4) for at in slots))
+    return memory(0x200000 + len(root) + size, {0xF0010: extended_rsdp(0x100000, 0x200000), 0x100000: xsdt(), 0x200000: root})
+
+
+def signatures_that_do_not_touch(size):
+    count = size // 9
+    start = 0x200000 + 36 + 4 * count
+    return rsdt_beside_xsdt(range(start, start + 5 * count, 5), 5 * count)
+
+
+def signatures_at_each_byte(size):
+    return rsdt_beside_xsdt(range(0x200000 - size // 4, 0x200000))
+
+
+def absent_signatures(size):
+    return rsdt_beside_xsdt(range(0x80000000, 0x80000000 + 16 * size, 64))
+
+
+def one_signature(size):
+    return rsdt_beside_xsdt([0x1000] * (size // 4))
+
+
+def signatures_of_the_same_bytes(size):
+    """A core with an RSDT beside an XSDT whose slots list bytes that have addresses in two other parts: again those of the RSDT."""
+    count = size // 4
+    root = rsdt(*range(0x10000000, 0x10000000 + 5 * count, 5))
+    whole = {0xF0010: extended_rsdp(0x100000, 0x200000), 0x100000: xsdt(), 0x10000000: b"", 0x20000000: b"", 0x200000: root}
+    core = bytearray(core_of(whole))
+    for place, at in (3, 0x10000000), (4, 0x10000000 + len(root)):
+        struct.pack_into("<IIQQQQQQ", core, 64 + 56 * place, 1, 4, len(core) - len(root), 0, at, len(root), len(root), 0)
+    return "memory2image", [("core", bytes(core))], b""
+
+
+def two_roots_of_tables(size):
+    """An XSDT and an RSDT that list other bytes, of which none touch."""
+    count = size // 22
+    wide, narrow = (range(start, start + 5 * count, 5) for start in (0x200000, 0x200000 + 5 * count))
+    xsdt_at = 0x200000 + 10 * count
+    rsdt_at = xsdt_at + 36 + 8 * count
+    return memory(rsdt_at + 36 + 4 * count, {0xF0010: extended_rsdp(xsdt_at, rsdt_at), xsdt_at: xsdt(*wide), rsdt_at: rsdt(*narrow)})
+
+
 def rsdps_without_a_root(size):
     return memory(0x200000 + size, {0x200000: rsdp(0x55550000) * (size // 20)})
 
@@ -246,15 +290,16 @@ def lines_like_none(size):
 INPUTS = [
     zeros_of_an_address, lines_like_titles, tables_without_rows, short_tables, short_lines, twins, falling_addresses, open_parentheses,
     log_of_tables, comments_that_end_in_cr, headers_of_the_same_bytes, slots_over_parts, tables_at_each_byte, absent_tables, empty_slots,
-    rsdps_without_a_root, signatures_of_an_rsdp, long_rsdps, entries_of_uefi, equal_lines, equal_lines_on_unread_structures,
-    lines_on_many_processors, lines_on_long_chains, lines_on_one_chain, lines_on_equal_lists, lines_that_look_for_one_structure,
-    pieces_of_a_byte, words_of_a_line, lines_of_a_verdict, entries_of_show, page_of_entries, short_entries_of_show, page_of_short_entries,
-    page_of_distances, page_of_memory, page_of_nodes, page_of_slots, lines_like_none,
+    signatures_that_do_not_touch, signatures_at_each_byte, absent_signatures, one_signature, signatures_of_the_same_bytes,
+    two_roots_of_tables, rsdps_without_a_root, signatures_of_an_rsdp, long_rsdps, entries_of_uefi, equal_lines,
+    equal_lines_on_unread_structures, lines_on_many_processors, lines_on_long_chains, lines_on_one_chain, lines_on_equal_lists,
+    lines_that_look_for_one_structure, pieces_of_a_byte, words_of_a_line, lines_of_a_verdict, entries_of_show, page_of_entries,
+    short_entries_of_show, page_of_short_entries, page_of_distances, page_of_memory, page_of_nodes, page_of_slots, lines_like_none,
 ]
 # The first size at which growth is measured where it is not the usual one: a square shows only with many tables; a larger input is refused.
 FIRST_SIZES = {falling_addresses: 9_500_000, tables_at_each_byte: 125_000}
 # The last size that a tool takes: more tables or lines are refused, and the system refuses more words.
 LAST_SIZES = {
     tables_without_rows: 1_000_000, short_tables: 2_000_000, short_lines: 4_000_000, twins: 2_000_000, falling_addresses: 38_000_000,
-    tables_at_each_byte: 500_000, words_of_a_line: 4_000_000,
+    tables_at_each_byte: 500_000, two_roots_of_tables: 11_000_000, words_of_a_line: 4_000_000,
 }

@@ -6,9 +6,14 @@ import struct
 import subprocess
 import sys
 
+from acpi_images.known.further import FURTHER, WHOLE
+from acpi_images.known.judged import JUDGED
+from acpi_images.known.linted import EXPECTED
 from acpi_images.known.many import MANY
+from acpi_images.known.mistakes import MISTAKES
 from acpi_images.known.rows import ROWS
-from acpi_images.program import FIRMWARE
+from acpi_images.known.shown import SHOWN
+from acpi_images.program import FIRMWARE, IMAGES
 from acpi_images.tables import *
 from acpi_images.text import read, text_of
 from tool_cases import module_of
@@ -54,16 +59,19 @@ def core_of(pieces, bits=64, order="<", kind=4, is_many=False, memory_sizes=()):
 
 
 def small_set():
-    """A set, and the pieces of it that acpiset reads, by their addresses."""
+    """A set, and the pieces of it that acpiset reads, by their addresses. The RSDT alone lists the HPET, and nothing the SSDT."""
     fadt_of = full_fadt(FACS_AT, 244, _40=number(0x9000, 4))
     read = {
+        0x1000: rsdt(0x2100, 0, 0x2000, 0x2100, 0x3000),
         0x2000: fadt_of,
         0x2100: madt(lapic(0, 0)),
+        0x3000: hpet()[:4],
         0x7000: facs(),
+        0x9000: table(b"DSDT", bytes(100)),
         0xF0010: extended_rsdp(0x100000, 0x1000),
         0x100000: xsdt(0x2100, 0, 0x2000, 0x2100),
     }
-    return read, {**read, 0x1000: rsdt(0x2000), 0x9000: table(b"DSDT", bytes(100)), 0x3000: hpet()}
+    return read, {**read, 0x3000: hpet(), 0xA000: table(b"SSDT", bytes(100))}
 
 
 def of_a_set(cases):
@@ -85,9 +93,9 @@ def of_a_set(cases):
     told = b"slot 0: APIC at 0x2100, 52 bytes", b"slot 1: empty", b"slot 2: FACP at 0x2000, 244 bytes", b"slot 3: APIC at 0x2100, as an earlier slot"
     cases.count("slots that are told", *(f"{line} in {run.stderr.decode()}" for line in told if line not in run.stderr))
     cases.makes("RSDP at 0xf0010", "yes", "memory2image", "--rsdp", "0xf0010", "ram.bin", image=text)
-    raw_dump(cases, "low.bin", {0: whole[0x2000], 0x100: whole[0x2100], 0x5000: facs()}, 0x6000)
+    raw_dump(cases, "low.bin", {at: data for at, data in whole.items() if at < 0xB000}, 0xA000, 0x1000)
     raw_dump(cases, "high.bin", {0x10: whole[0xF0010], 0x10000: whole[0x100000]}, 0x20000)
-    cases.makes("RSDP at 0xf0010", "yes", "memory2image", "--base", "2000", "low.bin", "--base", "0xF0000", "high.bin", image=text)
+    cases.makes("RSDP at 0xf0010", "yes", "memory2image", "--base", "1000", "low.bin", "--base", "0xF0000", "high.bin", image=text)
     # A table whose signature a terminal would obey.
     odd = rsdp(0xE0100).ljust(0x100, b"\0") + rsdt(0xE0200).ljust(0x100, b"\0") + b"\x1b[2J" + number(36, 4) + bytes(28)
     cases.makes("slot 0: ?[2J at 0xe0200", "no 3 TableSum 0x0 0xe0200 0x0", "memory2image", "--base", "e0000", cases.write("odd.bin", odd))
@@ -96,12 +104,23 @@ def of_a_set(cases):
 def of_real_images(cases):
     """The images of real firmware, in a dump of memory and in an ELF core."""
     for path in sorted(FIRMWARE.glob("*.img.txt")):
-        name, pieces = path.name, read(path.read_bytes()).pieces()
+        name = path.name
+        pieces = with_dsdt(cases, name.removesuffix(".img.txt"), path.read_bytes())
         raw_dump(cases, "ram.bin", pieces, max(at + len(data) for at, data in pieces.items()) + 100)
         cases.write("core", core_of(pieces))
         for dump in ("ram.bin", "core"):
             run = cases.run("memory2image", dump)
             cases.count(f"{name} as {dump}", run.returncode and run.stderr.decode(), kept(cases, pieces, run.stdout))
+
+
+def with_dsdt(cases, name, text):
+    """The pieces of an image, and where its FADT names a DSDT that it does not hold, one: in a raw dump there would be zeros."""
+    pieces = read(text).pieces()
+    words = ["show", *(["--rsdp", IMAGES[name]] if name in IMAGES else [])]
+    dsdt = int(re.search(r"^dsdt (0x[0-9a-f]+)$", cases.answer(words, text)[1], re.M)[1], 16)
+    if not any(at <= dsdt < at + len(data) for at, data in pieces.items()):
+        pieces[dsdt] = table(b"DSDT", bytes(100))
+    return pieces
 
 
 def kept(cases, pieces, text):
@@ -115,27 +134,156 @@ def kept(cases, pieces, text):
     return ""
 
 
-def of_all_rows(cases):
-    """Sets with each fault: acpiset says of what is written what it says of all of the memory."""
-    tool = module_of("memory2image")
-    wrong = []
-    count = 0
-    for row in [*ROWS, *MANY]:
+def known_sets():
+    """The sets of the other tests, each with a name, and with a command and its words."""
+    for row in (*ROWS, *MANY):
         words = row.words.split()
-        if isinstance(row.pieces, bytes) or words[:2] != ["check", "--rsdp"] or sum(map(len, row.pieces.values())) > 1 << 20:
+        if words[0] == "check":
+            yield row.name, row.pieces, words
+            yield row.name, row.pieces, ["lint", *words[1:3]]
+    for it in (*EXPECTED, *FURTHER):
+        yield it.name, it.pieces, ["lint", *it.words.split()]
+    for it in MISTAKES:
+        yield it.name, it.pieces(), ["lint", *it.words.split()]
+    for name, pieces, *_ in (*JUDGED, *WHOLE):
+        yield name, pieces, ["lint", "--rsdp", "e0000"]
+    for it in SHOWN:
+        yield it.name, it.pieces, ["show", *it.words.split()]
+
+
+def of_known_sets(cases):
+    """Sets that keep and break each rule: acpiset says of what is written what it says of all of the memory."""
+    tool = module_of("memory2image")
+    written = []
+    for name, pieces, words in known_sets():
+        if not pieces or isinstance(pieces, bytes) or words[1:2] != ["--rsdp"] or sum(map(len, pieces.values())) > 1 << 20:
             continue
-        memory = tool.Memory(tool.parts_of(cases.path(cases.write("core", core_of(row.pieces))), None))
+        parts = tool.parts_of(cases.path(cases.write("core", core_of(pieces))), None)
         try:
-            text = tool.image_of(memory, int(words[2], 16))
+            written.append((name, words, tool.image_of(tool.Memory(parts), int(words[2], 16)), text_of(pieces)))
         except tool.Refusal as refusal:
-            wrong += [] if "does not have 20 bytes" in str(refusal) else [f"{row.name}: {refusal}"]
-            continue
-        count += 1
-        for asked in (words, ["lint", *words[1:3]]):
-            told, wanted = cases.answer(asked, text), cases.answer(asked, text_of(row.pieces))
-            if told != wanted:
-                wrong.append(f"{row.name}: {asked}: {told}, not {wanted}")
-    cases.count("known sets", "\n".join(wrong), count < 100 and f"{count} sets alone")
+            cases.count(name, "does not have 20 bytes" not in str(refusal) and str(refusal))
+        os.close(parts[0].dump.stream)
+    cases.count("known sets", len(written) < 2000 and f"{len(written)} sets alone")
+    cases.in_parallel(lambda row: [(f"{row[0]}, written", difference(cases, *row[1:]))], written)
+
+
+def difference(cases, words, text, whole):
+    """What acpiset says otherwise of the text of what is written than of that of all of the memory."""
+    told, wanted = cases.answer(words, text), cases.answer(words, whole)
+    return "" if told == wanted else f"{words}: {told}, not {wanted}"
+
+
+# ---- what lint alone reads
+
+
+def rsdt_told(size):
+    return f"RSDT at 0x1000, {size} bytes, which lint alone reads"
+
+
+RSDT_TOLD = rsdt_told(56)
+DSDT_TOLD = "DSDT at 0x9000, 136 bytes, which lint alone reads"
+HPET_DIFFERS = "advice RsdtDiffers 0x10 0x0 0x54455048"
+DSDT_WRONG = "advice DsdtWrong 0x28 0x0 0x9000"
+
+
+def of_rsdts(cases):
+    """An RSDT beside an XSDT. The small set with other bytes at some addresses; and where not all of these are written, those that are."""
+    lists = [0x2100, 0, 0x2000, 0x2100]
+    left_out = {0x1000: b"", 0x3000: b""}
+    for name, told, line, changes, written in (
+        ("that lists an HPET more", RSDT_TOLD, HPET_DIFFERS, {}, {}),
+        ("that lists the same", rsdt_told(52), None, {0x1000: rsdt(*lists)}, {0x3000: b""}),
+        ("that lists what is absent", RSDT_TOLD, None, {0x1000: rsdt(*lists, 0xFFFFFFFF), 0x3000: b""}, {}),
+        ("that lists three bytes", RSDT_TOLD, None, {0x3000: b"HPE"}, {0x3000: b""}),
+        ("that lists four bytes", RSDT_TOLD, HPET_DIFFERS, {0x3000: b"HPET"}, {}),
+        ("that lists bytes of the MADT", RSDT_TOLD, "advice RsdtDiffers 0x10 0x0 0x1", {0x1000: rsdt(*lists, 0x2128)}, {0x3000: b""}),
+        ("that lists signatures that touch", rsdt_told(68), "advice RsdtDiffers 0x10 0x0 0x38",
+         {0x1000: rsdt(*lists, 0x3008, 0x3000, 0x3004, 0x3006)}, {0x3000: hpet()[:12]}),
+        ("at 0", None, None, {0xF0010: extended_rsdp(0x100000, 0)}, left_out),
+        ("that is the root", "RSDT at 0x1000, 56 bytes", None, {0xF0010: rsdp(0x1000)}, {0x3000: hpet(), 0x100000: b""}),
+        ("that is the root of an extended RSDP", "RSDT at 0x1000, 56 bytes", None, {0xF0010: extended_rsdp(0, 0x1000)},
+         {0x3000: hpet(), 0x100000: b""}),
+        ("outside the dump", "RSDT at 0x1000: the dump holds 0 of the header's 36 bytes: left out", None, {0x1000: b""}, left_out),
+        ("without its last byte", "RSDT at 0x1000: 56 bytes, of which the dump holds 55: left out", None, {0x1000: rsdt(*lists, 0x3000)[:-1]}, left_out),
+        ("of another signature", "RSDT at 0x1000: has another signature: left out", None, {0x1000: xsdt(0x3000)}, left_out),
+        ("of 35 bytes", "RSDT at 0x1000: has a Length of 35: left out", None, {0x1000: changed(rsdt(0x3000), {4: 35})}, left_out),
+        ("with a wrong checksum", RSDT_TOLD, HPET_DIFFERS, {0x1000: changed(rsdt(*lists, 0x3000), {9: 0})}, {}),
+        ("with three bytes of a slot", rsdt_told(55), None, {0x1000: table(b"RSDT", rsdt(*lists, 0x3000)[36:55])}, {0x3000: b""}),
+    ):
+        tells_lint(cases, f"an RSDT {name}", [told, DSDT_TOLD], "RsdtDiffers", line, changes, written)
+
+
+def of_dsdts(cases):
+    """The DSDT, in the same way."""
+    dsdt = small_set()[1][0x9000]
+    header = {0x9000: dsdt[:36]}
+    for name, told, line, changes, written in (
+        ("with a wrong checksum", DSDT_TOLD, DSDT_WRONG, {0x9000: changed(dsdt, {135: 1})}, {}),
+        ("of which the dump holds the header", "DSDT at 0x9000: 136 bytes, of which the dump holds 36: only its header is written", None, header, {}),
+        ("without its last byte", "DSDT at 0x9000: 136 bytes, of which the dump holds 135: only its header is written", None, {0x9000: dsdt[:-1]}, header),
+        ("of 35 bytes in the dump", "DSDT at 0x9000: the dump holds 35 of the header's 36 bytes: left out", None, {0x9000: dsdt[:35]}, {0x9000: b""}),
+        ("outside the dump", "DSDT at 0x9000: the dump holds 0 of the header's 36 bytes: left out", None, {0x9000: b""}, {}),
+        ("that is an SSDT", "DSDT at 0x9000: has another signature: only its header is written", DSDT_WRONG,
+         {0x9000: table(b"SSDT", bytes(4))}, {0x9000: table(b"SSDT", bytes(4))[:36]}),
+        ("of Length 35", "DSDT at 0x9000: has a Length of 35: only its header is written", DSDT_WRONG,
+         {0x9000: changed(dsdt, {4: 35})}, {0x9000: changed(dsdt, {4: 35})[:36]}),
+        ("of Length 36", "DSDT at 0x9000, 36 bytes, which lint alone reads", None, {0x9000: table(b"DSDT", b"")}, {}),
+        ("that overlaps the FACS", "DSDT at 0x6f9c, 136 bytes, which lint alone reads", "advice TablesOverlap 0x6f9c 0x7000 0x7000",
+         {0x2000: full_fadt(FACS_AT, 244, _40=number(0x6F9C, 4)), 0x6F9C: table(b"DSDT", bytes(64) + facs()[:36]), 0x7000: b"", 0x7024: facs()[36:]},
+         {0x7000: b"", 0x9000: b"", 0x7024: facs()[36:]}),
+        ("that X_DSDT names", "DSDT at 0xa000, 136 bytes, which lint alone reads", None,
+         {0x2000: full_fadt(FACS_AT, 148, _40=number(0x9000, 4), _140=number(0xA000, 8)), 0xA000: dsdt}, {0x9000: b""}),
+        ("that seven bytes of X_DSDT do not name", DSDT_TOLD, None,
+         {0x2000: full_fadt(FACS_AT, 147, _40=number(0x9000, 4), _140=b"\0\xa0\0\0\0\0\0")}, {}),
+        ("that no field names", None, "advice NoDsdt 0x28 0x0 0x0", {0x2000: full_fadt(FACS_AT, 244)}, {0x9000: b""}),
+        ("that a FADT of 115 bytes names", None, "no 4 FadtShort 0x0 0x0 0x0",
+         {0x2000: table(b"FACP", full_fadt(_40=number(0x9000, 4))[36:115])}, {0x7000: b"", 0x9000: b""}),
+    ):
+        tells_lint(cases, f"a DSDT {name}", [RSDT_TOLD, told], "NoDsdt|DsdtWrong|TablesOverlap", line, changes, written)
+
+
+def tells_lint(cases, name, told, rules, line, changes, written):
+    """The tool tells these lines on the RSDT and the DSDT, and writes these pieces. lint says of them what it says of all of the memory;
+    this line is among its lines, or, if it is None, there is no line on these rules."""
+    read, whole = small_set()
+    pieces = {at: data for at, data in {**whole, **changes}.items() if data}
+    wanted = {at: data for at, data in sorted({**read, **changes, **written}.items()) if data}
+    cases.write("core", core_of(pieces))
+    run = cases.run("memory2image", "--rsdp", "f0010", "core")
+    lines = re.findall("^memory2image: ([RD]SDT at .*)", run.stderr.decode(), re.M)
+    bare = re.sub(rb"^#.*\n", b"", run.stdout, flags=re.M)
+    words = ["lint", "--rsdp", "f0010"]
+    _, linted = cases.answer(words, run.stdout)
+    is_told = line in linted.split("\n") if line else not re.search(rules, linted)
+    cases.count(
+        name,
+        lines != [one for one in told if one] and f"it tells {lines}, not {told}",
+        bare != text_of(wanted) and f"another image: {bare.decode()}",
+        difference(cases, words, run.stdout, text_of(pieces)),
+        not is_told and f"lint says {linted}, not {line}",
+    )
+
+
+def of_large_ones(cases):
+    """A DSDT and an RSDT of which an image does not hold all. check reads all that it would read."""
+    read, _ = small_set()
+    fadt_of = full_fadt(FACS_AT, 244, _40=number(0x1000000, 4))
+    checked = {at: data for at, data in read.items() if at not in (0x1000, 0x3000, 0x9000)}
+    checked = {**checked, 0x2000: fadt_of, 0xF0010: extended_rsdp(0x100000, 0x2800000)}
+    longer = changed(table(b"DSDT", b""), {4: 1, 7: 1})
+    large = table(b"DSDT", bytes(0xF00000))
+    for told, dsdt, root, written in (
+        ("DSDT at 0x1000000: 16777217 bytes, more than an image holds: only its header is written",
+         longer, rsdt(), {0x1000000: longer, 0x2800000: rsdt()}),
+        ("RSDT at 0x2800000: 16777220 bytes, more than an image holds: left out", table(b"DSDT", b""),
+         changed(rsdt(), {4: 4, 7: 1}), {0x1000000: table(b"DSDT", b"")}),
+        ("RSDT at 0x2800000: lists tables at more than 500000 places, more than an image holds: left out", table(b"DSDT", b""),
+         rsdt(*range(0x1000000, 0x1000000 + 8 * 500_001, 8)), {0x1000000: table(b"DSDT", b"")}),
+        ("what lint alone reads makes the text too long: left out", large, table(b"RSDT", bytes(0xF00000)), {}),
+    ):
+        pieces = {**checked, 0x1000000: dsdt, 0x2800000: root}
+        cases.makes(told, "yes", "memory2image", raw_dump(cases, "large.bin", pieces, 64 << 20), image=text_of({**checked, **written}))
 
 
 # ---- the RSDP
@@ -267,7 +415,7 @@ def refused(cases):
     refuses("an ELF core that holds no memory: is it truncated?", "memory2image", write("cut", core[: len(core) - sum(map(len, whole.values()))]))
     refuses("an ELF core whose parts are all at 0: is it of a process?", "memory2image", write("process", process()))
     refuses("an ELF core of more than 1000000 parts", "memory2image", write("parts", parts_of_none()))
-    cases.makes("fewer bytes than the program headers say, the first time from 0x30", "yes", "memory2image", write("cut", core[:-20]))
+    cases.makes("fewer bytes than the program headers say, the first time from 0xa074", "yes", "memory2image", write("cut", core[:-20]))
     paged = core_of(whole, memory_sizes=[(0, 0x1000)])
     cases.makes("is it truncated, or dumped with -p?", "yes", "memory2image", write("paged", paged))
 
@@ -289,7 +437,7 @@ def parts_of_none():
 
 
 def all_cases(cases):
-    for part in (of_a_set, of_real_images, of_all_rows, of_the_search, of_lengths, of_a_shrinking_dump, refused):
+    for part in (of_a_set, of_real_images, of_known_sets, of_rsdts, of_dsdts, of_large_ones, of_the_search, of_lengths, of_a_shrinking_dump, refused):
         part(cases)
     for name in os.listdir(cases.folder):
         if os.path.isfile(cases.path(name)) and os.path.getsize(cases.path(name)) > 1 << 24:
