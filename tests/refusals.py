@@ -190,14 +190,22 @@ def scattered_runs():
     yield Run(ONE_TWICE, rows_at([*shuffled, 0x1000]), ["find"], 3, "", "acpiset: address 0x1000 twice\n")
 
 
+def many_slots_run():
+    """A check of more slots than those for which it keeps the last address alone."""
+    pieces = {RSDP_AT: rsdp(0x60000), 0x60000: rsdt(TABLES_AT, *[0x3000, 0x4000] * 600)}
+    pieces.update({TABLES_AT: sound_fadt(), 0x3000: hpet(), 0x4000: table(b"SSDT", b"")})
+    return Run(MANY_SLOTS, text_of(pieces), ["check", "--rsdp", "e0000"], 0, "yes\n")
+
+
 # The runs with a request, after the input was read, that may be refused without another answer: for the buffer in which pieces are
-# sorted, and for the bytes of a line of data that has no address or passes the last one. An address that is there twice is told without
+# sorted, for addresses that are kept, and for the bytes of a line of data that has no address or passes the last one. An address that is there twice is told without
 # any other request.
 UNSORTED = "find in 4,000 pieces unsorted"
 ONE_TWICE = "find in 4,000 pieces unsorted, one twice"
+MANY_SLOTS = "check, 1,201 slots"
 SPARED_AFTER = {
     (UNSORTED, "REFUSE_AT"), (ONE_TWICE, "REFUSE_AT"), (ONE_TWICE, "REFUSE_FROM"), ("check, no address", "REFUSE_AT"),
-    ("check, a row past the end", "REFUSE_AT"),
+    ("check, a row past the end", "REFUSE_AT"), (MANY_SLOTS, "REFUSE_AT"),
 }
 
 
@@ -573,7 +581,7 @@ def little_memory(program, run):
 
 def tasks():
     """The tests that need the object, each as a function and its arguments."""
-    for run in [*CLEAN_RUNS, *faulty_runs(), *wordy_runs(), *text_runs(), *scattered_runs(), shuffled_run()]:
+    for run in [*CLEAN_RUNS, *faulty_runs(), *wordy_runs(), *text_runs(), *scattered_runs(), shuffled_run(), many_slots_run()]:
         yield starved, run, "REFUSE_AT"
     for run in [*CLEAN_RUNS, *text_runs(), *scattered_runs()]:
         yield starved, run, "REFUSE_FROM"
