@@ -11,7 +11,7 @@ use Rattle.acpi_lint.specs.Rules.Processors.{Processor, processor_of, usable_api
 use Rattle.acpi_base.specs.Madt as madt
 use Rattle.acpi_base.specs.Srat as srat
 use Rattle.acpi_lint.specs.Places.{FindsOwn, FindsLeast}
-use Rattle.acpi_lint.specs.EntryNumbers.{AreKnown, IsUnknown, IsUnknownOf, IsUnknownAt, IsWhere}
+use Rattle.acpi_lint.specs.EntryNumbers.{AreKnown, IsAnyNamed, IsUnknown, IsUnknownOf, IsUnknownAt, IsWhere}
 use Rattle.acpi_lint.specs.Numbered.{at_place, AreNumbersAt}
 use Rattle.acpi_lint.specs.declared.numbered.Numbered.{Numbered}
 use Rattle.acpi_lint.specs.declared.place.Place.{Place}
@@ -121,8 +121,8 @@ IsUnknownNamedOfTwo first IsId second IsUid entries at other point =
     ((NamesAt first entries at point × ¬ IsId point) ⊎ (NamesAt second entries at point × ¬ IsUid point)) × (other ≡ 0)
 
 pub unknown_of_two : {E : Type 0} (first second : E → Option ℕ) (IsId IsUid : ℕ → Type 0)
-    (entries : List (PlacedEntry E)) (ids uids : List ℕ) (found : Option Place) → AreKnown IsId ids
-    → AreKnown IsUid uids
+    (entries : List (PlacedEntry E)) (ids uids : List ℕ) (found : Option Place)
+    → (IsAnyNamed first entries → AreKnown IsId ids) → (IsAnyNamed second entries → AreKnown IsUid uids)
     → FindsLeast (IsFaultAt (IsUnknownOfTwo ids uids first second) entries) found
     → FindsLeast (IsUnknownNamedOfTwo first IsId second IsUid entries) found
 unknown_of_two {E} first second IsId IsUid entries ids uids found some others least = least_as found to from least
@@ -130,16 +130,16 @@ unknown_of_two {E} first second IsId IsUid entries ids uids found some others le
     to : (at other point : ℕ) → IsFaultAt (IsUnknownOfTwo ids uids first second) entries at other point
         → IsUnknownNamedOfTwo first IsId second IsUid entries at other point
     to at other point (e, stands, inl (is, none, unused)) =
-        (inl ((e, stands, is), λ named. none ((some.all point).1 named)), unused)
+        (inl ((e, stands, is), λ named. none (((some (point, (at, (e, stands, is)))).all point).1 named)), unused)
     to at other point (e, stands, inr (is, none, unused)) =
-        (inr ((e, stands, is), λ named. none ((others.all point).1 named)), unused)
+        (inr ((e, stands, is), λ named. none (((others (point, (at, (e, stands, is)))).all point).1 named)), unused)
 
     from : (at other point : ℕ) → IsUnknownNamedOfTwo first IsId second IsUid entries at other point
         → IsFaultAt (IsUnknownOfTwo ids uids first second) entries at other point
     from at other point (inl ((e, stands, is), none), unused) =
-        (e, stands, inl (is, λ listed. none ((some.all point).0 listed), unused))
+        (e, stands, inl (is, λ listed. none (((some (point, (at, (e, stands, is)))).all point).0 listed), unused))
     from at other point (inr ((e, stands, is), none), unused) =
-        (e, stands, inr (is, λ listed. none ((others.all point).0 listed), unused))
+        (e, stands, inr (is, λ listed. none (((others (point, (at, (e, stands, is)))).all point).0 listed), unused))
 
 -- ---- numbers at places
 

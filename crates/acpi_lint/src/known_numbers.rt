@@ -73,6 +73,22 @@ pub fn placed_apic_ids(alloc: Global, srat: &Table<'_>) -> Result<Vec<u64>, Allo
     known_numbers(alloc, srat.entries::<SratEntry<'_>>(), placed_apic_id_at)
 }
 
+/// Whether an enabled affinity of an SRAT places a UID.
+pub fn is_any_uid_placed(srat: &Table<'_>) -> bool
+    ensures { IsTrue result ↔ IsAnyNamed placed_uid (srat_contents srat.now).entries }
+{
+    let uid = first_picked(srat.entries::<SratEntry<'_>>(), placed_uid_at);
+    uid.is_some()
+}
+
+/// Whether an enabled affinity of an SRAT places an APIC ID or x2APIC ID.
+pub fn is_any_apic_id_placed(srat: &Table<'_>) -> bool
+    ensures { IsTrue result ↔ IsAnyNamed placed_apic_id (srat_contents srat.now).entries }
+{
+    let apic_id = first_picked(srat.entries::<SratEntry<'_>>(), placed_apic_id_at);
+    apic_id.is_some()
+}
+
 /// Only the numbers.
 fn without_places(alloc: Global, given: &[Numbered]) -> Result<Vec<u64>, AllocError>
     ensures { IfOk result (λ numbers. numbers.items ≡ map (λ g. g.number) given.now) }

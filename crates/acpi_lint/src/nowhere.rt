@@ -2,10 +2,10 @@
 //! the MADT's processors, of the SRAT's affinities or of the PPTT's leaves. Whether all processors of the MADT are
 //! known is tested last, since there is mostly nothing to report.
 
-ghost use Rattle.std.specs.Prelude.{◌<◌, AllPairs, IfOk};
+ghost use Rattle.std.specs.Prelude.{◌<◌, ◌↔◌, AllPairs, IfOk, IsTrue};
 ghost use Rattle.acpi_lint.specs.Rules.MadtAdvice.{nmi_uid, IsNmiNowhere, IsNoProcessor};
 ghost use Rattle.acpi_lint.specs.Rules.PpttAdvice.{IsNoLeaf, IsLeafNowhere};
-ghost use Rattle.acpi_lint.specs.Rules.Processors.{uid_of, usable_uid, AreProcessorsRead, AreProcessorsKnown};
+ghost use Rattle.acpi_lint.specs.Rules.Processors.{apic_id_of, placed_apic_id, placed_uid, uid_of, usable_uid, AreProcessorsRead, AreProcessorsKnown};
 ghost use Rattle.acpi_lint.specs.Rules.SratAdvice.{IsAffinityNowhere, IsNoDomain};
 ghost use Rattle.acpi_base.specs.Madt.{madt_contents};
 ghost use Rattle.acpi_base.specs.Pptt.{pptt_contents};
@@ -17,13 +17,14 @@ ghost use Rattle.acpi_lint.specs.RuleGroups.{in_madt, in_madt_srat, in_madt_pptt
 ghost use Rattle.acpi_lint.specs.Rules.Broken.{condition};
 ghost use Rattle.acpi_lint.specs.Rules.Numbered.{IsNamed};
 ghost use Rattle.acpi_lint.specs.Places.{FindsOwn, FindsLeast};
-ghost use Rattle.acpi_lint.specs.EntryNumbers.{AreKnown, IsUnknown, IsUnknownOf, IsUnknownAffinity, IsUnplaced, IsUnknownAt, IsWhere};
+ghost use Rattle.acpi_lint.specs.EntryNumbers.{AreKnown, IsAnyNamed, IsUnknown, IsUnknownOf, IsUnknownAffinity, IsUnplaced, IsUnknownAt, IsWhere};
 
 use crate::gic_overlap::gic_overlap;
 use crate::its::its_nowhere;
 use crate::known_numbers::{
-    are_processors_known, are_processors_read, has_node, has_opaque_processor, is_any_placed,
-    leaf_ids, placed_apic_ids, placed_uids,
+    are_processors_known, are_processors_read, has_node, has_opaque_processor,
+    is_any_apic_id_placed, is_any_placed, is_any_uid_placed, leaf_ids, placed_apic_ids,
+    placed_uids,
 };
 use crate::leaves::leaves_of;
 use crate::madt_advice::{
@@ -106,8 +107,16 @@ fn processor_uids(alloc: Global, madt: &Table<'_>) -> Result<Vec<u64>, AllocErro
     rising_numbers(alloc, madt, MadtNumber::Uid)
 }
 
+/// Whether a MADT has a local NMI for a UID, and not for all processors.
+fn has_nmi_uid(madt: &Table<'_>) -> bool
+    ensures { IsTrue result ↔ IsAnyNamed nmi_uid (madt_contents madt.now).entries }
+{
+    let uid = first_picked(madt.entries::<MadtEntry<'_>>(), |at| nmi_uid(&at.entry));
+    uid.is_some()
+}
+
 /// The first local NMI for a UID that no processor has, if all processors are known; `point` is the UID. Allocates for
-/// the UID of each processor.
+/// the UID of each processor, if there is such an NMI.
 fn nmi_nowhere(
     alloc: Global,
     policy: &Policy,
@@ -115,6 +124,9 @@ fn nmi_nowhere(
 ) -> Result<Option<Place>, AllocError>
     ensures { IfOk result (FindsLeast (IsNmiNowhere (madt_contents madt.now))) }
 {
+    if !has_nmi_uid(madt) {
+        return Ok(None);
+    }
     let uids = processor_uids(alloc, madt)?;
     let uids = uids.as_slice();
     let place = first_picked(madt.entries::<MadtEntry<'_>>(), |at| unknown_nmi(uids, at));
@@ -161,8 +173,38 @@ fn unknown_affinity(ids: &[u64], uids: &[u64], at: &EntryAt<SratEntry<'_>>) -> O
     }
 }
 
+/// The APIC IDs and x2APIC IDs of the processors of a MADT, in rising order, if an SRAT has an affinity for one. None
+/// otherwise. Allocates for each.
+fn sought_apic_ids(
+    alloc: Global,
+    madt: &Table<'_>,
+    srat: &Table<'_>,
+) -> Result<Vec<u64>, AllocError>
+    ensures rise { IfOk result (λ known. AllPairs (λ i j. i < j) known.items) }
+    ensures known { IfOk result (λ known. IsAnyNamed placed_apic_id (srat_contents srat.now).entries
+        → AreKnown (IsNamed apic_id_of (madt_contents madt.now).entries) known.items) }
+{
+    if is_any_apic_id_placed(srat) {
+        return rising_numbers(alloc, madt, MadtNumber::ApicId);
+    }
+    Ok(Vec::new(alloc))
+}
+
+/// The UIDs of the processors of a MADT, in rising order, if an SRAT has an affinity for one. None otherwise. Allocates
+/// for each.
+fn sought_uids(alloc: Global, madt: &Table<'_>, srat: &Table<'_>) -> Result<Vec<u64>, AllocError>
+    ensures rise { IfOk result (λ known. AllPairs (λ i j. i < j) known.items) }
+    ensures known { IfOk result (λ known. IsAnyNamed placed_uid (srat_contents srat.now).entries
+        → AreKnown (IsNamed uid_of (madt_contents madt.now).entries) known.items) }
+{
+    if is_any_uid_placed(srat) {
+        return processor_uids(alloc, madt);
+    }
+    Ok(Vec::new(alloc))
+}
+
 /// The first affinity of an SRAT that is for no processor of a MADT, if all processors are known; `point` is the number
-/// that none has. Allocates for the numbers of each processor.
+/// that none has. Allocates for the numbers of each processor that affinities have.
 fn affinity_nowhere(
     alloc: Global,
     policy: &Policy,
@@ -172,8 +214,8 @@ fn affinity_nowhere(
     ensures { IfOk result (FindsLeast
         (IsAffinityNowhere (madt_contents madt.now) (srat_contents srat.now))) }
 {
-    let ids = rising_numbers(alloc, madt, MadtNumber::ApicId)?;
-    let uids = processor_uids(alloc, madt)?;
+    let ids = sought_apic_ids(alloc, madt, srat)?;
+    let uids = sought_uids(alloc, madt, srat)?;
     let ids = ids.as_slice();
     let uids = uids.as_slice();
     let place = first_picked(

@@ -24,7 +24,7 @@ returns c =
     (IsUnknownNamedOfTwo placed_apic_id (IsNamed apic_id_of others) placed_uid (IsNamed uid_of others) entries) found
     c.where_known.result c.where_known.ensures
     (unknown_of_two placed_apic_id placed_uid (IsNamed apic_id_of others) (IsNamed uid_of others) entries ids uids found
-    (rw (← c.as_slice-ids.ensures.value) at c.in_ok-ids.ensures)
-    (rw (← c.as_slice-uids.ensures.value) at c.in_ok-uids.ensures)
+    (rw (← c.as_slice-ids.ensures.value) at c.in_ok-ids.ensures.known)
+    (rw (← c.as_slice-uids.ensures.value) at c.in_ok-uids.ensures.known)
     (least_of_entries srat_value (IsUnknownAffinity ids uids) 48 found c.first_picked-place.ensures
     c.entries.ensures.entries (srat_rising c.args.srat.now) (λ at picked here answers. search rules))))

@@ -1,4 +1,4 @@
-use Rattle.std.proofs.Common.{rules}
+use Rattle.std.proofs.Common.{rules, true≢false, sym, ◌∙◌}
 use Rattle.acpi_lint.specs.Rules.MadtAdvice.{nmi_uid}
 use Rattle.acpi_lint.specs.Rules.Numbered.{IsNamed}
 use Rattle.acpi_lint.specs.Rules.Processors.{uid_of, AreProcessorsKnown}
@@ -10,6 +10,10 @@ use Rattle.acpi_lint.proofs.FirstEntries.{least_of_entries}
 use Rattle.acpi_lint.proofs.LeastPlaces.{least_as}
 use Rattle.acpi_lint.proofs.UnknownOnes.{IsUnknownNamed, unknown_named, where_holds}
 use Rattle.acpi_lint.proofs.nowhere.nmi_nowhere.Goals as goal
+
+pub returns-then-not-has_nmi_uid : goal.returns-then-not-has_nmi_uid
+returns-then-not-has_nmi_uid c = λ at other point (read, named, none, unused).
+    true≢false (sym (c.has_nmi_uid.ensures.1 (point, (at, named))) ∙ c.if-not-has_nmi_uid.true)
 
 pub returns : goal.returns
 returns c =

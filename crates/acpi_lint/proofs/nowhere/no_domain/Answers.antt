@@ -29,7 +29,7 @@ returns c =
     c.where_read.result c.where_read.ensures
     (unknown_of_two usable_apic_id usable_uid_without_id (IsNamed placed_apic_id others) (IsNamed placed_uid others)
     entries ids uids found
-    (rw (← c.as_slice-ids.ensures.value) at c.in_ok-ids.ensures)
-    (rw (← c.as_slice-uids.ensures.value) at c.in_ok-uids.ensures)
+    (λ any. (rw (← c.as_slice-ids.ensures.value) at c.in_ok-ids.ensures))
+    (λ any. (rw (← c.as_slice-uids.ensures.value) at c.in_ok-uids.ensures))
     (least_of_entries madt_value (IsUnplaced ids uids) 44 found c.first_picked-place.ensures c.entries.ensures.entries
     (madt_rising c.args.madt.now) (λ at picked here answers. search rules))))
