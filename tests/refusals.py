@@ -156,7 +156,7 @@ def faulty_runs():
 
 
 def early_runs():
-    """Checks through stages that take no memory, of a clean set and of one with a later fault."""
+    """Checks through stages that need no memory, of a clean set and of one with a later fault."""
     for name, pieces in (("a complete set", COMPLETE), ("two ranges that share an address", OVERLAP)):
         for stage in range(1, 7):
             words = ["check", "--rsdp", "e0000", "--through", str(stage)]

@@ -8,12 +8,12 @@ use std::alloc::Global;
 /// Up to how many slots only the last address is kept: most root tables of firmware have fewer.
 const FEW: u32 = 1_024;
 
-/// Some of the addresses that a scan of slots has read: the last one, and among many slots, of which millions may list
-/// a few tables, the last one of each remainder.
+/// Some of the addresses that a scan of slots has read: the last one, and with many slots, as millions may list a few
+/// tables, the last one of each remainder.
 #[derive(Drop)]
 pub struct ReadAddresses {
     last: u64,
-    /// For each remainder by their number the last address that has it, or 0.
+    /// For each remainder modulo the length of this list, the last address that has it, or 0.
     of_remainders: Vec<u64>,
 }
 

@@ -115,7 +115,7 @@ pub record AreBlocksHalf : Type 0 where
   pub event : IsKept (IsHalfBlock (one_byte 116 88 4))
   pub control : IsKept (IsHalfBlock (one_byte 116 69 5))
 
--- PM1a_EVT, of 4 bytes from FFFDh on, and SMI_CMD and, on reduced hardware, RESET_REG at 10000h; not so from FFFCh
+-- PM1a_EVT, of 4 bytes from 0xfffd on, and SMI_CMD and, on reduced hardware, RESET_REG at 0x10000; not so from 0xfffc
 -- on, at 0xffff, or in a table of 128 bytes
 pub record ArePortsPastEnd : Type 0 where
   pub block : IsPortPastEnd (three_bytes 116 56 0xfd 57 0xff 88 4) 56 4 0xfffd

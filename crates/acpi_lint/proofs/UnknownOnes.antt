@@ -11,7 +11,7 @@ use Rattle.acpi_lint.specs.Rules.Processors.{Processor, processor_of, usable_api
 use Rattle.acpi_base.specs.Madt as madt
 use Rattle.acpi_base.specs.Srat as srat
 use Rattle.acpi_lint.specs.Places.{FindsOwn, FindsLeast}
-use Rattle.acpi_lint.specs.EntryNumbers.{AreKnown, IsAnyNamed, IsUnknown, IsUnknownOf, IsUnknownAt, IsWhere}
+use Rattle.acpi_lint.specs.EntryNumbers.{AreKnown, AreSought, IsAnyNamed, IsUnknown, IsUnknownOf, IsUnknownAt, IsWhere}
 use Rattle.acpi_lint.specs.Numbered.{at_place, AreNumbersAt}
 use Rattle.acpi_lint.specs.declared.numbered.Numbered.{Numbered}
 use Rattle.acpi_lint.specs.declared.place.Place.{Place}
@@ -113,6 +113,23 @@ of_processor (Some p) uid is = one_number p.usable p.apic_id p.uid uid is
 
 pub processor_has_one : (e : madt.MadtEntry) (uid : ℕ) → usable_uid_without_id e ≡ Some uid → usable_apic_id e ≡ None
 processor_has_one e uid is = of_processor (processor_of e) uid is
+
+-- numbers that are gathered where one is looked up
+pub all_sought : {E : Type 0} (read : E → Option ℕ) (entries : List (PlacedEntry E)) (IsKnown : ℕ → Type 0)
+    (known : List ℕ) → IsAnyNamed read entries → AreKnown IsKnown known → AreSought read entries IsKnown known
+all_sought read entries IsKnown known any are =
+    record {
+      rise = are.rise;
+      all = λ n. (λ listed. (any, (are.all n).0 listed), λ (_, is). (are.all n).1 is);
+    }
+
+pub sought_known : {E : Type 0} (read : E → Option ℕ) (entries : List (PlacedEntry E)) (IsKnown : ℕ → Type 0)
+    (sought : List ℕ) → AreSought read entries IsKnown sought → IsAnyNamed read entries → AreKnown IsKnown sought
+sought_known read entries IsKnown sought are any =
+    record {
+      rise = are.rise;
+      all = λ n. (λ listed. ((are.all n).0 listed).1, λ is. (are.all n).1 (any, is));
+    }
 
 -- the entry at `at` has one of two numbers, which is unknown
 abbrev pub IsUnknownNamedOfTwo : {E : Type 0} → (E → Option ℕ) → (ℕ → Type 0) → (E → Option ℕ) → (ℕ → Type 0)

@@ -42,6 +42,10 @@ pub record AreKnown (IsKnown : ℕ → Type 0) (numbers : List ℕ) : Type 0 whe
 abbrev pub IsAnyNamed : {E : Type 0} → (E → Option ℕ) → List (PlacedEntry E) → Type 0
 IsAnyNamed read entries = (n : ℕ) × IsNamed read entries n
 
+-- the numbers rise, and are the known ones, if any of these entries has a number to look up
+abbrev pub AreSought : {E : Type 0} → (E → Option ℕ) → List (PlacedEntry E) → (ℕ → Type 0) → List ℕ → Type 0
+AreSought read entries IsKnown numbers = AreKnown (λ n. IsAnyNamed read entries × IsKnown n) numbers
+
 -- ---- numbers that are not among the known ones
 
 -- the number at `at`, if any, is `point`, which is unknown

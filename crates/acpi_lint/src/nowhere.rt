@@ -17,7 +17,7 @@ ghost use Rattle.acpi_lint.specs.RuleGroups.{in_madt, in_madt_srat, in_madt_pptt
 ghost use Rattle.acpi_lint.specs.Rules.Broken.{condition};
 ghost use Rattle.acpi_lint.specs.Rules.Numbered.{IsNamed};
 ghost use Rattle.acpi_lint.specs.Places.{FindsOwn, FindsLeast};
-ghost use Rattle.acpi_lint.specs.EntryNumbers.{AreKnown, IsAnyNamed, IsUnknown, IsUnknownOf, IsUnknownAffinity, IsUnplaced, IsUnknownAt, IsWhere};
+ghost use Rattle.acpi_lint.specs.EntryNumbers.{AreKnown, AreSought, IsAnyNamed, IsUnknown, IsUnknownOf, IsUnknownAffinity, IsUnplaced, IsUnknownAt, IsWhere};
 
 use crate::gic_overlap::gic_overlap;
 use crate::its::its_nowhere;
@@ -173,16 +173,15 @@ fn unknown_affinity(ids: &[u64], uids: &[u64], at: &EntryAt<SratEntry<'_>>) -> O
     }
 }
 
-/// The APIC IDs and x2APIC IDs of the processors of a MADT, in rising order, if an SRAT has an affinity for one. None
-/// otherwise. Allocates for each.
+/// The APIC IDs and x2APIC IDs of the processors of a MADT, in rising order, if an SRAT has an affinity for one.
+/// Otherwise none. Allocates for each.
 fn sought_apic_ids(
     alloc: Global,
     madt: &Table<'_>,
     srat: &Table<'_>,
 ) -> Result<Vec<u64>, AllocError>
-    ensures rise { IfOk result (λ known. AllPairs (λ i j. i < j) known.items) }
-    ensures known { IfOk result (λ known. IsAnyNamed placed_apic_id (srat_contents srat.now).entries
-        → AreKnown (IsNamed apic_id_of (madt_contents madt.now).entries) known.items) }
+    ensures { IfOk result (λ sought. AreSought placed_apic_id (srat_contents srat.now).entries
+        (IsNamed apic_id_of (madt_contents madt.now).entries) sought.items) }
 {
     if is_any_apic_id_placed(srat) {
         return rising_numbers(alloc, madt, MadtNumber::ApicId);
@@ -190,12 +189,11 @@ fn sought_apic_ids(
     Ok(Vec::new(alloc))
 }
 
-/// The UIDs of the processors of a MADT, in rising order, if an SRAT has an affinity for one. None otherwise. Allocates
+/// The UIDs of the processors of a MADT, in rising order, if an SRAT has an affinity for one. Otherwise none. Allocates
 /// for each.
 fn sought_uids(alloc: Global, madt: &Table<'_>, srat: &Table<'_>) -> Result<Vec<u64>, AllocError>
-    ensures rise { IfOk result (λ known. AllPairs (λ i j. i < j) known.items) }
-    ensures known { IfOk result (λ known. IsAnyNamed placed_uid (srat_contents srat.now).entries
-        → AreKnown (IsNamed uid_of (madt_contents madt.now).entries) known.items) }
+    ensures { IfOk result (λ sought. AreSought placed_uid (srat_contents srat.now).entries
+        (IsNamed uid_of (madt_contents madt.now).entries) sought.items) }
 {
     if is_any_uid_placed(srat) {
         return processor_uids(alloc, madt);
