@@ -198,8 +198,8 @@ def many_slots_run():
 
 
 # The runs with a request, after the input was read, that may be refused without another answer: for the buffer in which pieces are
-# sorted, for addresses that are kept, and for the bytes of a line of data that has no address or passes the last one. An address that is there twice is told without
-# any other request.
+# sorted, for addresses of many slots, and for the bytes of a line of data that has no address or passes the last one. An address that is
+# there twice is told without any other request.
 UNSORTED = "find in 4,000 pieces unsorted"
 ONE_TWICE = "find in 4,000 pieces unsorted, one twice"
 MANY_SLOTS = "check, 1,201 slots"

@@ -327,7 +327,7 @@ ADVISED = [
         "X2ApicBelow255 0x3c 0x0 0x5",
         [
             "  0x3c x2apic uid 2 id 5 flags 0x1",
-            "the first usable local APIC with another APIC ID than 255 at offset 0x4c (76), at 0x1104c:",
+            "the first usable local APIC with an APIC ID other than 255 at offset 0x4c (76), at 0x1104c:",
             "  0x4c lapic uid 3 id 7 flags 0x2", "  0x1104c  00 08 03 07 02 00 00 00",
         ],
         sets.BELOW_255,
@@ -391,7 +391,7 @@ def advised(tests):
     ):
         tests.says(f"advice MadtReserved {at} 0x10 0x0", [f"  {at} entry {text}", "byte 16 of it is 0x0"], sets.PARTS_OF_A_GIC)
     for line, text in (
-        ("X2ApicBelow255 0x2c 0x0 0x0", "the MADT has no usable local APIC with another APIC ID than 255"),
+        ("X2ApicBelow255 0x2c 0x0 0x0", "the MADT has no usable local APIC with an APIC ID other than 255"),
         ("GicrTooSmall 0x2c 0x0 0x0", "the MADT has no GIC distributor of 24 bytes"),
     ):
         tests.says(f"advice {line}", f"{text}: i{MISMATCH}", sets.NONE_USABLE)

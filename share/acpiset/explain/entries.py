@@ -207,7 +207,7 @@ def is_usable_below_255(one):
 # What a rule looks at in the MADT beside the structures that its line names: what that is, its type, and which one it is. The first one
 # is shown: the GIC's version is that of the first distributor.
 GICD = "GIC distributor of 24 bytes", 12, is_distributor
-BESIDE = {150: ("usable local APIC with another APIC ID than 255", 0, is_usable_below_255), 161: GICD, 162: GICD}
+BESIDE = {150: ("usable local APIC with an APIC ID other than 255", 0, is_usable_below_255), 161: GICD, 162: GICD}
 
 
 def beside(report, table, what, kind, is_due):
