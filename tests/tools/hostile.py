@@ -298,8 +298,10 @@ INPUTS = [
 ]
 # The first size at which growth is measured where it is not the usual one: a square shows only with many tables; a larger input is refused.
 FIRST_SIZES = {falling_addresses: 9_500_000, tables_at_each_byte: 125_000}
-# The last size that a tool takes: more tables or lines are refused, and the system refuses more words.
+# The last size that a tool takes: more tables or lines are refused, and the system refuses more words. Or a larger one than usual, where
+# a tool takes hardly longer for that than to start.
 LAST_SIZES = {
     tables_without_rows: 1_000_000, short_tables: 2_000_000, short_lines: 4_000_000, twins: 2_000_000, falling_addresses: 38_000_000,
-    tables_at_each_byte: 500_000, two_roots_of_tables: 11_000_000, words_of_a_line: 4_000_000,
+    tables_at_each_byte: 500_000, two_roots_of_tables: 11_000_000, words_of_a_line: 4_000_000, lines_of_a_verdict: 64_000_000,
+    lines_like_none: 64_000_000,
 }
