@@ -1,5 +1,5 @@
 -- Sorting spans changes neither whether they overlap nor their first overlap.
-use Rattle.std.proofs.Common.{◌≡◌, ◌≢◌, ℕ, ◌<◌, ◌⊎◌, List, length, get_or, arith, sym, ◌∙◌, map, false, nat_eq, Ordering, [], ◌∷◌}
+use Rattle.std.proofs.Common.{◌≡◌, ◌≢◌, ℕ, ◌+◌, ◌<◌, ◌⊎◌, List, length, get_or, arith, sym, ◌∙◌, map, false, nat_eq, Ordering, [], ◌∷◌}
 use Rattle.std.specs.Ordering.{nat_cmp, ordering_then, is_lt}
 use Rattle.std.specs.Cmp.{IsTotalOrder}
 use Rattle.std.specs.List.{AllPairs, Contains}
@@ -32,6 +32,15 @@ in_order xs names sorted i j d before within =
     (get_or xs j d).end
     (sorted_far (λ a b. is_lt (span_cmp a b)) (ranks_by span_cmp_total (λ s. s)) xs sorted i j d (omega arith) within)
     (names i j d before within)
+
+not_below : (m n p q u v : ℕ) → (m < n) ⊎ ((m ≡ n) × (p < q))
+    → is_lt (ordering_then (nat_cmp n m) (ordering_then (nat_cmp q p) (nat_cmp v u))) ≡ false
+not_below m n p q u v before = grind (arith, nat_tests)
+
+pub sorted_in_order : (xs : List Span) → AllPairs ComesBefore xs → IsSorted span_cmp xs
+sorted_in_order xs ordered k d from within =
+    not_below (get_or xs k d).start (get_or xs (k + 1) d).start (get_or xs k d).name (get_or xs (k + 1) d).name
+    (get_or xs k d).end (get_or xs (k + 1) d).end (ordered k (k + 1) d (omega arith) within)
 
 to_names : (xs : List Span) → NamesDiffer xs → AllPairs (λ m n. m ≢ n) (map (λ s. s.name) xs)
 to_names [] names i j d before within = absurd (omega arith)

@@ -26,10 +26,12 @@ pub enum Clash {
 ///
 /// The spans have different ids (`name`); their order does not matter. It sorts them once by start and id,
 /// unless they are in that order, and makes at most n - 1 comparisons for n spans. Refuses if out of memory: the sort
-/// of more than 20 spans needs a buffer, which the allocator of the vector gives; `alloc` is not used.
+/// of more than 20 spans that are not in that order needs a buffer, which the allocator of the vector gives; `alloc` is
+/// not used.
 pub fn first_clash(alloc: Global, mut spans: Vec<Span>) -> Result<(Clash, usize), AllocError>
     requires { NamesDiffer spans.items }
     ensures few { vec_len spans ≤ 20 → IsOk result }
+    ensures in_order { AllPairs ComesBefore spans.items → IsOk result }
     ensures none { IfOk result (λ found. (found.0 ≡ Clash.None) ↔ IsClear spans.items) }
     ensures first { IfOk result (λ found. IfAt found.0 (IsFirstClash spans.items)) }
     ensures comparisons { IfOk result (λ found. found.1 ≤ vec_len spans - 1) }

@@ -1,9 +1,9 @@
-use Rattle.std.proofs.Common.{◌≡◌, List, subst, sym, refl, IsPermutation, AllPairs}
+use Rattle.std.proofs.Common.{◌≡◌, List, subst, sym, refl, true≢false, IsPermutation, AllPairs}
 use Rattle.acpi_graph.specs.declared.clash.Clash.{Clash}
 use Rattle.acpi_graph.specs.declared.clash.Clash.TheVariants as clash
 use Rattle.acpi_graph.specs.declared.span.Span.{Span}
 use Rattle.acpi_graph.specs.Spans.{NamesDiffer, ComesBefore, IsClear, IfAt, IsFirstClash}
-use Rattle.acpi_graph.proofs.SortedSpans.{in_order, names_permuted, clear_permuted, first_clash_permuted, point_shared}
+use Rattle.acpi_graph.proofs.SortedSpans.{in_order, sorted_in_order, names_permuted, clear_permuted, first_clash_permuted, point_shared}
 use Rattle.acpi_graph.proofs.clash.first_clash.Goals as goal
 
 found_permuted : (xs ys : List Span) (found : Clash) → IsPermutation xs ys → IfAt found (IsFirstClash ys)
@@ -45,3 +45,8 @@ returns-clause-first c =
     let moved : IsPermutation c.args.spans.items c.deref.result.now =
     subst (IsPermutation c.args.spans.items) (sym c.deref.ensures.value) c.sort_unless_sorted.ensures.permutation in
     found_permuted c.args.spans.items c.deref.result.now c.first_overlap.result.0 moved c.first_overlap.ensures.first
+
+pub returns-in_err-sort_unless_sorted-clause-in_order : goal.returns-in_err-sort_unless_sorted-clause-in_order
+returns-in_err-sort_unless_sorted-clause-in_order c =
+    λ ordered. absurd (true≢false (sym (c.in_err-sort_unless_sorted.ensures.in_order
+    (sorted_in_order c.args.spans.items ordered))))
