@@ -1,6 +1,6 @@
 //! Sets of numbers that are not large, such as offsets of a table, as bits.
 
-ghost use Rattle.std.specs.Prelude.{◌≡◌, ◌<◌, ◌↔◌, ℕ, Contains, IfOk, OnOk, MatchBool, vec_len, slice_index, true};
+ghost use Rattle.std.specs.Prelude.{◌≡◌, ◌<◌, ◌↔◌, ℕ, Contains, IfOk, OnErr, OnOk, MatchBool, vec_len, slice_index, true};
 ghost use Rattle.acpi_check.specs.BitSets.{IsIn, Adds};
 
 use std::alloc::{AllocError, Global};
@@ -20,8 +20,7 @@ pub struct BitSet {
 fn make_room(words: &mut Vec<u64>, place: usize) -> Result<(), AllocError>
     requires { place < usize.MAX }
     ensures room { OnOk result (place < vec_len words.new) }
-    ensures same { OnOk result
-        ((i : ℕ) → slice_index words.new.items i ≡ slice_index words.old.items i) }
+    ensures same { (i : ℕ) → slice_index words.new.items i ≡ slice_index words.old.items i }
 {
     if words.len() <= place {
         words.resize(place.saturating_mul(2).saturating_add(1), 0)?;
@@ -55,10 +54,11 @@ impl BitSet {
 
     /// Adds a number.
     ///
-    /// Refuses with `AllocError` if out of memory: if none above it was added before, it allocates a byte for each 8
-    /// numbers up to it, or twice as many.
+    /// Refuses with `AllocError` if out of memory, and then the set is the same as before: if none above it was added
+    /// before, it allocates a byte for each 8 numbers up to it, or twice as many.
     pub fn add(&mut self, number: u64) -> Result<(), AllocError>
-        ensures { OnOk result (Adds true number self.old self.new) }
+        ensures ok { OnOk result (Adds true number self.old self.new) }
+        ensures err { OnErr result (Adds false number self.old self.new) }
     {
         let place = (number / WORD) as usize;
         make_room(&mut self.words, place)?;

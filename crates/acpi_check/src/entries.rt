@@ -1,10 +1,11 @@
 //! Stages 6, 9 and 12: the entries of the MADT, the SRAT and the PPTT, each by itself.
 
-ghost use Rattle.std.specs.Prelude.{MatchOption};
+ghost use Rattle.std.specs.Prelude.{◌≢◌, IfErr, MatchOption};
 ghost use Rattle.acpi_base.specs.declared.code.Code.{Code};
 ghost use Rattle.acpi_read.specs.EntryTables.{entry_table};
 ghost use Rattle.acpi_check.specs.PassResults.{PassesEntry, IsLowest};
 ghost use Rattle.acpi_check.specs.TableResults.{FindsFirst};
+ghost use Rattle.acpi_check.specs.declared.refusal.Refusal.{Refusal};
 
 use crate::refusal::Refusal;
 use acpi_base::{Code, Policy, Witness};
@@ -50,14 +51,15 @@ fn pass_entry<'a, E: TableEntry<'a> + Copy>(
 }
 
 /// Whether the entries of a table are valid, each by itself. The first fault is at an entry's offset, at that of the
-/// bytes after the entries, or at 0 for a table that is too short.
+/// bytes after the entries, or at 0 for a table that is too short. Allocates nothing.
 #[inline(never)]
 pub fn check_entries<'a, E: TableEntry<'a> + Copy>(
     policy: &Policy,
     table: Table<'a>,
 ) -> Result<(), Refusal>
-    ensures { FindsFirst E.stage (E.IsValid policy.now table.entry)
+    ensures settled { FindsFirst E.stage (E.IsValid policy.now table.entry)
         (E.IsFault policy.now table.entry) result }
+    ensures memory { IfErr result (λ refusal. refusal ≢ Refusal.OutOfMemory) }
 {
     let mut entries = match E::raw_entries(table) {
         Ok(entries) => entries,

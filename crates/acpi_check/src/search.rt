@@ -49,9 +49,10 @@ pub fn has(offsets: &[u64], offset: u32) -> bool
 }
 
 /// The numbers in rising order, each once, as `binary_search` and `has` require. Refuses if out of
-/// memory: the sort of more than 20 numbers that do not rise needs a buffer.
+/// memory: the sort of more than 20 numbers, one of which is below an earlier one, needs a buffer.
 pub fn sorted_unique(mut numbers: Vec<u64>) -> Result<Vec<u64>, AllocError>
     ensures few { vec_len numbers ≤ 20 → IsOk result }
+    ensures in_order { AllPairs (λ i j. i ≤ j) numbers.items → IsOk result }
     ensures rise { IfOk result (λ sorted. AllPairs (λ i j. i < j) sorted.items) }
     ensures same { IfOk result
         (λ sorted. (n : ℕ) → Contains sorted.items n ↔ Contains numbers.items n) }

@@ -1,9 +1,11 @@
 -- Proofs about views and entries.
+pub mod CacheKinds
 pub mod EntriesLeft
 pub mod FirstsKept
-mod ListedTables
 pub mod MadtFaults
+pub mod MadtKinds
 pub mod PpttFaults
 pub mod PpttKinds
 pub mod SlitCells
 pub mod SratFaults
+pub mod SratKinds

@@ -1,13 +1,11 @@
 -- The kinds of entries of a MADT (ACPI 6.5, 5.2.12): for each its layout, after its type and its length, and the
 -- contents of an entry of the kind; and the contents of any entry.
-use Rattle.std.proofs.Common.{rules, refl, arith}
 use Rattle.std.specs.Prelude.{ℕ, List, [], ◌∷◌, slice_index}
 use Rattle.acpi_base.specs.Entries.{IsEntry, IsTypeOf}
 use Rattle.acpi_base.specs.Layouts.{NumberOf, Reserved, Number}
 use Rattle.acpi_base.specs.Madt.{LocalApicValue, IoApicValue, OverrideValue, NmiSourceValue, LocalNmiValue, AddressOverrideValue, X2apicValue, X2apicNmiValue}
 use Rattle.acpi_base.specs.Madt as said
-use Rattle.acpi_base.specs.KindLayouts.{KindLayout, IsLaidOut, bytes_of, KeepKinds}
-use Rattle.acpi_base.proofs.Layouts.Kinds.{keeps}
+use Rattle.acpi_base.specs.KindLayouts.{KindLayout, bytes_of}
 use Rattle.acpi_read.specs.declared.madt.MadtEntry.{MadtEntry}
 use Rattle.acpi_read.specs.declared.madt.MadtEntry.TheVariants as entry
 use Rattle.acpi_read.specs.declared.madt.kinds.LocalApic.{LocalApic}
@@ -28,9 +26,6 @@ local_apic_layout = record {
   values = λ v. Number v.uid ∷ Number v.apic_id ∷ Number v.flags ∷ [];
 }
 
-pub local_apic_laid : IsLaidOut local_apic_layout
-local_apic_laid = record { counted = refl; numbers = refl; typed = omega arith; sized = omega arith; shaped = λ e count. tt; reads = λ e v count same. search rules; agrees = λ e count low. refl }
-
 abbrev pub local_apic_value : LocalApic → LocalApicValue
 local_apic_value e = record { uid = e.uid; apic_id = e.apic_id; flags = e.flags }
 
@@ -42,9 +37,6 @@ io_apic_layout = record {
   rest = NumberOf 1 ∷ Reserved 1 ∷ NumberOf 4 ∷ NumberOf 4 ∷ [];
   values = λ v. Number v.id ∷ Number v.address ∷ Number v.gsi_base ∷ [];
 }
-
-pub io_apic_laid : IsLaidOut io_apic_layout
-io_apic_laid = record { counted = refl; numbers = refl; typed = omega arith; sized = omega arith; shaped = λ e count. tt; reads = λ e v count same. search rules; agrees = λ e count low. refl }
 
 abbrev pub io_apic_value : IoApic → IoApicValue
 io_apic_value e = record { id = e.id; address = e.address; gsi_base = e.gsi_base }
@@ -58,9 +50,6 @@ override_layout = record {
   values = λ v. Number v.bus ∷ Number v.source ∷ Number v.gsi ∷ Number v.flags ∷ [];
 }
 
-pub override_laid : IsLaidOut override_layout
-override_laid = record { counted = refl; numbers = refl; typed = omega arith; sized = omega arith; shaped = λ e count. tt; reads = λ e v count same. search rules; agrees = λ e count low. refl }
-
 abbrev pub override_value : Override → OverrideValue
 override_value e = record { bus = e.bus; source = e.source; gsi = e.gsi; flags = e.flags }
 
@@ -72,9 +61,6 @@ nmi_source_layout = record {
   rest = NumberOf 2 ∷ NumberOf 4 ∷ [];
   values = λ v. Number v.flags ∷ Number v.gsi ∷ [];
 }
-
-pub nmi_source_laid : IsLaidOut nmi_source_layout
-nmi_source_laid = record { counted = refl; numbers = refl; typed = omega arith; sized = omega arith; shaped = λ e count. tt; reads = λ e v count same. search rules; agrees = λ e count low. refl }
 
 abbrev pub nmi_source_value : NmiSource → NmiSourceValue
 nmi_source_value e = record { flags = e.flags; gsi = e.gsi }
@@ -88,9 +74,6 @@ local_nmi_layout = record {
   values = λ v. Number v.uid ∷ Number v.flags ∷ Number v.lint ∷ [];
 }
 
-pub local_nmi_laid : IsLaidOut local_nmi_layout
-local_nmi_laid = record { counted = refl; numbers = refl; typed = omega arith; sized = omega arith; shaped = λ e count. tt; reads = λ e v count same. search rules; agrees = λ e count low. refl }
-
 abbrev pub local_nmi_value : LocalNmi → LocalNmiValue
 local_nmi_value e = record { uid = e.uid; flags = e.flags; lint = e.lint }
 
@@ -102,9 +85,6 @@ address_override_layout = record {
   rest = Reserved 2 ∷ NumberOf 8 ∷ [];
   values = λ v. Number v.address ∷ [];
 }
-
-pub address_override_laid : IsLaidOut address_override_layout
-address_override_laid = record { counted = refl; numbers = refl; typed = omega arith; sized = omega arith; shaped = λ e count. tt; reads = λ e v count same. search rules; agrees = λ e count low. refl }
 
 abbrev pub address_override_value : AddressOverride → AddressOverrideValue
 address_override_value e = record { address = e.address }
@@ -118,9 +98,6 @@ x2apic_layout = record {
   values = λ v. Number v.x2apic_id ∷ Number v.flags ∷ Number v.uid ∷ [];
 }
 
-pub x2apic_laid : IsLaidOut x2apic_layout
-x2apic_laid = record { counted = refl; numbers = refl; typed = omega arith; sized = omega arith; shaped = λ e count. tt; reads = λ e v count same. search rules; agrees = λ e count low. refl }
-
 abbrev pub x2apic_value : X2apic → X2apicValue
 x2apic_value e = record { x2apic_id = e.x2apic_id; flags = e.flags; uid = e.uid }
 
@@ -132,9 +109,6 @@ x2apic_nmi_layout = record {
   rest = NumberOf 2 ∷ NumberOf 4 ∷ NumberOf 1 ∷ Reserved 3 ∷ [];
   values = λ v. Number v.flags ∷ Number v.uid ∷ Number v.lint ∷ [];
 }
-
-pub x2apic_nmi_laid : IsLaidOut x2apic_nmi_layout
-x2apic_nmi_laid = record { counted = refl; numbers = refl; typed = omega arith; sized = omega arith; shaped = λ e count. tt; reads = λ e v count same. search rules; agrees = λ e count low. refl }
 
 abbrev pub x2apic_nmi_value : X2apicNmi → X2apicNmiValue
 x2apic_nmi_value e = record { flags = e.flags; uid = e.uid; lint = e.lint }
@@ -174,31 +148,3 @@ IsOfOwnLength _ = Unit {0}
 abbrev pub IsCompleteEntry : MadtEntry → Type 0
 IsCompleteEntry (entry.Opaque bytes) = IsEntry bytes.now
 IsCompleteEntry _ = Unit {0}
-
--- the bytes that are written for an entry of a known type have the same contents
-pub madt_kept : KeepKinds madt_bytes said.madt_kinds
-madt_kept = (
-  keeps local_apic_layout local_apic_laid said.LocalApic madt_bytes (λ v. refl),
-  (
-    keeps io_apic_layout io_apic_laid said.IoApic madt_bytes (λ v. refl),
-    (
-      keeps override_layout override_laid said.Override madt_bytes (λ v. refl),
-      (
-        keeps nmi_source_layout nmi_source_laid said.NmiSource madt_bytes (λ v. refl),
-        (
-          keeps local_nmi_layout local_nmi_laid said.LocalNmi madt_bytes (λ v. refl),
-          (
-            keeps address_override_layout address_override_laid said.AddressOverride madt_bytes (λ v. refl),
-            (
-              keeps x2apic_layout x2apic_laid said.X2apic madt_bytes (λ v. refl),
-              (
-                keeps x2apic_nmi_layout x2apic_nmi_laid said.X2apicNmi madt_bytes (λ v. refl),
-                (tt),
-              ),
-            ),
-          ),
-        ),
-      ),
-    ),
-  ),
-)

@@ -1,6 +1,5 @@
 -- The kinds of entries of a PPTT (ACPI 6.5, 5.2.30): for each its layout and the contents of an entry of the kind;
 -- the contents of any entry, and the bytes that are written for it.
-use Rattle.std.proofs.Common.{refl, arith}
 use Rattle.std.specs.Prelude.{◌≡◌, ℕ, ◌+◌, ◌*◌, List, [], ◌∷◌, ◌++◌, length, map, flat_map, Option, Some, None}
 use Rattle.std.specs.List.{range_with_len}
 use Rattle.acpi_base.specs.Number.{field, number_bytes}
@@ -8,8 +7,7 @@ use Rattle.acpi_base.specs.Entries.{IsEntry}
 use Rattle.acpi_base.specs.Layouts.{Part, NumberOf, Fixed, Reserved, PartValue, Number, layout_bytes}
 use Rattle.acpi_base.specs.Pptt.{NodeValue, CacheValue}
 use Rattle.acpi_base.specs.Pptt as said
-use Rattle.acpi_base.proofs.Pptt.CacheValues.{cache24_reads, cache28_reads}
-use Rattle.acpi_base.specs.KindLayouts.{KindLayout, IsLaidOut, bytes_of}
+use Rattle.acpi_base.specs.KindLayouts.{KindLayout, bytes_of}
 use Rattle.acpi_read.specs.declared.pptt.PpttEntry.{PpttEntry}
 use Rattle.acpi_read.specs.declared.pptt.PpttEntry.TheVariants as entry
 use Rattle.acpi_read.specs.declared.pptt.node_head.NodeHead.{NodeHead}
@@ -89,9 +87,6 @@ cache24_layout = record {
   values = cache_values;
 }
 
-pub cache24_laid : IsLaidOut cache24_layout
-cache24_laid = record { counted = refl; numbers = refl; typed = omega arith; sized = omega arith; shaped = λ e count. rw count tt; reads = cache24_reads; agrees = λ e count low. rw count refl }
-
 abbrev pub cache24_value : Cache24 → CacheValue
 cache24_value e = cache_value e None
 
@@ -103,9 +98,6 @@ cache28_layout = record {
   rest = Reserved 2 ∷ NumberOf 4 ∷ NumberOf 4 ∷ NumberOf 4 ∷ NumberOf 4 ∷ NumberOf 1 ∷ NumberOf 1 ∷ NumberOf 2 ∷ NumberOf 4 ∷ [];
   values = cache_values;
 }
-
-pub cache28_laid : IsLaidOut cache28_layout
-cache28_laid = record { counted = refl; numbers = refl; typed = omega arith; sized = omega arith; shaped = λ e count. rw count tt; reads = cache28_reads; agrees = λ e count low. rw count refl }
 
 abbrev pub cache28_value : Cache28 → CacheValue
 cache28_value e = cache_value e.fields (Some e.id)

@@ -1,14 +1,11 @@
 -- The kinds of entries of an SRAT (ACPI 6.5, 5.2.16): for each its layout, after its type and its length, and the
 -- contents of an entry of the kind; and the contents of any entry.
-use Rattle.std.proofs.Common.{rules, refl, arith}
 use Rattle.std.specs.Prelude.{◌/◌, ◌%◌, ℕ, List, [], ◌∷◌, slice_index}
 use Rattle.acpi_base.specs.Entries.{IsEntry, IsTypeOf}
 use Rattle.acpi_base.specs.Layouts.{NumberOf, Reserved, Number}
 use Rattle.acpi_base.specs.Srat.{ApicDomainValue, MemoryValue, X2apicDomainValue}
 use Rattle.acpi_base.specs.Srat as said
-use Rattle.acpi_base.proofs.Srat.DomainBytes.{apic_domain_reads, apic_domain_agrees}
-use Rattle.acpi_base.specs.KindLayouts.{KindLayout, IsLaidOut, bytes_of, KeepKinds}
-use Rattle.acpi_base.proofs.Layouts.Kinds.{keeps}
+use Rattle.acpi_base.specs.KindLayouts.{KindLayout, bytes_of}
 use Rattle.acpi_read.specs.declared.srat.SratEntry.{SratEntry}
 use Rattle.acpi_read.specs.declared.srat.SratEntry.TheVariants as entry
 use Rattle.acpi_read.specs.declared.srat.kinds.ApicDomain.{ApicDomain}
@@ -30,9 +27,6 @@ apic_domain_layout = record {
       ∷ [];
 }
 
-pub apic_domain_laid : IsLaidOut apic_domain_layout
-apic_domain_laid = record { counted = refl; numbers = refl; typed = omega arith; sized = omega arith; shaped = λ e count. tt; reads = λ e v count same. apic_domain_reads e v same; agrees = λ e count low. apic_domain_agrees e low }
-
 abbrev pub apic_domain_value : ApicDomain → ApicDomainValue
 apic_domain_value e =
     record { domain = e.domain; apic_id = e.apic_id; flags = e.flags; eid = e.eid; clock_domain = e.clock_domain }
@@ -46,9 +40,6 @@ memory_range_layout = record {
   values = λ v. Number v.domain ∷ Number v.base ∷ Number v.size ∷ Number v.flags ∷ [];
 }
 
-pub memory_range_laid : IsLaidOut memory_range_layout
-memory_range_laid = record { counted = refl; numbers = refl; typed = omega arith; sized = omega arith; shaped = λ e count. tt; reads = λ e v count same. search rules; agrees = λ e count low. refl }
-
 abbrev pub memory_range_value : MemoryRange → MemoryValue
 memory_range_value e = record { domain = e.domain; base = e.base; size = e.size; flags = e.flags }
 
@@ -60,9 +51,6 @@ x2apic_domain_layout = record {
   rest = Reserved 2 ∷ NumberOf 4 ∷ NumberOf 4 ∷ NumberOf 4 ∷ NumberOf 4 ∷ Reserved 4 ∷ [];
   values = λ v. Number v.domain ∷ Number v.x2apic_id ∷ Number v.flags ∷ Number v.clock_domain ∷ [];
 }
-
-pub x2apic_domain_laid : IsLaidOut x2apic_domain_layout
-x2apic_domain_laid = record { counted = refl; numbers = refl; typed = omega arith; sized = omega arith; shaped = λ e count. tt; reads = λ e v count same. search rules; agrees = λ e count low. refl }
 
 abbrev pub x2apic_domain_value : X2apicDomain → X2apicDomainValue
 x2apic_domain_value e =
@@ -93,16 +81,3 @@ IsOfOwnLength _ = Unit {0}
 abbrev pub IsCompleteEntry : SratEntry → Type 0
 IsCompleteEntry (entry.Opaque bytes) = IsEntry bytes.now
 IsCompleteEntry _ = Unit {0}
-
--- the bytes that are written for an entry of a known type have the same contents
-pub srat_kept : KeepKinds srat_bytes said.srat_kinds
-srat_kept = (
-  keeps apic_domain_layout apic_domain_laid said.ApicDomain srat_bytes (λ v. refl),
-  (
-    keeps memory_range_layout memory_range_laid said.MemoryRange srat_bytes (λ v. refl),
-    (
-      keeps x2apic_domain_layout x2apic_domain_laid said.X2apicDomain srat_bytes (λ v. refl),
-      (tt),
-    ),
-  ),
-)

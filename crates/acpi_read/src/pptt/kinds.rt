@@ -4,6 +4,7 @@ ghost use Rattle.std.specs.Prelude.{◌≡◌, ◌≤◌, ℕ, Option, length, r
 ghost use Rattle.std.proofs.Common.{rules};
 ghost use Rattle.acpi_base.specs.Pptt as said;
 ghost use Rattle.acpi_read.specs.Pptts as layouts;
+ghost use Rattle.acpi_read.proofs.CacheKinds.{cache24_laid, cache28_laid};
 
 use crate::kind::FixedKind;
 use acpi_base::field::{Value, put_values, u8_at, u16_at, u32_at};
@@ -81,7 +82,7 @@ impl FixedKind for Cache24 {
         );
     }
 
-    ghost laid = { (refl, refl, layouts.cache24_laid, λ _ _ same. Prim.search rules) };
+    ghost laid = { (refl, refl, cache24_laid, λ _ _ same. Prim.search rules) };
 }
 
 /// A cache type structure with an ID (ACPI 6.5, 5.2.30.2): type 1, 28 bytes. Its first fields are those of one without.
@@ -133,5 +134,5 @@ impl FixedKind for Cache28 {
         );
     }
 
-    ghost laid = { (refl, refl, layouts.cache28_laid, λ _ _ same. Prim.search rules) };
+    ghost laid = { (refl, refl, cache28_laid, λ _ _ same. Prim.search rules) };
 }

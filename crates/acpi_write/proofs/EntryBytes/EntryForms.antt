@@ -12,8 +12,10 @@ use Rattle.acpi_base.specs.Number.{field, number_bytes}
 use Rattle.acpi_base.specs.Pptt as pptt
 use Rattle.acpi_base.proofs.Layouts.RoundTrip.{length-number_bytes}
 use Rattle.acpi_base.proofs.Pptt.Places.{form_size}
-use Rattle.acpi_read.specs.Madts.{madt_bytes, madt_kept}
-use Rattle.acpi_read.specs.Srats.{srat_bytes, srat_kept}
+use Rattle.acpi_read.specs.Madts.{madt_bytes}
+use Rattle.acpi_read.specs.Srats.{srat_bytes}
+use Rattle.acpi_read.proofs.MadtKinds.{madt_kept}
+use Rattle.acpi_read.proofs.SratKinds.{srat_kept}
 use Rattle.acpi_read.specs.Pptts.{pptt_bytes}
 
 pub is_entry : {V : Type 0} (k : EntryType V) → 2 ≤ k.size → (e : List ℕ) (v : V) → IsEntryOf k e v → IsEntry e

@@ -17,9 +17,12 @@ use Rattle.acpi_base.specs.KindLayouts.{bytes_of}
 use Rattle.acpi_base.proofs.Images.PresentBytes.{field_below}
 use Rattle.acpi_base.proofs.Layouts.RoundTrip.{HasValues-layout_bytes}
 use Rattle.acpi_base.proofs.Layouts.Kinds.{written_again}
-use Rattle.acpi_read.specs.Madts.{madt_bytes, madt_kept}
-use Rattle.acpi_read.specs.Srats.{srat_bytes, srat_kept}
-use Rattle.acpi_read.specs.Pptts.{pptt_bytes, cache_bytes, node_head_parts, node_head_values, node_value, cache24_layout, cache24_laid, cache28_layout, cache28_laid}
+use Rattle.acpi_read.specs.Madts.{madt_bytes}
+use Rattle.acpi_read.specs.Srats.{srat_bytes}
+use Rattle.acpi_read.proofs.MadtKinds.{madt_kept}
+use Rattle.acpi_read.proofs.SratKinds.{srat_kept}
+use Rattle.acpi_read.proofs.CacheKinds.{cache24_laid, cache28_laid}
+use Rattle.acpi_read.specs.Pptts.{pptt_bytes, cache_bytes, node_head_parts, node_head_values, node_value, cache24_layout, cache28_layout}
 use Rattle.acpi_read.specs.declared.pptt.node_head.NodeHead.{NodeHead}
 use Rattle.acpi_read.proofs.PpttKinds.{references_of}
 use Rattle.acpi_write.specs.Spells.{SaysEntry}

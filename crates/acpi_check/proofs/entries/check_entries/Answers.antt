@@ -4,8 +4,8 @@ use Rattle.acpi_check.proofs.EntryPasses.Passes.{reported}
 use Rattle.acpi_check.proofs.EntryPasses.TablePass.{first_of_stage, at_first, at_next, stops, ends_valid, ends_cut, short_first}
 use Rattle.acpi_check.proofs.entries.check_entries.Goals as goal
 
-pub returns-in-Err : goal.returns-in-Err
-returns-in-Err g c =
+pub returns-in-Err-clause-settled : goal.returns-in-Err-clause-settled
+returns-in-Err-clause-settled g c =
     let E = g.E.TableEntry in
     let q = c.args.policy.now in
     let whole = c.args.table in
@@ -30,8 +30,8 @@ loop-entry-preserved g c =
       steps.1 ∙ c.loop-entry.invariant.1,
     )
 
-pub returns-in_err-earlier : goal.returns-in_err-earlier
-returns-in_err-earlier g c =
+pub returns-in_err-earlier-clause-settled : goal.returns-in_err-earlier-clause-settled
+returns-in_err-earlier-clause-settled g c =
     let E = g.E.TableEntry in
     let q = c.args.policy.now in
     let whole = c.args.table in
@@ -43,8 +43,8 @@ returns-in_err-earlier g c =
     reported E.stage (E.IsValid q whole) (E.IsFault q whole) w c.from_residual.result c.from_residual.ensures.0
     c.from_residual.ensures.1 (first_of_stage q whole w are first)
 
-pub returns-in-Some-cut : goal.returns-in-Some-cut
-returns-in-Some-cut g c =
+pub returns-in-Some-cut-clause-settled : goal.returns-in-Some-cut-clause-settled
+returns-in-Some-cut-clause-settled g c =
     let E = g.E.TableEntry in
     let q = c.args.policy.now in
     let whole = c.args.table in
@@ -57,8 +57,8 @@ returns-in-Some-cut g c =
     c.in-Some-cut.offset (rw steps.0.0 at c.loop-entry.invariant.0)
     (sym c.loop-entry.invariant.1 ∙ sym steps.1 ∙ sym cut)))
 
-pub returns-in-None : goal.returns-in-None
-returns-in-None g c =
+pub returns-in-None-clause-settled : goal.returns-in-None-clause-settled
+returns-in-None-clause-settled g c =
     let E = g.E.TableEntry in
     let q = c.args.policy.now in
     let whole = c.args.table in

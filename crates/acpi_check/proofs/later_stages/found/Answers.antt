@@ -22,7 +22,7 @@ returns-in_ok-first-in-Madt c =
     settled c.requires c.in-Madt.is kind.Madt c.first.ensures c.in_ok-first-in-Madt.was
     (λ whole. IsValidMadt c.args.set.now.policy.now (madt_contents whole))
     (λ whole. MadtFault c.args.set.now.policy.now (madt_contents whole)) (λ all. all) (λ v. (λ h. h, λ h. h))
-    (λ v least. least) c.check_entries.result c.check_entries.ensures
+    (λ v least. least) c.check_entries.result c.check_entries.ensures.settled
 
 pub returns-in_err-first-in-Interrupts : goal.returns-in_err-first-in-Interrupts
 returns-in_err-first-in-Interrupts c =
@@ -60,7 +60,7 @@ pub returns-in_ok-first-in-Srat : goal.returns-in_ok-first-in-Srat
 returns-in_ok-first-in-Srat c =
     settled c.requires c.in-Srat.is kind.Srat c.first-in-Srat.ensures c.in_ok-first-in-Srat.was
     (λ whole. IsValidSrat (srat_contents whole)) (λ whole. SratFault (srat_contents whole)) (λ all. all)
-    (λ v. (λ h. h, λ h. h)) (λ v least. least) c.check_entries-in-Srat.result c.check_entries-in-Srat.ensures
+    (λ v. (λ h. h, λ h. h)) (λ v least. least) c.check_entries-in-Srat.result c.check_entries-in-Srat.ensures.settled
 
 pub returns-in_err-first-in-Ranges : goal.returns-in_err-first-in-Ranges
 returns-in_err-first-in-Ranges c =
@@ -87,7 +87,7 @@ pub returns-in_ok-first-in-Slit : goal.returns-in_ok-first-in-Slit
 returns-in_ok-first-in-Slit c =
     settled c.requires c.in-Slit.is kind.Slit c.first-in-Slit.ensures c.in_ok-first-in-Slit.was
     (λ whole. IsValidSlit (slit_contents whole)) (λ whole. SlitFault (slit_contents whole)) (λ all. all)
-    (λ v. (λ h. h, λ h. h)) (λ v least. least) c.check_slit.result c.check_slit.ensures
+    (λ v. (λ h. h, λ h. h)) (λ v least. least) c.check_slit.result c.check_slit.ensures.settled
 
 pub returns-in_err-first-in-Pptt : goal.returns-in_err-first-in-Pptt
 returns-in_err-first-in-Pptt c =
@@ -98,7 +98,7 @@ pub returns-in_ok-first-in-Pptt : goal.returns-in_ok-first-in-Pptt
 returns-in_ok-first-in-Pptt c =
     settled c.requires c.in-Pptt.is kind.Pptt c.first-in-Pptt.ensures c.in_ok-first-in-Pptt.was
     (λ whole. IsCutPptt (pptt_contents whole)) (λ whole. PpttFault (pptt_contents whole)) (λ all. all)
-    (λ v. (λ h. h, λ h. h)) (λ v least. least) c.check_entries-in-Pptt.result c.check_entries-in-Pptt.ensures
+    (λ v. (λ h. h, λ h. h)) (λ v least. least) c.check_entries-in-Pptt.result c.check_entries-in-Pptt.ensures.settled
 
 pub returns-in_err-first-in-References : goal.returns-in_err-first-in-References
 returns-in_err-first-in-References c =

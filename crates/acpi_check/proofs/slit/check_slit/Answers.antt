@@ -2,8 +2,8 @@ use Rattle.std.proofs.Common.{sym, ◌∙◌}
 use Rattle.acpi_base.proofs.Faults.Order.{not_after}
 use Rattle.acpi_check.proofs.slit.check_slit.Goals as goal
 
-pub returns-in-Err : goal.returns-in-Err
-returns-in-Err c =
+pub returns-in-Err-clause-settled : goal.returns-in-Err-clause-settled
+returns-in-Err-clause-settled c =
     let first = c.in-Err.ensures.fault in
     record {
       own = first.stage;

@@ -17,14 +17,14 @@ loop-count-preserved c =
           rw (w.seen-is, w.shared-is) (
             omega (arith, w.again-is, c.loop-count.invariant.0),
             seen_again given c.args.modulus i c.loop-count.seen c.loop-count.shared _ again
-                w.in_ok-add.ensures before,
+                w.in_ok-add.ensures.ok before,
           )
       | else-has+in_ok-add-2 w ↦
           let first : ¬ IsIn c.loop-count.seen remainder = rw w.if-has.false at c.has.ensures in
           rw (w.seen-is, w.shared-is) (
             omega (arith, w.again-is, c.loop-count.invariant.0),
             seen_first given c.args.modulus i c.loop-count.seen c.loop-count.shared _ first
-                w.in_ok-add-2.ensures before,
+                w.in_ok-add-2.ensures.ok before,
           )
     ]
 

@@ -5,9 +5,9 @@ use Rattle.acpi_check.specs.BitSets.{IsIn}
 use Rattle.acpi_check.proofs.NodeLinks.OffsetBits.{same_bits, bit_added}
 use Rattle.acpi_check.proofs.bit_set.BitSet.add.Goals as goal
 
-pub returns : goal.returns
+pub returns-clause-ok : goal.returns-clause-ok
 unfolding IsIn
-returns c =
+returns-clause-ok c =
     let words = c.make_room.new.words in
     let place = c.args.number / 64 in
     let room : place < length words.items = omega (arith, c.in_ok-make_room.ensures.room, words.ok.0) in

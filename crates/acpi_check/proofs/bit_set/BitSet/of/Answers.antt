@@ -12,7 +12,7 @@ loop-number-preserved c =
     let i = c.loop-number.number-index in
     let h : ℕ = get_or numbers i 0 in
     one_added numbers i h c.loop-number.set c.add.new.self c.loop-number-test.true
-    (get_or_default numbers i h 0 c.loop-number-test.true) c.in_ok-add.ensures c.loop-number.invariant
+    (get_or_default numbers i h 0 c.loop-number-test.true) c.in_ok-add.ensures.ok c.loop-number.invariant
 
 pub returns : goal.returns
 returns c =
