@@ -528,6 +528,7 @@ static inline uint32_t acpiset_severity_of(uint32_t number) {
     case ACPISET_MADT_UNREAD:
     case ACPISET_SRAT_UNREAD:
         return ACPISET_NOT_LOOKED_AT;
+    case ACPISET_SLIT_DIFFERS:
     case ACPISET_CACHE_SHAPE:
     case ACPISET_NULL_SLOT:
     case ACPISET_FADT_RESERVED:
@@ -564,7 +565,6 @@ static inline uint32_t acpiset_severity_of(uint32_t number) {
     case ACPISET_AFFINITY_NOWHERE:
     case ACPISET_NO_DOMAIN:
     case ACPISET_DOMAIN_PAST_SLIT:
-    case ACPISET_SLIT_DIFFERS:
     case ACPISET_SAME_LEAF:
     case ACPISET_SAME_CACHE_ID:
     case ACPISET_NO_LEAF:

@@ -852,7 +852,8 @@ impl Rule {
         Some(match self {
             Rule::MadtUnread
             | Rule::SratUnread => Severity::NotLookedAt,
-            Rule::CacheShape
+            Rule::SlitDiffers
+            | Rule::CacheShape
             | Rule::NullSlot
             | Rule::FadtReserved
             | Rule::FacsReserved
@@ -887,7 +888,6 @@ impl Rule {
             | Rule::AffinityNowhere
             | Rule::NoDomain
             | Rule::DomainPastSlit
-            | Rule::SlitDiffers
             | Rule::SameLeaf
             | Rule::SameCacheId
             | Rule::NoLeaf

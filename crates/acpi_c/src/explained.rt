@@ -177,7 +177,7 @@ pub const SEVERITIES: [Severity; Rule::COUNT] = [
     Severity::LikelyWrong,
     Severity::LikelyWrong,
     Severity::LikelyWrong,
-    Severity::LikelyWrong,
+    Severity::LookAtIt,
     Severity::LikelyWrong,
     Severity::LookAtIt,
     Severity::LikelyWrong,

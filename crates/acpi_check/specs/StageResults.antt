@@ -25,7 +25,7 @@ IsResultTo last m q P (Ok value) = P value
 IsResultTo last m q P (Err (Fault w)) = IsFirstFault m q w × (stage_number (stage_of w.code) ≤ stage_number last)
 IsResultTo last m q P (Err OutOfMemory) = (6 < stage_number last) × CleanTo stage.Madt m q
 
--- The same for stages that need no memory: for one, and for all up to `last`, of which those before the fault's
+-- The same for stages that never run out of memory: for one, and for all up to `last`, of which those before the fault's
 -- stage hold.
 abbrev pub Reads : {T : Type 0} → Stage → Memory → PolicyValue → (T → Type 0) → Result T Witness → Type 0
 Reads s m q P (Ok value) = Holds s m q × P value

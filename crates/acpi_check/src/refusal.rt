@@ -11,7 +11,7 @@ use std::alloc::AllocError;
 pub enum Refusal {
     /// The first fault of the set, or of the tables that were passed: it is one of the stage's.
     Fault(Witness),
-    /// Out of memory. The stages up to 6 need no memory.
+    /// Out of memory. The stages up to 6 never run out of memory.
     OutOfMemory,
 }
 

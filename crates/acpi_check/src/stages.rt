@@ -38,7 +38,7 @@ pub fn check(alloc: Global, image: &LentImage<'_>, policy: &Policy) -> Result<Ve
 /// The verdict on the image's tables over the stages up to `last`: `Yes` if all of them hold, otherwise `No` with the
 /// first fault, which is of the first stage that fails.
 ///
-/// Out of memory only if stages 1 to 6 hold. For `last` up to 6 always `Ok`: those stages need no memory.
+/// Out of memory only if stages 1 to 6 hold. For `last` up to 6 always `Ok`: those stages never run out of memory.
 pub fn check_to(
     alloc: Global,
     image: &LentImage<'_>,
@@ -56,7 +56,7 @@ pub fn check_to(
     }
 }
 
-/// Runs the stages up to `last` in their order. Those up to the FACS need no memory and are always run: if the
+/// Runs the stages up to `last` in their order. Those up to the FACS never run out of memory and are always run: if the
 /// first fault is one of a stage after `last`, the stages up to `last` hold.
 fn stages_to(
     alloc: Global,

@@ -1,10 +1,13 @@
 -- The two root tables that an RSDP names, and the signatures that they list.
-use Rattle.std.proofs.Common.{◌≡◌, ◌≢◌, ℕ, ◌+◌, List, [], ◌∷◌, ◌++◌, map, Option, Some, None, true, refl, sym, ap, subst, ◌∙◌, inr, arith}
-use Rattle.std.specs.Prelude.{MatchOption}
-use Rattle.std.specs.List.{filter_map, range_with_len, cons_option}
+use Rattle.std.proofs.Common.{◌≡◌, ◌≢◌, ℕ, ◌+◌, List, [], ◌∷◌, ◌++◌, map, Option, Some, None, true, refl, sym, ap, subst, ◌∙◌, inr, arith, zero-add}
+use Rattle.std.specs.Prelude.{MatchOption, ◌==◌, if◌then◌else◌}
+use Rattle.std.specs.List.{filter_map, range_with_len, cons_option, sum_by}
+use Rattle.std.specs.List.Sorted.{IsPermutation}
 use Rattle.std.proofs.lemmas.List.{append-nil}
 use Rattle.std.proofs.lemmas.List.Elements.{filter_map-append}
 use Rattle.std.proofs.lemmas.List.FromFn.{map-range_with_len_more}
+use Rattle.std.proofs.lemmas.List.Sorted.{sum_by-IsPermutation}
+use Rattle.std.proofs.lemmas.List.Sums.{sum_by-cons}
 use Rattle.acpi_base.specs.Memory.{Memory, bytes_at}
 use Rattle.acpi_base.specs.Number.{field}
 use Rattle.acpi_base.specs.Signature.{has_signature, rsdt_signature}
@@ -15,7 +18,7 @@ use Rattle.acpi_base.proofs.Options.{same_value}
 use Rattle.acpi_base.proofs.Root.Named.{one_root_table}
 use Rattle.acpi_lint.specs.Differences.{FindsDifference}
 use Rattle.acpi_lint.specs.Places.{FindsLeast}
-use Rattle.acpi_lint.specs.Rules.RootAdvice.{listed_signatures, IsXsdt, IsNamedRsdt, IsRsdtDiffers}
+use Rattle.acpi_lint.specs.Rules.RootAdvice.{listed_signatures, times_in, IsXsdt, IsNamedRsdt, IsRsdtDiffers}
 use Rattle.acpi_lint.specs.Slots.{IsRootOf}
 
 -- ---- which tables they are
@@ -77,6 +80,40 @@ pub no_more : (h : ℕ → Option ℕ) (f : ℕ → ℕ) (n : ℕ) (found : List
     → found ≡ filter_map h (map f (range_with_len 0 n)) → h (f n) ≡ None
     → found ≡ filter_map h (map f (range_with_len 0 (n + 1)))
 no_more h f n found before is = rw (next h f n, is, before) (sym (append-nil _))
+
+-- ---- in which order they are does not matter
+
+-- how often a number is among the values that there are: once or never
+one_of : Option ℕ → ℕ → ℕ
+one_of None n = 0
+one_of (Some k) n = if k == n then 1 else 0
+
+with_first : (o : Option ℕ) (rest : List ℕ) (n : ℕ) → times_in (cons_option o rest) n ≡ one_of o n + times_in rest n
+with_first None rest n = sym (zero-add (times_in rest n))
+with_first (Some k) rest n = sum_by-cons (λ j. if j == n then 1 else 0) k rest
+
+times_of : (h : ℕ → Option ℕ) (xs : List ℕ) (n : ℕ) → times_in (filter_map h xs) n ≡ sum_by (λ x. one_of (h x) n) xs
+times_of h [] n = refl
+times_of h (x ∷ xs) n =
+    with_first (h x) (filter_map h xs) n ∙ ap (λ t. one_of (h x) n + t) (times_of h xs n)
+    ∙ sym (sum_by-cons (λ y. one_of (h y) n) x xs)
+
+same_times : (h : ℕ → Option ℕ) (xs ys : List ℕ) → IsPermutation xs ys → (n : ℕ)
+    → times_in (filter_map h ys) n ≡ times_in (filter_map h xs) n
+same_times h xs ys moved n =
+    times_of h ys n ∙ sum_by-IsPermutation (λ y. one_of (h y) n) xs ys moved ∙ sym (times_of h xs n)
+
+-- what differs between the slots in another order is what differs between them
+pub difference_of : (h : ℕ → Option ℕ) (ours theirs one two : List ℕ) (r : Option ℕ) → IsPermutation ours one
+    → IsPermutation theirs two → FindsDifference (filter_map h one) (filter_map h two) r
+    → FindsDifference (filter_map h ours) (filter_map h theirs) r
+difference_of h ours theirs one two None moved also same =
+    λ n. sym (same_times h ours one moved n) ∙ same n ∙ same_times h theirs two also n
+difference_of h ours theirs one two (Some n) moved also (differ, least) = (
+  λ same. differ (same_times h ours one moved n ∙ same ∙ sym (same_times h theirs two also n)),
+  λ k differs.
+      least k (λ same. differs (sym (same_times h ours one moved k) ∙ same ∙ same_times h theirs two also k)),
+)
 
 -- ---- what differs
 

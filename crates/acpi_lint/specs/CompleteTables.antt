@@ -6,6 +6,7 @@ use Rattle.acpi_base.specs.Root.{IsSlot}
 use Rattle.acpi_base.specs.TableKinds.{signature_of}
 use Rattle.acpi_base.specs.declared.table_kind.TableKind.{TableKind}
 use Rattle.acpi_base.specs.declared.table_kind.TableKind.TheVariants as kind
+use Rattle.acpi_read.specs.Roots.{RootValue, IsCompleteRoot}
 use Rattle.acpi_lint.specs.SeenTypes.{AreSeenTypes}
 use Rattle.acpi_lint.specs.Slots.{IsRootOf, AreSlots, AreFirstSlots}
 use Rattle.acpi_lint.specs.declared.complete_tables.CompleteTables.{CompleteTables}
@@ -22,6 +23,10 @@ table_of tables kind.Madt = tables.madt
 table_of tables kind.Srat = tables.srat
 table_of tables kind.Slit = tables.slit
 table_of tables kind.Pptt = tables.pptt
+
+-- there is a complete root table of the RSDP at p
+abbrev pub HasRoot : Memory → ℕ → Type 0
+HasRoot m p = (root : RootValue) × IsCompleteRoot m p root
 
 -- these are the root table and the tables of the set that the RSDP at p leads to
 pub record AreCompleteTables (m : Memory) (p : ℕ) (tables : CompleteTables) : Type 0 where

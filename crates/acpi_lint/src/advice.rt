@@ -1,7 +1,7 @@
 //! The first finding of each rule of advice. A rule on a table finds nothing if the set lists no complete one with all
 //! its fields.
 
-ghost use Rattle.std.specs.Prelude.{◌≡◌, IfOk, IfSome, IsTrue, None};
+ghost use Rattle.std.specs.Prelude.{◌≡◌, IfOk, IfSome, IsTrue, None, IsSome, OnErr};
 ghost use Rattle.acpi_lint.specs.CompleteTables.{AreCompleteTables};
 ghost use Rattle.acpi_lint.specs.Places.{FindsLeast};
 ghost use Rattle.acpi_lint.specs.RuleGroups.{as_group, NeedsType, Finds, FindsBy, FindsIn};
@@ -101,7 +101,8 @@ fn listed_fadt_place(
     tables: &CompleteTables<'_>,
     rule: Rule,
 ) -> Result<Option<Place>, AllocError>
-    ensures { IfOk result (Finds (as_group group.Fadt (condition rule)) tables.now) }
+    ensures found { IfOk result (Finds (as_group group.Fadt (condition rule)) tables.now) }
+    ensures memory { OnErr result (IsSome tables.now.fadt) }
 {
     let Some(fadt) = tables.fadt() else {
         return Ok(None);
@@ -139,7 +140,8 @@ fn listed_madt_place(
     tables: &CompleteTables<'_>,
     rule: Rule,
 ) -> Result<Option<Place>, AllocError>
-    ensures { IfOk result (Finds (as_group group.Madt (condition rule)) tables.now) }
+    ensures found { IfOk result (Finds (as_group group.Madt (condition rule)) tables.now) }
+    ensures memory { OnErr result (IsSome tables.now.madt) }
 {
     let Some(madt) = tables.madt() else {
         return Ok(None);
@@ -154,7 +156,8 @@ fn listed_madt_srat_place(
     tables: &CompleteTables<'_>,
     rule: Rule,
 ) -> Result<Option<Place>, AllocError>
-    ensures { IfOk result (Finds (as_group group.MadtSrat (condition rule)) tables.now) }
+    ensures found { IfOk result (Finds (as_group group.MadtSrat (condition rule)) tables.now) }
+    ensures memory { OnErr result (IsSome tables.now.srat) }
 {
     let Some(madt) = tables.madt() else {
         return Ok(None);
@@ -172,7 +175,8 @@ fn listed_madt_pptt_place(
     tables: &CompleteTables<'_>,
     rule: Rule,
 ) -> Result<Option<Place>, AllocError>
-    ensures { IfOk result (Finds (as_group group.MadtPptt (condition rule)) tables.now) }
+    ensures found { IfOk result (Finds (as_group group.MadtPptt (condition rule)) tables.now) }
+    ensures memory { OnErr result (IsSome tables.now.pptt) }
 {
     let Some(madt) = tables.madt() else {
         return Ok(None);
@@ -190,7 +194,8 @@ fn listed_srat_place(
     tables: &CompleteTables<'_>,
     rule: Rule,
 ) -> Result<Option<Place>, AllocError>
-    ensures { IfOk result (Finds (as_group group.Srat (condition rule)) tables.now) }
+    ensures found { IfOk result (Finds (as_group group.Srat (condition rule)) tables.now) }
+    ensures memory { OnErr result (IsSome tables.now.srat) }
 {
     let Some(srat) = tables.srat() else {
         return Ok(None);
@@ -225,7 +230,8 @@ fn listed_pptt_place(
     tables: &CompleteTables<'_>,
     rule: Rule,
 ) -> Result<Option<Place>, AllocError>
-    ensures { IfOk result (Finds (as_group group.Pptt (condition rule)) tables.now) }
+    ensures found { IfOk result (Finds (as_group group.Pptt (condition rule)) tables.now) }
+    ensures memory { OnErr result (IsSome tables.now.pptt) }
 {
     let Some(pptt) = tables.pptt() else {
         return Ok(None);

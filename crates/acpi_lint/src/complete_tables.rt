@@ -1,12 +1,12 @@
 //! The tables of a set that the finders read.
 
-ghost use Rattle.std.specs.Prelude.{◌≡◌, ◌↔◌, ℕ, IfOk, IsTrue, option_map};
+ghost use Rattle.std.specs.Prelude.{◌≡◌, ◌↔◌, ℕ, IfOk, IsTrue, option_map, OnErr};
 ghost use Rattle.acpi_base.specs.Entries.{entries_read_by};
 ghost use Rattle.acpi_base.specs.Pptt.{pptt_contents, pptt_entry};
 ghost use Rattle.acpi_base.specs.Srat.{srat_contents, srat_entry};
 ghost use Rattle.acpi_base.specs.TableKinds.{signature_of};
 ghost use Rattle.acpi_lint.specs.Slots.{AreFirstSlots};
-ghost use Rattle.acpi_lint.specs.CompleteTables.{IsFound, IsLong, AreEntries, table_of, AreCompleteTables};
+ghost use Rattle.acpi_lint.specs.CompleteTables.{HasRoot, IsFound, IsLong, AreEntries, table_of, AreCompleteTables};
 ghost use Rattle.acpi_lint.specs.SeenTypes.{IsAnySeen};
 
 use crate::first_slots::FirstSlots;
@@ -50,13 +50,15 @@ fn found<'a>(image: &'a LentImage<'_>, firsts: &FirstSlots, kind: TableKind) -> 
 }
 
 impl<'a> CompleteTables<'a> {
-    /// The tables of the set that the RSDP at an address leads to. Allocates for each slot of its root table.
+    /// The tables of the set that the RSDP at an address leads to. Allocates for each slot of its root table: refuses if
+    /// out of memory, but not where there is no complete root table.
     pub fn of(
         alloc: Global,
         image: &'a LentImage<'_>,
         rsdp: u64,
     ) -> Result<CompleteTables<'a>, AllocError>
-        ensures { IfOk result (AreCompleteTables image.now rsdp) }
+        ensures tables { IfOk result (AreCompleteTables image.now rsdp) }
+        ensures memory { OnErr result (HasRoot image.now rsdp) }
     {
         let root = Root::complete(image, rsdp);
         let slots = listed_slots(alloc, image, &root)?;

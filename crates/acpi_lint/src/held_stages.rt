@@ -1,6 +1,6 @@
 //! Stages that are known to hold for a set. No code of theirs has a fault.
 
-ghost use Rattle.std.specs.Prelude.{◌≡◌, IfOk, IsTrue, List, Some, ℕ};
+ghost use Rattle.std.specs.Prelude.{◌≡◌, IfOk, IsTrue, List, Some, ℕ, IsSome, OnErr};
 ghost use Rattle.acpi_base.specs.Memory.{Memory};
 ghost use Rattle.acpi_base.specs.Pptt.{pptt_contents, IsCutPptt, AreReferencesValid};
 ghost use Rattle.acpi_lint.specs.CompleteTables.{AreCompleteTables};
@@ -42,8 +42,9 @@ fn are_valid<'a, E: TableEntry<'a> + Copy>(policy: &Policy, table: &Option<Table
 /// the stage does.
 fn are_references_valid(alloc: Global, pptt: &Option<Table<'_>>) -> Result<bool, AllocError>
     requires { (whole : List ℕ) → pptt.now ≡ Some whole → IsCutPptt (pptt_contents whole) }
-    ensures { IfOk result (λ valid. IsTrue valid → (whole : List ℕ) → pptt.now ≡ Some whole
+    ensures found { IfOk result (λ valid. IsTrue valid → (whole : List ℕ) → pptt.now ≡ Some whole
         → AreReferencesValid (pptt_contents whole)) }
+    ensures memory { OnErr result (IsSome pptt.now) }
 {
     let Some(pptt) = pptt else {
         return Ok(true);
@@ -59,8 +60,9 @@ impl HeldStages {
         tables: &CompleteTables<'_>,
         policy: &Policy,
     ) -> Result<HeldStages, AllocError>
-        ensures { IfOk result (λ held. (m : Memory) → AreCompleteTables m policy.now.rsdp tables.now
-            → AreHeld held m policy.now) }
+        ensures held { IfOk result (λ held. (m : Memory)
+            → AreCompleteTables m policy.now.rsdp tables.now → AreHeld held m policy.now) }
+        ensures memory { OnErr result (IsSome tables.now.pptt) }
     {
         let pptt = are_valid::<PpttEntry<'_>>(policy, &tables.pptt);
         Ok(HeldStages {

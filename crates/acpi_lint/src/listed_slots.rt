@@ -1,6 +1,6 @@
 //! The slots of the root table that list an address (ACPI 6.5, 5.2.7, 5.2.8).
 
-ghost use Rattle.std.specs.Prelude.{◌≡◌, ℕ, Contains, IfOk};
+ghost use Rattle.std.specs.Prelude.{◌≡◌, ℕ, Contains, IfOk, IsSome, OnErr};
 ghost use Rattle.acpi_base.specs.Memory.{Memory};
 ghost use Rattle.acpi_base.specs.Root.{HasSlot, IsSlot};
 ghost use Rattle.acpi_lint.specs.Slots.{IsRootOf, IsSought, IsTableAt, AreSlots, FindsSlot};
@@ -61,8 +61,9 @@ pub fn listed_slots(
     image: &LentImage<'_>,
     root: &Option<Root<'_>>,
 ) -> Result<Vec<Slot>, AllocError>
-    ensures { (p : ℕ) → IsRootOf image.now p root.now
+    ensures found { (p : ℕ) → IsRootOf image.now p root.now
         → IfOk result (λ slots. AreSlots image.now (IsSlot image.now p) slots.items) }
+    ensures memory { OnErr result (IsSome root.now) }
 {
     match root {
         Some(root) => slots_of(alloc, image, root),

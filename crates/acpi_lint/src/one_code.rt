@@ -1,7 +1,7 @@
 //! Codes 39, 40, 45 and 55 to 59, each alone in its stage. The stage's finder is called on the set's tables, whatever
 //! the earlier stages find.
 
-ghost use Rattle.std.specs.Prelude.{◌≡◌, IfOk};
+ghost use Rattle.std.specs.Prelude.{◌≡◌, IfOk, IsOk, IsSome, OnErr};
 ghost use Rattle.acpi_base.specs.Chains.{IsCycle};
 ghost use Rattle.acpi_base.specs.Memory.{Memory};
 ghost use Rattle.acpi_base.specs.Pptt.{pptt_contents};
@@ -28,9 +28,10 @@ pub fn override_clash(
     tables: &CompleteTables<'_>,
     policy: &Policy,
 ) -> Result<Option<Place>, AllocError>
-    ensures { (m : Memory) → AreCompleteTables m policy.now.rsdp tables.now
+    ensures found { (m : Memory) → AreCompleteTables m policy.now.rsdp tables.now
         → IfOk result (FindsLeast
         (IsFaultOfStage Stage.Overrides Code.OverrideClash m policy.now)) }
+    ensures memory { IsOk result }
 {
     match tables.madt() {
         Some(madt) => place_of(check_overrides(&madt)),
@@ -45,8 +46,9 @@ pub fn gsi_nowhere(
     tables: &CompleteTables<'_>,
     policy: &Policy,
 ) -> Result<Option<Place>, AllocError>
-    ensures { (m : Memory) → AreCompleteTables m policy.now.rsdp tables.now
+    ensures found { (m : Memory) → AreCompleteTables m policy.now.rsdp tables.now
         → IfOk result (FindsLeast (IsFaultOfStage Stage.Served Code.GsiNowhere m policy.now)) }
+    ensures memory { OnErr result (IsSome tables.now.madt) }
 {
     match tables.madt() {
         Some(madt) => place_of(check_served(alloc, policy, &madt)),
@@ -60,8 +62,9 @@ pub fn gsi_clash(
     tables: &CompleteTables<'_>,
     policy: &Policy,
 ) -> Result<Option<Place>, AllocError>
-    ensures { (m : Memory) → AreCompleteTables m policy.now.rsdp tables.now
+    ensures found { (m : Memory) → AreCompleteTables m policy.now.rsdp tables.now
         → IfOk result (FindsFirstAt Code.GsiClash m policy.now) }
+    ensures memory { OnErr result (IsSome tables.now.madt) }
 {
     match tables.madt() {
         Some(madt) => place_of(check_interrupts(alloc, policy, &madt)),
@@ -75,8 +78,9 @@ pub fn overlap(
     tables: &CompleteTables<'_>,
     policy: &Policy,
 ) -> Result<Option<Place>, AllocError>
-    ensures { (m : Memory) → AreCompleteTables m policy.now.rsdp tables.now
+    ensures found { (m : Memory) → AreCompleteTables m policy.now.rsdp tables.now
         → IfOk result (FindsFirstAt Code.Overlap m policy.now) }
+    ensures memory { OnErr result (IsSome tables.now.srat) }
 {
     match tables.srat() {
         Some(srat) => place_of(check_ranges(alloc, policy.hotplug(), &srat)),
@@ -111,8 +115,9 @@ pub fn two_domains(
     tables: &CompleteTables<'_>,
     policy: &Policy,
 ) -> Result<Option<Place>, AllocError>
-    ensures { (m : Memory) → AreCompleteTables m policy.now.rsdp tables.now
+    ensures found { (m : Memory) → AreCompleteTables m policy.now.rsdp tables.now
         → IfOk result (FindsLeast (IsFaultOfStage Stage.Domains Code.TwoDomains m policy.now)) }
+    ensures memory { OnErr result (IsSome tables.now.madt) }
 {
     let Some(madt) = tables.madt() else {
         return Ok(None);
@@ -130,8 +135,9 @@ pub fn leaf_unknown(
     tables: &CompleteTables<'_>,
     policy: &Policy,
 ) -> Result<Option<Place>, AllocError>
-    ensures { (m : Memory) → AreCompleteTables m policy.now.rsdp tables.now
+    ensures found { (m : Memory) → AreCompleteTables m policy.now.rsdp tables.now
         → IfOk result (FindsLeast (IsFaultOfStage Stage.Leaves Code.LeafUnknown m policy.now)) }
+    ensures memory { OnErr result (IsSome tables.now.pptt) }
 {
     let Some(madt) = tables.table(TableKind::Madt) else {
         return Ok(None);

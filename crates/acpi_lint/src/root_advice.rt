@@ -1,11 +1,13 @@
 //! Advice on the root tables that the RSDP names (ACPI 6.5, 5.2.7, 5.2.8).
 
-ghost use Rattle.std.specs.Prelude.{◌≡◌, ◌≤◌, ℕ, List, IfOk, MatchOption, length};
+ghost use Rattle.std.specs.Prelude.{◌≡◌, ◌≤◌, ℕ, List, IfOk, MatchOption, filter_map, length};
+ghost use Rattle.std.specs.List.Sorted.{IsPermutation};
+ghost use Rattle.acpi_base.specs.Listed.{slot_numbers};
 ghost use Rattle.acpi_base.specs.Root.{IsSlotWidth};
 ghost use Rattle.acpi_base.specs.Memory.{Memory};
 ghost use Rattle.acpi_lint.specs.CompleteTables.{AreCompleteTables};
 ghost use Rattle.acpi_lint.specs.Places.{FindsLeast};
-ghost use Rattle.acpi_lint.specs.Rules.RootAdvice.{IsNullIn, IsNullSlot, listed_signature, listed_signatures, IsXsdt, IsNamedRsdt, IsRsdtDiffers};
+ghost use Rattle.acpi_lint.specs.Rules.RootAdvice.{IsNullIn, IsNullSlot, listed_signature, IsXsdt, IsNamedRsdt, IsRsdtDiffers};
 ghost use Rattle.acpi_lint.specs.Differences.{first_difference, FindsDifference};
 
 use crate::complete_tables::CompleteTables;
@@ -83,24 +85,36 @@ fn listed_signature(image: &LentImage<'_>, address: u64) -> Option<u32>
     Some(u32_at(image.window(address, 4)?, 0))
 }
 
-/// Those of all slots of a root table, which have `width` bytes.
-fn listed_signatures(
+/// The signatures of what is at these addresses, as far as there are any, in their order.
+fn signatures_at(
     alloc: Global,
     image: &LentImage<'_>,
-    bytes: &[u8],
-    width: usize,
+    addresses: &[u64],
 ) -> Result<Vec<u32>, AllocError>
-    requires width { IsSlotWidth width }
-    requires long { 36 ≤ length bytes.now }
-    ensures { IfOk result (λ found. found.items ≡ listed_signatures image.now bytes.now width) }
+    ensures { IfOk result (λ found.
+        found.items ≡ filter_map (listed_signature image.now) addresses.now) }
 {
     let mut found = Vec::new(alloc);
-    for slot in 0..(bytes.len() - 36) / width {
-        let address = number_at(bytes, 36 + width * slot, width);
-        if let Some(signature) = listed_signature(image, address) {
+    for address in addresses {
+        if let Some(signature) = listed_signature(image, *address) {
             found.push(signature)?;
         }
     }
+    Ok(found)
+}
+
+/// The numbers in all slots of a root table, which have `width` bytes, in rising order: so each is looked up near the
+/// one before it.
+fn rising_slots(alloc: Global, bytes: &[u8], width: usize) -> Result<Vec<u64>, AllocError>
+    requires width { IsSlotWidth width }
+    requires long { 36 ≤ length bytes.now }
+    ensures { IfOk result (λ found. IsPermutation (slot_numbers bytes.now width) found.items) }
+{
+    let mut found = Vec::new(alloc);
+    for slot in 0..(bytes.len() - 36) / width {
+        found.push(number_at(bytes, 36 + width * slot, width))?;
+    }
+    sort_unless_sorted(&mut found)?;
     Ok(found)
 }
 
@@ -149,8 +163,13 @@ pub fn rsdt_differs(
     let Some(rsdt) = named_rsdt(image, rsdp) else {
         return Ok(None);
     };
-    let ours = listed_signatures(alloc, image, xsdt, 8)?;
-    let theirs = listed_signatures(alloc, image, rsdt.bytes(), 4)?;
+    let ours = rising_slots(alloc, xsdt, 8)?;
+    let theirs = rising_slots(alloc, rsdt.bytes(), 4)?;
+    if ours == theirs {
+        return Ok(None);
+    }
+    let ours = signatures_at(alloc, image, &ours)?;
+    let theirs = signatures_at(alloc, image, &theirs)?;
     let Some(signature) = lowest_difference(ours, theirs)? else {
         return Ok(None);
     };

@@ -1,5 +1,4 @@
 -- Proofs about views and entries.
-pub mod CacheKinds
 pub mod EntriesLeft
 pub mod FirstsKept
 pub mod MadtFaults

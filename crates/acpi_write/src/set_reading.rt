@@ -18,7 +18,7 @@ use std::alloc::Global;
 ///
 /// Refuses, in this order: `NotClean` exactly when the set is not clean, unless memory runs out, with its first
 /// fault, which is that of `check`; `Memory` if the allocator is out of memory: only if the stages up to the MADT's
-/// hold, since these need no memory.
+/// hold, since these never run out of it.
 pub fn values<'a>(
     alloc: Global,
     image: &'a LentImage<'_>,

@@ -1,10 +1,9 @@
 //! The kinds of entries of the MADT.
 
 ghost use Rattle.std.specs.Prelude.{◌≡◌, refl};
-ghost use Rattle.std.proofs.Common.{rules};
+ghost use Rattle.std.proofs.Common.{rules, arith};
 ghost use Rattle.acpi_base.specs.Madt as said;
 ghost use Rattle.acpi_read.specs.Madts as layouts;
-ghost use Rattle.acpi_read.proofs.MadtKinds.{local_apic_laid, io_apic_laid, override_laid, nmi_source_laid, local_nmi_laid, address_override_laid, x2apic_laid, x2apic_nmi_laid};
 
 use crate::kind::FixedKind;
 use acpi_base::field::{Value, put_values, u8_at, u16_at, u32_at, u64_at};
@@ -54,7 +53,7 @@ impl FixedKind for LocalApic {
         );
     }
 
-    ghost laid = { (refl, refl, local_apic_laid, λ _ _ same. Prim.search rules) };
+    ghost laid = { (refl, refl, Prim.search (rules, arith), λ _ _ same. Prim.search rules) };
 }
 
 /// An I/O APIC (ACPI 6.5, 5.2.12.3): type 1, 12 bytes. Byte 3 is reserved. How many inputs it has is not in
@@ -104,7 +103,7 @@ impl FixedKind for IoApic {
         );
     }
 
-    ghost laid = { (refl, refl, io_apic_laid, λ _ _ same. Prim.search rules) };
+    ghost laid = { (refl, refl, Prim.search (rules, arith), λ _ _ same. Prim.search rules) };
 }
 
 /// An interrupt source override (ACPI 6.5, 5.2.12.5): type 2, 10 bytes. It gives an ISA interrupt its interrupt
@@ -157,7 +156,7 @@ impl FixedKind for Override {
         );
     }
 
-    ghost laid = { (refl, refl, override_laid, λ _ _ same. Prim.search rules) };
+    ghost laid = { (refl, refl, Prim.search (rules, arith), λ _ _ same. Prim.search rules) };
 }
 
 /// An NMI source (ACPI 6.5, 5.2.12.6): type 3, 8 bytes. Its interrupt number is an NMI. Any flags are read.
@@ -195,7 +194,7 @@ impl FixedKind for NmiSource {
         put_values(out, &[Value::U16(self.flags), Value::U32(self.gsi)]);
     }
 
-    ghost laid = { (refl, refl, nmi_source_laid, λ _ _ same. Prim.search rules) };
+    ghost laid = { (refl, refl, Prim.search (rules, arith), λ _ _ same. Prim.search rules) };
 }
 
 /// A local APIC NMI (ACPI 6.5, 5.2.12.7): type 4, 6 bytes. It says which input of a local APIC is an NMI.
@@ -244,7 +243,7 @@ impl FixedKind for LocalNmi {
         );
     }
 
-    ghost laid = { (refl, refl, local_nmi_laid, λ _ _ same. Prim.search rules) };
+    ghost laid = { (refl, refl, Prim.search (rules, arith), λ _ _ same. Prim.search rules) };
 }
 
 /// A local APIC address override (ACPI 6.5, 5.2.12.8): type 5, 12 bytes. Its address replaces the 32-bit one in the
@@ -280,7 +279,7 @@ impl FixedKind for AddressOverride {
         put_values(out, &[Value::Zeros(2), Value::U64(self.address)]);
     }
 
-    ghost laid = { (refl, refl, address_override_laid, λ _ _ same. Prim.search rules) };
+    ghost laid = { (refl, refl, Prim.search (rules, arith), λ _ _ same. Prim.search rules) };
 }
 
 /// A processor and its local x2APIC (ACPI 6.5, 5.2.12.12): type 9, 16 bytes. Bytes 2 and 3 are reserved.
@@ -329,7 +328,7 @@ impl FixedKind for X2apic {
         );
     }
 
-    ghost laid = { (refl, refl, x2apic_laid, λ _ _ same. Prim.search rules) };
+    ghost laid = { (refl, refl, Prim.search (rules, arith), λ _ _ same. Prim.search rules) };
 }
 
 /// A local x2APIC NMI (ACPI 6.5, 5.2.12.13): type 0x0A, 12 bytes. It says which input of a local x2APIC is an NMI.
@@ -379,5 +378,5 @@ impl FixedKind for X2apicNmi {
         );
     }
 
-    ghost laid = { (refl, refl, x2apic_nmi_laid, λ _ _ same. Prim.search rules) };
+    ghost laid = { (refl, refl, Prim.search (rules, arith), λ _ _ same. Prim.search rules) };
 }

@@ -1,10 +1,10 @@
 //! The kinds of entries of the PPTT that have one length each.
 
 ghost use Rattle.std.specs.Prelude.{◌≡◌, ◌≤◌, ℕ, Option, length, refl};
-ghost use Rattle.std.proofs.Common.{rules};
+ghost use Rattle.std.proofs.Common.{rules, arith};
 ghost use Rattle.acpi_base.specs.Pptt as said;
+ghost use Rattle.acpi_base.proofs.Pptt.CacheValues.{cache24_reads, cache28_reads};
 ghost use Rattle.acpi_read.specs.Pptts as layouts;
-ghost use Rattle.acpi_read.proofs.CacheKinds.{cache24_laid, cache28_laid};
 
 use crate::kind::FixedKind;
 use acpi_base::field::{Value, put_values, u8_at, u16_at, u32_at};
@@ -82,7 +82,20 @@ impl FixedKind for Cache24 {
         );
     }
 
-    ghost laid = { (refl, refl, cache24_laid, λ _ _ same. Prim.search rules) };
+    ghost laid = { (
+      refl,
+      refl,
+      record {
+        counted = refl;
+        numbers = refl;
+        typed = Prim.omega arith;
+        sized = Prim.omega arith;
+        shaped = λ e count. rw count tt;
+        reads = cache24_reads;
+        agrees = λ e count low. rw count refl;
+      },
+      λ _ _ same. Prim.search rules,
+    ) };
 }
 
 /// A cache type structure with an ID (ACPI 6.5, 5.2.30.2): type 1, 28 bytes. Its first fields are those of one without.
@@ -134,5 +147,18 @@ impl FixedKind for Cache28 {
         );
     }
 
-    ghost laid = { (refl, refl, cache28_laid, λ _ _ same. Prim.search rules) };
+    ghost laid = { (
+      refl,
+      refl,
+      record {
+        counted = refl;
+        numbers = refl;
+        typed = Prim.omega arith;
+        sized = Prim.omega arith;
+        shaped = λ e count. rw count tt;
+        reads = cache28_reads;
+        agrees = λ e count low. rw count refl;
+      },
+      λ _ _ same. Prim.search rules,
+    ) };
 }

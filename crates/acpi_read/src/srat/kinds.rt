@@ -1,10 +1,10 @@
 //! The kinds of entries of the SRAT.
 
 ghost use Rattle.std.specs.Prelude.{◌≡◌, refl};
-ghost use Rattle.std.proofs.Common.{rules};
+ghost use Rattle.std.proofs.Common.{rules, arith};
 ghost use Rattle.acpi_base.specs.Srat as said;
+ghost use Rattle.acpi_base.proofs.Srat.DomainBytes.{apic_domain_reads, apic_domain_agrees};
 ghost use Rattle.acpi_read.specs.Srats as layouts;
-ghost use Rattle.acpi_read.proofs.SratKinds.{apic_domain_laid, memory_range_laid, x2apic_domain_laid};
 
 use crate::kind::FixedKind;
 use acpi_base::field::{Value, put_values, u8_at, u32_at, u64_at};
@@ -73,7 +73,20 @@ impl FixedKind for ApicDomain {
         );
     }
 
-    ghost laid = { (refl, refl, apic_domain_laid, λ _ _ same. Prim.search rules) };
+    ghost laid = { (
+      refl,
+      refl,
+      record {
+        counted = refl;
+        numbers = refl;
+        typed = Prim.omega arith;
+        sized = Prim.omega arith;
+        shaped = λ e count. tt;
+        reads = λ e v count same. apic_domain_reads e v same;
+        agrees = λ e count low. apic_domain_agrees e low;
+      },
+      λ _ _ same. Prim.search rules,
+    ) };
 }
 
 /// A memory affinity structure (ACPI 6.5, 5.2.16.2): type 1, 40 bytes. It says in which domain a range of
@@ -129,7 +142,7 @@ impl FixedKind for MemoryRange {
         );
     }
 
-    ghost laid = { (refl, refl, memory_range_laid, λ _ _ same. Prim.search rules) };
+    ghost laid = { (refl, refl, Prim.search (rules, arith), λ _ _ same. Prim.search rules) };
 }
 
 /// A processor local x2APIC affinity structure (ACPI 6.5, 5.2.16.3): type 2, 24 bytes. Bytes 2 and 3 and 20 to
@@ -184,5 +197,5 @@ impl FixedKind for X2apicDomain {
         );
     }
 
-    ghost laid = { (refl, refl, x2apic_domain_laid, λ _ _ same. Prim.search rules) };
+    ghost laid = { (refl, refl, Prim.search (rules, arith), λ _ _ same. Prim.search rules) };
 }

@@ -21,7 +21,8 @@ use Rattle.acpi_read.specs.Madts.{madt_bytes}
 use Rattle.acpi_read.specs.Srats.{srat_bytes}
 use Rattle.acpi_read.proofs.MadtKinds.{madt_kept}
 use Rattle.acpi_read.proofs.SratKinds.{srat_kept}
-use Rattle.acpi_read.proofs.CacheKinds.{cache24_laid, cache28_laid}
+use Rattle.acpi_read.specs.contracts.pptt.kinds.Cache24FixedKind.TheImpl.Laws.{laid-law as cache24_laid}
+use Rattle.acpi_read.specs.contracts.pptt.kinds.Cache28FixedKind.TheImpl.Laws.{laid-law as cache28_laid}
 use Rattle.acpi_read.specs.Pptts.{pptt_bytes, cache_bytes, node_head_parts, node_head_values, node_value, cache24_layout, cache28_layout}
 use Rattle.acpi_read.specs.declared.pptt.node_head.NodeHead.{NodeHead}
 use Rattle.acpi_read.proofs.PpttKinds.{references_of}
@@ -87,13 +88,13 @@ cache_again : (e : List ℕ) → AreByteValues e → (length e ≡ 24) ⊎ (leng
 cache_again e low (inl short) =
     let v = pptt.cache_of e in
     let other : (length e == 28) ≡ false = ne_eqb (length e) 28 (λ long. absurd (omega (arith, short, long))) in
-    let says = cache24_says (bytes_of cache24_layout v) v (written_again cache24_layout cache24_laid e short low) in
+    let says = cache24_says (bytes_of cache24_layout v) v (written_again cache24_layout cache24_laid.2 e short low) in
     let none : v.id ≡ None = rw other refl in
     subst (λ id. SaysEntry pptt_entry (cache_bytes v id) (pptt.Cache v)) (sym none) says
 cache_again e low (inr long) =
     let v = pptt.cache_of e in
     let same : (length e == 28) ≡ true = eq-eqb (length e) 28 long in
-    let says = cache28_says (bytes_of cache28_layout v) v (written_again cache28_layout cache28_laid e long low) in
+    let says = cache28_says (bytes_of cache28_layout v) v (written_again cache28_layout cache28_laid.2 e long low) in
     let some : v.id ≡ Some (field e 24 4) = rw same refl in
     subst (λ id. SaysEntry pptt_entry (cache_bytes v id) (pptt.Cache v)) (sym some) says
 

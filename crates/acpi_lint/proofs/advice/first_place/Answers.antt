@@ -13,37 +13,37 @@ pub returns-in-Madt : goal.returns-in-Madt
 returns-in-Madt c =
     each_set c.args.image.now c.args.policy.now c.listed_madt_place.result
     (is_of_group (condition c.args.rule) c.group.ensures c.in-Madt.is) c.requires
-    c.listed_madt_place.ensures
+    c.listed_madt_place.ensures.found
 
 pub returns-in-MadtSrat : goal.returns-in-MadtSrat
 returns-in-MadtSrat c =
     each_set c.args.image.now c.args.policy.now c.listed_madt_srat_place.result
     (is_of_group (condition c.args.rule) c.group.ensures c.in-MadtSrat.is) c.requires
-    c.listed_madt_srat_place.ensures
+    c.listed_madt_srat_place.ensures.found
 
 pub returns-in-MadtPptt : goal.returns-in-MadtPptt
 returns-in-MadtPptt c =
     each_set c.args.image.now c.args.policy.now c.listed_madt_pptt_place.result
     (is_of_group (condition c.args.rule) c.group.ensures c.in-MadtPptt.is) c.requires
-    c.listed_madt_pptt_place.ensures
+    c.listed_madt_pptt_place.ensures.found
 
 pub returns-in-Srat : goal.returns-in-Srat
 returns-in-Srat c =
     each_set c.args.image.now c.args.policy.now c.listed_srat_place.result
     (is_of_group (condition c.args.rule) c.group.ensures c.in-Srat.is) c.requires
-    c.listed_srat_place.ensures
+    c.listed_srat_place.ensures.found
 
 pub returns-in-Pptt : goal.returns-in-Pptt
 returns-in-Pptt c =
     each_set c.args.image.now c.args.policy.now c.listed_pptt_place.result
     (is_of_group (condition c.args.rule) c.group.ensures c.in-Pptt.is) c.requires
-    c.listed_pptt_place.ensures
+    c.listed_pptt_place.ensures.found
 
 pub returns-in-Fadt : goal.returns-in-Fadt
 returns-in-Fadt c =
     each_set c.args.image.now c.args.policy.now c.listed_fadt_place.result
     (is_of_group (condition c.args.rule) c.group.ensures c.in-Fadt.is) c.requires
-    c.listed_fadt_place.ensures
+    c.listed_fadt_place.ensures.found
 
 pub returns-in-SratSlit : goal.returns-in-SratSlit
 returns-in-SratSlit c =

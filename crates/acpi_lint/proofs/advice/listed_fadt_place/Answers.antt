@@ -5,13 +5,13 @@ use Rattle.acpi_lint.proofs.CollectedNumbers.{each_ok}
 use Rattle.acpi_lint.proofs.OfTables.{fadt_lifts, not_there, there}
 use Rattle.acpi_lint.proofs.advice.listed_fadt_place.Goals as goal
 
-pub returns-in_default : goal.returns-in_default
-returns-in_default c = λ m q are.
+pub returns-in_default-clause-found : goal.returns-in_default-clause-found
+returns-in_default-clause-found c = λ m q are.
     not_there (OfFadt m q) (λ whole. whole) (in_fadt (condition c.args.rule))
     (fadt_lifts m q c.fadt.result are c.fadt.ensures) c.in_default.is
 
-pub returns : goal.returns
-returns c =
+pub returns-clause-found : goal.returns-clause-found
+returns-clause-found c =
     each_ok c.fadt_place.result
     (λ found least. λ m q are.
     there (OfFadt m q) (λ whole. whole) (in_fadt (condition c.args.rule)) found

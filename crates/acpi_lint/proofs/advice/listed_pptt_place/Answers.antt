@@ -6,13 +6,13 @@ use Rattle.acpi_lint.proofs.CollectedNumbers.{each_ok}
 use Rattle.acpi_lint.proofs.OfTables.{pptt_lifts, not_there, there}
 use Rattle.acpi_lint.proofs.advice.listed_pptt_place.Goals as goal
 
-pub returns-in_default : goal.returns-in_default
-returns-in_default c = λ m q are.
+pub returns-in_default-clause-found : goal.returns-in_default-clause-found
+returns-in_default-clause-found c = λ m q are.
     not_there (HasPptt m q) pptt_contents (in_pptt (condition c.args.rule))
     (pptt_lifts m q c.pptt.result are c.pptt.ensures) c.in_default.is
 
-pub returns : goal.returns
-returns c =
+pub returns-clause-found : goal.returns-clause-found
+returns-clause-found c =
     each_ok c.pptt_place.result
     (λ found least. λ m q are.
     there (HasPptt m q) pptt_contents (in_pptt (condition c.args.rule)) found

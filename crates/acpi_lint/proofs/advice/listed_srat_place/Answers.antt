@@ -6,13 +6,13 @@ use Rattle.acpi_lint.proofs.CollectedNumbers.{each_ok}
 use Rattle.acpi_lint.proofs.OfTables.{srat_lifts, not_there, there}
 use Rattle.acpi_lint.proofs.advice.listed_srat_place.Goals as goal
 
-pub returns-in_default : goal.returns-in_default
-returns-in_default c = λ m q are.
+pub returns-in_default-clause-found : goal.returns-in_default-clause-found
+returns-in_default-clause-found c = λ m q are.
     not_there (OfSrat m q) srat_contents (in_srat (condition c.args.rule))
     (srat_lifts m q c.srat.result are c.srat.ensures) c.in_default.is
 
-pub returns : goal.returns
-returns c =
+pub returns-clause-found : goal.returns-clause-found
+returns-clause-found c =
     each_ok c.srat_place.result
     (λ found least. λ m q are.
     there (OfSrat m q) srat_contents (in_srat (condition c.args.rule)) found

@@ -86,7 +86,7 @@ returns-in-Overrides c =
     first_of_result c.args.image.now c.args.policy.now stage.Overrides c.args.code own
     (λ e. omega (arith, e), λ e. omega (arith, e)) c.override_clash.result
     (rw (alone stage.Overrides code.OverrideClash c.args.code refl own)
-    (c.override_clash.ensures c.args.image.now c.requires))
+    (c.override_clash.ensures.found c.args.image.now c.requires))
 
 pub returns-in-Parents : goal.returns-in-Parents
 returns-in-Parents c =
@@ -120,7 +120,7 @@ returns-in-Domains c =
     first_of_result c.args.image.now c.args.policy.now stage.Domains c.args.code own
     (λ e. omega (arith, e), λ e. omega (arith, e)) c.two_domains.result
     (rw (alone stage.Domains code.TwoDomains c.args.code refl own)
-    (c.two_domains.ensures c.args.image.now c.requires))
+    (c.two_domains.ensures.found c.args.image.now c.requires))
 
 pub returns-in-Served : goal.returns-in-Served
 returns-in-Served c =
@@ -128,7 +128,7 @@ returns-in-Served c =
     first_of_result c.args.image.now c.args.policy.now stage.Served c.args.code own
     (λ e. omega (arith, e), λ e. omega (arith, e)) c.gsi_nowhere.result
     (rw (alone stage.Served code.GsiNowhere c.args.code refl own)
-    (c.gsi_nowhere.ensures c.args.image.now c.requires))
+    (c.gsi_nowhere.ensures.found c.args.image.now c.requires))
 
 pub returns-in-Leaves : goal.returns-in-Leaves
 returns-in-Leaves c =
@@ -136,16 +136,16 @@ returns-in-Leaves c =
     first_of_result c.args.image.now c.args.policy.now stage.Leaves c.args.code own
     (λ e. omega (arith, e), λ e. omega (arith, e)) c.leaf_unknown.result
     (rw (alone stage.Leaves code.LeafUnknown c.args.code refl own)
-    (c.leaf_unknown.ensures c.args.image.now c.requires))
+    (c.leaf_unknown.ensures.found c.args.image.now c.requires))
 
 pub returns-in-Interrupts : goal.returns-in-Interrupts
 returns-in-Interrupts c =
     rw
     (alone stage.Interrupts code.GsiClash c.args.code refl (sym c.stage.ensures ∙ c.in-Interrupts.is))
-    (c.gsi_clash.ensures c.args.image.now c.requires)
+    (c.gsi_clash.ensures.found c.args.image.now c.requires)
 
 pub returns-in-Ranges : goal.returns-in-Ranges
 returns-in-Ranges c =
     rw
     (alone stage.Ranges code.Overlap c.args.code refl (sym c.stage.ensures ∙ c.in-Ranges.is))
-    (c.overlap.ensures c.args.image.now c.requires)
+    (c.overlap.ensures.found c.args.image.now c.requires)

@@ -6,8 +6,8 @@ use Rattle.acpi_check.specs.TableResults.{IsFirstOfTable}
 use Rattle.acpi_lint.proofs.HeldStages.{holds_if_none}
 use Rattle.acpi_lint.proofs.held_stages.are_references_valid.Goals as goal
 
-pub returns : goal.returns
-returns c none whole same =
+pub returns-clause-found : goal.returns-clause-found
+returns-clause-found c none whole same =
     subst (λ bytes. AreReferencesValid (pptt_contents bytes))
     (same_Some c.in-Some.pptt whole (sym c.in-Some.is ∙ same))
     (holds_if_none c.check_references.result c.in_ok-place.place c.is_none.result stage.References

@@ -11,8 +11,8 @@ use Rattle.acpi_lint.proofs.OneCodes.{one_gsi_nowhere}
 use Rattle.acpi_lint.proofs.StageVerdicts.{verdict_found}
 use Rattle.acpi_lint.proofs.one_code.gsi_nowhere.Goals as goal
 
-pub returns-in-Some : goal.returns-in-Some
-returns-in-Some c = λ m are.
+pub returns-in-Some-clause-found : goal.returns-in-Some-clause-found
+returns-in-Some-clause-found c = λ m are.
     let whole = c.in-Some.madt in
     some_long m c.args.policy.now.rsdp madt_signature
     (λ bytes. ServedFault c.args.policy.now (madt_contents bytes) code.GsiNowhere) c.place_of.result
@@ -23,8 +23,8 @@ returns-in-Some c = λ m are.
     (one_gsi_nowhere c.args.policy.now (madt_contents whole))
     c.check_served.result c.place_of.result c.check_served.ensures c.place_of.ensures.place)
 
-pub returns-in-None : goal.returns-in-None
-returns-in-None c = λ m are.
+pub returns-in-None-clause-found : goal.returns-in-None-clause-found
+returns-in-None-clause-found c = λ m are.
     none_long m c.args.policy.now.rsdp madt_signature 44
     (λ bytes. ServedFault c.args.policy.now (madt_contents bytes) code.GsiNowhere) c.args.tables.now.madt
     (are.listed kind.Madt) c.in-None.ensures

@@ -22,20 +22,20 @@ OfTables madt pptt = LeafFault (madt_contents madt) (pptt_contents pptt) code.Le
 abbrev OfMadt : Memory → PolicyValue → List ℕ → ℕ → ℕ → ℕ → Type 0
 OfMadt m q madt at other point = HasListed m q.rsdp pptt_signature (λ pptt. OfTables madt pptt at other point)
 
-pub returns-in_default : goal.returns-in_default
-returns-in_default c = λ m are.
+pub returns-in_default-clause-found : goal.returns-in_default-clause-found
+returns-in_default-clause-found c = λ m are.
     let q = c.args.policy.now in
     of_not_found m q.rsdp madt_signature (OfMadt m q) (are.listed kind.Madt) (sym c.table.ensures ∙ c.in_default.is)
 
-pub returns-in_default-pptt : goal.returns-in_default-pptt
-returns-in_default-pptt c = λ m are.
+pub returns-in_default-pptt-clause-found : goal.returns-in_default-pptt-clause-found
+returns-in_default-pptt-clause-found c = λ m are.
     let q = c.args.policy.now in
     of_found m q.rsdp madt_signature (OfMadt m q) None (are.listed kind.Madt) (sym c.table.ensures ∙ c.in-Some.is)
     (of_not_found m q.rsdp pptt_signature (OfTables c.in-Some.madt) (are.listed kind.Pptt)
     (sym c.pptt.ensures ∙ c.in_default-pptt.is))
 
-pub returns : goal.returns
-returns c = λ m are.
+pub returns-clause-found : goal.returns-clause-found
+returns-clause-found c = λ m are.
     let q = c.args.policy.now in
     let madt = c.in-Some.madt in
     let pptt = c.in-Some-pptt.pptt in

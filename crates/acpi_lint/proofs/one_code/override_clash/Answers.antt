@@ -10,8 +10,8 @@ use Rattle.acpi_lint.proofs.OneCodes.{one_override_clash}
 use Rattle.acpi_lint.proofs.StageVerdicts.{verdict_found}
 use Rattle.acpi_lint.proofs.one_code.override_clash.Goals as goal
 
-pub returns-in-Some : goal.returns-in-Some
-returns-in-Some c = λ m are.
+pub returns-in-Some-clause-found : goal.returns-in-Some-clause-found
+returns-in-Some-clause-found c = λ m are.
     let whole = c.in-Some.madt in
     some_long m c.args.policy.now.rsdp madt_signature
     (λ bytes. OverrideFault (madt_contents bytes) code.OverrideClash) c.place_of.result
@@ -21,8 +21,8 @@ returns-in-Some c = λ m are.
     (excludes (madt_contents whole) code.OverrideClash) (one_override_clash (madt_contents whole))
     c.check_overrides.result c.place_of.result c.check_overrides.ensures.settled c.place_of.ensures.place)
 
-pub returns-in-None : goal.returns-in-None
-returns-in-None c = λ m are.
+pub returns-in-None-clause-found : goal.returns-in-None-clause-found
+returns-in-None-clause-found c = λ m are.
     none_long m c.args.policy.now.rsdp madt_signature 44
     (λ bytes. OverrideFault (madt_contents bytes) code.OverrideClash) c.args.tables.now.madt
     (are.listed kind.Madt) c.in-None.ensures

@@ -23,16 +23,16 @@ OfTables q madt srat = DomainFault q.processors (madt_contents madt) (srat_conte
 abbrev OfMadt : Memory → PolicyValue → List ℕ → ℕ → ℕ → ℕ → Type 0
 OfMadt m q madt at other point = HasListed m q.rsdp srat_signature (λ srat. OfTables q madt srat at other point)
 
-pub returns-in_default : goal.returns-in_default
-returns-in_default c = λ m are.
+pub returns-in_default-clause-found : goal.returns-in_default-clause-found
+returns-in_default-clause-found c = λ m are.
     let q = c.args.policy.now in
     none_long m q.rsdp madt_signature 44 (OfMadt m q) c.args.tables.now.madt (are.listed kind.Madt)
     c.in_default.ensures
     (λ whole less at other point (srat, listed, fault).
     (let (o, (e, stands, enabled)) = fault.0 in no_madt_entry whole less o e stands))
 
-pub returns-in_default-srat : goal.returns-in_default-srat
-returns-in_default-srat c = λ m are.
+pub returns-in_default-srat-clause-found : goal.returns-in_default-srat-clause-found
+returns-in_default-srat-clause-found c = λ m are.
     let q = c.args.policy.now in
     let madt = c.in-Some.madt in
     of_found m q.rsdp madt_signature (OfMadt m q) None (are.listed kind.Madt) c.in-Some.ensures.0
@@ -40,8 +40,8 @@ returns-in_default-srat c = λ m are.
     c.in_default-srat.ensures
     (λ whole less at other point (enabled, d, f, (e, stands, puts), _, _, _). no_srat_entry whole less at e stands))
 
-pub returns : goal.returns
-returns c = λ m are.
+pub returns-clause-found : goal.returns-clause-found
+returns-clause-found c = λ m are.
     let q = c.args.policy.now in
     let madt = c.in-Some.madt in
     let srat = c.in-Some-srat.srat in
