@@ -1,6 +1,6 @@
 //! Sets of numbers that are not large, such as offsets of a table, as bits.
 
-ghost use Rattle.std.specs.Prelude.{◌≡◌, ◌<◌, ◌↔◌, ℕ, Contains, IfOk, OnErr, OnOk, MatchBool, vec_len, slice_index, true};
+ghost use Rattle.std.specs.Prelude.{◌≡◌, ◌<◌, ◌↔◌, ℕ, Contains, IfOk, OnErr, OnOk, MatchBool, vec_len, slice_index, true, false};
 ghost use Rattle.acpi_check.specs.BitSets.{IsIn, Adds};
 
 use std::alloc::{AllocError, Global};

@@ -1,4 +1,5 @@
 use Rattle.std.proofs.Common.{◌/◌, ◌%◌, ◌<◌, length, ◌∙◌, inl, inr, arith}
+use Rattle.std.specs.Prelude.{Result, Ok, Err, OnErr}
 use Rattle.std.proofs.lemmas.List.{get_or_default}
 use Rattle.std.proofs.lemmas.Nat.{one_shl}
 use Rattle.acpi_check.specs.BitSets.{IsIn}
@@ -20,3 +21,14 @@ returns-clause-ok c =
       λ is. elim (added.0 is) [ inl same ↦ inl same | inr old ↦ inr (was.0 old) ],
       λ either. added.1 (elim either [ inl same ↦ inl same | inr old ↦ inr (was.1 old) ]),
     )
+
+-- what holds anyway holds of an error
+on_err : {T E : Type 0} (r : Result T E) (P : Type 0) → P → OnErr r P
+on_err (Ok v) P holds = tt
+on_err (Err e) P holds = holds
+
+pub returns-in_err-make_room-clause-err : goal.returns-in_err-make_room-clause-err
+unfolding IsIn
+returns-in_err-make_room-clause-err c =
+    on_err c.from_residual.result _ (λ o.
+    same_bits c.args.self.now.words.items c.make_room.new.words.items c.in_err-make_room.ensures.same o)
