@@ -22,11 +22,12 @@ pub(crate) fn listed<'a>(
         (λ whole. IsListedTable image.now policy.now.rsdp signature.now whole.now) }
     ensures count { IfSome result (λ whole. (36 ≤ length whole.now) × (length whole.now < 2 ^ 32)) }
 {
-    both_listed(image, policy, signature, signature).0
+    let root = complete_root(image, policy.rsdp())?;
+    table_found(image, first_with(image, &root, signature))
 }
 
 /// The bytes of the first listed table with the one signature, and of that with the other, each if it is complete. The
-/// slots are read once for both.
+/// slots are read once for both, up to the later of the two.
 pub(crate) fn both_listed<'a>(
     image: &'a LentImage<'_>,
     policy: &Policy,
@@ -56,9 +57,7 @@ pub(crate) fn lists_none(image: &LentImage<'_>, policy: &Policy, signature: &[u8
     ensures { IsTrue result ↔ ListsNone image.now policy.now.rsdp signature.now }
 {
     match complete_root(image, policy.rsdp()) {
-        Some(root) => first_with_each(image, &root, signature, signature)
-            .0
-            .is_none(),
+        Some(root) => first_with(image, &root, signature).is_none(),
         None => false,
     }
 }
@@ -73,6 +72,21 @@ fn table_found<'a>(image: &'a LentImage<'_>, address: Option<u64>) -> Option<&'a
     ensures count { IfSome result (λ whole. (36 ≤ length whole.now) × (length whole.now < 2 ^ 32)) }
 {
     table_at(image, address?)
+}
+
+/// The address in the first slot at whose address a header with the signature is present.
+fn first_with(image: &LentImage<'_>, root: &Root<'_>, signature: &[u8; 4]) -> Option<u64>
+    requires { HasSlots root.now.width root.now.bytes.now }
+    ensures { MatchOption result
+        (IsNoneListed image.now root.now.bytes.now root.now.width signature.now)
+        (IsFirstListed image.now root.now.bytes.now root.now.width signature.now) }
+{
+    for k in 0..root.slots() {
+        if let Some(address) = signed(header_in(image, root, k), signature) {
+            return Some(address);
+        }
+    }
+    None
 }
 
 /// The address in the first slot at whose address a header with the one signature is present, and the same for the
@@ -97,6 +111,9 @@ fn first_with_each(
         let here = header_in(image, root, k);
         first = first.or(signed(here, one));
         second = second.or(signed(here, other));
+        if first.is_some() && second.is_some() {
+            break;
+        }
     }
     (first, second)
 }

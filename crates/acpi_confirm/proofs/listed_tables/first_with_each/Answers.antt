@@ -11,12 +11,12 @@ loop-k-preserved c =
           (c.signed-in-loop-k.ensures _ _ _ _ c.header_in-here.ensures);
     }
 
-pub returns-clause-one : goal.returns-clause-one
-returns-clause-one c =
+pub returns-after-loop-k-clause-one : goal.returns-after-loop-k-clause-one
+returns-after-loop-k-clause-one c =
     so_far_all _ _ _ _ _ _ _ (λ j b slot. (c.slots-k-end.ensures j).1 slot.inside) c.loop-k-test.false
     c.loop-k.invariant.one
 
-pub returns-clause-other : goal.returns-clause-other
-returns-clause-other c =
+pub returns-after-loop-k-clause-other : goal.returns-after-loop-k-clause-other
+returns-after-loop-k-clause-other c =
     so_far_all _ _ _ _ _ _ _ (λ j b slot. (c.slots-k-end.ensures j).1 slot.inside) c.loop-k-test.false
     c.loop-k.invariant.other

@@ -4,8 +4,8 @@ use Rattle.acpi_confirm.proofs.listed_tables.lists_none.Goals as goal
 
 pub returns-in-Some : goal.returns-in-Some
 returns-in-Some c =
-    test_of_none c.first_with_each.result.0 c.is_none.result (rw c.rsdp.ensures.value at c.in-Some.ensures.found)
-    c.is_none.ensures c.first_with_each.ensures.one
+    test_of_none c.first_with.result c.is_none.result (rw c.rsdp.ensures.value at c.in-Some.ensures.found)
+    c.is_none.ensures c.first_with.ensures
 
 pub returns-in-None : goal.returns-in-None
 returns-in-None c = (
