@@ -52,12 +52,27 @@ ANYWAY = [
     ("a table whose last byte is not present", image_of(fadt(), hpet()[:-1]), "no 3 TableOut 0x1 0x3000 0x0\n" + ROOT + FADT_SLOT + "slot 1 0x3000 bad\n" + FADT_LINES, 0),
     ("a table with a Length of 35", image_of(fadt(), SHORT), "no 3 TableLength 0x1 0x3000 0x0\n" + ROOT + FADT_SLOT + "slot 1 0x3000 bad\n" + FADT_LINES, 0),
     ("a FADT that is not complete, before one that is", image_of(fadt()[:-1], fadt()), "no 3 TableOut 0x0 0x2000 0x0\n" + ROOT + "slot 0 0x2000 bad\nslot 1 0x3000 FACP length 116 revision 1\n", 0),
+    ("a FADT of whose header all bytes are present and no more, before one that is complete", image_of(fadt()[:36], fadt()), "no 3 TableOut 0x0 0x2000 0x0\n" + ROOT + "slot 0 0x2000 bad\nslot 1 0x3000 FACP length 116 revision 1\n", 0),
     ("a root with another signature", {RSDP_AT: rsdp(), RSDT_AT: xsdt(0x2000), 0x2000: fadt()}, "no 2 RootSignature 0x1000 0x0 0x0\n", 1),
     ("a root whose last byte is not present", {RSDP_AT: rsdp(), RSDT_AT: rsdt(0x2000)[:-1], 0x2000: fadt()}, "no 2 RootOut 0x1000 0x0 0x0\n", 1),
     ("a root that ends within a slot", {RSDP_AT: rsdp(), RSDT_AT: table(b"RSDT", b"\0\0")}, "no 2 RootRagged 0x1000 0x0 0x0\nrsdp 0xe0000 revision 0\nroot 0x1000 RSDT length 38 slots 0\n", 0),
     ("an RSDP that names no root", {RSDP_AT: rsdp(0)}, "no 2 NoRoot 0xe0000 0x0 0x0\n", 1),
     ("an RSDP that is not present", b"", "no 1 RsdpOut 0xe0000 0x0 0x0\n", 1),
 ]  # fmt: skip
+
+
+# Part of a header is none, even if it has the signature: the table that a later slot lists is the first.
+PART_OF_A_HEADER = "no 3 TableHeaderOut 0x0 0x2000 0x0\n" + ROOT + "slot 0 0x2000 bad\n"
+WHOLE = [
+    (fadt(), FADT_LINES.replace("0x2000", "0x3000")), (madt(), "madt 0x3000 lapic 0xfee00000 flags 0x1\n"), (srat(), "srat 0x3000\n"),
+    (slit(0), "slit 0x3000 count 0\n"), (pptt(), "pptt 0x3000\n"),
+]  # fmt: skip
+for whole, lines in WHOLE:
+    signature = whole[:4].decode()
+    slot = f"slot 1 0x3000 {signature} length {len(whole)} revision {whole[8]}\n"
+    for part in (3, 4, 8, 35):
+        name = f"{part} bytes of a table {signature}, before a complete one"
+        ANYWAY.append((name, image_of(whole[:part], whole), PART_OF_A_HEADER + slot + lines, 0))
 
 
 def both(cases, name, words, pieces, expected):
@@ -88,6 +103,8 @@ def anyway(cases):
         cases.same(f"{name}, anyway, read", shown_anyway(read(text_of(pieces)), RSDP_AT), (text, status == 0))
         cases.writes(f"{name}, anyway", "show --anyway --rsdp e0000", pieces, text, status)
     cases.writes("nothing to show anyway", "show --anyway", b"", "no rsdp\n", 1)
+    for one in SHOWN:
+        cases.writes(f"{one.name}, anyway", f"show --anyway {one.words}", one.pieces, "yes\n" + one.text, 0)
     for row in ROWS:
         command, *words = row.words.split()
         if command == "check" and words[:1] == ["--rsdp"]:

@@ -15,6 +15,7 @@
 mod entries;
 mod fadt;
 mod fields;
+mod listed_tables;
 mod madt;
 mod pptt;
 mod root;
@@ -23,4 +24,5 @@ mod slit;
 mod srat;
 mod unread;
 
-pub use set::{complete_tables, set_text};
+pub use listed_tables::complete_tables;
+pub use set::set_text;

@@ -7,7 +7,7 @@ use crate::root::{add_root, add_rsdp};
 use crate::slit::add_slit;
 use crate::srat::add_srat;
 use acpi_base::{LentImage, TableKind};
-use acpi_read::{FirstTables, Listed, Root, Table};
+use acpi_read::{FirstTables, Root};
 use std::alloc::{AllocError, Global};
 
 /// All lines of a set: those of the RSDP at the address `rsdp`, of the root table and its slots, and of the tables that
@@ -24,53 +24,6 @@ pub fn set_text(
     add_root(&mut text, image, root)?;
     add_tables(&mut text, image, tables)?;
     Ok(text)
-}
-
-/// The kinds of tables that are shown line by line.
-const KINDS: [TableKind; 5] = [
-    TableKind::Fadt,
-    TableKind::Madt,
-    TableKind::Srat,
-    TableKind::Slit,
-    TableKind::Pptt,
-];
-
-/// The first listed table of each kind, if it is complete.
-pub fn complete_tables<'a>(image: &'a LentImage<'_>, root: &Root<'_>) -> FirstTables<'a> {
-    let mut tables = FirstTables::new();
-    for kind in KINDS {
-        if let Some(listed) = first_of_kind(image, root, kind) {
-            tables.add(listed);
-        }
-    }
-    tables
-}
-
-/// The first listed table with a header of this kind, if it is complete.
-fn first_of_kind<'a>(
-    image: &'a LentImage<'_>,
-    root: &Root<'_>,
-    kind: TableKind,
-) -> Option<Listed<'a>> {
-    for slot in 0..root.slots() {
-        let address = root.slot(slot);
-        if address != 0 && is_of_kind(image, address, kind) {
-            let table = Table::complete(image, address)?;
-            return Some(Listed { address, table });
-        }
-    }
-    None
-}
-
-/// How many bytes the header of a table has (ACPI 6.5, 5.2.6).
-const HEADER_LENGTH: u64 = 36;
-
-/// Whether there is a header of this kind at an address.
-fn is_of_kind(image: &LentImage<'_>, address: u64, kind: TableKind) -> bool {
-    match image.window(address, HEADER_LENGTH) {
-        Some(header) => TableKind::of(header) == Some(kind),
-        None => false,
-    }
 }
 
 /// Adds the lines of the first listed table of each kind, and of the FACS that the FADT names.

@@ -169,6 +169,16 @@ slit 0xffffffffffff0000 count 0
 pptt 0x400003000
 """)
 
+EMPTY_SLOTS = 1100
+MANY_SLOTS = {RSDP_AT: rsdp(0x10000), 0x10000: rsdt(*[0] * EMPTY_SLOTS, TABLES_AT), TABLES_AT: fadt()}
+shown("a FADT in slot 1,100, after empty ones", MANY_SLOTS, f"""
+rsdp 0xe0000 revision 0
+root 0x10000 RSDT length 4440 slots 1101
+{"".join(f"slot {slot} empty" + chr(10) for slot in range(EMPTY_SLOTS))}slot 1100 0x2000 FACP length 116 revision 1
+fadt 0x2000 length 116 profile 0 sci 0 flags 0x100000 reduced yes
+dsdt 0x0
+""")
+
 # ---- the FADT, its register blocks, and the FACS
 
 
@@ -284,6 +294,22 @@ fadt 0x2000 length 140 profile 0 sci 0 flags 0x100000 reduced yes
 dsdt 0x0
 facs 0x7000 length 64 version 1
 """, x7000=facs())
+
+# X_FIRMWARE_CTRL, at 132 from FADT version 3 on, has 64 bits. In the second set the low 32 are 0.
+for address in (0x1_0000_7000, 0x1_0000_0000, 0xFFFF_FFFF_FFFF_FF80):
+    shown(f"a FACS at {address:#x}, above 4 GB", image_of(full_fadt(0, 140, _132=number(address, 8)), others={address: facs()}), f"""
+rsdp 0xe0000 revision 0
+root 0x1000 RSDT length 40 slots 1
+slot 0 0x2000 FACP length 140 revision 1
+fadt 0x2000 length 140 profile 0 sci 0 flags 0x0 reduced no
+dsdt 0x0
+facs {address:#x} length 64 version 1
+""")
+with_fadt("a FACS above 4 GB that is not present", full_fadt(0, 140, _132=number(0x1_0000_0000, 8)), """
+fadt 0x2000 length 140 profile 0 sci 0 flags 0x0 reduced no
+dsdt 0x0
+facs 0x100000000 bad
+""")
 
 # ---- the MADT
 

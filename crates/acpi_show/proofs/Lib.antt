@@ -1,0 +1,2 @@
+-- Proofs about the tables that are shown.
+pub mod ListedTables
