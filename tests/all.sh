@@ -16,7 +16,7 @@ program=${1:?usage: tests/all.sh PROGRAM TESTS..}
 shift
 tests=("$@")
 folder=${TESTS_FOLDER:-tests}
-scratch=$(mktemp -d)
+scratch=$(mktemp -d) || exit
 trap 'rm -rf "$scratch"' EXIT
 # Each script runs in its own process group, with everything that it starts.
 set -m
@@ -51,7 +51,7 @@ ran() {
   echo $? >"$log.status"
 }
 
-scripts=(refusals.py lint/run.py rows/many_slots.py recipes.sh fuzz/run.py show/run.py rows/texts.py lint/second.py program.sh valgrind.sh explain/run.py tools/run.py tools/pythons.sh tools/fuzz.py install.sh package.sh refused_calls.py rebuild/run.py rows/confirm.py documents.sh rows/run.py rows/words.py rows/hints.py rows/examples.py scripts.sh)
+scripts=(refusals.py lint/run.py rows/many_slots.py recipes.sh fuzz/run.py show/run.py rows/texts.py lint/second.py program.sh valgrind.sh explain/run.py tools/run.py tools/pythons.sh tools/fuzz.py install.sh package.sh refused_calls.py rebuild/run.py rows/confirm.py documents.sh rows/run.py rows/words.py rows/hints.py rows/examples.py scripts.sh scratch.sh)
 timed=(times.py limits.py lint/large.py)
 # The library is tested if `make library` has left it.
 [ ! -e library/libacpiset.a ] || scripts=(library/run.py library/rust.sh library/python.sh "${scripts[@]}")

@@ -8,7 +8,7 @@ umask 022
 . "$(dirname -- "${BASH_SOURCE[0]}")/../scripts/prelude.sh"
 cd -- "$(dirname -- "${BASH_SOURCE[0]}")/.." || exit
 [ -z "${program-}" ] || [ -x "$program" ] || { printf '%s: no program\n' "$program" >&2; exit 1; }
-scratch=$(mktemp -d)
+scratch=$(mktemp -d) || exit
 trap 'rm -rf "$scratch"' EXIT
 passed=0
 failed=0

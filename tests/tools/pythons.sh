@@ -9,7 +9,7 @@ export PYTHONDONTWRITEBYTECODE=1
 # wrong_with PYTHON SCRIPT: what the script prints, if a case of it fails. What it starts by the name python3 is this Python too.
 wrong_with() {
   local folder printed
-  folder=$(mktemp -d -p "$scratch")
+  folder=$(mktemp -d -p "$scratch") || { echo "no folder for it" && return; }
   ln -s "$(command -v "$1")" "$folder/python3"
   printed=$(PATH="$folder:$PATH" "$1" "$2" "$program" 2>&1 </dev/null) && grep -q '[1-9][0-9]* passed, 0 failed$' <<<"$printed" || printf '%s\n' "$printed"
 }
