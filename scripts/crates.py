@@ -1,6 +1,7 @@
 """The crates of this repository, as crates.txt lists them, and how the toolchain's compiler is called on one of them over what was
 proved of those below it. The scripts beside this file import it."""
 
+import fcntl
 import hashlib
 import os
 import re
@@ -8,16 +9,21 @@ import shutil
 import signal
 import subprocess
 import sys
+from contextlib import contextmanager
 from dataclasses import dataclass
 from functools import lru_cache
 from pathlib import Path
 
 # A caller may ignore SIGCHLD. Then Python takes status 0 for every child, so also for a prover that refuses; and so does `rt`.
 signal.signal(signal.SIGCHLD, signal.SIG_DFL)
+# A caller may have closed a standard stream. Then the next file that is opened would be it.
+while (opened := os.open(os.devnull, os.O_RDWR)) <= 2:
+    os.set_inheritable(opened, True)
+os.close(opened)
 
 TOP = Path(__file__).resolve().parent.parent
 PARTS = ("src", "specs", "proofs")
-# Where crates are proved beside one another, and with wrong bodies. `out` is in .gitignore.
+# Where crates are proved beside one another, on copies. `out` is in .gitignore.
 ROOMS = TOP / "out" / "rooms"
 # The processor that the program and the library are built for: any x86-64. Without this flag `rt` builds for x86-64-v2, also in `rt ci`.
 CPU = "x86-64"
@@ -59,6 +65,10 @@ if os.getsid(0) == os.getpid():
 if os.getppid() == int(sys.argv[1]):
     os.execvp(sys.argv[2], sys.argv[2:])
 """
+
+
+class Failed(Exception):
+    """What ends a script with its text as the reason."""
 
 
 def ending_with_this(*words):
@@ -120,27 +130,29 @@ class Crate:
         return sum(len(file.read_bytes().splitlines()) for part in PARTS for file in (self.folder / part).glob("**/*") if file.is_file())
 
     def has_tests(self):
-        return any("#[test]" in file.read_text() for file in self.folder.glob("src/**/*.rt"))
+        return any(b"#[test]" in file.read_bytes() for file in self.folder.glob("src/**/*.rt") if file.is_file())
 
-    def sources(self):
-        """The files of the crate and of those below it."""
-        for name in (*self.below, self.name):
-            for part in PARTS:
-                yield from (file for file in sorted((TOP / "crates" / name / part).glob("**/*")) if file.is_file())
+    def sources(self, top):
+        """The files of the crate and of those below it, in this repository or in copies."""
+        for folder in (top / "crates" / name / part for name in (*self.below, self.name) for part in PARTS):
+            for file in sorted(it for it in folder.glob("**/*") if it.is_file()):
+                if not file.name.isprintable():
+                    raise Failed(f"a source has a line break, or another control character, in its name: {file.name!r}")
+                yield file
 
-    def digest(self, version):
+    def digest(self, version, top=TOP):
         """A digest of what its program or its tests are made from: the toolchain, the processor, and the sources of the crate and
         of those below it."""
-        sources = hashlib.sha256(version.encode() + CPU.encode() + (TOP / "crates.txt").read_bytes())
-        for file in self.sources():
-            sources.update(repr((str(file.relative_to(TOP)), file.read_bytes())).encode())
+        sources = hashlib.sha256(version.encode() + CPU.encode() + (top / "crates.txt").read_bytes())
+        for file in self.sources(top):
+            sources.update(repr((str(file.relative_to(top)), file.read_bytes())).encode())
         return sources.hexdigest()
 
-    def sums(self):
+    def sums(self, top):
         """The checksums of the same sources, as `sha256sum --check` reads them. An added file is named in an existing one, so it
         shows."""
-        files = (TOP / "crates.txt", *self.sources())
-        return "".join(f"{hashlib.sha256(file.read_bytes()).hexdigest()}  {file.relative_to(TOP)}\n" for file in files)
+        files = (top / "crates.txt", *self.sources(top))
+        return "".join(f"{hashlib.sha256(file.read_bytes()).hexdigest()}  {file.relative_to(top)}\n" for file in files)
 
     def words(self):
         """What the compiler is told of the crate, as `rt` tells it: its root, the proved libraries, and the program logic."""
@@ -195,6 +207,23 @@ def processors():
 def free_bytes():
     found = re.search(r"MemAvailable:\s+(\d+) kB", Path("/proc/meminfo").read_text())
     return 1024 * int(found[1]) if found else 0
+
+
+@contextmanager
+def locked(folder):
+    """Takes the lock that a running `rt` takes on a crate's folder."""
+    held = os.open(folder, os.O_RDONLY)
+    try:
+        fcntl.flock(held, fcntl.LOCK_EX)
+        yield
+    finally:
+        os.close(held)
+
+
+def copy_tree(source, target):
+    """Copies a folder of sources, and its links as links: `rt` refuses them."""
+    if source.is_dir():
+        shutil.copytree(source, target, symlinks=True, dirs_exist_ok=True)
 
 
 def link_tree(source, target):

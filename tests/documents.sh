@@ -103,8 +103,7 @@ functions() {
 # Functions whose names differ only in digits, as for each width of a number, are a family: one edit is enough.
 family() { tr -d '0-9'; }
 
-count 'wrong bodies that cannot be tried' "$(scripts/wrong_bodies --read 2>&1)"
-refused=
+count 'wrong bodies that cannot be tried, and numbers of them in PROOF.md' "$(scripts/wrong_bodies --read 2>&1)"
 for crate in $crates; do
   all=$(functions "$crate")
   harmless=$(sed 's/.*\///; s/$/.edit/' "crates/$crate/wrong/harmless" 2>/dev/null)
@@ -112,10 +111,7 @@ for crate in $crates; do
   within "$crate: functions that no edit is named for" "$(sed -n 's/^+//p' <<<"$all" | family)" "$(family <<<"$edited")"
   within "$crate: methods of its own traits that no edit is named for" "$(sed -n 's/^~//p' <<<"$all")" "$(sed 's/^[A-Z][A-Za-z0-9]*_//' <<<"$edited")"
   within "$crate: edits that are named for no function" "$edited" "$all"
-  [ -z "$edited" ] || refused="$refused$(wc -l <<<"$edited") $crate"$'\n'
 done
-told=$(sed -n '/^\*\*Wrong bodies are refused\.\*\*/,/^$/p' docs/PROOF.md | tr '\n' ' ' | grep -o '[0-9]* of `[a-z_]*`' | sed 's/ of `\(.*\)`/ \1/')
-agree 'wrong bodies (<) and those of PROOF.md (>)' "${refused%$'\n'}" "$told"
 
 # ---- public calls and laws: a table of PROMISES.md names each
 

@@ -146,13 +146,19 @@ changed 'wrong bodies: an edit in no folder' 'crates/small/wrong/next-again.edit
 
 # ---- scripts/prove
 
-mkdir -p "$scratch/tree/scripts" "$scratch/tree/crates/acpi_c/src" "$scratch/tree/crates/acpi_cli/src" "$scratch/bin" "$scratch/kit/bin"
+mkdir -p "$scratch/tree/scripts" "$scratch/tree/docs" "$scratch/tree/crates/acpi_c/src" "$scratch/tree/crates/acpi_c/wrong/1" "$scratch/tree/crates/acpi_cli/src" "$scratch/bin" "$scratch/kit/bin"
 cp scripts/prove scripts/wrong_bodies scripts/kept scripts/crates.py "$scratch/tree/scripts"
 printf 'acpi_c staticlib:\nacpi_cli:\n' >"$scratch/tree/crates.txt"
 echo 'fn main() {}' >"$scratch/tree/crates/acpi_cli/src/main.rt"
 printf 'check\n' >"$scratch/tree/crates/acpi_cli/args"
 echo 'a text' >"$scratch/tree/crates/acpi_cli/stdin"
-echo 'pub fn one() {}' >"$scratch/tree/crates/acpi_c/src/lib.rt"
+printf 'pub fn one() -> u8 {\n    1\n}\n\npub fn two() -> u8 {\n    2\n}\n' >"$scratch/tree/crates/acpi_c/src/lib.rt"
+# An edit that changes nothing, and a wrong body, which docs/PROOF.md counts.
+printf 'file: src/lib.rt\nold:     2\nnew:     1 + 1\n' >"$scratch/tree/crates/acpi_c/wrong/1/two-is_two.edit"
+printf 'file: src/lib.rt\nold:     1\nnew:     3\n' >"$scratch/tree/crates/acpi_c/wrong/1/one-is_three.edit"
+echo 1/two-is_two >"$scratch/tree/crates/acpi_c/wrong/harmless"
+# shellcheck disable=SC2016 # names between backticks
+printf '%s\n' '**Wrong bodies are refused.** Of the bodies' 'all are: 1 of `acpi_c`.' '' >"$scratch/tree/docs/PROOF.md"
 cat >"$scratch/bin/rt" <<'END'
 #!/bin/sh
 echo "${PWD##*/}: $*" | sed 's/ --jobs [0-9]*//' >>"$FOLDER/calls"
@@ -195,10 +201,23 @@ while [ $# -gt 1 ]; do
   esac
   shift
 done
-echo "rattle: ${made##*/} for $processor" >>"$FOLDER/calls"
-echo "for $processor" >"$made"
+if [ -n "$COPIES" ] && [ -e src/main.rt ]; then
+  cp src/main.rt "$made" && echo done >"$FOLDER/copied"
+elif [ -n "$made" ]; then
+  echo "rattle: ${made##*/} for $processor" >>"$FOLDER/calls"
+  echo "for $processor" >"$made"
+elif [ "$SAYS" = nothing ]; then
+  echo 'logic=not-proved'
+  exit
+elif grep -q ' 3$' src/lib.rt; then
+  echo 'fn acpi_c::two: proved'
+  echo 'fn acpi_c::one: no proof: expected answers in X; `search` did not prove `returns`'
+  echo 'logic=not-proved'
+  exit
+fi
 echo "$PROVED"
 END
+export SAYS='' COPIES=''
 cat >"$scratch/kit/bin/rattle-link" <<'END'
 #!/bin/sh
 while [ "$1" != -o ]; do shift; done
@@ -210,24 +229,36 @@ echo '2 passed, 0 failed' >"$scratch/said"
 printed=$(PATH="$scratch/bin:$PATH" "$scratch/tree/scripts/prove" gate 2>&1)
 same 'scripts/prove gate' "$? $(tail -n 1 <<<"$printed" | sed 's/[0-9][0-9]*/N/g')" '0 gate: proved in N.N minutes, from N:N to N:N'
 # `rt ci` builds for x86-64-v2: the program and the library are built after it, for any x86-64, over what it proved.
-same 'calls by the gate' "$(grep -v ': version$\|: doc$' "$scratch/calls" | LC_ALL=C sort)" $'linked: acpi_cli\nrattle: acpi_cli.o for x86-64\nrattle: libacpi_c.a for x86-64\ntree: ci'
+same 'calls by the gate' "$(grep -v ': version$\|: doc$' "$scratch/calls" | LC_ALL=C sort)" $'gate: ci\nlinked: acpi_cli\nrattle: acpi_cli.o for x86-64\nrattle: libacpi_c.a for x86-64'
 same 'the program of the gate' "$(cat "$scratch/tree/acpiset" "$scratch/tree/crates/acpi_cli/out/acpi_cli")" $'for x86-64\nfor x86-64'
 : >"$scratch/calls"
 PATH="$scratch/bin:$PATH" "$scratch/tree/scripts/prove" program >"$scratch/log" 2>&1
 same 'scripts/prove program after the gate' "$? $(grep -v ': version$' "$scratch/calls")" '0 '
 sums=$(cat "$scratch/tree/crates/acpi_c/out/libacpi_c.a.sources" 2>&1)
 same 'sums of the sources of the library' "$(cd "$scratch/tree" && sha256sum -c <<<"$sums" 2>&1)" $'crates.txt: OK\ncrates/acpi_c/src/lib.rt: OK'
+# refused_gate WHAT WHY: the gate ends with an error, for a wrong body or want of it.
+refused_gate() {
+  printed=$(PATH="$scratch/bin:$PATH" "$scratch/tree/scripts/prove" gate 2>&1)
+  same "$1" "$? $(tail -n 1 <<<"$printed") $(grep -c "^FAILED $2" <<<"$printed")" '1 scripts/prove: not all wrong bodies were refused 1'
+}
 # A wrong body that is not refused fails the gate: here the compiler says nothing of it.
-mkdir -p "$scratch/tree/crates/acpi_c/wrong/1"
-printf 'pub fn one() -> u8 {\n    1\n}\n' >"$scratch/tree/crates/acpi_c/src/lib.rt"
-printf 'file: src/lib.rt\nold:     1\nnew:     2\n' >"$scratch/tree/crates/acpi_c/wrong/1/one-is_two.edit"
-echo 1/one-is_two >"$scratch/tree/crates/acpi_c/wrong/harmless"
-printed=$(PATH="$scratch/bin:$PATH" "$scratch/tree/scripts/prove" gate 2>&1)
-same 'scripts/prove gate with an edit that is not refused' "$? $(tail -n 1 <<<"$printed") $(grep -c '^FAILED acpi_c/1/one-is_two: could not tell' <<<"$printed")" '1 scripts/prove: not all wrong bodies were refused 1'
+SAYS=nothing refused_gate 'scripts/prove gate with an edit that is not refused' acpi_c/1/one-is_three
+mv "$scratch/tree/crates/acpi_c/wrong" "$scratch/wrong"
+refused_gate 'scripts/prove gate without wrong bodies' 'acpi_c: it has 0 wrong bodies, and docs/PROOF.md says 1$'
+tries() { PATH="$scratch/bin:$PATH" "$scratch/tree/scripts/wrong_bodies" "$@" 2>&1 | tail -n 2 | tr '\n' ' '; }
+same 'scripts/wrong_bodies without wrong bodies' "$(tries acpi_c)" \
+  'acpi_c: it has 0 wrong bodies, and docs/PROOF.md says 1 wrong bodies: 0 refused in 0 checks '
+same 'scripts/wrong_bodies of a crate that has none' "$(tries acpi_cli)" 'there is no wrong body to try wrong bodies: 0 refused in 0 checks '
+mv "$scratch/wrong" "$scratch/tree/crates/acpi_c/wrong"
+mv "$scratch/tree/docs/PROOF.md" "$scratch/proof"
+same 'scripts/wrong_bodies without numbers' "$(: >"$scratch/tree/docs/PROOF.md"; tries --read)" \
+  'scripts/wrong_bodies: docs/PROOF.md does not say how many wrong bodies a crate has '
+mv "$scratch/proof" "$scratch/tree/docs/PROOF.md"
+same 'scripts/wrong_bodies acpi_c' "$(tries acpi_c)" \
+  'acpi_c/1/two-is_two: harmless, and still proved, as it must be wrong bodies: 1 refused in 1 checks '
 # The wrong bodies of a crate are tried once the libraries below it are proved, now or by an earlier run.
 printf 'acpi_graph:\nacpi_c staticlib: acpi_graph\nacpi_cli:\n' >"$scratch/tree/crates.txt"
 mkdir -p "$scratch/tree/crates/acpi_graph/src"
-rm -r "$scratch/tree/crates/acpi_c/wrong"
 for line in 'acpi_graph proved' 'acpi_graph is kept: an earlier run on this machine proved the same files over the same libraries' 'acpi_graph NOT PROVED'; do
   printf 'rt: %s\n2 passed, 0 failed\n' "$line" >"$scratch/said"
   printed=$(PATH="$scratch/bin:$PATH" "$scratch/tree/scripts/prove" gate 2>&1)
@@ -323,6 +354,87 @@ done
 other_rt doc 'printf "%s\n" "$FOLDER/none/START-HERE.md"'
 no_proof 'a gate that builds nothing' gate
 
+# ---- sources that change while a proof runs, and change back: what is built of others is not recorded as built of these
+
+main=$scratch/tree/crates/acpi_cli/src/main.rt
+lib=$scratch/tree/crates/acpi_c/src/lib.rt
+printf 'acpi_graph:\nacpi_c staticlib: acpi_graph\nacpi_cli:\n' >"$scratch/tree/crates.txt"
+# as_recorded BUILT: what was built, and whether it is recorded as built of the sources that are here.
+as_recorded() { (cd "$scratch/tree" && cat "$1" && sha256sum -c "$1.sources" >"$scratch/log" 2>&1 && echo recorded); }
+# meanwhile COMMAND SCRIPT TARGET: a proof, in which a command of `rt` does this.
+meanwhile() {
+  rm -rf "$of_cli" "$of_c" "$of_graph"
+  other_rt "$1" "$2"
+  PATH="$scratch/other:$PATH" "$scratch/tree/scripts/prove" "$3" >"$scratch/log" 2>&1 || cat "$scratch/log"
+}
+echo first >"$main"
+# shellcheck disable=SC2016 # the same
+meanwhile run 'echo other >"$FOLDER/tree/crates/acpi_cli/src/main.rt"
+    mkdir -p out && cp src/main.rt out/acpi_cli && echo first >"$FOLDER/tree/crates/acpi_cli/src/main.rt" && echo "$PROVED"' program
+same 'a file that is written while rt run reads it' "$(as_recorded crates/acpi_cli/out/acpi_cli) $(cat "$scratch/tree/acpiset")" $'first\nrecorded first'
+# shellcheck disable=SC2016 # the same
+proves='if [ "${PWD##*/}" = acpi_c ]; then
+      cp src/lib.rt "$FOLDER/read" && mkdir -p out && cp src/lib.rt out/libacpi_c.a && mv "$FOLDER/first" "$FOLDER/tree/crates/acpi_c/src/lib.rt"
+    else
+      mkdir -p out/rlib/acpi_graph.rlib && echo library >out/rlib/acpi_graph.rlib/format
+      mv "$FOLDER/tree/crates/acpi_c/src/lib.rt" "$FOLDER/first" && echo other >"$FOLDER/tree/crates/acpi_c/src/lib.rt"
+    fi
+    echo "$PROVED"'
+echo first >"$lib"
+meanwhile lib "$proves" library
+same 'files that are other ones while their crate is proved' "$(as_recorded crates/acpi_c/out/libacpi_c.a) $(cat "$scratch/read" "$lib")" $'other other\nfirst'
+# shellcheck disable=SC2016 # the same
+other_rt lib '[ "${PWD##*/}" != acpi_c ] || cp src/lib.rt "$FOLDER/tree/crates/acpi_c/out/read"; exec "$FOLDER/bin/rt" "$@"'
+PATH="$scratch/other:$PATH" "$scratch/tree/scripts/prove" library >"$scratch/log" 2>&1
+same 'they are proved anew' "$? $(cat "$of_c/read") $(as_recorded crates/acpi_c/out/libacpi_c.a)" $'0 first library\nrecorded'
+printf 'pub fn one() -> u8 {\n    1\n}\n\npub fn two() -> u8 {\n    2\n}\n' >"$lib"
+# shellcheck disable=SC2016 # the same
+COPIES=yes meanwhile ci 'echo other >"$FOLDER/tree/crates/acpi_cli/src/main.rt"; echo "rt: acpi_graph proved"
+    for _ in $(seq 100); do [ -e "$FOLDER/copied" ] || sleep 0.1; done; echo first >"$FOLDER/tree/crates/acpi_cli/src/main.rt"
+    exec "$FOLDER/bin/rt" ci' gate
+same 'a file that is written while the gate runs' "$(as_recorded crates/acpi_cli/out/acpi_cli) $(cat "$scratch/tree/acpiset")" $'first\nrecorded first'
+
+# ---- what else may be among the sources: one line says it
+
+# said WHAT TEXT TARGET: scripts/prove ends with an error, of which the last but one, or the last, line has this text.
+said() {
+  rm -f "$of_cli"/*.made "$of_c"/*.made
+  PATH="$scratch/other:$PATH" "$scratch/tree/scripts/prove" "$3" >"$scratch/log" 2>&1
+  same "$1" "$? $(tail -n 2 "$scratch/log" | grep -c -- "$2") $(grep -c Traceback "$scratch/log")" '1 1 0'
+}
+# What an editor leaves while a file is changed: `rt` refuses it.
+# shellcheck disable=SC2016 # the same
+other_rt 'lib | run' '[ ! -L src/.#lib.rt ] || { echo "rt: src/.#lib.rt is a link"; exit 2; }; exec "$FOLDER/bin/rt" "$@"'
+ln -s someone@nowhere.987 "$scratch/tree/crates/acpi_c/src/.#lib.rt"
+for target in library tests; do said "a link to nothing among the sources, prove $target" 'src/.#lib.rt is a link' $target; done
+rm "$scratch/tree/crates/acpi_c/src/.#lib.rt"
+touch "$scratch/tree/crates/acpi_c/src/a"$'\n'b.rt
+for target in library gate; do said "a line break in the name of a source, prove $target" 'line break, or another control character, in its name: .a.nb.rt' $target; done
+rm "$scratch/tree/crates/acpi_c/src/a"$'\n'b.rt
+printf '// \377\n' >"$scratch/tree/crates/acpi_c/src/other.rt"
+# shellcheck disable=SC2016 # the same
+other_rt lib 'echo "rt: src/other.rt is no UTF-8"; exit 2'
+said 'a source that is no UTF-8' 'src/other.rt is no UTF-8' tests
+rm "$scratch/tree/crates/acpi_c/src/other.rt"
+for script in alone kept prove wrong_bodies; do
+  same "scripts/$script where Python does not look beside it" "$(PYTHONSAFEPATH=1 "scripts/$script" --none 2>&1 | grep -c ModuleNotFoundError)" 0
+done
+same 'an option that scripts/wrong_bodies does not have' "$(scripts/wrong_bodies --build 2>&1 | grep -c -- --build)" 1
+same 'scripts/wrong_bodies --printed of no crate' "$(scripts/wrong_bodies --printed /dev/null 2>&1 | tail -n 1)" 'wrong_bodies: error: these words do not go together'
+# A line comes in one piece, also where several threads write.
+same 'pieces in which scripts/wrong_bodies writes a line' "$(python3 -B - <<'END'
+import sys
+from importlib.machinery import SourceFileLoader
+sys.argv = ["scripts/wrong_bodies"]
+module = SourceFileLoader("wrong_bodies", "scripts/wrong_bodies").load_module()
+pieces = []
+sys.stdout, kept = type("Out", (), {"write": lambda self, text: pieces.append(text), "flush": lambda self: None})(), sys.stdout
+module.tell("a line")
+sys.stdout = kept
+print(pieces)
+END
+)" "['a line\\n']"
+
 # Each script in Python gives SIGCHLD its default, whatever its caller did, by what it imports; except those that start no others.
 modules='acpi_images|crates|measure|preloaded|worst'
 mapfile -t scripts < <(find scripts tests bench -path '*/target' -prune -o -type f -perm -u+x -exec grep -l '^#!/usr/bin/env python3' {} + | LC_ALL=C sort)
@@ -339,6 +451,9 @@ done
 
 cp Makefile "$scratch/tree"
 cp scripts/alone "$scratch/tree/scripts"
+rm -f "$of_cli"/*.made
+PATH="$scratch/bin:$PATH" make -s -C "$scratch/tree" build >"$scratch/log" 2>&1 <&-
+same 'make build without standard input' "$? $(tail -n 1 "$scratch/log" | sed 's/, [0-9]* s$//')" '0 1 of 1, acpi_cli: proved'
 # shellcheck disable=SC2016 # the same
 other_rt 'lib | run | test' 'echo $$ >"$FOLDER/prover"; sleep 987 & echo $! >"$FOLDER/child"; wait'
 # stays NAME: whether this process is still running after some seconds.
