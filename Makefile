@@ -31,6 +31,9 @@ override N := $(value N)
 override SEED := $(value SEED)
 export IMAGE PREFIX DESTDIR LIBDIR PC_PREFIX BINARY LIBRARY N SEED
 
+# What a caller set for other shells and programs: with SHELLOPTS=noexec a shell runs nothing, and ends well.
+unexport SHELLOPTS BASHOPTS BASH_ENV PYTHONSAFEPATH
+
 # A second make in this checkout waits until the first one has ended; what is run `beside` others does not. Both end with make.
 alone := exec scripts/alone
 beside := $(alone) --beside

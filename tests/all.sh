@@ -1,4 +1,4 @@
-#!/usr/bin/env bash
+#!/usr/bin/env -S bash -p
 # Runs all scripts that test the documents, the tools, the built program and the crates' tests, as many in parallel as there are
 # processors, the longest first. Prints the output of each, and at the end which of them failed. A signal that ends it also ends
 # everything that it started.
@@ -56,6 +56,7 @@ timed=(times.py limits.py lint/large.py)
 # The library is tested if `make library` has left it.
 [ ! -e library/libacpiset.a ] || scripts=(library/run.py library/rust.sh library/python.sh "${scripts[@]}")
 [ -z "${TESTS_ONLY-}" ] || { read -ra scripts <<<"$TESTS_ONLY" && timed=(); }
+[ ${#scripts[@]} != 0 ] || { echo 'tests/all.sh: TESTS_ONLY names no script' >&2; exit 1; }
 for script in "${scripts[@]}"; do
   while [ "$(jobs -rp | wc -l)" -ge "$(nproc)" ]; do wait -n; done
   case $script in

@@ -1,4 +1,4 @@
-#!/usr/bin/env bash
+#!/usr/bin/env -S bash -p
 # Compares the documents with the tree: what they name exists, and they name what exists. If these are installed, it also runs
 # `shellcheck` on the scripts, `gawk --lint` on the awk programs, and `mandoc -T lint` on the manual pages.
 # usage: tests/documents.sh; the last line is 'documents: N passed, M failed'.
@@ -376,7 +376,7 @@ fi
 # asked PROGRAM: whether it is installed; says so if it is not.
 asked() { command -v "$1" >/dev/null || { printf 'left out: %s is not installed\n' "$1" && false; }; }
 
-mapfile -t scripts < <(grep -lIE '^#! ?/(usr/)?bin/(env )?(ba|da)?sh$' .ci/* bench/* bindings/*/* examples/* man/* release/* scripts/* tests/* tests/*/* tools/* 2>/dev/null)
+mapfile -t scripts < <(grep -lIE '^#! ?/(usr/)?bin/(env (-S )?)?(ba|da)?sh( -p)?$' .ci/* bench/* bindings/*/* examples/* man/* release/* scripts/* tests/* tests/*/* tools/* 2>/dev/null)
 # Each sources a prelude before it goes anywhere; but the preludes, and what the packages run after they are installed.
 count 'scripts that do not begin with the prelude' "$(for script in "${scripts[@]}"; do
   case $script in
@@ -384,6 +384,7 @@ count 'scripts that do not begin with the prelude' "$(for script in "${scripts[@
     *) grep -E '^([A-Za-z_]+=[^ ]*\()?\(?(cd|pushd) |^\. ' "$script" | head -n 1 | grep -qE '^\. "\$\(dirname -- "\$0"\)/[a-z./]*prelude\.sh"$' || echo "$script" ;;
   esac
 done)"
+count 'scripts in bash that take options and functions from their caller' "$(grep -lE '^#!.*bash$' "${scripts[@]}")"
 if asked shellcheck; then
   count 'shellcheck' "$(shellcheck --severity=info --format=gcc "${scripts[@]}" 2>&1)"
 fi

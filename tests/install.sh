@@ -1,4 +1,4 @@
-#!/usr/bin/env bash
+#!/usr/bin/env -S bash -p
 # Installs the built program into a scratch folder, runs what was installed, makes the archive, and removes everything again:
 # without the library, and then with it. If `make library` has left none, other files replace it, and nothing is linked with them.
 # The folders have names with blanks, and some with all characters that have a meaning in a shell or in make.

@@ -1,4 +1,4 @@
-#!/usr/bin/env bash
+#!/usr/bin/env -S bash -p
 # Builds the Debian packages of release/debian from the program and the library, if debhelper is installed, looks at what is in them,
 # has lintian look them over, if that is installed, and runs their own test on the unpacked files. If `make library` has left no
 # library, another one with the same functions replaces it.

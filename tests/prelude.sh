@@ -1,4 +1,4 @@
-#!/usr/bin/env bash
+#!/usr/bin/env -S bash -p
 # Each test in bash sources this first: then it is in the folder of the sources, has a scratch folder that is removed at its end, and
 # counts its cases. If it has a `program`, that is an absolute path by then.
 # shellcheck disable=SC2034 # the scripts use them
@@ -42,8 +42,8 @@ other_pythons() {
 # left_out WHAT WHY: says that cases were left out.
 left_out() { printf 'left out: %s: %s\n' "$1" "$2"; }
 
-# finish TITLE: prints how many cases passed, and is the status of the script.
+# finish TITLE: prints how many cases passed, and is the status of the script: an error if there was none.
 finish() {
   printf '%s%d passed, %d failed\n' "$1" "$passed" "$failed"
-  [ "$failed" = 0 ]
+  [ "$failed" = 0 ] && [ "$passed" != 0 ]
 }

@@ -1,4 +1,4 @@
-#!/usr/bin/env bash
+#!/usr/bin/env -S bash -p
 # Runs the built program on image texts, and tests its output, its status and its error messages.
 # usage: tests/program.sh PROGRAM; the last line is 'N passed, M failed'.
 program=$(realpath -- "${1:?usage: tests/program.sh PROGRAM}")

@@ -1,4 +1,4 @@
-#!/usr/bin/env bash
+#!/usr/bin/env -S bash -p
 # Runs the recipes of README.md, docs/LIBRARY.md, docs/RECIPES.md, docs/REBUILD.md and docs/TROUBLESHOOTING.md whose tools are on
 # the machine, and compares what they print with the page.
 # usage: tests/recipes.sh PROGRAM; it lists those that it left out, and the last line is 'recipes: N passed, M failed, L left

@@ -68,20 +68,32 @@ def starved(tests, name, preload, mark):
             return refused, f"request {number}: status {status}: {text}"
 
 
+def of_program(tests, preload, marks, pool):
+    """How many requests of its tests were refused as they have to be, and what is wrong, a line each."""
+    passed, wrong = 0, []
+    tried = [(tests, name, preload, marks / str(place)) for place, name in enumerate(names(tests))]
+    for (_, name, _, _), (refused, problem) in zip(tried, pool.map(lambda case: starved(*case), tried)):
+        if problem:
+            wrong.append(f"{tests.name}, {name}: {problem}")
+        else:
+            passed += refused
+    if not passed and not wrong:
+        wrong.append(f"{tests.name}: {'none of its requests was refused' if tried else 'it lists no test'}")
+    return passed, wrong
+
+
 def main():
+    if len(sys.argv) < 2:
+        sys.exit("usage: refused_calls.py TESTS..")
     passed = failed = 0
     with tempfile.TemporaryDirectory() as scratch, ThreadPoolExecutor(2) as pool:
         preload = build_object(Path(scratch))
         if not preload:
             sys.exit("no C compiler to build tests/refusals.c")
-        tests = [(path, name) for path in map(Path, sys.argv[1:]) for name in names(path.resolve())]
-        tried = [(path.resolve(), name, preload, Path(scratch) / str(place)) for place, (path, name) in enumerate(tests)]
-        for (path, name, _, _), (refused, wrong) in zip(tried, pool.map(lambda case: starved(*case), tried)):
-            if wrong:
-                failed += 1
-                print(f"{path.name}, {name}: {wrong}")
-            else:
-                passed += refused
+        for path in sys.argv[1:]:
+            refused, wrong = of_program(Path(path).resolve(), preload, Path(scratch), pool)
+            passed, failed = passed + refused, failed + len(wrong)
+            print("".join(f"{line}\n" for line in wrong), end="")
     print(f"refused calls: {passed} passed, {failed} failed")
     sys.exit(1 if failed else 0)
 

@@ -1,4 +1,4 @@
-#!/usr/bin/env bash
+#!/usr/bin/env -S bash -p
 # Runs each script of scripts and tests that makes a scratch folder where none can be made: it must end with an error, and touch nothing. Only
 # stand-ins for the commands that change files are on its PATH: they note what they are asked for, and do nothing. In Python a hook notes it.
 # usage: tests/scratch.sh PROGRAM; the last line is 'scratch folders: N passed, M failed'.

@@ -1,4 +1,4 @@
-#!/usr/bin/env bash
+#!/usr/bin/env -S bash -p
 # Tests the scripts that build and test: that tests/all.sh ends what it started when it is ended, and counts what failed; what
 # scripts/wrong_bodies says of wrong bodies, by what the compiler printed of them; what scripts/prove builds in the gate, and what it
 # refuses as no proof; and that a make, or a scripts/prove, that is ended leaves no prover. Scripts and a toolchain that do nothing replace the real ones.
@@ -44,6 +44,29 @@ broken
 scripts: 1 passed, 1 failed
 failed: tests/broken.sh'
 same 'scripts that pass' "$(all fine.sh 2>&1 | tail -n 1)" 'scripts: 1 passed, 0 failed'
+# ---- no check passes with nothing in it
+
+same 'scripts of no name' "$(all ' ' 2>&1; echo $?)" $'tests/all.sh: TESTS_ONLY names no script\n1'
+# A shell that reads options from SHELLOPTS would run nothing, and end well.
+same 'scripts of which one fails, with SHELLOPTS=noexec' \
+  "$(TMPDIR="$scratch/tmp" TESTS_FOLDER="$scratch/tests" TESTS_ONLY='broken.sh' env SHELLOPTS=noexec tests/all.sh program >/dev/null; echo $?)" 1
+same 'make fuzz with SHELLOPTS=noexec, by bash' "$(env SHELLOPTS=noexec make -s SHELL="$BASH" fuzz BINARY="$scratch/none" 2>&1 | grep -c 'is missing')" 1
+mkdir "$scratch/ci"
+printf '#!/bin/sh\necho "make $*"\n' >"$scratch/ci/make"
+chmod +x "$scratch/ci/make"
+same '.ci/run with SHELLOPTS=noexec' "$(env PATH="$scratch/ci:$PATH" SHELLOPTS=noexec .ci/run)" $'make gate\nmake test'
+same 'make fuzz N=0' "$(make -s fuzz N=0 SEED=1 BINARY=/bin/false >"$scratch/log" 2>&1; echo $?)" 2
+same 'the tools on no inputs' "$(tests/tools/fuzz.py /bin/false --cases 0; echo $?)" $'fuzz of the tools: 0 passed, 0 failed\n1'
+if has cc; then
+  echo 'int main(void) { return 0; }' | cc -x c -o "$scratch/none" -
+  printf '%s\n' '#include <unistd.h>' 'int main(void) { return write(1, "idle: test\n", 11) != 11; }' | cc -x c -o "$scratch/idle" -
+  refused_by() { tests/refused_calls.py "$@" 2>&1; echo $?; }
+  same 'refused calls of tests that list none' "$(refused_by "$scratch/none")" $'none: it lists no test\nrefused calls: 0 passed, 1 failed\n1'
+  same 'refused calls of tests that make none' "$(refused_by "$scratch/idle")" $'idle: none of its requests was refused\nrefused calls: 0 passed, 1 failed\n1'
+else
+  left_out 'refused calls of tests that make none' 'no cc'
+fi
+same 'refused calls of no tests' "$(tests/refused_calls.py 2>&1; echo $?)" $'usage: refused_calls.py TESTS..\n1'
 if ! command -v ps >/dev/null; then
   printf 'left out: what tests/all.sh ends: no ps\n'
 else

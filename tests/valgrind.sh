@@ -1,4 +1,4 @@
-#!/usr/bin/env bash
+#!/usr/bin/env -S bash -p
 # Runs the program on twenty inputs under valgrind, if that is installed: no access outside a buffer, no use of uninitialized
 # memory, no leak, and the same output, error message and status as without it.
 # usage: tests/valgrind.sh PROGRAM; the last line is 'valgrind: N passed, M failed', or 'left out: ..'.

@@ -128,5 +128,6 @@ def main(title, *parts, **how):
 
 
 def finish(title, cases):
+    """Prints how many cases passed, and ends: with an error if one failed, or if there was none."""
     print(f"{title}: {cases.passed} passed, {cases.failed} failed")
-    sys.exit(1 if cases.failed else 0)
+    sys.exit(0 if cases.passed and not cases.failed else 1)

@@ -1,4 +1,4 @@
-#!/usr/bin/env bash
+#!/usr/bin/env -S bash -p
 # Runs the tests of the Python package of bindings/python with the built library: with each Python from 3.9 on that is here its unit tests,
 # which have the examples of its docstrings and the wheel; with the one named python3 also the sets of the other tests, and pytest and mypy
 # if it has them.

@@ -1,4 +1,4 @@
-#!/usr/bin/env bash
+#!/usr/bin/env -S bash -p
 # Builds the Rust crate of bindings/rust with the built library, and runs its tests.
 # usage: tests/library/rust.sh LIBRARY_FOLDER, the folder of libacpiset.a; the last line is 'rust bindings: N passed, M failed',
 # or 'left out: ..' if there is no cargo, or one that is too old. Nothing is downloaded, and nothing is written into the tree.

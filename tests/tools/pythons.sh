@@ -1,6 +1,7 @@
-#!/usr/bin/env bash
+#!/usr/bin/env -S bash -p
 # Runs the tests of the tools with each Python from 3.9 on that is here, besides the one named python3.
-# usage: tests/tools/pythons.sh PROGRAM; the last line is 'tools with other Pythons: N passed, M failed', a case for each script and Python.
+# usage: tests/tools/pythons.sh PROGRAM; the last line is 'tools with other Pythons: N passed, M failed', a case for each script and Python,
+# or 'left out: ..'.
 program=$(realpath -- "${1:?usage: tests/tools/pythons.sh PROGRAM}")
 # shellcheck source=tests/prelude.sh
 . "$(dirname -- "$0")/../prelude.sh"
@@ -29,5 +30,5 @@ wait
 for python in "${pythons[@]}"; do
   for script in "${scripts[@]}"; do count "$script with $python" "$(cat "$(printed_by "$python" "$script")")"; done
 done
-[ "$((passed + failed))" != 0 ] || left_out 'the tools with other Pythons' 'there is none'
+[ ${#pythons[@]} != 0 ] || { left_out 'the tools with other Pythons' 'there is none' && exit; }
 finish 'tools with other Pythons: '
