@@ -151,6 +151,7 @@ echo mine >"$usr/share/doc/acpiset/docs/mine"
 with_program uninstall DESTDIR="$scratch/root" PREFIX=/usr
 same 'make uninstall' "$? $(cat "$scratch/log")" '0 '
 same 'files that are left' "$(files_in "$scratch/root")" usr/share/doc/acpiset/docs/mine
+same 'folders of its own that are left' "$(find "$scratch/root" -path '*/acpiset*' -type d -printf '%P\n' | sorted)" $'usr/share/doc/acpiset\nusr/share/doc/acpiset/docs'
 rm -rf "$scratch/root"
 (umask 077 && with_program install DESTDIR="$scratch/root" PREFIX=/usr)
 same 'modes of what is installed with a umask of 077' "$(find "$scratch/root/usr" -printf '%y %m\n' | sort -u)" $'d 755\nf 644\nf 755'

@@ -523,6 +523,29 @@ else
   left_out 'what an ended make leaves' 'no ps'
 fi
 
+# ---- scripts/library
+
+if has cc; then
+  mkdir -p "$scratch/tree/bindings/c" "$scratch/linked/evil"
+  cp scripts/library scripts/prelude.sh "$scratch/tree/scripts"
+  cp bindings/c/acpiset.map "$scratch/tree/bindings/c"
+  for part in crate heap; do
+    echo "int acpiset_of_$part(void) { return 1; }" | cc -x c -fPIC -c -o "$scratch/linked/$part.o" - && ar rcD "$scratch/linked/$part.a" "$scratch/linked/$part.o"
+  done
+  # linked SETTING..: the checksum of the shared library, which is made with these settings of other programs.
+  linked() { env "$@" "$scratch/tree/scripts/library" "$scratch/linked/crate.a" "$scratch/linked/heap.a" >"$scratch/log" 2>&1 && sha256sum <"$scratch/tree/library/libacpiset.so.1"; }
+  plain=$(linked)
+  same 'scripts/library' "$? ${plain:+made}" '0 made'
+  printf '#!/bin/sh\nexit 9\n' | tee "$scratch/linked/evil/ld" >"$scratch/linked/evil/collect2"
+  chmod +x "$scratch/linked/evil"/*
+  echo 'INPUT(nothing-there)' >"$scratch/linked/evil/libc.so"
+  for name in LD_RUN_PATH LIBRARY_PATH COMPILER_PATH GCC_EXEC_PREFIX GNUTARGET LDEMULATION CCC_OVERRIDE_OPTIONS; do
+    same "scripts/library with the caller's $name" "$(linked "$name=$scratch/linked/evil")" "$plain"
+  done
+else
+  left_out 'scripts/library' 'no cc'
+fi
+
 # ---- scripts/kept
 
 # The command `rt`, as far as it is asked: it has passed each crate and its tests whose file is in a folder.
