@@ -347,7 +347,9 @@ def dumps(cases):
         of_file = cases.run("report", "--format", form, "image.txt")
         cases.same(f"{form} of a file", (of_file.stdout, of_file.returncode), (of_lines.stdout, of_lines.returncode))
     of_file = cases.run("report", "--format", "html", "image.txt").stdout
-    cases.same("an image on standard input", cases.run("report", "--format", "html", "--image", "image.txt", "-", data=text).stdout, of_file)
+    for name in ("-", "/dev/stdin"):
+        run = cases.run("report", "--format", "html", "--image", "image.txt", name, data=text)
+        cases.same(f"an image in a pipe, {name}", (run.stdout, run.stderr), (of_file, b""))
 
 
 def bad_files(cases):
@@ -371,6 +373,8 @@ def bad_files(cases):
     told = "standard input is image text: give its file, or - for standard input, as in report --format html IMAGE"
     cases.refuses(told, "report", "--format", "json", data=text_of(numa_set()), status=3)
     cases.refuses("standard input is no image text", "report", "--format", "html", "-", data=b"\x7fELF" + bytes(60), status=3)
+    told = "/dev/stdin: a dump of memory in a pipe: give it as a file"
+    cases.refuses(told, "report", "--format", "html", "/dev/stdin", data=b"\x7fELF" + bytes(60), status=3)
     for name, data, status, told in (("bad.txt", b"@e0000\nzz\n", 3, "line 2: bad line"), ("none.txt", b"", 1, "no rsdp")):
         cases.write(name, data)
         run = cases.run("report", "--format", "html", name)

@@ -45,3 +45,7 @@ class Settings:
     hotplug: HotPlug = HotPlug.COUNTED
     processors: Processors = Processors.ENABLED
     through: int = 18
+
+    def __post_init__(self) -> None:
+        # What gives its pairs once, as a generator, would be used up by the first call.
+        object.__setattr__(self, "inputs", tuple(self.inputs))

@@ -236,6 +236,12 @@ class Choices(unittest.TestCase):
         ):
             self.assertEqual(line(check(pieces, settings)), said, settings)
 
+    def test_inputs_of_a_generator_count_in_each_call(self):
+        pieces = example().pieces()
+        settings = Settings(RSDP, inputs=(it for it in [(0xFEC00000, 25)]))
+        for _ in range(3):
+            self.assertEqual(line(check(pieces, settings)), "7 GsiClash 0x3c 0x48 0x18")
+
 
 class Threads(unittest.TestCase):
     def test_threads_call_at_the_same_time(self):

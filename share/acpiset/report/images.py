@@ -31,16 +31,23 @@ def of_files(paths, rsdp, folder: str, prefix: str) -> Text:
     if len(paths) > 1:
         refuse_several(paths)
         return made_by("tables2image", paths, rsdp, folder, prefix)
+    name = printable(paths[0])
     with opened(paths[0]) as file:
-        head = file.read(LOOKED_AT)
-        tool = tool_for(head, os.fstat(file.fileno()).st_size)
+        is_pipe = not file.seekable()
+        text = read_all(file.fileno(), name) if is_pipe else b""
+        head = text[:LOOKED_AT] if is_pipe else file.read(LOOKED_AT)
+        tool = tool_for(head, len(text) if is_pipe else os.fstat(file.fileno()).st_size)
         if lines := lines_in(head):
-            raise Refusal(BAD_INPUT, f"{printable(paths[0])}: {lines}: give them on standard input, as in < {printable(paths[0])}")
+            raise Refusal(BAD_INPUT, f"{name}: {lines}: give them on standard input, as in < {name}")
         if change := to_change(head, prefix):
-            raise Refusal(BAD_INPUT, f"{printable(paths[0])}: {change}")
-        if tool is None:
+            raise Refusal(BAD_INPUT, f"{name}: {change}")
+        if tool is None and not is_pipe:
             file.seek(0)
-            return Text(read_all(file.fileno(), printable(paths[0])))
+            text = read_all(file.fileno(), name)
+    if tool is None:
+        return Text(text)
+    if is_pipe:
+        raise Refusal(BAD_INPUT, f"{name}: {WHAT[tool]} in a pipe: give it as a file")
     return made_by(tool, paths, rsdp, folder, prefix)
 
 
