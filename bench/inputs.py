@@ -338,9 +338,14 @@ def with_rsdp(pieces):
     return ((0xE0000, rsdp), *pieces)
 
 
+def bare_text(pieces, form="dense"):
+    """The pieces alone."""
+    return "".join(f"@{address:x}\n{lines(data, form)}" for address, data in pieces)
+
+
 def pieces_text(pieces, form="dense"):
     """An RSDP that names the first piece, and the pieces."""
-    return "".join(f"@{address:x}\n{lines(data, form)}" for address, data in with_rsdp(pieces))
+    return bare_text(with_rsdp(pieces), form)
 
 
 def rows_text(pieces):
@@ -456,6 +461,18 @@ def slots_of_nested_tables(count):
     addresses = range(LISTED_AT, LISTED_AT + 64 * (count // 48), 64)
     pieces = [(LISTED_AT, nested_tables(len(addresses)))]
     return slots_before_kinds(random.Random(1).choices(addresses, k=count), pieces)
+
+
+def signatures_of_two_roots(count):
+    """An XSDT of one slot, and slots of an RSDT that list pieces of 4 bytes, in no order. There is a piece for each 6 slots, with a
+    signature of its own and a hole after it."""
+    signatures = shuffled(count // 6)
+    places = range(LISTED_AT, LISTED_AT + 64 * len(signatures), 64)
+    rsdp = with_checksum(struct.pack("<8sB6sBI", b"RSD PTR ", 0, b"BENCH ", 2, 0x10000000), 8)
+    whole = with_checksum(rsdp + struct.pack("<IQI", 36, 0x1000, 0), 32)
+    roots = [(0x1000, table(b"XSDT", struct.pack("<Q", 0x2000))), (0x10000000, rsdt(random.Random(1).choices(places, k=count)))]
+    pieces = ((place, struct.pack("<I", signature)) for place, signature in zip(places, signatures))
+    return bare_text([(0xE0000, whole), (0x2000, FADT), *roots, *pieces])
 
 
 def spanning(data, shared):
@@ -610,6 +627,7 @@ def slots_of(numbers):
 SHAPES = {
     "slots-of-scattered-tables": slots_of_scattered_tables,
     "slots-of-nested-tables": slots_of_nested_tables,
+    "signatures-of-two-roots": signatures_of_two_roots,
     "shared-entries": shared_entries,
     "shared-processors": lambda count: shared_entries(count, kind=0),
     "resources-among-short-entries": resources_among_short_entries,

@@ -2,12 +2,48 @@
 a bound. A function makes each of about a size: the tool, its arguments, of which a pair is a file with its name and contents, and the
 bytes of standard input."""
 
+import os
 import struct
+import subprocess
+import tempfile
+from pathlib import Path
 
 import sets
+from acpi_images.program import FIRMWARE, TESTS
 from acpi_images.tables import *
 from files import HPET, dump_of
-from memory_dumps import UEFI, core_of
+from memory_dumps import UEFI, core_of, small_set
+
+
+class Hostile:
+    """Such an input, its files in a folder, for a tool that finds this program."""
+
+    def __init__(self, make, size, program):
+        self.tool, words, self.data = make(size)
+        self.name, self.size = f"{self.tool}, {make.__name__}", len(self.data)
+        self.folder = tempfile.TemporaryDirectory()
+        for name, contents in (word for word in words if isinstance(word, tuple)):
+            self.path(name).write_bytes(contents)
+            self.size += len(contents)
+        self.words = [word if isinstance(word, str) else word[0] for word in words]
+        os.symlink(program, self.path("acpiset"))
+        # The order of a set of texts is the same in each run.
+        self.environment = {**os.environ, "PATH": f"{self.folder.name}:{os.environ['PATH']}", "PYTHONHASHSEED": "0"}
+
+    def __enter__(self):
+        return self
+
+    def __exit__(self, *_):
+        self.folder.cleanup()
+
+    def path(self, name):
+        return Path(self.folder.name, name)
+
+    def run(self, *words, of=None):
+        """A run of the tool on the input, or of these words on it, by the program and the arguments before them."""
+        words = [*words, TESTS.parent / "tools" / self.tool, *(self.words if of is None else of)]
+        return subprocess.run(words, input=self.data, capture_output=True, cwd=self.folder.name, timeout=600, env=self.environment)
+
 
 def dumped(text, *words):
     return "acpidump2image", [*words, ("dump.txt", text)], b""
@@ -296,12 +332,43 @@ INPUTS = [
     lines_that_look_for_one_structure, pieces_of_a_byte, words_of_a_line, lines_of_a_verdict, entries_of_show, page_of_entries,
     short_entries_of_show, page_of_short_entries, page_of_distances, page_of_memory, page_of_nodes, page_of_slots, lines_like_none,
 ]
-# The first size at which growth is measured where it is not the usual one: a square shows only with many tables; a larger input is refused.
-FIRST_SIZES = {falling_addresses: 9_500_000, tables_at_each_byte: 125_000}
-# The last size that a tool takes: more tables or lines are refused, and the system refuses more words. Or a larger one than usual, where
-# a tool takes hardly longer for that than to start.
-LAST_SIZES = {
-    tables_without_rows: 1_000_000, short_tables: 2_000_000, short_lines: 4_000_000, twins: 2_000_000, falling_addresses: 38_000_000,
-    tables_at_each_byte: 500_000, two_roots_of_tables: 11_000_000, words_of_a_line: 4_000_000, lines_of_a_verdict: 64_000_000,
-    lines_like_none: 64_000_000,
-}
+
+
+# ---- inputs that have an answer, but are large
+
+
+def pieces_like_an_rsdp(size):
+    """The example, and pieces of 8 bytes that each begin like an RSDP, unsorted."""
+    count = size // 36
+    addresses = (0x100000000 + 16 * (place * 77_773 % count) for place in range(count))
+    example = (FIRMWARE / "example.img.txt").read_bytes()
+    return asked(example + b"".join(b"@%x\n52 53 44 20 50 54 52 20\n" % address for address in addresses), ["yes"])
+
+
+def long_cycle(size):
+    return asked(sets.image_of(sets.long_pptt(size // 60)), [f"no 14 ParentCycle 0x24 0x0 {size // 60:#x}"])
+
+
+def leaf_of_no_processor(size):
+    return asked(sets.image_of(sets.x2apics(size // 48), sets.pptt(sets.node(flags=10))), ["no 18 LeafUnknown 0x24 0x0 0x0"])
+
+
+def dump_of_tables(size, has_addresses=True):
+    """What `acpidump` prints of many tables."""
+    places = [(0x1000000 + 0x40 * place, table(b"SSDT", number(place, 4))) for place in range(size // 250)]
+    root = xsdt(0x7FE0000, *(at for at, _ in places))
+    pieces = [(0xE0000, extended_rsdp(0x8000000, 0)), (0x8000000, root), (0x7FE0000, fadt()), *places]
+    return dumped(dump_of(pieces if has_addresses else [(0, data) for _, data in pieces]))
+
+
+def dump_of_zeros(size):
+    return dump_of_tables(size, has_addresses=False)
+
+
+def rsdp_at_the_end(size):
+    """A dump of memory of at least 2 MiB."""
+    _, whole = small_set()
+    return memory(size, {**whole, size - 36: whole[0xF0010]})
+
+
+LARGE = [pieces_like_an_rsdp, long_cycle, leaf_of_no_processor, dump_of_tables, dump_of_zeros, rsdp_at_the_end]
