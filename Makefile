@@ -85,7 +85,7 @@ library:
 
 # Prints speed and memory beside other programs, and ends with an error if a limit is exceeded; not part of the tests.
 bench: build library
-	bench/run ./acpiset
+	status=0; for mode in '' --worst --lint --tools; do bench/run $$mode ./acpiset || status=1; done; exit $$status
 
 # Compares ./acpiset, or BINARY, with second programs on N random cases; `make test` does it on a few. It prints the seed, which
 # gives the same cases again.

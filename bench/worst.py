@@ -70,6 +70,7 @@ WORST = (
     Shape("slots-of-scattered-tables", 5900000, commands=(*ANSWERED, "show", "rebuild --base 40000000")),
     Shape("slots-of-nested-tables", 6200000, commands=(*ANSWERED, "show")),
     Shape("slots-in-a-bad-order", 8380000, commands=ANSWERED),
+    Shape("signatures-of-two-roots", 6000000),
     Shape("empty-tables", 700000, commands=SHOWN),
     Shape("one-table", 4000000, commands=ANSWERED),
     Shape("nested", 80000, commands=ANSWERED),
@@ -146,21 +147,27 @@ def written_elsewhere(number, divisor, path):
     return subprocess.run(words, stdout=subprocess.PIPE, check=True, text=True).stdout.splitlines()
 
 
-def measured(program, reader, shapes, divisor, scratch):
-    """Runs the commands on the shapes with this part of their entries, each in turn with the plain program on one run of the same
-    size. Both programs are words of a shell."""
-    run, path, counts_of = (os.path.join(scratch, name) for name in ("run.txt", "worst.txt", "counts"))
-    written_elsewhere("run", divisor, run)
+def commands_on(shape, divisor, program, scratch):
+    """The commands on a shape with this part of its entries, each with its name. The program is words of a shell."""
+    path, counts_of = (os.path.join(scratch, name) for name in ("worst.txt", "counts"))
     written_elsewhere("counts", divisor, counts_of)
-    for shape in shapes:
-        for command in written_elsewhere(WORST.index(shape), divisor, path):
-            rsdp = "--rsdp 0" if shape.size else "--rsdp e0000"
-            words = command if command == "find" else f"{command} {rsdp} {shape.options.replace(WITH_COUNTS, '@' + counts_of)}"
-            ours = Program(f"{shape.name} {command}", path, f"{program} {words}")
+    for command in written_elsewhere(WORST.index(shape), divisor, path):
+        rsdp = "--rsdp 0" if shape.size else "--rsdp e0000"
+        words = command if command == "find" else f"{command} {rsdp} {shape.options.replace(WITH_COUNTS, '@' + counts_of)}"
+        yield command.split()[0], Program(f"{shape.name} {command}", path, f"{program} {words}")
+
+
+def measured(program, reader, scratch):
+    """Runs the commands on the shapes, each in turn with the plain program on one run of the same size. Both programs are words of a
+    shell."""
+    run = os.path.join(scratch, "run.txt")
+    written_elsewhere("run", 1, run)
+    for shape in WORST:
+        for command, ours in commands_on(shape, 1, program, scratch):
             model = Program("model", run, f"{reader} --one-run")
             run_in_turn([model, ours])
             took = ours.processor, model.processor, ours.memory
-            yield Measured(shape.name, command.split()[0], *took, ours.size, written_by(ours))
+            yield Measured(shape.name, command, *took, ours.size, written_by(ours))
 
 
 def report(program, reader):
@@ -169,7 +176,7 @@ def report(program, reader):
     print(f"\n{'':<48}{'cpu s':>8}{'model':>8}{'times':>8}{'most':>6}{'MiB':>9}{'/ text':>8}{'MB out':>9}")
     beyond = 0
     with tempfile.TemporaryDirectory() as scratch:
-        for it in measured(shlex.quote(str(program)), shlex.quote(str(reader)), WORST, 1, scratch):
+        for it in measured(shlex.quote(str(program)), shlex.quote(str(reader)), scratch):
             print(it, flush=True)
             beyond += it.is_beyond
     print(f"\n{beyond} beyond their limits")

@@ -4,8 +4,6 @@
 # everything that it started.
 # usage: tests/all.sh PROGRAM TESTS..; TESTS are the crates' tests as they were built (see refused_calls.py).
 #
-# What compares times runs at the end, alone: beside others it would take longer.
-#
 # Instead of the scripts of the folder tests, it runs those of the folder TESTS_FOLDER if that is set, and only those that
 # TESTS_ONLY names, if that is set: this is how it is tested itself.
 set -u
@@ -51,11 +49,10 @@ ran() {
   echo $? >"$log.status"
 }
 
-scripts=(refusals.py lint/run.py rows/many_slots.py recipes.sh fuzz/run.py show/run.py rows/texts.py lint/second.py program.sh valgrind.sh explain/run.py tools/run.py tools/pythons.sh tools/fuzz.py install.sh package.sh refused_calls.py rebuild/run.py rows/confirm.py documents.sh rows/run.py rows/words.py rows/hints.py rows/examples.py scripts.sh scratch.sh)
-timed=(tools/growth.py limits.py lint/large.py)
+scripts=(tools/growth.py lint/large.py limits.py refusals.py lint/run.py rows/many_slots.py recipes.sh fuzz/run.py show/run.py rows/texts.py lint/second.py program.sh valgrind.sh explain/run.py tools/run.py tools/pythons.sh tools/fuzz.py install.sh package.sh refused_calls.py rebuild/run.py rows/confirm.py documents.sh rows/run.py rows/words.py rows/hints.py rows/examples.py scripts.sh scratch.sh)
 # The library is tested if `make library` has left it.
 [ ! -e library/libacpiset.a ] || scripts=(library/run.py library/rust.sh library/python.sh "${scripts[@]}")
-[ -z "${TESTS_ONLY-}" ] || { read -ra scripts <<<"$TESTS_ONLY" && timed=(); }
+[ -z "${TESTS_ONLY-}" ] || read -ra scripts <<<"$TESTS_ONLY"
 [ ${#scripts[@]} != 0 ] || { echo 'tests/all.sh: TESTS_ONLY names no script' >&2; exit 1; }
 for script in "${scripts[@]}"; do
   while [ "$(jobs -rp | wc -l)" -ge "$(nproc)" ]; do wait -n; done
@@ -68,13 +65,8 @@ for script in "${scripts[@]}"; do
   esac
 done
 wait
-for script in "${timed[@]}"; do
-  ran "$script" "$program" &
-  wait
-done
 
 failed=()
-scripts+=("${timed[@]}")
 for script in "${scripts[@]}"; do
   log="$scratch/${script//\//-}"
   printf '== tests/%s\n' "$script"

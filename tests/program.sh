@@ -409,10 +409,10 @@ refuses "--rsdp '$long': $hex" check --rsdp "$long"
 refuses "--rsdp '$long...': $hex" check --rsdp "${long}a"
 refuses "unrecognized subcommand '$long...'" "$long$long"
 
-# ---- many arguments counts NAME STATUS STDOUT FIRST_LINE WORDS..: checks the smallest set with many words ADDRESS=COUNT. It has
-# 20 seconds, and needs less than one.
+# ---- many arguments counts NAME STATUS STDOUT FIRST_LINE WORDS..: checks the smallest set with many words ADDRESS=COUNT. A run
+# that does not end is ended.
 counts() {
-  local program=(timeout 20 "$program")
+  local program=(timeout 600 "$program")
   told "$2" "$smallest" check --rsdp e0000 --through 3 "${@:5}"
   [ "$(cat "$scratch/out")" = "$3" ] || wrong="$wrong; standard output $(cat "$scratch/out")"
   [ "$(head -n 1 "$scratch/err")" = "$4" ] || wrong="$wrong; standard error $(head -n 1 "$scratch/err")"

@@ -28,14 +28,13 @@ sys.path.insert(0, str(HERE))
 from acpi_images.advice import linted
 from acpi_images.known.linted import EXPECTED
 from acpi_images.known.rows import COMPLETE, OVERLAP, ROWS, SMALLEST
-from acpi_images.program import UNREADABLE, Cases, finish, firmware_text
+from acpi_images.program import SECONDS, UNREADABLE, Cases, finish, firmware_text
 from acpi_images.rebuilt import rebuilt
 from acpi_images.shown import shown
 from acpi_images.tables import *
 from acpi_images.text import LONGEST_LINE, LONGEST_TEXT, read, text_of
 from preloaded import build_object, numbers
 
-SECONDS = 60
 OUT_OF_MEMORY = (4, "", "acpiset: out of memory\n")
 NO_FADT = "4 NoFadt 0x0 0x0 0x0"
 

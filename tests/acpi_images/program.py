@@ -1,6 +1,5 @@
 """Runs the built program, counts the cases, and has the images of real firmware."""
 
-import resource
 import subprocess
 import sys
 from concurrent.futures import ThreadPoolExecutor
@@ -61,29 +60,15 @@ def refusal(line):
     return 3, "", f"acpiset: {line}\n"
 
 
-def timed(call):
-    """What a call returns, and the processor time in seconds of the programs that it ran."""
-    before = resource.getrusage(resource.RUSAGE_CHILDREN)
-    returned = call()
-    after = resource.getrusage(resource.RUSAGE_CHILDREN)
-    return returned, after.ru_utime + after.ru_stime - before.ru_utime - before.ru_stime
-
-
-# Of so many runs the fastest counts: what else a machine does makes a run slower, never faster.
-RUNS = 5
-
-
-def fastest(*calls, runs=RUNS):
-    """The processor time in seconds of each of these calls, which return that, in the fastest of its runs. They are made in turn, so that
-    what makes a machine slower for a while slows all of them alike."""
-    return [min(seconds) for seconds in zip(*([call() for call in calls] for _ in range(runs)))]
+# After so many seconds a run counts as one that does not end: far more than any takes on a busy machine.
+SECONDS = 600
 
 
 class Cases:
     """Runs the program, counts the cases, and tells what failed."""
 
-    def __init__(self, program, seconds=60):
-        self.program, self.seconds = program, seconds
+    def __init__(self, program):
+        self.program = program
         self.passed = self.failed = 0
 
     def count(self, name, wrong):
@@ -100,7 +85,7 @@ class Cases:
     def run(self, words, pieces, **how):
         """The program's status, standard output and standard error, for pieces or a text on its standard input."""
         words = [self.program, *(words.split() if isinstance(words, str) else words)]
-        run = subprocess.run(words, input=text_of(pieces), capture_output=True, timeout=self.seconds, **how)
+        run = subprocess.run(words, input=text_of(pieces), capture_output=True, timeout=SECONDS, **how)
         return run.returncode, run.stdout.decode(), run.stderr.decode()
 
     def writes(self, name, words, pieces, expected, status=None):
@@ -117,11 +102,11 @@ class Cases:
                     self.count(name, wrong)
 
 
-def main(title, *parts, **how):
+def main(title, *parts):
     """Runs the parts of a test on the program that the command line names, prints how many cases passed, and ends."""
     if len(sys.argv) != 2:
         sys.exit(f"usage: {sys.argv[0]} PROGRAM")
-    cases = Cases(sys.argv[1], **how)
+    cases = Cases(sys.argv[1])
     for part in parts:
         part(cases)
     finish(title, cases)

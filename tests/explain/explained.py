@@ -41,7 +41,7 @@ class Tests(Cases):
         kept.setdefault("stdout", subprocess.PIPE)
         environment = {**os.environ, "PATH": self.path}
         text = text if isinstance(text, bytes) else (text + "\n").encode()
-        return subprocess.run([tool or self.tool, *words], input=text, stderr=subprocess.PIPE, env=environment, timeout=300, **kept)
+        return subprocess.run([tool or self.tool, *words], input=text, stderr=subprocess.PIPE, env=environment, timeout=600, **kept)
 
     def says(self, line, texts, image=None, *words, without=(), tool=None):
         """Of this line explain says these texts, each a whole line or a part of one that begins with .., and none of others."""

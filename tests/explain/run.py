@@ -125,7 +125,7 @@ def terminal(tests):
     """On a terminal it says what it waits for."""
     master, slave = os.openpty()
     os.write(master, b"yes\n\x04")
-    run = subprocess.run([tests.tool], stdin=slave, capture_output=True, timeout=60)
+    run = subprocess.run([tests.tool], stdin=slave, capture_output=True, timeout=600)
     is_told = b"reading lines of acpiset from the terminal, up to Ctrl-D; usual is acpiset check < IMAGE | explain IMAGE\n" in run.stderr
     tests.count("a terminal", "" if is_told and run.returncode == 0 and run.stdout.startswith(b"yes\n") else f"{run}")
     os.close(master)

@@ -21,14 +21,13 @@ sys.path.insert(0, str(Path(__file__).resolve().parents[1]))
 from acpi_images.advice import RULES, lint_lines, lint_status, without_rules
 from acpi_images.faults import STAGE_OF, Judgement
 from acpi_images.generated.cases import asked, changed_case, made_case
-from acpi_images.program import Cases, answer, finish, hinted, refusal
+from acpi_images.program import SECONDS, Cases, answer, finish, hinted, refusal
 from acpi_images.rebuilt import NotRebuilt, rebuilt
 from acpi_images.shown import shown
 from acpi_images.table_set import find_rsdp
 from acpi_images.text import Refused, read
 
 SEED, CASES = 1, 800
-SECONDS = 60
 # Of a text of this many bytes only the first runs are compared, as each takes as long as some hundred others.
 LONG_TEXT, RUNS_OF_LONG_TEXT = 1 << 20, 2
 

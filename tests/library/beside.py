@@ -33,7 +33,7 @@ def answered(program, job):
     """The job with the program's answer."""
     if job.lines is not None:
         return job
-    ended = subprocess.run([program, *job.words], input=job.text, capture_output=True, timeout=60)
+    ended = subprocess.run([program, *job.words], input=job.text, capture_output=True, timeout=600)
     # A hint may come after the refusal's line.
     told = ended.stdout.decode() or ended.stderr.decode().removeprefix("acpiset: ").partition("acpiset: hint: ")[0]
     if job.words[0] == "rebuild" and ended.returncode == 0:

@@ -8,10 +8,11 @@ import subprocess
 from dataclasses import dataclass
 from pathlib import Path
 
+from acpi_images.program import SECONDS
+
 HERE = Path(__file__).resolve().parent
 TOP = HERE.parent.parent
 HEADER = TOP / "bindings" / "c" / "acpiset.h"
-SECONDS = 300
 STRICT = ["-Wall", "-Wextra", "-pedantic", "-Werror"]
 COUNTED = ["-Wl,--wrap=malloc,--wrap=realloc,--wrap=free"]
 SANITIZERS = ["-fsanitize=address,undefined", "-fno-sanitize-recover=all", "-fno-omit-frame-pointer"]
@@ -108,7 +109,7 @@ def works_with(command, options, scratch):
     source, program = scratch / "nothing.c", scratch / "nothing"
     source.write_text("int main(void) { return 0; }\n")
     built = subprocess.run([*command, *options, source, "-o", program], capture_output=True, timeout=SECONDS)
-    return built.returncode == 0 and subprocess.run([program], capture_output=True, timeout=60).returncode == 0
+    return built.returncode == 0 and subprocess.run([program], capture_output=True, timeout=600).returncode == 0
 
 
 def builds_of(folder, scratch):
@@ -138,7 +139,7 @@ COMPILERS = {"c": ("cc", "gcc", "clang"), "c++": ("c++", "g++", "clang++")}
 
 
 def knows(compiler, language, standard):
-    run = subprocess.run([compiler, "-x", language, f"-std={standard}", "-fsyntax-only", "-"], input=b"", capture_output=True, timeout=60)
+    run = subprocess.run([compiler, "-x", language, f"-std={standard}", "-fsyntax-only", "-"], input=b"", capture_output=True, timeout=600)
     return run.returncode == 0
 
 
@@ -153,5 +154,5 @@ def syntaxes():
 
 def refused_by(command, source, include):
     """What a compiler says of a source with the header in this folder."""
-    run = subprocess.run([*command, f"-I{include}", source], capture_output=True, text=True, timeout=60)
+    run = subprocess.run([*command, f"-I{include}", source], capture_output=True, text=True, timeout=600)
     return "" if run.returncode == 0 else run.stdout + run.stderr or f"status {run.returncode}"

@@ -3,9 +3,9 @@
 many slots, unsorted, that list tables each in its own segment of the image. A rule that gave up on this many would be out of memory by
 its contract, and one that looked through all of them for each one would not end, so only these sets show it.
 
-usage: large.py PROGRAM; the last line is 'lint of large sets: N passed, M failed'. It also compares the times of both commands, so
-tests/all.sh runs this alone."""
+usage: large.py PROGRAM; the last line is 'lint of large sets: N passed, M failed'. `bench/run --lint` measures the time of both."""
 
+import itertools
 import random
 import struct
 import sys
@@ -13,7 +13,7 @@ from pathlib import Path
 
 sys.path.insert(0, str(Path(__file__).resolve().parents[1]))
 
-from acpi_images.program import fastest, main, timed
+from acpi_images.program import main
 from acpi_images.tables import *
 from acpi_images.text import text_of
 
@@ -231,39 +231,18 @@ OF_ENTRIES = (
 )
 
 
-def large_sets():
-    """The name of each set, the tables beside its FADT, its lines, and whether it is the first of its kind, on which `check` is run too."""
+def many_entries():
+    """The name and text of each set, its lines, and whether it is the first of its kind, on which `check` is run too."""
     for made in OF_ENTRIES:
         for place, (name, tables, lines) in enumerate(made()):
             tables = tables if isinstance(tables, tuple) else (tables,)
-            yield f"{made.__name__}, {name}", tables, lines, place == 0
-
-
-def written(cases, name, words, text, lines):
-    """A call that compares what a command writes, and returns its processor time."""
-    return lambda: timed(lambda: cases.writes(name, words, text, lines))[1]
-
-
-# `lint` of many entries may take this many times the processor time of `check` of the first set of its kind, and this many seconds more.
-TIMES_OF_ENTRIES, MORE_OF_ENTRIES = 4, 0.1
-
-
-def many_entries(cases):
-    for name, tables, lines, is_first in large_sets():
-        text = text_with(*tables)
-        if is_first:
-            check = written(cases, f"check on many entries, {name}", "check", text, lines[:1])
-        checked, linted = fastest(check, written(cases, f"lint on many entries, {name}", "lint", text, lines))
-        slow = linted > TIMES_OF_ENTRIES * checked + MORE_OF_ENTRIES
-        cases.count(f"time with many entries, {name}", f"{linted} seconds, and check {checked}" if slow else "")
+            yield f"{made.__name__}, {name}", text_with(*tables), lines, place == 0
 
 
 # ---- slots
 
 SLOTS, TABLES = 400_000, 20_000
 ROOT_AT, RSDT_AT_TOO, FIRST_AT, APART = 0x60000000, 0x68000000, 0x20000000, 64
-# `lint` may take this many times the processor time of `check`, and this many seconds more.
-TIMES, MORE = 2, 0.05
 
 
 def listed_in_no_order():
@@ -277,36 +256,29 @@ def listed_in_no_order():
     return pieces, advised(f"ListedTwice {at:#x} {first[slots[at]]:#x} {slots[at]:#x}"), slots
 
 
-def many_slots(cases):
-    pieces, lines, _ = listed_in_no_order()
-    text = text_of(pieces)
-    checked, linted = fastest(
-        written(cases, f"check on {SLOTS} slots", "check --rsdp e0000", text, lines[:1]),
-        written(cases, f"lint on {SLOTS} slots", "lint --rsdp e0000", text, lines),
-    )
-    slow = linted > TIMES * checked + MORE
-    cases.count(f"time with {SLOTS} slots", f"{linted} seconds, and check {checked}" if slow else "")
-
-
-def two_roots():
-    """An XSDT and an RSDT that list the same in other orders, the second one with a table once more; and tables that overlap."""
+def many_slots():
+    """The same of many slots: of a root; of an XSDT and an RSDT that list the same in other orders, the second one with a table once more;
+    and of tables that overlap."""
     pieces, lines, slots = listed_in_no_order()
+    yield "slots, one root", text_of(pieces), lines, True
     shuffled = random.Random(2).sample(slots, len(slots))
     pieces.update({RSDP_AT: extended_rsdp(ROOT_AT, RSDT_AT_TOO), ROOT_AT: xsdt(*slots), RSDT_AT_TOO: rsdt(*shuffled)})
-    yield "two roots", pieces, lines
+    yield "slots, two roots", text_of(pieces), lines, False
     differs = advised("RsdtDiffers 0x10 0x0 0x50434146")[1:]
-    yield "two roots that differ", {**pieces, RSDT_AT_TOO: rsdt(*shuffled, TABLES_AT)}, [*lines, *differs]
+    yield "slots, two roots that differ", text_of({**pieces, RSDT_AT_TOO: rsdt(*shuffled, TABLES_AT)}), [*lines, *differs], False
     last = FIRST_AT + APART * (TABLES - 1)
     inner = {last: table(b"DATA", table(b"DATA", bytes(20)))}
     overlap = advised(f"TablesOverlap {last:#x} {last + 36:#x} {last + 36:#x}")[1:]
     roots = {ROOT_AT: xsdt(*slots, last, last + 36), RSDT_AT_TOO: rsdt(*shuffled, last + 36, last)}
-    yield "tables that overlap", {**pieces, **inner, **roots}, [*lines, *overlap]
+    yield "slots, tables that overlap", text_of({**pieces, **inner, **roots}), [*lines, *overlap], False
 
 
-def many_slots_of_two_roots(cases):
-    for name, pieces, lines in two_roots():
-        cases.writes(f"lint on {SLOTS} slots, {name}", "lint --rsdp e0000", text_of(pieces), lines)
+def large(cases):
+    for name, text, lines, is_first in itertools.chain(many_entries(), many_slots()):
+        if is_first:
+            cases.writes(f"check, {name}", "check --rsdp e0000", text, lines[:1])
+        cases.writes(f"lint, {name}", "lint --rsdp e0000", text, lines)
 
 
 if __name__ == "__main__":
-    main("lint of large sets", many_entries, many_slots, many_slots_of_two_roots)
+    main("lint of large sets", large)

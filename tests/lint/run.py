@@ -123,7 +123,7 @@ def refused(cases):
     for text, complaint in NO_IMAGE.items():
         cases.same(complaint, cases.run("lint", text), refusal(complaint))
     with open("/dev/full", "wb") as full:
-        run = subprocess.run([cases.program, "lint"], input=clean, stdout=full, stderr=subprocess.PIPE, timeout=60)
+        run = subprocess.run([cases.program, "lint"], input=clean, stdout=full, stderr=subprocess.PIPE, timeout=600)
     cases.same("a full device", (run.returncode, run.stderr), (4, b"acpiset: device\n"))
 
 

@@ -1,5 +1,5 @@
 #!/usr/bin/env python3
-"""Has the built program confirm faults, those of known/confirmed.py of tests/acpi_images, and then some of long chains, by time too.
+"""Has the built program confirm faults, those of known/confirmed.py of tests/acpi_images, and then some of long chains.
 
 usage: confirm.py PROGRAM; the last line is 'confirm: N passed, M failed'."""
 
@@ -11,7 +11,7 @@ sys.path.insert(0, str(Path(__file__).resolve().parents[1]))
 from acpi_images.faults import Fault
 from acpi_images.generated.chains import long_chains
 from acpi_images.known.confirmed import ALSO, all_questions
-from acpi_images.program import answer, main, timed
+from acpi_images.program import answer, main
 from acpi_images.tables import *
 from acpi_images.text import text_of
 
@@ -35,22 +35,13 @@ def confirmed(cases):
 # ---- long chains
 
 
-# A long chain may take this many times the time of reading its text, and this much more.
-TIMES, MORE = 8, 0.1
-
-
 def on_a_chain(cases, name, body, fault, numbers):
-    """The answers to the witness and to two that are one step off, and their time beside that of reading the text."""
+    """The answers to the witness and to two that are one step off."""
     text = text_of(listed(others={0x100000: pptt(body)}, slots=[TABLES_AT, 0x100000]))
-    ask = lambda *words: timed(lambda: cases.run([*words, "--rsdp", "e0000"], text))
-    read = min(ask("check", "--through", "3")[1] for _ in range(2))
     at, lead, around = numbers
     for asked, due in ((numbers, "true"), ((at, lead, around - 1), "false"), ((at + 2, lead, around), "false")):
         witness = str(Fault(fault, *asked))
-        told, took = ask("confirm", "--witness", witness)
-        cases.same(f"{name}: {witness}", told, answer(due))
-        is_slow = took > TIMES * read + MORE
-        cases.count(f"{name}: {witness}", f"it took {took:.2f} s, where reading took {read:.2f} s" if is_slow else "")
+        cases.same(f"{name}: {witness}", cases.run(["confirm", "--witness", witness, "--rsdp", "e0000"], text), answer(due))
 
 
 def on_long_chains(cases):

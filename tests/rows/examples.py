@@ -44,7 +44,7 @@ def unexplained(program, line, text):
             file.write(text)
         words = [f"{TOP}/tools/explain", "--rsdp", "e0000", file.name]
         environment = {**os.environ, "PATH": f"{folder}:{os.environ['PATH']}"}
-        run = subprocess.run(words, input=line.encode(), capture_output=True, timeout=60, env=environment)
+        run = subprocess.run(words, input=line.encode(), capture_output=True, timeout=600, env=environment)
     _, _, found = run.stdout.decode().partition("In the image:")
     is_found = run.returncode == 0 and not run.stderr and re.search(r"0x[0-9a-f]+ |the slots list", found)
     is_asked = "(acpiset " not in found

@@ -80,7 +80,7 @@ def refused(cases):
 
 
 def run(cases, words, data):
-    told = subprocess.run([cases.program, *words], input=data, capture_output=True, timeout=60)
+    told = subprocess.run([cases.program, *words], input=data, capture_output=True, timeout=600)
     return told.returncode, told.stdout.decode(), told.stderr.decode()
 
 
@@ -91,7 +91,7 @@ def in_pieces(cases):
         run.stdin.write(bytes([byte]))
         run.stdin.flush()
         time.sleep(0.005)
-    out, err = run.communicate(timeout=60)
+    out, err = run.communicate(timeout=600)
     cases.same("a raw MADT, byte by byte", (run.returncode, out, err.decode()), (3, b"", f"acpiset: {BAD}\n{TABLE}"))
 
 
@@ -106,12 +106,12 @@ def failed(cases):
     folder = os.open(FIRMWARE, os.O_RDONLY)
     full = os.open("/dev/full", os.O_WRONLY)
     for words in COMMANDS:
-        told = subprocess.run([cases.program, *words], stdin=folder, capture_output=True, timeout=60)
+        told = subprocess.run([cases.program, *words], stdin=folder, capture_output=True, timeout=600)
         cases.same(f"a folder, {words[0]}", (told.returncode, told.stdout, told.stderr.decode()), (4, b"", f"acpiset: device\n{UNREADABLE}"))
-        told = subprocess.run([cases.program, *words], input=text_of({}), stdout=full, stderr=subprocess.PIPE, timeout=60)
+        told = subprocess.run([cases.program, *words], input=text_of({}), stdout=full, stderr=subprocess.PIPE, timeout=600)
         cases.same(f"a full device, {words[0]}", (told.returncode, told.stderr), (4, b"acpiset: device\n"))
     for words in (["help"], ["version"], ["--help"], ["chek"]):
-        told = subprocess.run([cases.program, *words], stdin=folder, capture_output=True, timeout=60)
+        told = subprocess.run([cases.program, *words], stdin=folder, capture_output=True, timeout=600)
         cases.count(f"a folder, {words[0]}", "hint:" in told.stderr.decode() and told.stderr.decode())
     os.close(folder)
     os.close(full)

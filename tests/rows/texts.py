@@ -2,8 +2,7 @@
 """Runs the built program on texts that come in pieces, on rows as long as a line may be, and on large texts whose rows come in any
 order.
 
-usage: texts.py PROGRAM; the last line is 'texts: N passed, M failed'. Each run has 30 seconds: far more than a reader
-needs that looks at each row once, and far less than one that goes over all rows for each."""
+usage: texts.py PROGRAM; the last line is 'texts: N passed, M failed'."""
 
 import os
 import random
@@ -14,13 +13,12 @@ from pathlib import Path
 
 sys.path.insert(0, str(Path(__file__).resolve().parents[1]))
 
-from acpi_images.program import answer, main, refusal
+from acpi_images.program import SECONDS, answer, main, refusal
 from acpi_images.tables import RSDP_AT, RSDT_AT, changed, rsdp, rsdt, summed, table
 from acpi_images.text import text_of
 
 WORDS = "check --rsdp e0000 --through 3"
 TABLES_AT = 0x100000
-SECONDS = 30
 
 
 def told_in_pieces(cases, pieces):
@@ -186,4 +184,4 @@ def sums(cases):
         is_told(cases, name, front(listed) + text_of({TABLES_AT: data}, width=16_384, blank=""), expected)
 
 
-main("texts", in_pieces, long_rows, in_order, many_pieces, sums, seconds=SECONDS)
+main("texts", in_pieces, long_rows, in_order, many_pieces, sums)

@@ -14,11 +14,10 @@ from pathlib import Path
 
 sys.path.insert(0, str(Path(__file__).resolve().parents[1]))
 
-from acpi_images.program import main
+from acpi_images.program import SECONDS, main
 from acpi_images.tables import *
 from acpi_images.text import text_of
 
-SECONDS = 20
 
 # ---- the address of the RSDP, and the last stage
 LAST_FAULT = "no 18 LeafUnknown 0x24 0x0 0x7"

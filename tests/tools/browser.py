@@ -9,7 +9,7 @@ import subprocess
 
 NAMES = ("chromium", "chromium-browser", "google-chrome")
 WIDTH = 1080
-SECONDS = 300
+SECONDS = 600
 # Each page is in a frame of this one, which writes what is wrong with it into its own text. A text of a picture has to be inside the
 # picture, beside all other texts, and inside the last box before it of its group, which is none of the squares that say how far a table
 # is checked. No page is wider than its frame.
@@ -71,7 +71,7 @@ class Browser:
         path = os.path.join(self.folder, "frames.html")
         with open(path, "w", encoding="utf-8") as file:
             file.write(f'<!DOCTYPE html><meta charset="utf-8"><title>pages</title><body>{frames}<script>{SCRIPT}</script></body>')
-        words = ["--headless", "--no-sandbox", "--disable-gpu", "--enable-logging=stderr", "--timeout=120000", "--dump-dom", f"file://{path}"]
+        words = ["--headless", "--no-sandbox", "--disable-gpu", "--enable-logging=stderr", "--timeout=600000", "--dump-dom", f"file://{path}"]
         words.append(f"--user-data-dir={os.path.join(self.folder, 'browser')}")
         run = subprocess.run([self.path, *words], capture_output=True, timeout=SECONDS, check=False)
         console = re.findall(r".*CONSOLE.*", run.stderr.decode("utf-8", "replace"))

@@ -52,7 +52,7 @@ def without_addresses(cases):
     cases.write("foreign.log", b"ACPI: FACP 0x00000000BFFE1234 0000F4 (v03 ..)\n")
     cases.makes("left out: the image has a root table of its own", "yes", "acpidump2image", "--dmesg", "foreign.log", data=dump_of(COMPLETE))
     shutil.copy(os.path.join(TOP, "tools", "acpidump2image"), cases.path("alone"))
-    run = subprocess.run([cases.path("alone"), "whole.txt"], capture_output=True, cwd=cases.folder, timeout=60)
+    run = subprocess.run([cases.path("alone"), "whole.txt"], capture_output=True, cwd=cases.folder, timeout=600)
     told = b"alone: tables2image is not beside this tool: copy both\n"
     cases.count("acpidump2image alone", (run.returncode, run.stdout, run.stderr) != (4, b"", told) and f"{run}")
 

@@ -378,7 +378,7 @@ def of_a_shrinking_dump(cases):
         cases.write("shrinking", data)
         words = [sys.executable, "-c", SHRINKING, "shrinking", os.path.dirname(folder)]
         environment = {**os.environ, "PYTHONPATH": folder}
-        run = subprocess.run(words, capture_output=True, cwd=cases.folder, timeout=60, env=environment)
+        run = subprocess.run(words, capture_output=True, cwd=cases.folder, timeout=600, env=environment)
         told = b"shrinking: the file has shrunk while it was read\n"
         cases.count(f"a {name} that shrinks", (run.returncode, run.stdout) != (4, b"") and f"status {run.returncode}", told not in run.stderr and run.stderr.decode())
 

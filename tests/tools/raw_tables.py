@@ -198,7 +198,7 @@ def installed(cases):
     shutil.copy(os.path.join(TOP, "docs", "FAULTS.md"), cases.path("prefix/share/acpiset"))
     for tool, data, told in CALLED:
         words = [sys.executable, cases.path(f"prefix/bin/acpiset-{tool}"), data]
-        run = subprocess.run(words, input=b"yes\n", capture_output=True, cwd=cases.folder, timeout=60)
+        run = subprocess.run(words, input=b"yes\n", capture_output=True, cwd=cases.folder, timeout=600)
         cases.count(f"acpiset-{tool} {data}", run.returncode != 1 and f"{run}", told.encode() not in run.stderr and f"{run}")
 
 

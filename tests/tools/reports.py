@@ -237,7 +237,7 @@ def prove(cases):
     for lines, words, status in ((f"yes\n{LISTED}\n", [], 0), (f"yes\n{LISTED}\n", ["--strict"], 1), (f"{OVERLAP}\n", [], 1), ("", [], 1), ("yes\n", [], 0)):
         run = cases.run("report", "--format", "tap", *words, data=lines.encode())
         cases.write("report.tap", run.stdout)
-        told = subprocess.run(["prove", "report.tap"], capture_output=True, cwd=cases.folder, timeout=60)
+        told = subprocess.run(["prove", "report.tap"], capture_output=True, cwd=cases.folder, timeout=600)
         cases.count(f"prove of {lines!r} {words}", (told.returncode != 0) != status and f"{told}")
 
 
@@ -245,7 +245,7 @@ def beside_no_document(cases):
     """The tool alone, without FAULTS.md."""
     shutil.copy(os.path.join(TOP, "tools", "report"), cases.path("alone"))
     for form in FORMATS:
-        run = subprocess.run([sys.executable, cases.path("alone"), "--format", form], input=f"{OVERLAP}\n{LISTED}\n".encode(), capture_output=True, timeout=60)
+        run = subprocess.run([sys.executable, cases.path("alone"), "--format", form], input=f"{OVERLAP}\n{LISTED}\n".encode(), capture_output=True, timeout=600)
         told = read(form, run.stdout.decode())
         cases.count(f"{form} without FAULTS.md", run.returncode != 1 and f"{run}", isinstance(told, str) and told, len(told["findings"] if form == "json" else told) != 2 and f"{told}")
 

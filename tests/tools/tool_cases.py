@@ -18,7 +18,7 @@ class ToolCases(Cases):
     """Counts cases. The folder is where tools run, and where files of cases are."""
 
     def __init__(self, program, folder):
-        super().__init__(program, seconds=300)
+        super().__init__(program)
         self.folder = folder
 
     def put_on_path(self):
@@ -43,7 +43,7 @@ class ToolCases(Cases):
     def run(self, tool, *arguments, data=b"", **options):
         """A tool's run, with this many bytes on standard input."""
         words = [sys.executable, os.path.join(TOP, "tools", tool), *arguments]
-        return subprocess.run(words, input=data, capture_output=True, cwd=self.folder, timeout=300, **options)
+        return subprocess.run(words, input=data, capture_output=True, cwd=self.folder, timeout=600, **options)
 
     def answer(self, words, text):
         """What the program says of an image: its status and its line or lines."""

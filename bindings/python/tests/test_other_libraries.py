@@ -21,7 +21,7 @@ def told_by(program, arguments=(), **environment):
     """What a program in Python prints with these arguments and variables, and what it says on standard error."""
     path = os.pathsep.join([str(HERE.parent), str(HERE)])
     variables = {**{name: value for name, value in os.environ.items() if name != "ACPISET_LIBRARY"}, "PYTHONPATH": path, **environment}
-    ended = subprocess.run([sys.executable, "-c", program, *arguments], capture_output=True, text=True, timeout=60, env=variables)
+    ended = subprocess.run([sys.executable, "-c", program, *arguments], capture_output=True, text=True, timeout=600, env=variables)
     return ended.stdout, ended.stderr
 
 
@@ -63,7 +63,7 @@ class LaterLibraries(unittest.TestCase):
         for version in (1, 2):
             (cls.folder / str(version)).mkdir()
             words = ["-shared", "-fPIC", f"-DVERSION={version}", "-I", BINDINGS / "c", LATER]
-            subprocess.run([COMPILER, *words, "-o", cls.folder / str(version) / "libacpiset.so.1"], check=True, timeout=60)
+            subprocess.run([COMPILER, *words, "-o", cls.folder / str(version) / "libacpiset.so.1"], check=True, timeout=600)
 
     def told_by(self, program, version):
         return told_by(program, ACPISET_LIBRARY=str(self.folder / str(version)))

@@ -161,7 +161,7 @@ class OfMemory(unittest.TestCase):
     def test_a_process_with_little_memory(self):
         if resource.getrlimit(resource.RLIMIT_AS)[1] != resource.RLIM_INFINITY:
             self.skipTest("the memory of this process is limited")
-        ended = subprocess.run([sys.executable, "-c", LIMITED], capture_output=True, text=True, timeout=60)
+        ended = subprocess.run([sys.executable, "-c", LIMITED], capture_output=True, text=True, timeout=600)
         told = "out of memory\nout of memory\n1 RsdpSignature 0x0 0x0 0x0\n"
         self.assertEqual((ended.stdout, ended.stderr), (told, ""))
 

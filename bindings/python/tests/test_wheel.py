@@ -26,7 +26,7 @@ def built(hook, target, folder=FOLDER):
     """The file that a hook of the build backend writes into a folder, as a front end runs it: in the folder of the sources."""
     program = f"import sys; sys.path.insert(0, 'backend'); import wheel_builder; print(wheel_builder.{hook}(sys.argv[1]))"
     environment = {**os.environ, "PYTHONDONTWRITEBYTECODE": "1"}
-    ended = subprocess.run([sys.executable, "-c", program, target], cwd=folder, capture_output=True, text=True, timeout=60, env=environment)
+    ended = subprocess.run([sys.executable, "-c", program, target], cwd=folder, capture_output=True, text=True, timeout=600, env=environment)
     assert ended.returncode == 0, ended.stderr
     return Path(target, ended.stdout.strip())
 
@@ -98,12 +98,12 @@ class Wheel(unittest.TestCase):
     @unittest.skipUnless(HAS_PIP, "no pip")
     def test_pip_installs_the_folder_without_the_network(self):
         place = self.scratch / "environment"
-        subprocess.run([sys.executable, "-m", "venv", place], check=True, capture_output=True, timeout=120)
+        subprocess.run([sys.executable, "-m", "venv", place], check=True, capture_output=True, timeout=600)
         variables = {name: value for name, value in os.environ.items() if not name.startswith(("PIP_", "PYTHON"))}
         variables["PYTHONDONTWRITEBYTECODE"] = "1"
 
         def run(*words):
-            ended = subprocess.run(words, cwd=self.scratch, capture_output=True, text=True, timeout=120, env=variables)
+            ended = subprocess.run(words, cwd=self.scratch, capture_output=True, text=True, timeout=600, env=variables)
             self.assertEqual(ended.returncode, 0, ended.stderr)
             return ended.stdout
 
