@@ -252,6 +252,10 @@ fi
 minutes=$(tr '\n' ' ' <CONTRIBUTING.md | sed -n 's/.*clean `make run` took \([0-9]*\) minutes.*`make test` after it \([0-9]*\).*/\1 and \2 minutes/p')
 count 'minutes of make run and make test that README does not name' "$(grep -qF "${minutes:-none}" README.md || echo "$minutes")"
 
+# A busy machine fails no test: what takes how long is measured by `make bench`. To wait for something until some time is no comparison.
+clocks='(perf_counter|monotonic|process_time|thread_time|time\.time)(_ns)?\(|ru_[us]time|os\.times|EPOCHREALTIME|date .*\+%s|\$\{?SECONDS|(^|[;&({]) *time [-a-z"$]'
+count 'scripts of the tests that read a clock' "$(grep -rnE "$clocks" tests --include='*.py' --include='*.sh' | grep -v 'until\|clocks=')"
+
 count 'commands on images of the repository, and not on those of IMAGES' "$(grep -nE '(<|\$SOURCE/) *tests/images|SOURCE/tests' README.md docs/*.md)"
 count 'links that lead nowhere' "$(tests/links.py 2>&1)"
 count 'lines of README beyond 150' "$(tail -n +151 README.md)"
