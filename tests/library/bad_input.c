@@ -345,6 +345,45 @@ static void pieces(void) {
     }
 }
 
+/* Each call on the first pieces, of which the last or a later one is refused. */
+static void expect_refused(const struct acpiset_piece *pieces, size_t count, struct acpiset_answer wanted, const char *name) {
+    struct request request = request_of_set();
+    request.pieces = pieces;
+    request.pieces_count = count;
+    for (int call = CHECK; call <= FIND; call++)
+        if (call != CHECK_TEXT)
+            expect(ask((enum call)call, &request), wanted, "%s, %zu pieces, %s", names[call], count, name);
+}
+
+/* The piece that is refused comes late: it passes the end, or repeats an earlier one, and is the last one or others follow. The pieces
+ * rise or fall; the first one may be long, and is then above all others. */
+static void late_pieces(void) {
+    enum { LATEST = 70000, FOLLOWING = 3 };
+    static const size_t places[] = {100, 101, 255, 256, 300, 1024, LATEST};
+    static const char *const kinds[] = {"rising", "falling", "falling from a long one"};
+    static const uint8_t page[4096] = {0};
+    static struct acpiset_piece own[LATEST + 1 + FOLLOWING];
+    static const struct acpiset_piece past_end = {LAST, zeros, 2};
+    for (int kind = 0; kind < 3; kind++)
+        for (size_t i = 0; i < COUNTS(places); i++) {
+            const size_t late = places[i], end = late + 1 + FOLLOWING;
+            for (size_t j = 0; j < end; j++) {
+                struct acpiset_piece piece = {0x1000 + 16 * (uint64_t)(kind == 0 ? j : end - j), zeros, 1};
+                own[j] = piece;
+            }
+            if (kind == 2) {
+                own[0].bytes = page;
+                own[0].length = sizeof page;
+            }
+            own[late] = past_end;
+            for (size_t count = late + 1; count <= end; count += FOLLOWING)
+                expect_refused(own, count, answer_of(ACPISET_PIECE_PAST_END, late, 0), kinds[kind]);
+            own[late] = own[late / 2];
+            for (size_t count = late + 1; count <= end; count += FOLLOWING)
+                expect_refused(own, count, answer_of(ACPISET_PIECES_OVERLAP, late, own[late].address), kinds[kind]);
+        }
+}
+
 /* Pieces without bytes anywhere among those of the set, and both in any order. */
 static void pieces_without_bytes(void) {
     const struct acpiset_piece mixed[] = {
@@ -558,6 +597,7 @@ int main(void) {
     codes();
     bases();
     pieces();
+    late_pieces();
     pieces_without_bytes();
     pieces_of_one_byte();
     text_as_piece();

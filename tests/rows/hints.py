@@ -52,10 +52,24 @@ REFUSED = [
     ("a title with a comment's sign", b"#APIC" + TITLE + b"g", "line 2: bad line", NONE), ("another title", b"image" + TITLE, BAD, NONE),
     ("UTF-16, the lower byte first", b"\xff\xfe" + IMAGE.decode().encode("utf-16-le"), BAD, UTF_16),
     ("UTF-16, the upper byte first", b"\xfe\xff" + IMAGE.decode().encode("utf-16-be"), BAD, UTF_16),
+    ("UTF-32, the lowest byte first", b"\xff\xfe\0\0" + IMAGE.decode().encode("utf-32-le"), BAD, BINARY),
+    ("UTF-32, the highest byte first", b"\0\0\xfe\xff" + IMAGE.decode().encode("utf-32-be"), BAD, BINARY),
     ("bytes ff and fe", b"\xff\xfe\x01\x02", BAD, NONE), ("a byte order mark", b"\xef\xbb\xbf" + IMAGE, BAD, MARK),
     ("another text", b"yes\n", BAD, NONE), ("a bad line after good ones", IMAGE + b"0g\n", None, NONE),
     ("no address", b"52 53\n", "line 1: no address", NONE),
 ]
+# Titles of acpidump, and lines that are almost such a title.
+REFUSED += [(f"the title {title}", title.encode() + b"\n", BAD, ACPIDUMP) for title in (
+    "FACP @ 0xBFFE1234", "FACP @ 0x9", "FACP @ 0xbffe1234", "SSD2 @ 0x00000000BFFE1234", "0_Y! @ 0x1", "BGR @ 0x1", "RSD PTR @ 0x000F59E0",
+)]
+REFUSED += [(f"the line {line}", line.encode() + b"\n", BAD, NONE) for line in (
+    "facp @ 0xBFFE1234", "FACp @ 0xBFFE1234", "FACP @ 0XBFFE1234", "FACP @ 1xBFFE1234", "FACP @ BFFE1234", "FACP  @ 0xBFFE1234",
+    "FA @ 0xBFFE1234", "FACPS @ 0xBFFE1234", "rsd ptr @ 0x000F59E0", "RSD PTX @ 0x000F59E0", "RSD-PTR @ 0x000F59E0",
+)]
+# Bytes that are almost the first ones of such a file: the last of them is another one.
+REFUSED += [(f"the bytes {data[:8]!r}", data, BAD, NONE) for data in (
+    b"\x1f\x8b\x09\x01\x01\x01", b"\xfd7zXZ\x01\x01", b"\x28\xb5\x2f\xfc\x04", b"\xef\xbb\xbe5", b"\x7fELG\2\1\1", b"RSD PTR!\1",
+)]
 # Inputs that are read, the arguments, the output, and the hint.
 READ = [
     ("nothing", b"", "check", "no rsdp\n", EMPTY), ("blanks", b" \t\r\n\n", "check", "no rsdp\n", EMPTY),

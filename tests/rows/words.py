@@ -9,11 +9,14 @@ import re
 import subprocess
 import sys
 import tempfile
+import unicodedata
 from itertools import takewhile
 from pathlib import Path
 
 sys.path.insert(0, str(Path(__file__).resolve().parents[1]))
 
+from acpi_images.advice import RULES
+from acpi_images.faults import STAGE_OF
 from acpi_images.program import SECONDS, main
 from acpi_images.tables import *
 from acpi_images.text import text_of
@@ -212,6 +215,8 @@ MESSAGES = [
     ("acpiset lint --allow listedtwice", f"--allow 'listedtwice': expected {NAMES_OF_RULES}"),
     ("acpiset lint --allow SameUid,Overlap", f"--allow 'Overlap': expected {NAMES_OF_RULES}"),
     ("acpiset lint --allow SameUid,", f"--allow '': expected {NAMES_OF_RULES}"),
+    ("acpiset lint --allow SameUid,Overlap,sameuid,GsiNowhere", f"--allow 'Overlap': expected {NAMES_OF_RULES}"),
+    ("acpiset lint --allow sameuid,SameUid,Overlap", f"--allow 'sameuid': expected {NAMES_OF_RULES}"),
     ("acpiset lint --allow ", f"--allow '': expected {NAMES_OF_RULES}"),
     ("acpiset check --allow SameUid", "unexpected argument '--allow' found"),
     ("acpiset rebuild --base e0000h", f"--base 'e0000h': expected {ADDRESS}"), ("acpiset rebuild", f"rebuild needs --base HEX: {ADDRESS}"),
@@ -223,6 +228,27 @@ MESSAGES = [
     ("acpiset version 1 2", "unexpected argument '1' found"), ("acpiset version help", "unexpected argument 'help' found"),
     ("acpiset", "usage: acpiset check [OPTION].. [ADDRESS=COUNT].. < IMAGE"),
 ]
+
+
+# Tips on names.
+NO_RULE = "a fault can't be allowed: only rules of advice can"
+OTHER_CASE = "upper and lower case differ: write the name as lint prints it"
+
+
+def names(cases):
+    """Each rule in another case, each fault that is to be allowed, in its own and in another case, and each fault to confirm in another
+    case."""
+    allowed = [(word, OTHER_CASE) for rule in RULES for word in (rule.lower(), rule.upper())]
+    allowed += [(fault, NO_RULE) for fault in STAGE_OF] + [(fault.lower(), None) for fault in STAGE_OF]
+    for word, tip in allowed:
+        lines = told(cases, ["acpiset", "lint", "--allow", word], b"").stderr.decode().splitlines()
+        tips = [f"  tip: {tip}"] * (tip is not None)
+        cases.same(f"--allow {word}", lines[:-3], [f"acpiset: --allow '{word}': expected {NAMES_OF_RULES}", *tips])
+    for fault, stage in STAGE_OF.items():
+        for word in (fault.lower(), fault.upper()):
+            witness = f"{stage} {word} 0x0 0x0 0x0"
+            run = told(cases, ["acpiset", "confirm", "--witness", witness], b"")
+            cases.same(witness, first_line(run), (2, f"acpiset: --witness '{witness}': no fault is named '{word}': write {fault}"))
 
 
 # ---- help and version
@@ -283,10 +309,16 @@ def helps(cases):
         cases.same(f"{line}, /dev/full", (run.returncode, run.stderr), (4, b"acpiset: device\n"))
 
 
-# ---- control characters, and long arguments
+# ---- hidden characters, and long arguments
 CONTROLS = [chr(code) for code in (*range(1, 0x20), *range(0x7F, 0xA0))]
-# Characters that print, of one to four bytes.
-PRINTING = "a~\u00a0\u07ff\u0800\uffff\U00010000\U0010ffff"
+# Those that turn the direction, end a line or a paragraph, have no width, select a variant, or are tags.
+UNSEEN = "\u061c\u200b\u200c\u200d\u200e\u200f\u2028\u2029\u202a\u202e\u2060\u2066\u2069\ufe0f\ufeff\U000e0001\U000e0020\U000e007f"
+# Those that this Python knows as format characters or separators, and the variation selectors.
+SELECTORS = [*map(chr, range(0xFE00, 0xFE10)), *map(chr, range(0xE0100, 0xE01F0))]
+FORMATS = [it for it in map(chr, range(sys.maxunicode + 1)) if unicodedata.category(it) in ("Cf", "Zl", "Zp")]
+HIDDEN = {*CONTROLS, *UNSEEN, *FORMATS, *SELECTORS}
+# Characters that print, of one to four bytes; some are next to hidden ones.
+PRINTING = "a~\u00a0\u00ac\u00ae\u07ff\u0800\u200a\u2010\u2027\u202f\u2070\ufe10\uffff\U00010000\U000dffff\U000e1000\U0010ffff"
 # Where an argument can be that is printed.
 PLACES = [
     ["{}"], ["--{}"], ["-{}"], ["check", "--{}"], ["check", "{}"], ["check", "a/{}"], ["check", "{}=24"], ["check", "fec00000={}"],
@@ -298,20 +330,25 @@ PLACES = [
 ]
 
 
+def number(character):
+    """A hidden character as error messages print it."""
+    return f"\\x{ord(character):02x}" if character in CONTROLS else character.encode("unicode_escape").decode()
+
+
 def printed(text):
-    """A text as error messages print it: control characters as numbers, and 200 bytes at most."""
+    """A text as error messages print it: hidden characters as numbers, and 200 bytes at most."""
     end, size = 0, 0
     while end < len(text) and size + len(text[end].encode()) <= 200:
         size += len(text[end].encode())
         end += 1
-    return "".join(f"\\x{ord(it):02x}" if it in CONTROLS else it for it in text[:end]) + ("..." if end < len(text) else "")
+    return "".join(number(it) if it in HIDDEN else it for it in text[:end]) + ("..." if end < len(text) else "")
 
 
-def has_controls(error):
-    """Whether standard error has a control character other than the ends of its lines: one for each line of the complaint, the tip
+def has_hidden(error):
+    """Whether standard error has a hidden character other than the ends of its lines: one for each line of the complaint, the tip
     and the usage."""
     text = error.decode()
-    return any(it in CONTROLS and it != "\n" for it in text) or not 4 <= text.count("\n") <= 5
+    return any(it in HIDDEN and it != "\n" for it in text) or not 4 <= text.count("\n") <= 5
 
 
 def first_line(run):
@@ -320,16 +357,18 @@ def first_line(run):
 
 
 def printed_words(cases):
-    """Each control character at each place; and values of which the beginning is printed, never a part of a character."""
+    """Each character that is not seen at each place; and values of which the beginning is printed, never a part of a character."""
     for place in PLACES:
-        for control in CONTROLS:
-            words = [it.format(f"x{control}y") for it in place]
+        for hidden in (*CONTROLS, *UNSEEN):
+            words = [it.format(f"x{hidden}y") for it in place]
             run = told(cases, ["acpiset", *words], b"")
-            cases.same(repr(words), (run.returncode, run.stdout, has_controls(run.stderr)), (2, b"", False))
+            cases.same(repr(words), (run.returncode, run.stdout, has_hidden(run.stderr)), (2, b"", False))
+    hidden = sorted(HIDDEN)
     for text in (
-        *("".join(CONTROLS[begin:][:40]) for begin in range(0, len(CONTROLS), 40)), PRINTING,
+        *("".join(hidden[begin:][:40]) for begin in range(0, len(hidden), 40)), PRINTING,
         *(it * count for it in PRINTING for count in (49, 50, 51, 66, 67, 100, 101, 200, 201, 1000)),
         *("x" * count + it for it in (*PRINTING, "\x1b", "\x9b") for count in range(195, 202)), "\x1b" * 201, "\x9b" * 101,
+        "\u202e" * 67, "\U000e0001" * 51,
     ):
         run = told(cases, ["acpiset", "check", "--hotplug", text], b"")
         cases.same(repr(text), first_line(run), (2, f"acpiset: --hotplug '{printed(text)}': expected counted or apart"))
@@ -361,4 +400,4 @@ def refusals(cases):
         cases.same(line, first_line(told(cases, line.split(" "), smallest)), (2, f"acpiset: {message}"))
 
 
-main("words", answers, refusals, helps, printed_words)
+main("words", answers, refusals, names, helps, printed_words)

@@ -1,57 +1,80 @@
 -- Printed characters, and texts of them.
-use Rattle.std.proofs.Common.{◌≡◌, ℕ, ◌+◌, ◌-◌, ◌*◌, ◌/◌, ◌%◌, ◌<◌, ◌≤◌, Bool, true, false, List, [], ◌∷◌, ◌++◌, length, get_or, inl, inr, refl, sym, ap, ◌∙◌, arith, append-nil, append_assoc, codes, length-append, lit<, encode_utf8, IsUtf8, IsAscii}
+use Rattle.std.proofs.Common.{◌≡◌, ℕ, ◌+◌, ◌-◌, ◌*◌, ◌/◌, ◌%◌, ◌<◌, ◌≤◌, Bool, true, false, not, nat_lt, List, [], ◌∷◌, ◌++◌, length, get_or, inl, inr, refl, sym, ap, ◌∙◌, arith, append-nil, append_assoc, codes, length-append, lit<, encode_utf8, IsUtf8, IsAscii}
 use Rattle.std.proofs.lemmas.Bool.{and_parts, cases_order, not-true}
 use Rattle.std.proofs.lemmas.Bool.Decides.{nat_tests}
-use Rattle.std.proofs.lemmas.List.Folds.{list_all-append}
+use Rattle.std.proofs.lemmas.List.Folds.{list_all-append, list_any_more}
 use Rattle.std.proofs.lemmas.Str.Ascii.{IsAscii-cons, IsAscii-nil}
+use Rattle.std.proofs.Math.ListN.{take}
 use Rattle.std.proofs.Math.Seq.{get_or-append_seam}
 use Rattle.std.proofs.lemmas.List.{get_or_append_left, nil_from_length}
 use Rattle.std.proofs.lemmas.Str.{IsUtf8-nil, IsUtf8-append, IsUtf8-encode, IsUtf8-from_ascii, IsUtf8-past_char, chars-IsAscii, chars-append, chars-nil, chars_past_char, length-encode, len_utf8_bounds, scalars-chars}
-use Rattle.std.specs.Char.{IsScalar, digit_char, is_control, len_utf8}
+use Rattle.std.specs.Char.{IsScalar, digit_char, len_utf8}
 use Rattle.std.specs.Global.{Global}
 use Rattle.std.specs.Prelude.{String}
+use Rattle.std.specs.List.{list_all, list_any}
 use Rattle.std.specs.Str.{chars}
 use Rattle.std.specs.String.{string_bytes}
-use Rattle.acpi_arguments.specs.Printable.{IsPrinted, is_printable, visible}
+use Rattle.acpi_arguments.specs.Printable.{IsPrinted, escape, hex_byte, hidden_ranges, is_hidden, is_printable, is_within, visible}
 
 -- ---- characters
 
-plain_code : (c : ℕ) → 32 ≤ c → c < 127 → is_control c ≡ false
+plain_code : (c : ℕ) → 32 ≤ c → c < 127 → is_hidden c ≡ false
+unfolding is_hidden
 plain_code c low high = grind (arith, nat_tests)
 
-digit_from : (d : ℕ) → d < 16 → 48 ≤ digit_char d
+digit_from : (d : ℕ) → d < 16 → 32 ≤ digit_char d
 digit_from d small = grind (arith, nat_tests)
 
 pub digit_below : (d : ℕ) → d < 16 → digit_char d < 127
 digit_below d small = grind (arith, nat_tests)
 
-plain_digit : (d : ℕ) → d < 16 → is_control (digit_char d) ≡ false
-plain_digit d small = plain_code (digit_char d) (omega (arith, digit_from d small)) (digit_below d small)
+-- ---- texts of ASCII that print
 
-pub control_below : (c : ℕ) → is_control c ≡ true → c < 160
-control_below c is = grind (arith, nat_tests)
+abbrev ArePlain : List ℕ → Type 0
+ArePlain [] = Unit {0}
+ArePlain (b ∷ bs) = (32 ≤ b) × ((b < 127) × ArePlain bs)
+
+plain_ascii : (bs : List ℕ) → ArePlain bs → IsAscii bs
+plain_ascii [] plain = IsAscii-nil
+plain_ascii (b ∷ bs) plain = IsAscii-cons b bs (omega (arith, plain.1.0)) (plain_ascii bs plain.1.1)
+
+plain_test : (bs : List ℕ) → ArePlain bs → list_all (λ c. not (is_hidden c)) bs ≡ true
+plain_test [] plain = refl
+plain_test (b ∷ bs) plain = rw (plain_code b plain.0 plain.1.0, plain_test bs plain.1.1) refl
+
+plain_printable : (bs : List ℕ) → ArePlain bs → is_printable bs ≡ true
+plain_printable bs plain = rw (chars-IsAscii bs (plain_ascii bs plain)) (plain_test bs plain)
+
+plain_append : (front back : List ℕ) → ArePlain front → ArePlain back → ArePlain (front ++ back)
+plain_append [] back first second = second
+plain_append (b ∷ front) back first second = (first.0, (first.1.0, plain_append front back first.1.1 second))
+
+plain_byte : (b : ℕ) → b < 256 → ArePlain (hex_byte b)
+plain_byte b small = (digit_from (b / 16) (omega arith), (digit_below (b / 16) (omega arith),
+    (digit_from (b % 16) (omega arith), (digit_below (b % 16) (omega arith), tt))))
 
 -- ---- printed characters
 
-escape_ascii : (c : ℕ) → is_control c ≡ true → IsAscii (92 ∷ 120 ∷ digit_char (c / 16) ∷ digit_char (c % 16) ∷ [])
-escape_ascii c is =
-    let low : c < 160 = control_below c is in
-    let first : digit_char (c / 16) < 127 = digit_below (c / 16) (omega arith) in
-    let second : digit_char (c % 16) < 127 = digit_below (c % 16) (omega arith) in
-    let third : digit_char (c / 16) < 128 = omega arith in
-    let last : digit_char (c % 16) < 128 = omega arith in
-    IsAscii-cons 92 (120 ∷ digit_char (c / 16) ∷ digit_char (c % 16) ∷ []) (lit< tt)
-    (IsAscii-cons 120 (digit_char (c / 16) ∷ digit_char (c % 16) ∷ []) (lit< tt)
-    (IsAscii-cons (digit_char (c / 16)) (digit_char (c % 16) ∷ []) third
-    (IsAscii-cons (digit_char (c % 16)) [] last IsAscii-nil)))
+plain_escape : (c : ℕ) → c < 0x100_0000 → ArePlain (escape c)
+plain_escape c small = by_case (nat_lt c 0x100) (nat_lt c 0x1_0000) refl refl where
+  by_case : (b d : Bool) → nat_lt c 0x100 ≡ b → nat_lt c 0x1_0000 ≡ d → ArePlain (escape c)
+  by_case true d low high =
+      let below : c < 0x100 = grind (arith, nat_tests) in
+      rw low (omega arith, (omega arith, (omega arith, (omega arith, plain_byte c below))))
+  by_case false true low high =
+      let below : c < 0x1_0000 = grind (arith, nat_tests) in
+      rw (low, high) (omega arith, (omega arith, (omega arith, (omega arith,
+      plain_append (hex_byte (c / 0x100)) (hex_byte (c % 0x100))
+      (plain_byte (c / 0x100) (omega arith)) (plain_byte (c % 0x100) (omega arith))))))
+  by_case false false low high =
+      let last = plain_append (hex_byte (c / 0x100 % 0x100)) (hex_byte (c % 0x100))
+      (plain_byte (c / 0x100 % 0x100) (omega arith)) (plain_byte (c % 0x100) (omega arith)) in
+      rw (low, high) (omega arith, (omega arith, (omega arith, (omega arith, (omega arith, (omega arith, (omega arith, (omega arith,
+      plain_append (hex_byte (c / 0x1_0000)) (hex_byte (c / 0x100 % 0x100) ++ hex_byte (c % 0x100))
+      (plain_byte (c / 0x1_0000) (omega arith)) last))))))))
 
-escape_printable : (c : ℕ) → is_control c ≡ true
-    → is_printable (92 ∷ 120 ∷ digit_char (c / 16) ∷ digit_char (c % 16) ∷ []) ≡ true
-escape_printable c is =
-    let low : c < 160 = control_below c is in
-    let first : is_control (digit_char (c / 16)) ≡ false = plain_digit (c / 16) (omega arith) in
-    let second : is_control (digit_char (c % 16)) ≡ false = plain_digit (c % 16) (omega arith) in
-    rw (chars-IsAscii _ (escape_ascii c is), first, second) refl
+below_24 : (c : ℕ) → IsScalar c → c < 0x100_0000
+below_24 c is = grind (arith, nat_tests)
 
 chars_of_one : (c : ℕ) → IsScalar c → chars (encode_utf8 c) ≡ c ∷ []
 chars_of_one c is =
@@ -59,21 +82,28 @@ chars_of_one c is =
     chars_past_char (encode_utf8 c) [] c (IsUtf8-encode c is) alone ∙ ap (λ cs. c ∷ cs) chars-nil
 
 visible_utf8 : (c : ℕ) → IsScalar c → IsUtf8 (visible c)
-visible_utf8 c is = by_case (is_control c) refl where
-  by_case : (b : Bool) → is_control c ≡ b → IsUtf8 (visible c)
-  by_case true e = rw e (IsUtf8-from_ascii _ (escape_ascii c e))
+visible_utf8 c is = by_case (is_hidden c) refl where
+  by_case : (b : Bool) → is_hidden c ≡ b → IsUtf8 (visible c)
+  by_case true e = rw e (IsUtf8-from_ascii _ (plain_ascii _ (plain_escape c (below_24 c is))))
   by_case false e = rw e (IsUtf8-encode c is)
 
 visible_printable : (c : ℕ) → IsScalar c → is_printable (visible c) ≡ true
-visible_printable c is = by_case (is_control c) refl where
-  by_case : (b : Bool) → is_control c ≡ b → is_printable (visible c) ≡ true
-  by_case true e = rw e (escape_printable c e)
+visible_printable c is = by_case (is_hidden c) refl where
+  by_case : (b : Bool) → is_hidden c ≡ b → is_printable (visible c) ≡ true
+  by_case true e = rw e (plain_printable _ (plain_escape c (below_24 c is)))
   by_case false e = rw (e, chars_of_one c is, e) refl
 
+escape_short : (c : ℕ) → length (escape c) ≤ 4 * len_utf8 c
+escape_short c = by_case (nat_lt c 0x100) (nat_lt c 0x1_0000) refl refl where
+  by_case : (b d : Bool) → nat_lt c 0x100 ≡ b → nat_lt c 0x1_0000 ≡ d → length (escape c) ≤ 4 * len_utf8 c
+  by_case true d low high = rw low (omega (arith, (len_utf8_bounds c).0))
+  by_case false true low high = rw (low, high) (grind (arith, nat_tests))
+  by_case false false low high = rw (low, high) (grind (arith, nat_tests))
+
 visible_short : (c : ℕ) → length (visible c) ≤ 4 * len_utf8 c
-visible_short c = by_case (is_control c) refl where
-  by_case : (b : Bool) → is_control c ≡ b → length (visible c) ≤ 4 * len_utf8 c
-  by_case true e = rw e (omega (arith, (len_utf8_bounds c).0))
+visible_short c = by_case (is_hidden c) refl where
+  by_case : (b : Bool) → is_hidden c ≡ b → length (visible c) ≤ 4 * len_utf8 c
+  by_case true e = rw e (escape_short c)
   by_case false e = rw (e, length-encode c) (omega arith)
 
 -- ---- texts
@@ -87,7 +117,7 @@ first_is_scalar text rest c utf8 parts =
     (and_parts _ _ (rw (chars_past_char text rest c utf8 parts) at (scalars-chars text utf8))).0
 
 printable_first : (text rest : List ℕ) (c : ℕ) → IsUtf8 text → text ≡ encode_utf8 c ++ rest → is_printable text ≡ true
-    → (is_control c ≡ false) × (is_printable rest ≡ true)
+    → (is_hidden c ≡ false) × (is_printable rest ≡ true)
 printable_first text rest c utf8 parts printable =
     let both = and_parts _ _ (rw (chars_past_char text rest c utf8 parts) at printable) in
     (not-true _ both.0, both.1)
@@ -139,7 +169,7 @@ one_more text printed rest tail room c size begun parts is fits = record {
       }
 
 dots_printable : is_printable (codes "...") ≡ true
-unfolding chars
+unfolding chars is_hidden
 dots_printable = refl
 
 pub cut_is_printed : (text printed rest : List ℕ) (room : ℕ) → IsBegun text printed rest room
@@ -194,3 +224,8 @@ one_printed arguments printed text n so is = (
     | inr (inr more) ↦ absurd (omega arith)
   ],
 )
+
+-- no range before one is that of a character, nor is that one
+pub none_within : (c i : ℕ) (d : ℕ × ℕ) → i < length hidden_ranges → list_any (is_within c) (take i hidden_ranges) ≡ false
+    → is_within c (get_or hidden_ranges i d) ≡ false → list_any (is_within c) (take (i + 1) hidden_ranges) ≡ false
+none_within c i d below before here = rw (list_any_more (is_within c) hidden_ranges i d below, before) here

@@ -15,6 +15,7 @@ use crate::made::{Made, write_made};
 use crate::pieces::{Piece, image_of_pieces};
 use crate::refusal::Refusal;
 use crate::settings::{Inputs, Settings, add_inputs, test_base, tested_policy};
+use crate::sums::add_sums;
 use acpi_write::{RebuildFault, rebuild_bytes};
 use std::alloc::Global;
 
@@ -30,8 +31,9 @@ fn rebuilt(
 {
     let mut policy = tested_policy(alloc, settings, inputs)?;
     test_base(base)?;
-    let image = image_of_pieces(alloc, pieces)?;
+    let mut image = image_of_pieces(alloc, pieces)?;
     add_inputs(&mut policy, inputs)?;
+    add_sums(&mut image, pieces, settings.rsdp)?;
     match rebuild_bytes(alloc, &image, &policy, base) {
         Ok(bytes) => Ok(Made::Bytes(bytes)),
         Err(RebuildFault::NotClean(fault)) => Ok(Made::Fault(fault)),

@@ -13,6 +13,7 @@ use crate::made::{Made, write_made};
 use crate::pieces::{Piece, image_of_pieces};
 use crate::refusal::Refusal;
 use crate::settings::{Inputs, Settings, tested_policy};
+use crate::sums::add_sums;
 use acpi_check::read_set;
 use acpi_show::set_text;
 use std::alloc::Global;
@@ -27,8 +28,9 @@ fn shown(
     ensures { Shows (pieces_source pieces.now) settings.now inputs.now (made_in result) }
 {
     let policy = tested_policy(alloc, settings, inputs)?;
-    let image = image_of_pieces(alloc, pieces)?;
+    let mut image = image_of_pieces(alloc, pieces)?;
     let rsdp = policy.rsdp();
+    add_sums(&mut image, pieces, rsdp)?;
     let set = match read_set(alloc, &image, rsdp) {
         Ok(set) => set,
         Err(fault) => return Ok(Made::Fault(fault)),
