@@ -200,6 +200,12 @@ def crates():
     return list(found.values())
 
 
+def tell(line):
+    """Writes a line in one piece: `print` writes the end by itself, and another thread, or a process, may come between."""
+    sys.stdout.write(f"{line}\n")
+    sys.stdout.flush()
+
+
 def processors():
     return len(os.sched_getaffinity(0))
 

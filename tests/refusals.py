@@ -28,7 +28,7 @@ sys.path.insert(0, str(HERE))
 from acpi_images.advice import linted
 from acpi_images.known.linted import EXPECTED
 from acpi_images.known.rows import COMPLETE, OVERLAP, ROWS, SMALLEST
-from acpi_images.program import SECONDS, UNREADABLE, Cases, finish, firmware_text
+from acpi_images.program import SECONDS, UNREADABLE, Cases, finish, firmware_text, tell
 from acpi_images.rebuilt import rebuilt
 from acpi_images.shown import shown
 from acpi_images.tables import *
@@ -371,7 +371,7 @@ def starved(program, run, setting):
     """Each request for memory refused, alone or with all after it."""
     sweep = Sweep(program, run.words, program.file(run.text), setting)
     if sweep.sampled():
-        print(f"{run.name}, {setting}: {sweep.sampled()}")
+        tell(f"{run.name}, {setting}: {sweep.sampled()}")
     spared = SPARED[setting], int((run.name, setting) in SPARED_AFTER)
     yield f"{run.name}, {setting}", wrong_sweep(sweep, run.answer(), *spared) or wrong_extent(sweep, run.name)
 

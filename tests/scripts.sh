@@ -445,18 +445,17 @@ done
 same 'an option that scripts/wrong_bodies does not have' "$(scripts/wrong_bodies --build 2>&1 | grep -c -- --build)" 1
 same 'scripts/wrong_bodies --printed of no crate' "$(scripts/wrong_bodies --printed /dev/null 2>&1 | tail -n 1)" 'wrong_bodies: error: these words do not go together'
 # A line comes in one piece, also where several threads write.
-same 'pieces in which scripts/wrong_bodies writes a line' "$(python3 -B - <<'END'
-import sys
-from importlib.machinery import SourceFileLoader
-sys.argv = ["scripts/wrong_bodies"]
-module = SourceFileLoader("wrong_bodies", "scripts/wrong_bodies").load_module()
-pieces = []
-sys.stdout, kept = type("Out", (), {"write": lambda self, text: pieces.append(text), "flush": lambda self: None})(), sys.stdout
-module.tell("a line")
-sys.stdout = kept
-print(pieces)
+same 'pieces in which a line is written' "$(python3 -B - 2>&1 <<'END'
+import runpy, sys
+sys.path[:0] = ["scripts", "tests"]
+from acpi_images.program import tell
+pieces, out = [], sys.stdout
+sys.stdout = type("Out", (), {"write": lambda self, text: pieces.append(text), "flush": lambda self: None})()
+for write in (tell, *(runpy.run_path(f"scripts/{it}")["tell"] for it in ("prove", "wrong_bodies"))):
+    write("a line")
+print(pieces, file=out)
 END
-)" "['a line\\n']"
+)" "['a line\\n', 'a line\\n', 'a line\\n']"
 
 # Each script in Python gives SIGCHLD its default, whatever its caller did, by what it imports; except those that start no others.
 modules='acpi_images|crates|measure|preloaded|worst'

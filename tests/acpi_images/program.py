@@ -64,6 +64,12 @@ def refusal(line):
 SECONDS = 600
 
 
+def tell(line):
+    """Writes a line in one piece: `print` writes the end by itself, and another thread may come between."""
+    sys.stdout.write(f"{line}\n")
+    sys.stdout.flush()
+
+
 class Cases:
     """Runs the program, counts the cases, and tells what failed."""
 
@@ -75,7 +81,7 @@ class Cases:
         """Counts a case, which is passed where nothing is wrong."""
         if wrong:
             self.failed += 1
-            print(f"{name}: {wrong}", flush=True)
+            tell(f"{name}: {wrong}")
         else:
             self.passed += 1
 
