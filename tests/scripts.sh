@@ -224,9 +224,7 @@ while [ $# -gt 1 ]; do
   esac
   shift
 done
-if [ -n "$COPIES" ] && [ -e src/main.rt ]; then
-  cp src/main.rt "$made" && echo done >"$FOLDER/copied"
-elif [ -n "$made" ]; then
+if [ -n "$made" ]; then
   echo "rattle: ${made##*/} for $processor" >>"$FOLDER/calls"
   echo "for $processor" >"$made"
 elif [ "$SAYS" = nothing ]; then
@@ -240,7 +238,7 @@ elif grep -q ' 3$' src/lib.rt; then
 fi
 echo "$PROVED"
 END
-export SAYS='' COPIES=''
+export SAYS=''
 cat >"$scratch/kit/bin/rattle-link" <<'END'
 #!/bin/sh
 while [ "$1" != -o ]; do shift; done
@@ -252,7 +250,7 @@ echo '2 passed, 0 failed' >"$scratch/said"
 printed=$(PATH="$scratch/bin:$PATH" "$scratch/tree/scripts/prove" gate 2>&1)
 same 'scripts/prove gate' "$? $(tail -n 1 <<<"$printed" | sed 's/[0-9][0-9]*/N/g')" '0 gate: proved in N.N minutes, from N:N to N:N'
 # `rt ci` builds for x86-64-v2: the program and the library are built after it, for any x86-64, over what it proved.
-same 'calls by the gate' "$(grep -v ': version$\|: doc$' "$scratch/calls" | LC_ALL=C sort)" $'gate: ci\nlinked: acpi_cli\nrattle: acpi_cli.o for x86-64\nrattle: libacpi_c.a for x86-64'
+same 'calls by the gate' "$(grep -v ': version$\|: doc$' "$scratch/calls" | LC_ALL=C sort)" $'linked: acpi_cli\nrattle: acpi_cli.o for x86-64\nrattle: libacpi_c.a for x86-64\ntree: ci'
 same 'the program of the gate' "$(cat "$scratch/tree/acpiset" "$scratch/tree/crates/acpi_cli/out/acpi_cli")" $'for x86-64\nfor x86-64'
 : >"$scratch/calls"
 PATH="$scratch/bin:$PATH" "$scratch/tree/scripts/prove" program >"$scratch/log" 2>&1
@@ -411,11 +409,19 @@ other_rt lib '[ "${PWD##*/}" != acpi_c ] || cp src/lib.rt "$FOLDER/tree/crates/a
 PATH="$scratch/other:$PATH" "$scratch/tree/scripts/prove" library >"$scratch/log" 2>&1
 same 'they are proved anew' "$? $(cat "$of_c/read") $(as_recorded crates/acpi_c/out/libacpi_c.a)" $'0 first library\nrecorded'
 printf 'pub fn one() -> u8 {\n    1\n}\n\npub fn two() -> u8 {\n    2\n}\n' >"$lib"
+# The gate reads the sources where they are: it passes nothing if one is written meanwhile, or is another one for a while.
+# gate_with SCRIPT: what the gate ends with, and whether a program is recorded.
+gate_with() {
+  meanwhile ci "$1; exec \"\$FOLDER/bin/rt\" ci" gate | tail -n 1
+  [ ! -e "$of_cli/acpi_cli.made" ] || echo recorded
+}
 # shellcheck disable=SC2016 # the same
-COPIES=yes meanwhile ci 'echo other >"$FOLDER/tree/crates/acpi_cli/src/main.rt"; echo "rt: acpi_graph proved"
-    for _ in $(seq 100); do [ -e "$FOLDER/copied" ] || sleep 0.1; done; echo first >"$FOLDER/tree/crates/acpi_cli/src/main.rt"
-    exec "$FOLDER/bin/rt" ci' gate
-same 'a file that is written while the gate runs' "$(as_recorded crates/acpi_cli/out/acpi_cli) $(cat "$scratch/tree/acpiset")" $'first\nrecorded first'
+same 'a file that is written while the gate runs' "$(gate_with 'cd "$FOLDER/tree" && echo other >crates/acpi_cli/src/main.rt && echo first >crates/acpi_cli/src/main.rt')" \
+  'scripts/prove: sources changed while the gate ran, so it is not known what it passed: run it again'
+# shellcheck disable=SC2016 # the same
+same 'a file in the place of which another one is while the gate runs' "$(gate_with 'cd "$FOLDER/tree/crates/acpi_cli" && mv src/main.rt first && echo other >src/main.rt && mv first src/main.rt')" \
+  'scripts/prove: sources changed while the gate ran, so it is not known what it passed: run it again'
+same 'a gate in which none is' "$(gate_with :)" recorded
 
 # ---- what else may be among the sources: one line says it
 
