@@ -1,11 +1,10 @@
 -- The two root tables that an RSDP names, and the signatures that they list.
-use Rattle.std.proofs.Common.{◌≡◌, ◌≢◌, ℕ, ◌+◌, List, [], ◌∷◌, ◌++◌, map, Option, Some, None, true, refl, sym, ap, subst, ◌∙◌, inr, arith, zero-add}
+use Rattle.std.proofs.Common.{◌≡◌, ◌≢◌, ℕ, ◌+◌, List, [], ◌∷◌, ◌++◌, ◌<◌, length, get_or, take, Option, Some, None, true, refl, sym, ap, subst, ◌∙◌, inr, zero-add}
 use Rattle.std.specs.Prelude.{MatchOption, ◌==◌, if◌then◌else◌}
-use Rattle.std.specs.List.{filter_map, range_with_len, cons_option, sum_by}
+use Rattle.std.specs.List.{filter_map, cons_option, sum_by}
 use Rattle.std.specs.List.Sorted.{IsPermutation}
-use Rattle.std.proofs.lemmas.List.{append-nil}
+use Rattle.std.proofs.lemmas.List.{append-nil, take_more}
 use Rattle.std.proofs.lemmas.List.Elements.{filter_map-append}
-use Rattle.std.proofs.lemmas.List.FromFn.{map-range_with_len_more}
 use Rattle.std.proofs.lemmas.List.Sorted.{sum_by-IsPermutation}
 use Rattle.std.proofs.lemmas.List.Sums.{sum_by-cons}
 use Rattle.acpi_base.specs.Memory.{Memory, bytes_at}
@@ -62,29 +61,26 @@ rsdt_there m p rsdp header a (Some bytes) present is some there signed (head, ta
           });
     }
 
--- ---- the signatures of one slot more
+-- ---- the signatures at one address more
 
-next : (h : ℕ → Option ℕ) (f : ℕ → ℕ) (n : ℕ)
-    → filter_map h (map f (range_with_len 0 (n + 1)))
-    ≡ filter_map h (map f (range_with_len 0 n)) ++ cons_option (h (f n)) []
-next h f n =
-    ap (filter_map h) (map-range_with_len_more f 0 n n (omega arith))
-    ∙ filter_map-append h (map f (range_with_len 0 n)) (f n ∷ [])
+next : (h : ℕ → Option ℕ) (xs : List ℕ) (i : ℕ) → i < length xs
+    → filter_map h (take (i + 1) xs) ≡ filter_map h (take i xs) ++ cons_option (h (get_or xs i 0)) []
+next h xs i within =
+    ap (filter_map h) (take_more xs i 0 within) ∙ filter_map-append h (take i xs) (get_or xs i 0 ∷ [])
 
-pub one_more : (h : ℕ → Option ℕ) (f : ℕ → ℕ) (n v : ℕ) (found : List ℕ)
-    → found ≡ filter_map h (map f (range_with_len 0 n)) → h (f n) ≡ Some v
-    → found ++ v ∷ [] ≡ filter_map h (map f (range_with_len 0 (n + 1)))
-one_more h f n v found before is = rw (next h f n, is, before) refl
+pub one_more : (h : ℕ → Option ℕ) (xs : List ℕ) (i v : ℕ) (found : List ℕ) → i < length xs
+    → found ≡ filter_map h (take i xs) → h (get_or xs i 0) ≡ Some v
+    → found ++ v ∷ [] ≡ filter_map h (take (i + 1) xs)
+one_more h xs i v found within before is = rw (next h xs i within, is, before) refl
 
-pub no_more : (h : ℕ → Option ℕ) (f : ℕ → ℕ) (n : ℕ) (found : List ℕ)
-    → found ≡ filter_map h (map f (range_with_len 0 n)) → h (f n) ≡ None
-    → found ≡ filter_map h (map f (range_with_len 0 (n + 1)))
-no_more h f n found before is = rw (next h f n, is, before) (sym (append-nil _))
+pub no_more : (h : ℕ → Option ℕ) (xs : List ℕ) (i : ℕ) (found : List ℕ) → i < length xs
+    → found ≡ filter_map h (take i xs) → h (get_or xs i 0) ≡ None → found ≡ filter_map h (take (i + 1) xs)
+no_more h xs i found within before is = rw (next h xs i within, is, before) (sym (append-nil _))
 
 -- ---- in which order they are does not matter
 
 -- how often a number is among the values that there are: once or never
-one_of : Option ℕ → ℕ → ℕ
+abbrev one_of : Option ℕ → ℕ → ℕ
 one_of None n = 0
 one_of (Some k) n = if k == n then 1 else 0
 
@@ -114,6 +110,12 @@ difference_of h ours theirs one two (Some n) moved also (differ, least) = (
   λ k differs.
       least k (λ same. differs (sym (same_times h ours one moved k) ∙ same ∙ same_times h theirs two also k)),
 )
+
+pub same_slots : (h : ℕ → Option ℕ) (ours theirs one two : List ℕ) → IsPermutation ours one
+    → IsPermutation theirs two → one ≡ two → FindsDifference (filter_map h ours) (filter_map h theirs) None
+same_slots h ours theirs one two moved also same =
+    difference_of h ours theirs one two None moved also
+    (λ n. ap (λ (xs : List ℕ). times_in (filter_map h xs) n) same)
 
 -- ---- what differs
 
