@@ -121,4 +121,4 @@ for block in "$scratch"/blocks/*.sh; do
 done
 
 printf 'recipes: %d passed, %d failed, %d left out\n' "$passed" "$failed" "$left"
-[ "$failed" = 0 ]
+[ "$failed" = 0 ] && [ "$passed" != 0 ]
