@@ -1,6 +1,7 @@
 #!/usr/bin/env -S bash -p
-# Runs each script of scripts and tests that makes a scratch folder where none can be made: it must end with an error, and touch nothing. Only
-# stand-ins for the commands that change files are on its PATH: they note what they are asked for, and do nothing. In Python a hook notes it.
+# Runs each script of release, scripts and tests that makes a scratch folder where none can be made: it must end with an error, and touch
+# nothing. Only stand-ins for the commands that change files are on its PATH: they note what they are asked for, and do nothing. In Python
+# a hook notes it.
 # usage: tests/scratch.sh PROGRAM; the last line is 'scratch folders: N passed, M failed'.
 program=$(realpath -- "${1:?usage: tests/scratch.sh PROGRAM}")
 # shellcheck source=tests/prelude.sh
@@ -64,7 +65,7 @@ without_room() {
 
 mkdir "$scratch/library"
 touch "$scratch/library/libacpiset.a" "$scratch/library/libacpiset.so.1"
-mapfile -t scripts < <(grep -rlIE 'mktemp|mkdtemp|TemporaryDirectory|tests/prelude\.sh' scripts tests --include='*' --exclude=prelude.sh --exclude=scratch.sh | LC_ALL=C sort)
+mapfile -t scripts < <(grep -rlIE 'mktemp|mkdtemp|TemporaryDirectory|tests/prelude\.sh' release scripts tests --exclude=prelude.sh --exclude=scratch.sh | LC_ALL=C sort)
 same 'scripts that make scratch folders' "$([ ${#scripts[@]} -ge 20 ] && echo many)" many
 top=$(ls -A /)
 for script in "${scripts[@]}"; do same "$script without room for a folder" "$(without_room "$script")" scratch; done
