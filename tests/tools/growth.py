@@ -26,15 +26,9 @@ PARTS = {hostile.headers_of_the_same_bytes: 14_000, hostile.lines_of_a_verdict: 
 MEMORY, MEMORY_OF_A_BYTE = 64e6, 20
 WRITTEN, WRITTEN_OF_A_BYTE = 256e3, 12
 SIZE = 1_000_000
-# Runs a program, and writes its status and its memory to a file. It is small: the memory of a program counts that of the one that started it.
-HELPER = """import os, subprocess, sys
-child = subprocess.Popen(sys.argv[2:])
-_, status, used = os.wait4(child.pid, 0)
-print(os.waitstatus_to_exitcode(status), used.ru_maxrss * 1024, file=open(sys.argv[1], "w"))
-"""
-# Runs a tool, and writes the steps in the files of a folder to a file.
+# Runs a tool, and writes its steps in the files of a folder to a file.
 COUNTER = """import runpy, sys
-path, folder, *sys.argv = sys.argv[1:]
+folder, *sys.argv = sys.argv[1:]
 steps = 0
 def called(frame, event, _):
     return step(frame, event, _) if frame.f_code.co_filename.startswith(folder) else None
@@ -47,7 +41,7 @@ try:
     runpy.run_path(sys.argv[0], run_name="__main__")
 finally:
     sys.settrace(None)
-    print(steps, file=open(path, "w"))
+    print(steps, file=open("steps", "w"))
 """
 # What takes steps that grow as the size, and what takes a tenth of them at first, which grows as its square.
 EVEN = "for at in range(size): [other for other in range(20)]\n"
@@ -67,9 +61,9 @@ class Growth(Cases):
     def given(self, make, size):
         return Hostile(make, size, self.program)
 
-    def steps(self, given, **how):
-        """The steps of a run of a tool, and the run."""
-        run = given.run(sys.executable, "-c", COUNTER, "steps", TESTS.parent, **how)
+    def steps(self, given, folder=TESTS.parent, **how):
+        """The steps of a run of a tool in files of the folder, and the run."""
+        run = given.run(sys.executable, "-c", COUNTER, folder, **how)
         return int(given.path("steps").read_text()), run
 
     def sees(self, name, text, is_due):
@@ -79,9 +73,8 @@ class Growth(Cases):
             counts = []
             for size in (0, 1000, 1000 * LARGER):
                 given.tool.write_text(f"size = {size}\n{text}")
-                run = given.run(sys.executable, "-c", COUNTER, "steps", given.folder.name)
-                counts.append(int(given.path("steps").read_text()))
-        self.count(name, run.stderr or is_grown(*counts) != is_due and f"{counts} steps")
+                counts.append(self.steps(given, given.folder.name)[0])
+        self.count(name, is_grown(*counts) != is_due and f"{counts} steps")
 
     def grows_on(self, make, is_answered):
         """The steps on an input beside those on one of a quarter of its size, and the answer."""
@@ -106,9 +99,8 @@ class Growth(Cases):
     def is_bounded(self, make):
         """A tool keeps the bounds on a hostile input, and has an answer."""
         with self.given(make, SIZE) as given:
-            run = given.run(sys.executable, "-S", "-c", HELPER, "used", sys.executable)
-            status, memory = map(int, given.path("used").read_text().split())
-        size, written = given.size, len(run.stdout) + len(run.stderr)
+            run, status, used = given.used()
+        size, memory, written = given.size, used[2] * 1024, len(run.stdout) + len(run.stderr)
         wrong = ["" if status in (0, 1, 2, 3) and b"Traceback" not in run.stderr else f"status {status}, {run.stderr[-300:]}"]
         wrong += ["" if memory <= MEMORY + MEMORY_OF_A_BYTE * size else f"{memory / 1e6:.0f} MB of memory"]
         wrong += ["" if written <= WRITTEN + WRITTEN_OF_A_BYTE * size else f"{written} bytes written"]

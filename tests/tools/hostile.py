@@ -5,6 +5,7 @@ bytes of standard input."""
 import os
 import struct
 import subprocess
+import sys
 import tempfile
 from pathlib import Path
 
@@ -13,6 +14,14 @@ from acpi_images.program import FIRMWARE, TESTS
 from acpi_images.tables import *
 from files import HPET, dump_of
 from memory_dumps import UEFI, core_of, small_set
+
+# Runs a program, and writes its status and what it used to a file. It is small: the memory of a program counts that of the one that
+# started it.
+HELPER = """import os, subprocess, sys
+child = subprocess.Popen(sys.argv[1:])
+_, status, used = os.wait4(child.pid, 0)
+print(os.waitstatus_to_exitcode(status), *used, file=open("used", "w"))
+"""
 
 
 class Hostile:
@@ -43,6 +52,12 @@ class Hostile:
         """A run of the tool on the input, or of these words on it, by the program and the arguments before them."""
         words = [*words, TESTS.parent / "tools" / self.tool, *(self.words if of is None else of)]
         return subprocess.run(words, input=self.data, capture_output=True, cwd=self.folder.name, timeout=600, env=self.environment)
+
+    def used(self):
+        """A run of the tool on the input, its status, and what it used, as `wait4` tells it."""
+        run = self.run(sys.executable, "-S", "-c", HELPER, sys.executable)
+        status, *used = map(float, self.path("used").read_text().split())
+        return run, status, used
 
 
 def dumped(text, *words):
