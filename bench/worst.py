@@ -150,7 +150,8 @@ def written_elsewhere(number, divisor, path):
 def commands_on(shape, divisor, program, scratch):
     """The commands on a shape with this part of its entries, each with its name. The program is words of a shell."""
     path, counts_of = (os.path.join(scratch, name) for name in ("worst.txt", "counts"))
-    written_elsewhere("counts", divisor, counts_of)
+    if shape.options == WITH_COUNTS:
+        written_elsewhere("counts", divisor, counts_of)
     for command in written_elsewhere(WORST.index(shape), divisor, path):
         rsdp = "--rsdp 0" if shape.size else "--rsdp e0000"
         words = command if command == "find" else f"{command} {rsdp} {shape.options.replace(WITH_COUNTS, '@' + counts_of)}"
