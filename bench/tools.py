@@ -24,7 +24,9 @@ def report(program):
             with Hostile(make, size, os.path.abspath(program)) as given:
                 seconds = min(sum(given.used()[2][:2]) for _ in range(RUNS))
             most = BOUND.most(given.size)
-            print(f"{given.name:<56}{given.size / 1e6:>7.1f}{seconds:>7.2f}{most:>7.2f}{'  beyond its limit' * (seconds > most)}", flush=True)
-            beyond += seconds > most
+            is_beyond = seconds > most
+            numbers = f"{given.size / 1e6:>7.1f}{seconds:>7.2f}{most:>7.2f}"
+            print(f"{given.name:<56}{numbers}{'  beyond its limit' * is_beyond}", flush=True)
+            beyond += is_beyond
     print(f"\n{beyond} beyond their limits")
     return 1 if beyond else 0

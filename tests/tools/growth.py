@@ -83,7 +83,8 @@ class Growth(Cases):
             start, _ = self.steps(one, of=["--help"])
             part, _ = self.steps(one)
             whole, run = self.steps(other)
-            self.count(f"growth of {one.name}", is_grown(start, part, whole) and f"{start} steps to start, {part}, and {whole} on {LARGER} times as much")
+            told = f"{start} steps to start, {part} on a part, {whole} on {LARGER} times as much"
+            self.count(f"growth of {one.name}", is_grown(start, part, whole) and told)
             if is_answered:
                 self.count(f"answer of {one.name}", self.wrong_with(other, run))
 
