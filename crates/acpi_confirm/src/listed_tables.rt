@@ -81,8 +81,8 @@ fn first_with(image: &LentImage<'_>, root: &Root<'_>, signature: &[u8; 4]) -> Op
         (IsNoneListed image.now root.now.bytes.now root.now.width signature.now)
         (IsFirstListed image.now root.now.bytes.now root.now.width signature.now) }
 {
-    for k in 0..root.slots() {
-        if let Some(address) = signed(header_in(image, root, k), signature) {
+    for slot in 0..root.slots() {
+        if let Some(address) = signed(header_in(image, root, slot), signature) {
             return Some(address);
         }
     }
