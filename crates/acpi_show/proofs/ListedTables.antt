@@ -18,7 +18,8 @@ use Rattle.acpi_base.proofs.Tables.Listed.{one_first_listed}
 use Rattle.acpi_read.specs.FirstTables.{first_signed}
 use Rattle.acpi_read.specs.Roots.{RootValue}
 use Rattle.acpi_read.specs.declared.first_tables.Listed.{Listed}
-use Rattle.acpi_show.specs.ListedTables.{IsCompleteAt, IsFirstComplete, IsFirstBefore}
+use Rattle.acpi_show.specs.ListedTables.{IsCompleteAt, IsFirstComplete}
+use Rattle.acpi_show.specs.SlotPass.{IsFirstBefore}
 
 -- ---- what is at an address
 

@@ -6,7 +6,8 @@ ghost use Rattle.acpi_base.specs.Tables.{IsSigned};
 ghost use Rattle.acpi_base.specs.declared.table_kind.TableKind.{TableKind};
 ghost use Rattle.acpi_read.specs.FirstTables.{first_listed};
 ghost use Rattle.acpi_read.specs.Roots.{slots_of};
-ghost use Rattle.acpi_show.specs.ListedTables.{AreFirstComplete, IsCompleteAt, IsFirstBefore, IsKindIn, is_met};
+ghost use Rattle.acpi_show.specs.ListedTables.{AreFirstComplete, IsCompleteAt};
+ghost use Rattle.acpi_show.specs.SlotPass.{IsFirstBefore, IsKindIn, is_met};
 
 use acpi_base::{LentImage, TableKind};
 use acpi_read::{FirstTables, Header, Layout, Listed, Root, Table};

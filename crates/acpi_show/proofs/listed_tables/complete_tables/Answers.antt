@@ -1,7 +1,7 @@
 use Rattle.std.proofs.Common.{◌<◌, arith}
 use Rattle.acpi_base.specs.TableKinds.{signature_of}
 use Rattle.acpi_read.specs.FirstTables.{first_listed}
-use Rattle.acpi_show.specs.ListedTables.{is_met}
+use Rattle.acpi_show.specs.SlotPass.{is_met}
 use Rattle.acpi_show.proofs.ListedTables.{all_slots, no_slot}
 use Rattle.acpi_show.proofs.listed_tables.complete_tables.Goals as goal
 
