@@ -2,7 +2,8 @@
 //! each structure of the FADT, the FACS, the MADT, the SRAT, the SLIT and the PPTT.
 //!
 //! `set_text` makes the lines of a root table and of the first listed table of each kind: those of a set for which the
-//! stages up to the listed tables hold, or, from `complete_tables`, those that are complete.
+//! stages up to the listed tables hold, or, from `complete_tables`, those that are complete. Which tables these are is
+//! proved; of the lines nothing is promised.
 //!
 //! An example, from `crates/acpi_cli/src/show.rt`:
 //!

@@ -10,8 +10,9 @@ use acpi_base::{LentImage, TableKind};
 use acpi_read::{FirstTables, Root};
 use std::alloc::{AllocError, Global};
 
-/// All lines of a set: those of the RSDP at the address `rsdp`, of the root table and its slots, and of the tables that
-/// are shown line by line.
+/// All lines of a set (ACPI 6.5, 5.2): those of the RSDP at the address `rsdp`, of the root table and its slots, and of the
+/// tables that are shown line by line. The slots' tables and the FACS are read from `image`, and shown as `bad` if they
+/// cannot be read. Refuses nothing; the error is that memory ran out.
 pub fn set_text(
     alloc: Global,
     image: &LentImage<'_>,
