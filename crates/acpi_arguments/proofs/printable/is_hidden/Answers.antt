@@ -1,4 +1,4 @@
-use Rattle.std.proofs.Common.{◌≡◌, false, refl, sym, ◌∙◌, arith}
+use Rattle.std.proofs.Common.{◌≡◌, false, refl, sym, ◌∙◌, arith, rules}
 use Rattle.std.proofs.lemmas.List.Folds.{list_any_at}
 use Rattle.std.specs.List.{list_any}
 use Rattle.acpi_arguments.specs.Printable.{hidden_ranges, is_hidden, is_within}
@@ -24,4 +24,4 @@ unfolding is_hidden
 returns c =
     let all : c.loop-range.range-index ≡ 25 = omega arith in
     let none : list_any (is_within c.args.character) hidden_ranges ≡ false = rw all at c.loop-range.invariant in
-    rw none c.is_control.ensures
+    rw none (search rules)
