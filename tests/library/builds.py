@@ -24,6 +24,7 @@ SOURCES = {
     "bad_input": ["bad_input.c", "common.c"],
     "through_pieces": ["through_pieces.c", "common.c"],
     "many_pieces": ["many_pieces.c", "common.c"],
+    "overlapping": ["overlapping.c", "common.c"],
     "findings": ["findings.c", *CALLS],
     "made": ["made.c", *CALLS],
     "meanings": ["meanings.c", "common.c"],

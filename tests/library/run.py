@@ -49,6 +49,7 @@ def one_of_each_stage():
 
 COUNT = 4096
 MANY_PIECES = 100_000
+OVERLAPPING = 1_000_000
 MANY_COUNTS = 1_100_000
 # How many bytes of stack a call may take on any image.
 MOST_STACK = 100_000
@@ -150,7 +151,7 @@ def compiled(cases, builds, scratch):
 def tested(cases, build, place, built, scratch, jobs, some):
     """Runs what was built in one way."""
     usual = words_of(some)
-    wanted = [("bad_input", []), ("meanings", []), ("many_pieces", [str(MANY_PIECES)])]
+    wanted = [("bad_input", []), ("meanings", []), ("many_pieces", [str(MANY_PIECES)]), ("overlapping", [str(OVERLAPPING)])]
     wanted += [(program, usual) for program in ("findings", "made", "guarded", "refused_memory", "threads")]
     wanted.append(("stack", [str(MOST_STACK), "12", *usual, *words_of([large_subject(scratch)])]))
     if place == 0:
