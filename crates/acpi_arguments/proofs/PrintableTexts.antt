@@ -1,5 +1,5 @@
 -- Printed characters, and texts of them.
-use Rattle.std.proofs.Common.{◌≡◌, ℕ, ◌+◌, ◌-◌, ◌*◌, ◌/◌, ◌%◌, ◌<◌, ◌≤◌, Bool, true, false, not, nat_lt, List, [], ◌∷◌, ◌++◌, length, get_or, inl, inr, refl, sym, ap, ◌∙◌, arith, append-nil, append_assoc, codes, length-append, lit<, encode_utf8, IsUtf8, IsAscii}
+use Rattle.std.proofs.Common.{◌≡◌, ℕ, ◌+◌, ◌-◌, ◌*◌, ◌/◌, ◌%◌, ◌<◌, ◌≤◌, Bool, true, false, not, nat_lt, List, [], ◌∷◌, ◌++◌, length, get_or, inl, inr, refl, sym, ap, ◌∙◌, arith, append-nil, append_assoc, codes, length-append, encode_utf8, IsUtf8, IsAscii}
 use Rattle.std.proofs.lemmas.Bool.{and_parts, cases_order, not-true}
 use Rattle.std.proofs.lemmas.Bool.Decides.{nat_tests}
 use Rattle.std.proofs.lemmas.List.Folds.{list_all-append, list_any_more}
@@ -49,29 +49,47 @@ plain_append : (front back : List ℕ) → ArePlain front → ArePlain back → 
 plain_append [] back first second = second
 plain_append (b ∷ front) back first second = (first.0, (first.1.0, plain_append front back first.1.1 second))
 
+plain_two : (a b : ℕ) (rest : List ℕ) → (32 ≤ a) × (a < 127) → (32 ≤ b) × (b < 127) → ArePlain rest
+    → ArePlain (a ∷ b ∷ rest)
+plain_two a b rest one other plain = (one.0, (one.1, (other.0, (other.1, plain))))
+
+plain_digit : (d : ℕ) → d < 16 → (32 ≤ digit_char d) × (digit_char d < 127)
+plain_digit d small = (digit_from d small, digit_below d small)
+
 plain_byte : (b : ℕ) → b < 256 → ArePlain (hex_byte b)
-plain_byte b small = (digit_from (b / 16) (omega arith), (digit_below (b / 16) (omega arith),
-    (digit_from (b % 16) (omega arith), (digit_below (b % 16) (omega arith), tt))))
+plain_byte b small =
+    plain_two (digit_char (b / 16)) (digit_char (b % 16)) [] (plain_digit (b / 16) (omega arith))
+    (plain_digit (b % 16) (omega arith)) tt
 
 -- ---- printed characters
 
+-- a backslash, a letter and digits
+plain_number : (letter : ℕ) (digits : List ℕ) → (32 ≤ letter) × (letter < 127) → ArePlain digits
+    → ArePlain (92 ∷ letter ∷ digits)
+plain_number letter digits is plain = plain_two 92 letter digits (omega arith, omega arith) is plain
+
 plain_escape : (c : ℕ) → c < 0x100_0000 → ArePlain (escape c)
 plain_escape c small = by_case (nat_lt c 0x100) (nat_lt c 0x1_0000) refl refl where
+  low_bytes : ArePlain (hex_byte (c / 0x100 % 0x100) ++ hex_byte (c % 0x100))
+  low_bytes =
+      plain_append (hex_byte (c / 0x100 % 0x100)) (hex_byte (c % 0x100)) (plain_byte (c / 0x100 % 0x100) (omega arith))
+      (plain_byte (c % 0x100) (omega arith))
+
   by_case : (b d : Bool) → nat_lt c 0x100 ≡ b → nat_lt c 0x1_0000 ≡ d → ArePlain (escape c)
   by_case true d low high =
       let below : c < 0x100 = grind (arith, nat_tests) in
-      rw low (omega arith, (omega arith, (omega arith, (omega arith, plain_byte c below))))
+      rw low (plain_number 120 (hex_byte c) (omega arith, omega arith) (plain_byte c below))
   by_case false true low high =
-      let below : c < 0x1_0000 = grind (arith, nat_tests) in
-      rw (low, high) (omega arith, (omega arith, (omega arith, (omega arith,
-      plain_append (hex_byte (c / 0x100)) (hex_byte (c % 0x100))
-      (plain_byte (c / 0x100) (omega arith)) (plain_byte (c % 0x100) (omega arith))))))
+      rw (low, high)
+      (plain_number 117 (hex_byte (c / 0x100 % 0x100) ++ hex_byte (c % 0x100)) (omega arith, omega arith) low_bytes)
   by_case false false low high =
-      let last = plain_append (hex_byte (c / 0x100 % 0x100)) (hex_byte (c % 0x100))
-      (plain_byte (c / 0x100 % 0x100) (omega arith)) (plain_byte (c % 0x100) (omega arith)) in
-      rw (low, high) (omega arith, (omega arith, (omega arith, (omega arith, (omega arith, (omega arith, (omega arith, (omega arith,
-      plain_append (hex_byte (c / 0x1_0000)) (hex_byte (c / 0x100 % 0x100) ++ hex_byte (c % 0x100))
-      (plain_byte (c / 0x1_0000) (omega arith)) last))))))))
+      let bytes = plain_append (hex_byte (c / 0x1_0000)) (hex_byte (c / 0x100 % 0x100) ++ hex_byte (c % 0x100))
+      (plain_byte (c / 0x1_0000) (omega arith)) low_bytes in
+      rw (low, high)
+      (plain_number 85 (48 ∷ 48 ∷ hex_byte (c / 0x1_0000) ++ hex_byte (c / 0x100 % 0x100) ++ hex_byte (c % 0x100))
+      (omega arith, omega arith)
+      (plain_append (hex_byte 0) (hex_byte (c / 0x1_0000) ++ hex_byte (c / 0x100 % 0x100) ++ hex_byte (c % 0x100))
+      (plain_byte 0 (omega arith)) bytes))
 
 below_24 : (c : ℕ) → IsScalar c → c < 0x100_0000
 below_24 c is = grind (arith, nat_tests)
@@ -226,6 +244,7 @@ one_printed arguments printed text n so is = (
 )
 
 -- no range before one is that of a character, nor is that one
-pub none_within : (c i : ℕ) (d : ℕ × ℕ) → i < length hidden_ranges → list_any (is_within c) (take i hidden_ranges) ≡ false
-    → is_within c (get_or hidden_ranges i d) ≡ false → list_any (is_within c) (take (i + 1) hidden_ranges) ≡ false
+pub none_within : (c i : ℕ) (d : ℕ × ℕ) → i < length hidden_ranges
+    → list_any (is_within c) (take i hidden_ranges) ≡ false → is_within c (get_or hidden_ranges i d) ≡ false
+    → list_any (is_within c) (take (i + 1) hidden_ranges) ≡ false
 none_within c i d below before here = rw (list_any_more (is_within c) hidden_ranges i d below, before) here

@@ -36,7 +36,7 @@ hex_byte b = digit_char (b / 16) ∷ digit_char (b % 16) ∷ []
 -- a character as its number: `\x1b`, `\u202e` or `\U000e0001`
 abbrev pub escape : ℕ → List ℕ
 escape c = if nat_lt c 0x100 then 92 ∷ 120 ∷ hex_byte c
-    else if nat_lt c 0x1_0000 then 92 ∷ 117 ∷ hex_byte (c / 0x100) ++ hex_byte (c % 0x100)
+    else if nat_lt c 0x1_0000 then 92 ∷ 117 ∷ hex_byte (c / 0x100 % 0x100) ++ hex_byte (c % 0x100)
     else 92 ∷ 85 ∷ 48 ∷ 48 ∷ hex_byte (c / 0x1_0000) ++ hex_byte (c / 0x100 % 0x100) ++ hex_byte (c % 0x100)
 
 -- a character in UTF-8, or its number if it is hidden

@@ -12,7 +12,8 @@ pub returns-then-is_within : goal.returns-then-is_within
 unfolding is_hidden
 returns-then-is_within c =
     let here = sym c.is_within.ensures ∙ c.if-is_within.true in
-    rw (list_any_at (is_within c.args.character) hidden_ranges c.loop-range.range-index _ c.loop-range-test.true here) refl
+    let i = c.loop-range.range-index in
+    rw (list_any_at (is_within c.args.character) hidden_ranges i _ c.loop-range-test.true here) refl
 
 pub loop-range-preserved : goal.loop-range-preserved
 loop-range-preserved c =
