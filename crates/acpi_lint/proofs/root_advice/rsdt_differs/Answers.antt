@@ -31,28 +31,31 @@ returns-then-eq c =
 pub returns-in_default-2 : goal.returns-in_default-2
 returns-in_default-2 c =
     let m = c.args.image.now in
+    let h = listed_signature m in
     let xsdt : List ℕ = c.in-Some.xsdt.now in
     let rsdt : List ℕ = c.in-Some-named_rsdt.rsdt in
     let ours = c.in_ok-ours.ours.items in
     let theirs = c.in_ok-theirs.theirs.items in
+    let found = rw (c.in_ok-ours-2.ensures, c.in_ok-theirs-2.ensures, c.deref.ensures.value) at
+    c.in_ok-signature.ensures in
     no_difference xsdt rsdt (c.in-Some.ensures.root m c.args.rsdp c.requires) c.in-Some-named_rsdt.ensures
-    (difference_of (listed_signature m) (slot_numbers xsdt 8) (slot_numbers rsdt 4) ours theirs None c.in_ok-ours.ensures
+    (difference_of h (slot_numbers xsdt 8) (slot_numbers rsdt 4) ours theirs None c.in_ok-ours.ensures
     (rw c.bytes.ensures.bytes at c.in_ok-theirs.ensures)
-    (rw (c.in_ok-ours-2.ensures, c.in_ok-theirs-2.ensures, c.deref.ensures.value, c.deref-2.ensures.value, c.in_default-2.is)
-    at c.in_ok-signature.ensures))
+    (rw (c.deref-2.ensures.value, c.in_default-2.is) at found))
 
 pub returns : goal.returns
 returns c =
     let m = c.args.image.now in
+    let h = listed_signature m in
+    let n = c.in-Some-2.signature in
     let xsdt : List ℕ = c.in-Some.xsdt.now in
     let rsdt : List ℕ = c.in-Some-named_rsdt.rsdt in
     let ours = c.in_ok-ours.ours.items in
     let theirs = c.in_ok-theirs.theirs.items in
+    let found = rw (c.in_ok-ours-2.ensures, c.in_ok-theirs-2.ensures, c.deref.ensures.value) at
+    c.in_ok-signature.ensures in
     rw c.from.ensures
-    (first_differs xsdt rsdt c.in-Some-2.signature (c.in-Some.ensures.root m c.args.rsdp c.requires)
-    c.in-Some-named_rsdt.ensures
-    (difference_of (listed_signature m) (slot_numbers xsdt 8) (slot_numbers rsdt 4) ours theirs (Some c.in-Some-2.signature)
-    c.in_ok-ours.ensures
+    (first_differs xsdt rsdt n (c.in-Some.ensures.root m c.args.rsdp c.requires) c.in-Some-named_rsdt.ensures
+    (difference_of h (slot_numbers xsdt 8) (slot_numbers rsdt 4) ours theirs (Some n) c.in_ok-ours.ensures
     (rw c.bytes.ensures.bytes at c.in_ok-theirs.ensures)
-    (rw (c.in_ok-ours-2.ensures, c.in_ok-theirs-2.ensures, c.deref.ensures.value, c.deref-2.ensures.value, c.in-Some-2.is)
-    at c.in_ok-signature.ensures)))
+    (rw (c.deref-2.ensures.value, c.in-Some-2.is) at found)))
