@@ -717,12 +717,15 @@ done
 
 # ---- two at the same time: the second one says that it waits
 if has flock; then
+  : >"$scratch/log"
   (
     flock 9
-    sleep 1
+    : >"$scratch/held"
+    for _ in {1..600}; do if grep -q 'waiting for it' "$scratch/log"; then break; fi; sleep 0.1; done
   ) 9<"$tree/crates" &
-  sleep 0.3
-  same 'a second make' "$(make -s -C "$tree" clean 2>&1 | grep -c 'waiting for it')" 1
+  until [ -e "$scratch/held" ]; do sleep 0.1; done
+  run clean
+  same 'a second make' "$(grep -c 'waiting for it' "$scratch/log")" 1
   wait
 fi
 run clean
