@@ -9,9 +9,10 @@ import subprocess
 import sys
 import xml.etree.ElementTree as xml
 
-from tool_cases import TOP
+from tool_cases import TOP, module_of
 
 FORMATS = "json", "tap", "junit", "sarif"
+REPORT = module_of("report")
 OVERLAP = "no 10 Overlap 0x90 0xb8 0x100000000"
 TOP_NUMBERS = "no 9 RangePastEnd 0x30 0xffffffff 0xffffffffffffffff"
 LISTED = "advice ListedTwice 0x3 0x2 0x47fc198e"
@@ -151,6 +152,14 @@ def verdicts(cases):
     cases.count("numbers of 64 bits", (told["other"], told["point"]) != ("0xffffffff", "0xffffffffffffffff") and f"{told}")
 
 
+def made(cases, form, lines):
+    """A strict report of these lines, made in this process, since to start Python takes longer; and its status."""
+    stdin = os.open(cases.path(cases.write("lines.txt", lines)), os.O_RDONLY)
+    os.dup2(stdin, 0)
+    os.close(stdin)
+    return REPORT.job(["--format", form, "--strict"])
+
+
 def each_name(cases):
     """The line of each fault's and each rule's example: its code and its first sentence are those of the document."""
     with open(os.path.join(TOP, "docs", "FAULTS.md"), encoding="utf-8") as file:
@@ -161,9 +170,9 @@ def each_name(cases):
         line = EXAMPLE.search(part)[1]
         lines = line if line.startswith("no") else f"yes\n{line}"
         for form in FORMATS:
-            run = cases.run("report", "--format", form, "--strict", data=lines.encode() + b"\n")
-            told = read(form, run.stdout.decode("ascii"))
-            wrong += [f"{form} of {line}: {told} {run.stderr.decode()}"] if run.returncode != 1 or isinstance(told, str) else []
+            text, status = made(cases, form, lines.encode() + b"\n")
+            told = read(form, text.decode("ascii"))
+            wrong += [f"{form} of {line}: {told}"] if status != 1 or isinstance(told, str) else []
             if form != "json":
                 continue
             (finding,) = told["findings"]
