@@ -49,7 +49,7 @@ ran() {
   echo $? >"$log.status"
 }
 
-scripts=(tools/growth.py lint/large.py limits.py refusals.py lint/run.py rows/many_slots.py recipes.sh fuzz/run.py show/run.py rows/texts.py lint/second.py program.sh valgrind.sh explain/run.py tools/run.py tools/pythons.sh tools/fuzz.py install.sh package.sh refused_calls.py rebuild/run.py rows/confirm.py documents.sh rows/run.py rows/unsorted.py rows/words.py rows/hints.py rows/examples.py scripts.sh scratch.sh)
+scripts=(recipes.sh tools/pythons.sh tools/run.py tools/growth.py limits.py lint/large.py refusals.py explain/run.py lint/run.py rows/many_slots.py lint/second.py fuzz/run.py rows/examples.py install.sh tools/fuzz.py rebuild/run.py documents.sh package.sh valgrind.sh rows/confirm.py program.sh rows/words.py show/run.py rows/texts.py scripts.sh refused_calls.py rows/run.py rows/unsorted.py rows/hints.py scratch.sh)
 # The library is tested if `make library` has left it.
 [ ! -e library/libacpiset.a ] || scripts=(library/run.py library/rust.sh library/python.sh "${scripts[@]}")
 [ -z "${TESTS_ONLY-}" ] || read -ra scripts <<<"$TESTS_ONLY"
