@@ -1,23 +1,14 @@
-/* Many pieces in several orders: the answer is the same, and an overlap with any of them is seen. Prints how long a check takes, of
- * which nothing is expected: a search of all pieces for each would take minutes.
+/* Many pieces in several orders: the answer is the same, and an overlap with any of them is seen.
  * usage: many_pieces COUNT */
-#define _POSIX_C_SOURCE 200809L
 #include "common.h"
 
 #include <stdlib.h>
-#include <time.h>
 
 enum order { RISING, FALLING, HALVES, SHUFFLED, ORDERS };
 static const char *const order_names[ORDERS] = {"rising", "falling", "every second one first", "shuffled"};
 
 #define FIRST UINT64_C(0x100000)
 static const uint8_t byte = 0;
-
-static double seconds(void) {
-    struct timespec now;
-    clock_gettime(CLOCK_MONOTONIC, &now);
-    return (double)now.tv_sec + 1e-9 * (double)now.tv_nsec;
-}
 
 /* The numbers below the count in this order. */
 static size_t *numbers_in(enum order order, size_t count) {
@@ -49,9 +40,7 @@ static void check_order(enum order order, size_t count, size_t distance) {
         pieces[i] = piece;
     }
     const char *name = order_names[order];
-    double from = seconds();
     expect(check(pieces, count), fault_of(ACPISET_RSDP_OUT, 0, 0, 0), "%zu pieces, %s", count, name);
-    printf("%zu pieces of a byte, %zu apart, %s: %.0f ms\n", count, distance, name, 1e3 * (seconds() - from));
     for (size_t i = 0; i < 5; i++) {
         size_t place = i * (count - 1) / 4;
         pieces[count] = pieces[place];

@@ -58,9 +58,6 @@ def is_grown(start, part, whole):
 
 
 class Growth(Cases):
-    def given(self, make, size):
-        return Hostile(make, size, self.program)
-
     def steps(self, given, folder=TESTS.parent, **how):
         """The steps of a run of a tool in files of the folder, and the run."""
         run = given.run(sys.executable, "-c", COUNTER, folder, **how)
@@ -68,7 +65,7 @@ class Growth(Cases):
 
     def sees(self, name, text, is_due):
         """A program of this text, after its size, takes steps that grow faster."""
-        with self.given(hostile.words_of_a_line, 0) as given:
+        with Hostile(hostile.words_of_a_line, 0, self.program) as given:
             given.tool = given.path("planted")
             counts = []
             for size in (0, 1000, 1000 * LARGER):
@@ -79,7 +76,7 @@ class Growth(Cases):
     def grows_on(self, make, is_answered):
         """The steps on an input beside those on one of a quarter of its size, and the answer."""
         size = PARTS.get(make, PART)
-        with self.given(make, size) as one, self.given(make, LARGER * size) as other:
+        with Hostile(make, size, self.program) as one, Hostile(make, LARGER * size, self.program) as other:
             start, _ = self.steps(one, of=["--help"])
             part, _ = self.steps(one)
             whole, run = self.steps(other)
@@ -99,7 +96,7 @@ class Growth(Cases):
 
     def is_bounded(self, make):
         """A tool keeps the bounds on a hostile input, and has an answer."""
-        with self.given(make, SIZE) as given:
+        with Hostile(make, SIZE, self.program) as given:
             run, status, used = given.used()
         size, memory, written = given.size, used[2] * 1024, len(run.stdout) + len(run.stderr)
         wrong = ["" if status in (0, 1, 2, 3) and b"Traceback" not in run.stderr else f"status {status}, {run.stderr[-300:]}"]
