@@ -27,3 +27,9 @@ returns-in_err-add_sums c =
     let p = err_from_is_err_and c.from_residual-in_err-add_sums.result c.from_residual-in_err-add_sums.ensures.1 in
     rw p.1 (runs_out _ (pieces_source c.args.pieces.now) p.0 c.in_ok-policy.ensures.refused
     (pieces_begin _ _ c.in_ok-image.ensures) p.2)
+
+pub returns-in_err-text : goal.returns-in_err-text
+returns-in_err-text c =
+    let p = err_from_is_err_and c.from_residual-in_err-text.result c.from_residual-in_err-text.ensures.1 in
+    rw p.1 (runs_out _ (pieces_source c.args.pieces.now) p.0 c.in_ok-policy.ensures.refused
+    (pieces_begin _ _ c.in_ok-image.ensures) p.2)
