@@ -188,4 +188,4 @@ def largest(cases):
             cases.same(f"{name}: {words} --anyway", cases.run(f"{words} --anyway", what), (0, f"yes\n{lines}", ""))
 
 
-main("unsorted", unsorted, largest, seconds=600)
+main("unsorted", unsorted, largest)
