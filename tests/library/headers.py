@@ -66,7 +66,7 @@ BadLine NoAddress TextOverlap TextPastEnd TextTooLong Unaligned TableTooLong Pas
 
 # The rules of which nothing is known to be wrong, and those whose findings may be right; those of all others are likely wrong.
 NOT_LOOKED_AT = {127, 128}
-LOOK_AT_IT = {123, 129, *range(145, 150), 153, 157, 158, 172, 178, 181, 183, 184}
+LOOK_AT_IT = {121, 123, 129, *range(145, 150), 153, 157, 158, 172, 178, 181, 183, 184}
 
 
 def severity(rule):

@@ -76,13 +76,13 @@ fn named_rsdt<'a>(image: &'a LentImage<'_>, rsdp: u64) -> Option<Table<'a>>
 
 /// The signature of what is at an address that a slot lists, if that is below 2^32 and the 4 bytes are present.
 #[tactic(auto, unfolding(crate::specs::Rules::RootAdvice::listed_signature))]
-fn listed_signature(image: &LentImage<'_>, address: u64) -> Option<u32>
+fn listed_signature(image: &LentImage<'_>, address: u64) -> Option<u64>
     ensures { result ≡ listed_signature image.now address }
 {
     if address == 0 || address >= 1 << 32 {
         return None;
     }
-    Some(u32_at(image.window(address, 4)?, 0))
+    Some(u64::from(u32_at(image.window(address, 4)?, 0)))
 }
 
 /// The signatures of what is at these addresses, as far as there are any, in their order.
@@ -90,7 +90,7 @@ fn signatures_at(
     alloc: Global,
     image: &LentImage<'_>,
     addresses: &[u64],
-) -> Result<Vec<u32>, AllocError>
+) -> Result<Vec<u64>, AllocError>
     ensures { IfOk result (λ found.
         found.items ≡ filter_map (listed_signature image.now) addresses.now) }
 {
@@ -119,7 +119,7 @@ fn rising_slots(alloc: Global, bytes: &[u8], width: usize) -> Result<Vec<u64>, A
 }
 
 /// The first number at which two lists differ: the lower one of the two, or the one that the longer list has.
-fn first_difference(ours: &[u32], theirs: &[u32]) -> Option<u32>
+fn first_difference(ours: &[u64], theirs: &[u64]) -> Option<u64>
     ensures { result ≡ first_difference ours.now theirs.now }
 {
     for i in 0..ours.len().min(theirs.len()) {
@@ -138,7 +138,7 @@ fn first_difference(ours: &[u32], theirs: &[u32]) -> Option<u32>
 
 /// The lowest number that two lists have a different number of times. None if there is none.
 /// Allocates while it sorts them.
-fn lowest_difference(mut ours: Vec<u32>, mut theirs: Vec<u32>) -> Result<Option<u32>, AllocError>
+fn lowest_difference(mut ours: Vec<u64>, mut theirs: Vec<u64>) -> Result<Option<u64>, AllocError>
     ensures { IfOk result (FindsDifference ours.items theirs.items) }
 {
     sort_unless_sorted(&mut ours)?;
@@ -176,6 +176,6 @@ pub fn rsdt_differs(
     Ok(Some(Place {
         at: 16,
         other: 0,
-        point: u64::from(signature),
+        point: signature,
     }))
 }

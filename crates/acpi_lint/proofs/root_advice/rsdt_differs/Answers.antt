@@ -54,8 +54,7 @@ returns c =
     let theirs = c.in_ok-theirs.theirs.items in
     let found = rw (c.in_ok-ours-2.ensures, c.in_ok-theirs-2.ensures, c.deref.ensures.value) at
     c.in_ok-signature.ensures in
-    rw c.from.ensures
-    (first_differs xsdt rsdt n (c.in-Some.ensures.root m c.args.rsdp c.requires) c.in-Some-named_rsdt.ensures
+    first_differs xsdt rsdt n (c.in-Some.ensures.root m c.args.rsdp c.requires) c.in-Some-named_rsdt.ensures
     (difference_of h (slot_numbers xsdt 8) (slot_numbers rsdt 4) ours theirs (Some n) c.in_ok-ours.ensures
     (rw c.bytes.ensures.bytes at c.in_ok-theirs.ensures)
-    (rw (c.deref-2.ensures.value, c.in-Some-2.is) at found)))
+    (rw (c.deref-2.ensures.value, c.in-Some-2.is) at found))
