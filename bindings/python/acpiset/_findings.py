@@ -98,7 +98,7 @@ class Advice(Finding):
     >>> str(advice)
     'SlitDiffers 0x2d 0x30 0x0'
     >>> advice.stage, advice.severity.name
-    (None, 'LIKELY_WRONG')
+    (None, 'LOOK_AT_IT')
     """
 
     numbered = Rule
