@@ -445,8 +445,10 @@ printf '// \377\n' >"$scratch/tree/crates/acpi_c/src/other.rt"
 other_rt lib 'echo "rt: src/other.rt is no UTF-8"; exit 2'
 said 'a source that is no UTF-8' 'src/other.rt is no UTF-8' tests
 rm "$scratch/tree/crates/acpi_c/src/other.rt"
+# In a checkout of their own: here a `make` may be at work, for which scripts/alone would wait.
+cp scripts/alone "$scratch/tree/scripts"
 for script in alone kept prove wrong_bodies; do
-  same "scripts/$script where Python does not look beside it" "$(PYTHONSAFEPATH=1 "scripts/$script" --none 2>&1 | grep -c ModuleNotFoundError)" 0
+  same "scripts/$script where Python does not look beside it" "$(PYTHONSAFEPATH=1 "$scratch/tree/scripts/$script" --none 2>&1 | grep -c ModuleNotFoundError)" 0
 done
 same 'an option that scripts/wrong_bodies does not have' "$(scripts/wrong_bodies --build 2>&1 | grep -c -- --build)" 1
 same 'scripts/wrong_bodies --printed of no crate' "$(scripts/wrong_bodies --printed /dev/null 2>&1 | tail -n 1)" 'wrong_bodies: error: these words do not go together'
@@ -478,7 +480,6 @@ done
 # ---- a make that is ended
 
 cp Makefile "$scratch/tree"
-cp scripts/alone "$scratch/tree/scripts"
 rm -f "$of_cli"/*.made
 PATH="$scratch/bin:$PATH" make -s -C "$scratch/tree" build >"$scratch/log" 2>&1 <&-
 same 'make build without standard input' "$? $(tail -n 1 "$scratch/log" | sed 's/, [0-9]* s$//')" '0 1 of 1, acpi_cli: proved'
