@@ -39,6 +39,7 @@ MINUTES = {
     "acpi_check": 5,
     "acpi_write": 4.5,
     "acpi_show": 1.5,
+    "acpi_rules": 2,
     "acpi_lint": 6,
     "acpi_examples": 1,
     "acpi_c": 4,

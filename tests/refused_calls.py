@@ -14,9 +14,9 @@ import tempfile
 from concurrent.futures import ThreadPoolExecutor
 from pathlib import Path
 
+from acpi_images.program import SECONDS
 from preloaded import EACH, build_object, numbers
 
-SECONDS = 60
 # How a test says that a call, of the library or of the standard library, was out of memory. A list that is written to as a
 # device fails then as a device does.
 OUT_OF_MEMORY = re.compile(rb'\b(AllocError|AllocFailed|Memory|DeviceFailed)\b')

@@ -33,8 +33,10 @@ chmod +x "$scratch"/tests/*.sh
 # all SCRIPTS: runs these by tests/all.sh, with its temporary files in a folder that is checked.
 all() { TMPDIR="$scratch/tmp" TESTS_FOLDER="$scratch/tests" TESTS_ONLY="$1" tests/all.sh program one two; }
 
-# is_there NAME: whether the process with the number in this file is running. A zombie is not.
-is_there() { ps -o stat= -p "$(cat "$scratch/$1")" | grep -qv '^Z'; }
+# stays NAME: whether the process with the number in this file is still running after a minute. A zombie is not.
+stays() {
+  for _ in {1..600}; do ps -o stat= -p "$(cat "$scratch/$1")" | grep -qv '^Z' && sleep 0.1 || return 1; done
+}
 
 printed=$(all 'fine.sh broken.sh' 2>&1)
 same 'scripts of which one fails' "$? $printed" '1 == tests/fine.sh
@@ -82,14 +84,14 @@ def as_usual():
 
 started = subprocess.Popen(["tests/all.sh", "program"], stdout=sys.stderr, preexec_fn=as_usual)
 files = [os.path.join(sys.argv[2], name) for name in ("long", "deaf")]
-until = time.monotonic() + 60
+until = time.monotonic() + 600
 while time.monotonic() < until and not all(os.path.exists(it) and os.path.getsize(it) for it in files):
     time.sleep(0.1)
 started.send_signal(getattr(signal, "SIG" + sys.argv[1]))
-print(signal.Signals(-started.wait(timeout=60)).name)
+print(signal.Signals(-started.wait(timeout=600)).name)
 END
     same "$signal: how tests/all.sh ends" "$(cat "$scratch/status")" "SIG$signal"
-    same "$signal: what it leaves" "$(for name in long child deaf; do is_there $name && echo $name; done) $(cat "$scratch/tidied") $(ls "$scratch/tmp")" ' tidied '
+    same "$signal: what it leaves" "$(for name in long child deaf; do stays $name && echo $name; done) $(cat "$scratch/tidied") $(ls "$scratch/tmp")" ' tidied '
   done
 fi
 
@@ -485,10 +487,6 @@ PATH="$scratch/bin:$PATH" make -s -C "$scratch/tree" build >"$scratch/log" 2>&1 
 same 'make build without standard input' "$? $(tail -n 1 "$scratch/log" | sed 's/, [0-9]* s$//')" '0 1 of 1, acpi_cli: proved'
 # shellcheck disable=SC2016 # the same
 other_rt 'lib | run | test' 'echo $$ >"$FOLDER/prover"; sleep 987 & echo $! >"$FOLDER/child"; wait'
-# stays NAME: whether this process is still running after some seconds.
-stays() {
-  for _ in {1..50}; do is_there "$1" && sleep 0.1 || return 1; done
-}
 # end_make SIGNAL WHOM TARGET: starts make, or scripts/prove alone, and ends it, or its whole group, once a prover is at work.
 end_make() {
   rm -f "$scratch/prover" "$scratch/child" "$of_cli"/*.made
@@ -504,11 +502,11 @@ tree = os.path.join(scratch, "tree")
 words = [os.path.join(tree, "scripts", "prove"), target] if whom == "prove" else ["make", "-s", "-C", tree, target]
 started = subprocess.Popen(words, stdout=sys.stderr, preexec_fn=as_usual, start_new_session=True)
 child = os.path.join(scratch, "child")
-until = time.monotonic() + 60
+until = time.monotonic() + 600
 while time.monotonic() < until and not (os.path.exists(child) and os.path.getsize(child)):
     time.sleep(0.1)
 (os.killpg if whom == "group" else os.kill)(started.pid, getattr(signal, "SIG" + name))
-print(signal.Signals(-started.wait(timeout=60)).name)
+print(signal.Signals(-started.wait(timeout=600)).name)
 END
   same "$1 to $2 at $3: how it ends" "$(cat "$scratch/status")" "SIG$1"
   same "$1 to $2 at $3: what it leaves" "$(for name in prover child; do stays $name && echo $name; done)" ''

@@ -532,10 +532,12 @@ def streams(tests):
         run = subprocess.run(words, input=line, stderr=subprocess.PIPE, env=environment)
         is_right = (run.returncode, run.stderr.decode()) == (status, told)
         tests.count(name, "" if is_right else f"{run.returncode} {run.stderr}")
-    words = ["sh", "-c", 'exec 3>&1; (sleep 1; "$0" 43; echo $? >&3) | true', tests.tool]
-    run = subprocess.run(words, stdout=subprocess.PIPE, stderr=subprocess.PIPE, env=environment)
-    is_right = run.stdout == b"4\n" and b"standard output cannot be written" in run.stderr
-    tests.count("a reader that has gone", "" if is_right else f"{run.stdout} {run.stderr}")
+    reading, pipe = os.pipe()
+    os.close(reading)
+    run = tests.run("43", stdout=pipe)
+    os.close(pipe)
+    is_right = run.returncode == 4 and b"standard output cannot be written" in run.stderr
+    tests.count("a reader that has gone", "" if is_right else f"{run.returncode} {run.stderr}")
 
 
 def places(tests):

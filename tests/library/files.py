@@ -9,7 +9,7 @@ from builds import HEADER, difference, run
 FUNCTIONS = {f"acpiset_{it}" for it in "check check_text confirm lint find show rebuild stage severity name explain abi".split()}
 FROM_OUTSIDE = {"malloc", "realloc", "free", "memcpy", "memmove", "memset", "memcmp", "bcmp"}
 # The most bytes of the shared object.
-MOST_BYTES = 340_000
+MOST_BYTES = 480_000
 
 
 def symbols(path, *options):

@@ -67,8 +67,7 @@ def io_apics():
 
 
 def x2apics():
-    """x2APICs whose UIDs and IDs are in no order: all differ, the last one has those of the first, each occurs twice, or they differ by
-    multiples of the number by which `lint` takes remainders."""
+    """x2APICs whose UIDs and IDs are in no order: all differ, the last one has those of the first, or each occurs twice."""
     entry = struct.Struct("<BBHIII")
     ids, uids = (random.Random(seed).sample(range(2**32 - 1), COUNT) for seed in (3, 4))
     alike = [entry.pack(9, 16, 0, apic_id, 1, uid) for apic_id, uid in zip(ids, uids)]
@@ -77,11 +76,6 @@ def x2apics():
     yield "the last", madt(*alike[:-1], alike[0]), advised(*repeated(44 + 16 * LAST))
     half = COUNT // 2
     yield "each twice", madt(*alike[:half], *alike[:half]), advised(*repeated(44 + 16 * half))
-    modulus = 16 * COUNT + 1
-    multiples = range(0, 2**32 - modulus, modulus)
-    same = [rest + multiple for rest in range(COUNT // len(multiples) + 1) for multiple in multiples]
-    ids, uids = (random.Random(seed).sample(same, COUNT) for seed in (5, 6))
-    yield "with the same remainders", madt(*(entry.pack(9, 16, 0, apic_id, 1, uid) for apic_id, uid in zip(ids, uids))), advised()
 
 
 def unread_entries():

@@ -1,26 +1,19 @@
 -- What the examples of advice share: one entry or two entries, and the numbers that they say.
-use Rattle.std.proofs.Common.{◌≡◌, ℕ, ◌<◌, [], ◌∷◌, refl, inl, inr, arith}
+use Rattle.std.proofs.Common.{◌≡◌, ℕ, [], ◌∷◌, refl, inl, inr}
 use Rattle.std.specs.Prelude.{◌≢◌, ◌⊎◌, Option, Some, None, List}
 use Rattle.std.specs.List.{AllByRecursion}
 use Rattle.std.proofs.lemmas.Option.{same_Some}
-use Rattle.acpi_base.specs.Entries.{PlacedEntry, Stands}
+use Rattle.acpi_base.specs.Entries.{PlacedEntry}
 use Rattle.acpi_base.specs.Madt.{MadtContents}
-use Rattle.acpi_lint.specs.Rules.Numbered.{NamesAt, IsNamed, IsLater}
+use Rattle.acpi_lint.specs.Rules.Numbered.{NamesAt, IsNamed}
 use Rattle.acpi_lint.specs.Rules.Processors.{AreProcessorsRead, AreProcessorsKnown, IsUnreadProcessor}
 use Rattle.acpi_lint.specs.Rules.WellFormed.{HasOtherMadtLength}
 use Rattle.acpi_examples.specs.Tables.{placed_entry}
-use Rattle.acpi_examples.specs.Advice.{IsKept}
 use Rattle.acpi_examples.proofs.NamedEntries.{each_entry, none_stands}
 
 -- two entries, one after the other
 abbrev pub both : {E : Type 0} → ℕ → E → ℕ → E → List (PlacedEntry E)
 both o d p e = placed_entry o d ∷ placed_entry p e ∷ []
-
-pub first_stands : {E : Type 0} (o : ℕ) (d : E) (p : ℕ) (e : E) → Stands (both o d p e) o d
-first_stands o d p e = (0, omega arith, refl)
-
-pub second_stands : {E : Type 0} (o : ℕ) (d : E) (p : ℕ) (e : E) → Stands (both o d p e) p e
-second_stands o d p e = (1, omega arith, refl)
 
 of_both : {E : Type 0} (read : E → Option ℕ) (o : ℕ) (d : E) (p : ℕ) (e : E) (q n : ℕ) → NamesAt read (both o d p e) q n
     → ((q ≡ o) × (read d ≡ Some n)) ⊎ ((q ≡ p) × (read e ≡ Some n))
@@ -35,36 +28,6 @@ of_numbers read o d p e x y q n one two names =
     elim (of_both read o d p e q n names) [
       | inl (same, is) ↦ inl (same, cc)
       | inr (same, is) ↦ inr (same, cc)
-    ]
-
--- if both say one number, it is at the second and before it at the first
-pub both_say : {E : Type 0} (read : E → Option ℕ) (o : ℕ) (d : E) (p : ℕ) (e : E) (n : ℕ) → read d ≡ Some n
-    → read e ≡ Some n → o < p → IsLater (NamesAt read (both o d p e)) p o n
-both_say read o d p e n one two less = record {
-  here = (e, second_stands o d p e, two);
-  earlier = (d, first_stands o d p e, one);
-  before = less;
-  first = λ q names. elim (of_both read o d p e q n names) [
-    | inl (same, _) ↦ omega arith
-    | inr (same, _) ↦ omega arith
-  ];
-}
-
--- if they do not both say one number, none is at a later place too
-pub two_differ : {E : Type 0} (read : E → Option ℕ) (o : ℕ) (d : E) (p : ℕ) (e : E)
-    → ((n : ℕ) → read d ≡ Some n → ¬ (read e ≡ Some n)) → IsKept (IsLater (NamesAt read (both o d p e)))
-two_differ read o d p e differ at other n it =
-    elim (of_both read o d p e at n it.here) [
-      | inl (here, one) ↦
-          elim (of_both read o d p e other n it.earlier) [
-            | inl (there, _) ↦ omega (arith, it.before)
-            | inr (_, two) ↦ differ n one two
-          ]
-      | inr (here, two) ↦
-          elim (of_both read o d p e other n it.earlier) [
-            | inl (_, one) ↦ differ n one two
-            | inr (there, _) ↦ omega (arith, it.before)
-          ]
     ]
 
 pub unnamed : {E : Type 0} (read : E → Option ℕ) (entries : List (PlacedEntry E)) (n : ℕ)

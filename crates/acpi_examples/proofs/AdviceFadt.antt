@@ -1,136 +1,19 @@
 -- The examples of advice on the FADT, by computing.
-use Rattle.std.proofs.Common.{◌≡◌, ℕ, ◌+◌, ◌<◌, ◌≤◌, List, length, refl, sym, ◌∙◌, subst, inl, inr, arith}
-use Rattle.std.specs.Prelude.{◌≢◌}
+use Rattle.std.proofs.Common.{◌≡◌, ℕ, ◌≤◌, refl, sym, ◌∙◌, subst, inl, inr, arith}
 use Rattle.std.specs.List.{AllByRecursion}
 use Rattle.std.proofs.lemmas.Bool.{both_ways}
 use Rattle.std.proofs.lemmas.Option.{none-some}
 use Rattle.acpi_base.specs.Number.{field}
 use Rattle.acpi_base.specs.Across.{IsIoApic, IsServed}
 use Rattle.acpi_base.specs.Entries.{Stands, StandsWith}
-use Rattle.acpi_base.specs.Fadt.{has_flag, gas_at}
+use Rattle.acpi_base.specs.Fadt.{has_flag}
 use Rattle.acpi_base.specs.Madt.{Override, MadtContents, ServesFrom}
 use Rattle.acpi_base.specs.Policy.{PolicyValue, inputs_of}
-use Rattle.acpi_lint.specs.Rules.FadtBlocks.{structure_at}
-use Rattle.acpi_lint.specs.Rules.FadtAdvice.{DoFieldsDiffer, IsBlockDiffers, IsOverrideOf, IsGsiOf}
+use Rattle.acpi_lint.specs.Rules.FadtAdvice.{IsOverrideOf, IsGsiOf}
 use Rattle.acpi_lint.specs.Rules.WellFormed.{HasOtherMadtLength, IsWellFormedMadt}
 use Rattle.acpi_examples.specs.Advice.{one_entry, processor}
-use Rattle.acpi_examples.specs.AdviceFadt.{facs_fadt, dsdt_fadt, block_fadt, io_apic_entry, overridden, twice_overridden, AreOfRevision, AreAddressesOdd, AreBlocksOdd, AreScisNowhere, IsFadtAdvised}
+use Rattle.acpi_examples.specs.AdviceFadt.{io_apic_entry, overridden, twice_overridden, AreScisNowhere, IsFadtAdvised}
 use Rattle.acpi_examples.proofs.NamedEntries.{each_entry, none_stands, never}
-
--- ---- the Revision
-
-of_revision : AreOfRevision
-unfolding field
-of_revision = record {
-  three = (refl, refl, refl, omega arith);
-  three_whole = λ at other point it. omega (arith, it.2, it.3);
-  four = (refl, refl, refl, omega arith);
-  four_whole = λ at other point it. omega (arith, it.2, it.3);
-  five = (refl, refl, refl, omega arith);
-  five_whole = λ at other point it. omega (arith, it.2, it.3);
-  six = (refl, refl, refl, omega arith);
-  six_whole = λ at other point it. omega (arith, it.2, it.3);
-  two = λ at other point it. omega (arith, it.2, it.3);
-}
-
--- ---- two fields of one address
-
--- both are present and differ
-abbrev differ : {whole : List ℕ} (narrow wide : ℕ) → narrow + 4 ≤ length whole → wide + 8 ≤ length whole
-    → field whole narrow 4 ≢ 0 → field whole wide 8 ≢ 0 → field whole narrow 4 ≢ field whole wide 8
-    → DoFieldsDiffer whole narrow wide (field whole narrow 4) (field whole wide 8)
-differ narrow wide narrow_there wide_there narrow_used wide_used differs = record {
-  narrow_there = narrow_there;
-  wide_there = wide_there;
-  narrow_is = refl;
-  wide_is = refl;
-  narrow_used = narrow_used;
-  wide_used = wide_used;
-  differ = differs;
-}
-
-same_fields : (whole : List ℕ) (narrow wide other point : ℕ) → field whole narrow 4 ≡ field whole wide 8
-    → ¬ DoFieldsDiffer whole narrow wide other point
-same_fields whole narrow wide other point same it = it.differ (it.narrow_is ∙ (same ∙ sym it.wide_is))
-
-no_narrow : (whole : List ℕ) (narrow wide other point : ℕ) → field whole narrow 4 ≡ 0
-    → ¬ DoFieldsDiffer whole narrow wide other point
-no_narrow whole narrow wide other point zero it = it.narrow_used (it.narrow_is ∙ zero)
-
-no_wide : (whole : List ℕ) (narrow wide other point : ℕ) → field whole wide 8 ≡ 0
-    → ¬ DoFieldsDiffer whole narrow wide other point
-no_wide whole narrow wide other point zero it = it.wide_used (it.wide_is ∙ zero)
-
-addresses_odd : AreAddressesOdd
-unfolding field
-addresses_odd = record {
-  facs = (
-    refl,
-    differ {whole = facs_fadt 0x30 0x40} 36 132 (omega arith) (omega arith) (λ same. omega arith) (λ same. omega arith)
-        (λ same. omega arith),
-  );
-  facs_same = λ at other point it. same_fields (facs_fadt 0x30 0x30) 36 132 other point refl it.1;
-  no_narrow_facs = λ at other point it. no_narrow (facs_fadt 0 0x40) 36 132 other point refl it.1;
-  no_wide_facs = λ at other point it. no_wide (facs_fadt 0x30 0) 36 132 other point refl it.1;
-  facs_cut = λ at other point it. omega (arith, it.1.wide_there);
-  dsdt = (
-    refl,
-    differ {whole = dsdt_fadt 0x30 0x40} 40 140 (omega arith) (omega arith) (λ same. omega arith) (λ same. omega arith)
-        (λ same. omega arith),
-  );
-  dsdt_same = λ at other point it. same_fields (dsdt_fadt 0x30 0x30) 40 140 other point refl it.1;
-  no_narrow_dsdt = λ at other point it. no_narrow (dsdt_fadt 0 0x40) 40 140 other point refl it.1;
-  no_wide_dsdt = λ at other point it. no_wide (dsdt_fadt 0x30 0) 40 140 other point refl it.1;
-  dsdt_cut = λ at other point it. omega (arith, it.1.wide_there);
-}
-
--- ---- register blocks
-
-first_block : (whole : List ℕ) (at other point : ℕ) → length whole < 172 → IsBlockDiffers whole at other point
-    → DoFieldsDiffer whole 56 152 other point × ((gas_at whole 148).space ≡ 1)
-first_block whole at other point short it =
-    let k : it.k ≡ 0 = omega (arith, it.differ.wide_there) in
-    let place : at ≡ 56 = omega (arith, it.place) in
-    let wide : structure_at it.k + 4 ≡ 152 = omega arith in
-    let gas : structure_at it.k ≡ 148 = omega arith in (
-      subst (λ (x : ℕ). DoFieldsDiffer whole 56 x other point) wide
-          (subst (λ (x : ℕ). DoFieldsDiffer whole x (structure_at it.k + 4) other point) place it.differ),
-      subst (λ (x : ℕ). (gas_at whole x).space ≡ 1) gas it.space,
-    )
-
-blocks_odd : AreBlocksOdd
-unfolding field has_flag
-blocks_odd = record {
-  first = record {
-    not_reduced = refl;
-    k = 0;
-    block = omega arith;
-    place = refl;
-    space = refl;
-    differ = differ 56 152 (omega arith) (omega arith) (λ same. omega arith) (λ same. omega arith)
-        (λ same. omega arith);
-  };
-  last = record {
-    not_reduced = refl;
-    k = 7;
-    block = omega arith;
-    place = refl;
-    space = refl;
-    differ = differ 84 236 (omega arith) (omega arith) (λ same. omega arith) (λ same. omega arith)
-        (λ same. omega arith);
-  };
-  same = λ at other point it. same_fields (block_fadt 0 4 1 4) 56 152 other point refl
-      (first_block (block_fadt 0 4 1 4) at other point (omega arith) it).0;
-  no_narrow = λ at other point it. no_narrow (block_fadt 0 0 1 5) 56 152 other point refl
-      (first_block (block_fadt 0 0 1 5) at other point (omega arith) it).0;
-  no_wide = λ at other point it. no_wide (block_fadt 0 4 1 0) 56 152 other point refl
-      (first_block (block_fadt 0 4 1 0) at other point (omega arith) it).0;
-  reduced = λ at other point it. both_ways _ it.not_reduced refl;
-  in_memory = λ at other point it. omega (
-    arith,
-    (first_block (block_fadt 0 4 0 5) at other point (omega arith) it).1,
-  );
-}
 
 -- ---- SCI_INT
 
@@ -230,8 +113,5 @@ scis_nowhere q = record {
 
 pub fadt_advised : (q : PolicyValue) → IsFadtAdvised q
 fadt_advised q = record {
-  revisions = of_revision;
-  addresses = addresses_odd;
-  blocks = blocks_odd;
   scis = scis_nowhere q;
 }

@@ -3,56 +3,13 @@ use Rattle.std.proofs.Common.{◌≡◌, ℕ, refl, sym, ◌∙◌, inl, inr, ar
 use Rattle.std.specs.Prelude.{Some}
 use Rattle.std.proofs.lemmas.Option.{none-some, same_Some}
 use Rattle.acpi_base.specs.Number.{field, has_bit}
-use Rattle.acpi_lint.specs.Rules.Gic.{usable_mpidr, msi_frame_id, its_id, gicc_base, gicd_version, gicr_base, gicr_length, own_redistributor}
-use Rattle.acpi_lint.specs.Rules.GicAdvice.{reserved_mpidr, empty_gicr, other_gicr}
+use Rattle.acpi_lint.specs.Rules.Gic.{gicc_base, gicd_version, gicr_base, gicr_length, own_redistributor}
+use Rattle.acpi_lint.specs.Rules.GicAdvice.{other_gicr}
 use Rattle.acpi_lint.specs.Rules.Numbered.{NamesAt}
-use Rattle.acpi_examples.specs.Advice.{one_entry, two_entries, gicc}
-use Rattle.acpi_examples.specs.AdviceGic.{interface, sized_interface, fourth, fifth, sixth, zeros, distributor, range, gic, two_ranges, AreMpidrs, AreGicParts, AreDistributors, AreRedistributors, AreRanges, AreBases, IsGicAdvised}
-use Rattle.acpi_examples.proofs.Advice.{both_say, two_differ}
+use Rattle.acpi_examples.specs.Advice.{two_entries, gicc}
+use Rattle.acpi_examples.specs.AdviceGic.{interface, sized_interface, fourth, zeros, distributor, range, gic, two_ranges, AreRedistributors, AreRanges, AreBases, IsGicAdvised}
 use Rattle.acpi_examples.proofs.NamedEntries.{none_stands, each_entry}
-use Rattle.acpi_examples.proofs.OwnNumbers.{says, silent, is_first, has_none, is_well_formed}
-
-mpidrs : AreMpidrs
-unfolding has_bit field
-mpidrs = record {
-  reserved = says reserved_mpidr 76 (interface zeros zeros (fourth 1)) 0x1000000 refl;
-  affinity = silent reserved_mpidr 76 (interface zeros zeros (fifth 1)) refl;
-  past = says reserved_mpidr 76 (interface zeros zeros (sixth 1)) 0x10000000000 refl;
-  highest = silent reserved_mpidr 76 (interface zeros zeros (fifth 0x80)) refl;
-  same = both_say usable_mpidr 44 _ 120 _ 0x100000000 refl refl (omega arith);
-  differ = two_differ usable_mpidr 44 _ 120 _
-      (λ n one two. omega (arith, same_Some 0x100000000 n one, same_Some 0x200000000 n two));
-  short = two_differ usable_mpidr 44 _ 119 _ (λ n one two. none-some n one);
-  off = two_differ usable_mpidr 44 _ 120 _ (λ n one two. none-some n two);
-}
-
-parts : AreGicParts
-unfolding field
-parts = record {
-  empty = says empty_gicr 16 (range 0 0 0) 0 refl;
-  not_empty = silent empty_gicr 16 (range 1 0 0) refl;
-  same_its = both_say its_id 44 _ 64 _ 5 refl refl (omega arith);
-  its_differ = two_differ its_id 44 _ 64 _ (λ n one two. omega (arith, same_Some 5 n one, same_Some 6 n two));
-  same_frame = both_say msi_frame_id 44 _ 68 _ 5 refl refl (omega arith);
-  frames_differ = two_differ msi_frame_id 44 _ 68 _
-      (λ n one two. omega (arith, same_Some 5 n one, same_Some 6 n two));
-}
-
-distributors : AreDistributors
-distributors = record {
-  none = (
-    record {
-      has_interface = (44, (_, (0, omega arith, refl), refl));
-      none = has_none (one_entry 40 (gicc 3 1)) 12 ((λ is. omega (arith, is)), tt);
-      well_formed = is_well_formed (one_entry 40 (gicc 3 1)) refl ((λ is. omega (arith, is)), tt);
-    },
-    refl,
-    (refl, refl),
-  );
-  one = λ at other point it. it.0.none (84, (_, (1, omega arith, refl), refl));
-  short = λ at other point it. it.0.none (84, (_, (1, omega arith, refl), refl));
-  cut = λ at other point it. none-some 84 (sym it.0.well_formed.0);
-}
+use Rattle.acpi_examples.proofs.OwnNumbers.{is_first, has_none, is_well_formed}
 
 redistributors : AreRedistributors
 unfolding has_bit field
@@ -216,9 +173,6 @@ bases = record {
 
 pub gic_advised : IsGicAdvised
 gic_advised = record {
-  mpidrs = mpidrs;
-  parts = parts;
-  distributors = distributors;
   redistributors = redistributors;
   ranges = ranges;
   bases = bases;

@@ -1,20 +1,18 @@
 -- The examples of advice on the PPTT, by computing.
 use Rattle.std.proofs.Common.{◌≡◌, ℕ, ◌≤◌, true, [], refl, sym, ◌∙◌, subst, inl, inr, arith}
 use Rattle.std.specs.Prelude.{◌≢◌, Some}
-use Rattle.std.proofs.Math.Nat.{pow-le-pow_right}
-use Rattle.std.proofs.lemmas.Bool.{both_ways, cases_lt}
-use Rattle.std.proofs.lemmas.Nat.{pow_pos}
+use Rattle.std.proofs.lemmas.Bool.{both_ways}
 use Rattle.std.proofs.lemmas.Option.{none-some, same_Some}
 use Rattle.acpi_base.specs.Number.{field, has_bit}
-use Rattle.acpi_base.specs.Pptt.{Node, CacheValue, Cache, parent_of, HasOtherPpttLength}
+use Rattle.acpi_base.specs.Pptt.{Node, parent_of, HasOtherPpttLength}
 use Rattle.acpi_lint.specs.Rules.Processors.{uid_of, usable_uid, IsOpaqueProcessor, IsParent, IsLeafAt, IsLeafId}
 use Rattle.acpi_lint.specs.Rules.Numbered.{IsNamed}
-use Rattle.acpi_lint.specs.Rules.PpttAdvice.{IsPowerOfTwo, HasOddShape, IsCacheShape, cache_id, IsNode}
+use Rattle.acpi_lint.specs.Rules.PpttAdvice.{IsNode}
 use Rattle.acpi_lint.specs.Rules.WellFormed.{IsWellFormedPptt}
 use Rattle.acpi_examples.specs.Advice.{one_entry, processor, gicc, core_pic}
-use Rattle.acpi_examples.specs.AdvicePptt.{two_nodes, one_node, one_cache, AreSameLeaves, AreCacheShapes, AreSameCacheIds, AreNoLeaves, AreLeavesNowhere, IsPpttAdvised}
+use Rattle.acpi_examples.specs.AdvicePptt.{two_nodes, one_node, one_cache, AreSameLeaves, AreNoLeaves, AreLeavesNowhere, IsPpttAdvised}
 use Rattle.acpi_examples.proofs.NamedEntries.{each_entry, none_stands, never}
-use Rattle.acpi_examples.proofs.Advice.{both_say, two_differ, unnamed, other_number, all_read, all_known}
+use Rattle.acpi_examples.proofs.Advice.{unnamed, other_number, all_read, all_known}
 
 -- ---- leaves
 
@@ -125,49 +123,6 @@ same_leaves = record {
   };
 }
 
--- ---- caches
-
-not_48 : ¬ IsPowerOfTwo 48
-not_48 (k, is) =
-    elim (cases_lt k 6) [
-      | inl less ↦ omega (arith, pow-le-pow_right {n = 2} (omega arith) {i = k} {j = 5} (omega arith))
-      | inr least ↦ omega (arith, pow-le-pow_right {n = 2} (omega arith) {i = 6} {j = k} least)
-    ]
-
-not_0 : ¬ IsPowerOfTwo 0
-not_0 (k, is) = omega (arith, pow_pos k)
-
-not_odd : (v : CacheValue) (other point : ℕ) → ¬ HasOddShape v → ¬ IsCacheShape (Cache v) other point
-not_odd v other point none ((w, is, odd), _) = none (subst HasOddShape same odd)
-  where
-    same : w ≡ v
-    same = cc
-
-cache_shapes : AreCacheShapes
-unfolding has_bit
-cache_shapes = record {
-  no_sets = (_, (0, omega arith, refl), ((_, refl, inl (refl, refl)), (refl, refl)));
-  odd_line = (_, (0, omega arith, refl), ((_, refl, inr (refl, not_48)), (refl, refl)));
-  no_line = (_, (0, omega arith, refl), ((_, refl, inr (refl, not_0)), (refl, refl)));
-  least =
-      λ at other point it. none_stands (one_cache 0x42 1 1).entries at (λ o e. IsCacheShape e other point)
-      (not_odd _ other point (λ odd. elim odd [ inl h ↦ omega (arith, h.1) | inr h ↦ h.1 (0, refl) ]), tt) it;
-  not_valid =
-      λ at other point it. none_stands (one_cache 0xbd 0 48).entries at (λ o e. IsCacheShape e other point)
-      (not_odd _ other point (λ odd. elim odd [ inl h ↦ both_ways _ refl h.0 | inr h ↦ both_ways _ refl h.0 ]), tt) it;
-}
-
-same_cache_ids : AreSameCacheIds
-unfolding has_bit
-same_cache_ids = record {
-  same = (omega arith, both_say cache_id 36 _ 64 _ 3 refl refl (omega arith));
-  old = λ at other point it. omega (arith, it.0);
-  not_valid = λ at other point it. two_differ cache_id 36 _ 64 _ (λ n one two. none-some n two) at other point it.1;
-  differ = λ at other point it. two_differ cache_id 36 _ 64 _
-      (λ n one two. omega (arith, same_Some 3 n one, same_Some 4 n two)) at other point it.1;
-  no_id = λ at other point it. two_differ cache_id 36 _ 64 _ (λ n one two. none-some n two) at other point it.1;
-}
-
 -- ---- processors and leaves
 
 leaf : (id : ℕ) → IsLeafAt (one_node 10 id) 36 id
@@ -256,8 +211,6 @@ leaves_nowhere = record {
 pub pptt_advised : IsPpttAdvised
 pptt_advised = record {
   leaves = same_leaves;
-  shapes = cache_shapes;
-  ids = same_cache_ids;
   none = no_leaves;
   nowhere = leaves_nowhere;
 }

@@ -1,16 +1,13 @@
 -- Proofs of the examples.
 pub mod Advice
-pub mod AdviceApic
 pub mod AdviceDomains
 pub mod AdviceFadt
 pub mod AdviceFadtFields
 pub mod AdviceFadtMadt
 pub mod AdviceGic
 pub mod AdviceHierarchy
-pub mod AdviceMadt
 pub mod AdvicePptt
 pub mod AdviceRanges
-pub mod AdviceReserved
 pub mod AdviceSet
 pub mod AdviceSlots
 pub mod AdviceSrat
@@ -23,6 +20,7 @@ pub mod NestedTables
 pub mod OwnNumbers
 pub mod Pptts
 pub mod RebuiltSets
+pub mod Rows
 pub mod Sets
 pub mod Slits
 pub mod Srats

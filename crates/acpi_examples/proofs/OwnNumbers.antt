@@ -1,24 +1,12 @@
 -- Numbers that entries of the examples say by themselves.
-use Rattle.std.proofs.Common.{◌≡◌, ℕ, ◌≤◌, List, Option, Some, None, refl, sym, ◌∙◌, arith}
+use Rattle.std.proofs.Common.{◌≡◌, ℕ, ◌≤◌, List, Option, Some, None}
 use Rattle.std.specs.List.{AllByRecursion}
-use Rattle.std.proofs.lemmas.Option.{none-some}
 use Rattle.acpi_base.specs.Entries.{PlacedEntry}
 use Rattle.acpi_base.specs.Madt.{MadtEntry, MadtContents}
 use Rattle.acpi_lint.specs.Rules.EntryTypes.{type_of, HasType}
-use Rattle.acpi_lint.specs.Rules.Numbered.{OnEntry, HasNumber, NamesAt, IsFirstNamed}
+use Rattle.acpi_lint.specs.Rules.Numbered.{NamesAt, IsFirstNamed}
 use Rattle.acpi_lint.specs.Rules.WellFormed.{HasOtherMadtLength, IsWellFormedMadt}
-use Rattle.acpi_examples.specs.Advice.{IsKept, one_entry}
 use Rattle.acpi_examples.proofs.NamedEntries.{each_entry, none_stands}
-
-pub says : (read : MadtEntry → Option ℕ) (size : ℕ) (e : MadtEntry) (n : ℕ) → read e ≡ Some n
-    → OnEntry (HasNumber read) (one_entry size e).entries 44 0 n
-says read size e n is = (e, (0, omega arith, refl), (is, refl))
-
-pub silent : (read : MadtEntry → Option ℕ) (size : ℕ) (e : MadtEntry) → read e ≡ None
-    → IsKept (OnEntry (HasNumber read) (one_entry size e).entries)
-silent read size e none at other point it =
-    none_stands (one_entry size e).entries at (λ o e. HasNumber read e other point)
-    ((λ is. none-some point (sym none ∙ is.0)), tt) it
 
 -- the number at o is the first one, if none is before
 pub is_first : (read : MadtEntry → Option ℕ) (entries : List (PlacedEntry MadtEntry)) (o n : ℕ)

@@ -26,10 +26,6 @@ abbrev pub gicc : ℕ → ℕ → MadtEntry
 gicc uid flags =
     Opaque (11 ∷ 40 ∷ replicate 6 0 ++ uid ∷ 0 ∷ 0 ∷ 0 ∷ flags ∷ 0 ∷ 0 ∷ 0 ∷ replicate 24 0)
 
--- the interrupt controller of a hart of 20 bytes with this UID and these flags (RINTC, after ACPI 6.5)
-abbrev pub rintc : ℕ → ℕ → MadtEntry
-rintc uid flags = Opaque (24 ∷ 20 ∷ 1 ∷ 0 ∷ flags ∷ replicate 11 0 ++ uid ∷ 0 ∷ 0 ∷ 0 ∷ [])
-
 -- that of a LoongArch core with this UID, this ID and these flags (5.2.12.20)
 abbrev pub core_pic : ℕ → ℕ → ℕ → MadtEntry
 core_pic uid id flags =

@@ -4,7 +4,7 @@ use Rattle.std.specs.Prelude.{◌≡◌, ℕ, ◌-◌, ◌/◌, ◌%◌, List, [
 use Rattle.acpi_base.specs.Listed.{fadt_signature}
 use Rattle.acpi_base.specs.Policy.{PolicyValue, inputs_of}
 use Rattle.acpi_base.specs.Madt.{MadtEntry, IoApic, Override, MadtContents}
-use Rattle.acpi_lint.specs.Rules.FadtAdvice.{IsFadtOfRevision, IsFacsDiffers, IsDsdtDiffers, IsBlockDiffers, IsSciNowhere}
+use Rattle.acpi_lint.specs.Rules.FadtAdvice.{IsSciNowhere}
 use Rattle.acpi_examples.specs.Tables.{table, placed_entry}
 use Rattle.acpi_examples.specs.Madts.{said_madt}
 use Rattle.acpi_examples.specs.Advice.{IsKept, one_entry, two_entries, processor, cut_madt}
@@ -21,35 +21,11 @@ abbrev pub facs_fadt : ℕ → ℕ → List ℕ
 facs_fadt narrow wide =
     table fadt_signature 140 2 0 (0 ∷ narrow ∷ 0 ∷ 0 ∷ replicate 92 0 ++ 0 ∷ wide ∷ replicate 6 0)
 
--- one of 139 bytes, in which the last byte of X_FIRMWARE_CTRL is missing
-abbrev pub cut_facs_fadt : List ℕ
-cut_facs_fadt = table fadt_signature 139 2 0 (0 ∷ 0x30 ∷ 0 ∷ 0 ∷ replicate 92 0 ++ 0 ∷ 0x40 ∷ replicate 5 0)
-
 -- a FADT of 148 bytes with DSDT and X_DSDT in these pages
 abbrev pub dsdt_fadt : ℕ → ℕ → List ℕ
 dsdt_fadt narrow wide =
     table fadt_signature 148 2 0
     (replicate 4 0 ++ 0 ∷ narrow ∷ 0 ∷ 0 ∷ replicate 96 0 ++ 0 ∷ wide ∷ replicate 6 0)
-
--- one of 147 bytes, in which the last byte of X_DSDT is missing
-abbrev pub cut_dsdt_fadt : List ℕ
-cut_dsdt_fadt =
-    table fadt_signature 147 2 0 (replicate 4 0 ++ 0 ∷ 0x30 ∷ 0 ∷ 0 ∷ replicate 96 0 ++ 0 ∷ 0x40 ∷ replicate 5 0)
-
--- a FADT of 160 bytes with these bits 23 to 16 of its flags, PM1a_EVT_BLK in this page, and X_PM1a_EVT_BLK of this
--- space in that page
-abbrev pub block_fadt : ℕ → ℕ → ℕ → ℕ → List ℕ
-block_fadt flags narrow space wide =
-    table fadt_signature 160 2 0
-    (replicate 20 0 ++ 0 ∷ narrow ∷ 0 ∷ 0 ∷ replicate 54 0
-    ++ flags ∷ 0 ∷ replicate 32 0
-    ++ space ∷ 16 ∷ 0 ∷ 2 ∷ 0 ∷ wide ∷ replicate 6 0)
-
--- a FADT of 244 bytes whose last block, GPE1, has two ports
-abbrev pub last_block_fadt : List ℕ
-last_block_fadt =
-    table fadt_signature 244 3 0
-    (replicate 48 0 ++ 0 ∷ 5 ∷ 0 ∷ 0 ∷ replicate 144 0 ++ 1 ∷ 16 ∷ 0 ∷ 2 ∷ 0 ∷ 6 ∷ replicate 6 0)
 
 -- a FADT of 116 bytes with this SCI_INT and these bits 23 to 16 of its flags
 abbrev pub sci_fadt : ℕ → ℕ → List ℕ
@@ -80,43 +56,6 @@ twice_overridden =
 
 -- ---- what they state
 
--- the table has a byte less than its Revision's fields; not so with all of them, or at Revision 2
-pub record AreOfRevision : Type 0 where
-  pub three : IsFadtOfRevision (plain_fadt 3 243) 4 243 244
-  pub three_whole : IsKept (IsFadtOfRevision (plain_fadt 3 244))
-  pub four : IsFadtOfRevision (plain_fadt 4 243) 4 243 244
-  pub four_whole : IsKept (IsFadtOfRevision (plain_fadt 4 244))
-  pub five : IsFadtOfRevision (plain_fadt 5 267) 4 267 268
-  pub five_whole : IsKept (IsFadtOfRevision (plain_fadt 5 268))
-  pub six : IsFadtOfRevision (plain_fadt 6 275) 4 275 276
-  pub six_whole : IsKept (IsFadtOfRevision (plain_fadt 6 276))
-  pub two : IsKept (IsFadtOfRevision (plain_fadt 2 116))
-
--- two addresses of the FACS, and of the DSDT; not so if they are the same, one is 0, or the wide one's last byte is
--- missing
-pub record AreAddressesOdd : Type 0 where
-  pub facs : IsFacsDiffers (facs_fadt 0x30 0x40) 0x24 0x3000 0x4000
-  pub facs_same : IsKept (IsFacsDiffers (facs_fadt 0x30 0x30))
-  pub no_narrow_facs : IsKept (IsFacsDiffers (facs_fadt 0 0x40))
-  pub no_wide_facs : IsKept (IsFacsDiffers (facs_fadt 0x30 0))
-  pub facs_cut : IsKept (IsFacsDiffers cut_facs_fadt)
-  pub dsdt : IsDsdtDiffers (dsdt_fadt 0x30 0x40) 0x28 0x3000 0x4000
-  pub dsdt_same : IsKept (IsDsdtDiffers (dsdt_fadt 0x30 0x30))
-  pub no_narrow_dsdt : IsKept (IsDsdtDiffers (dsdt_fadt 0 0x40))
-  pub no_wide_dsdt : IsKept (IsDsdtDiffers (dsdt_fadt 0x30 0))
-  pub dsdt_cut : IsKept (IsDsdtDiffers cut_dsdt_fadt)
-
--- two ports of a block, the first or the last; not so if they are the same, if one is 0, if the hardware is
--- reduced, or if the structure is in system memory
-pub record AreBlocksOdd : Type 0 where
-  pub first : IsBlockDiffers (block_fadt 0 4 1 5) 0x38 0x400 0x500
-  pub last : IsBlockDiffers last_block_fadt 0x54 0x500 0x600
-  pub same : IsKept (IsBlockDiffers (block_fadt 0 4 1 4))
-  pub no_narrow : IsKept (IsBlockDiffers (block_fadt 0 0 1 5))
-  pub no_wide : IsKept (IsBlockDiffers (block_fadt 0 4 1 0))
-  pub reduced : IsKept (IsBlockDiffers (block_fadt 0x10 4 1 5))
-  pub in_memory : IsKept (IsBlockDiffers (block_fadt 0 4 0 5))
-
 -- SCI_INT 9 has the number 24 by its first override, and SCI_INT 24 by none, which an I/O APIC with 24 inputs does
 -- not serve; not so with 25, without the override, if that is of another bus, on reduced hardware, without an I/O
 -- APIC, or if the MADT is cut
@@ -133,7 +72,4 @@ pub record AreScisNowhere (q : PolicyValue) : Type 0 where
 
 -- all of them
 pub record IsFadtAdvised (q : PolicyValue) : Type 0 where
-  pub revisions : AreOfRevision
-  pub addresses : AreAddressesOdd
-  pub blocks : AreBlocksOdd
   pub scis : AreScisNowhere q

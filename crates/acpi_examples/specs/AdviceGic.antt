@@ -1,12 +1,10 @@
 -- Examples of further advice on the MADT: the parts of a GIC (ACPI 6.5, 5.2.12.14 to 5.2.12.18).
 use Rattle.std.specs.Prelude.{ℕ, ◌+◌, List, [], ◌∷◌, ◌++◌, replicate}
 use Rattle.acpi_base.specs.Madt.{MadtEntry, Opaque, MadtContents}
-use Rattle.acpi_lint.specs.Rules.Gic.{usable_mpidr, msi_frame_id, its_id}
-use Rattle.acpi_lint.specs.Rules.GicAdvice.{reserved_mpidr, empty_gicr, IsNoDistributor, IsNoRedistributor, IsGicrTooSmall, IsGiccBaseDiffers, IsRedistributorTwice}
-use Rattle.acpi_lint.specs.Rules.Numbered.{OnEntry, HasNumber, Repeats}
+use Rattle.acpi_lint.specs.Rules.GicAdvice.{IsNoRedistributor, IsGicrTooSmall, IsGiccBaseDiffers, IsRedistributorTwice}
 use Rattle.acpi_examples.specs.Tables.{placed_entry}
 use Rattle.acpi_examples.specs.Madts.{said_madt}
-use Rattle.acpi_examples.specs.Advice.{IsKept, one_entry, two_entries, gicc, cut_madt}
+use Rattle.acpi_examples.specs.Advice.{IsKept, two_entries, gicc}
 
 -- ---- the entries
 
@@ -16,10 +14,6 @@ abbrev pub interface : List ℕ → List ℕ → List ℕ → MadtEntry
 interface base redistributor mpidr =
     Opaque (11 ∷ 76 ∷ replicate 10 0 ++ 1 ∷ replicate 19 0 ++ base ++ replicate 20 0 ++ redistributor ++ mpidr)
 
--- one that is not Enabled
-abbrev pub off_interface : List ℕ → MadtEntry
-off_interface mpidr = Opaque (11 ∷ 76 ∷ replicate 66 0 ++ mpidr)
-
 -- one of so many bytes that is Enabled; this many, those from 60 on, are 1
 abbrev pub sized_interface : ℕ → ℕ → MadtEntry
 sized_interface size ones = Opaque (11 ∷ size ∷ replicate 10 0 ++ 1 ∷ replicate 47 0 ++ replicate ones 1)
@@ -28,26 +22,12 @@ sized_interface size ones = Opaque (11 ∷ size ∷ replicate 10 0 ++ 1 ∷ repl
 abbrev pub fourth : ℕ → List ℕ
 fourth n = 0 ∷ 0 ∷ 0 ∷ n ∷ 0 ∷ 0 ∷ 0 ∷ 0 ∷ []
 
-abbrev pub fifth : ℕ → List ℕ
-fifth n = 0 ∷ 0 ∷ 0 ∷ 0 ∷ n ∷ 0 ∷ 0 ∷ 0 ∷ []
-
-abbrev pub sixth : ℕ → List ℕ
-sixth n = 0 ∷ 0 ∷ 0 ∷ 0 ∷ 0 ∷ n ∷ 0 ∷ 0 ∷ []
-
 abbrev pub zeros : List ℕ
 zeros = replicate 8 0
 
 -- a distributor of this version (5.2.12.15)
 abbrev pub distributor : ℕ → MadtEntry
 distributor version = Opaque (12 ∷ 24 ∷ replicate 18 0 ++ version ∷ 0 ∷ 0 ∷ 0 ∷ [])
-
--- one of a byte less
-abbrev pub short_distributor : MadtEntry
-short_distributor = Opaque (12 ∷ 23 ∷ replicate 21 0)
-
--- an MSI frame of this ID (5.2.12.16)
-abbrev pub msi_frame : ℕ → MadtEntry
-msi_frame id = Opaque (13 ∷ 24 ∷ 0 ∷ 0 ∷ id ∷ replicate 19 0)
 
 -- a range of redistributors with these three low bytes of its length (5.2.12.17), and an entry of its type of a byte
 -- more
@@ -56,10 +36,6 @@ range low second third = Opaque (14 ∷ 16 ∷ replicate 10 0 ++ low ∷ second 
 
 abbrev pub long_range : MadtEntry
 long_range = Opaque (14 ∷ 17 ∷ replicate 15 0)
-
--- an interrupt translation service of this ID (5.2.12.18)
-abbrev pub its : ℕ → MadtEntry
-its id = Opaque (15 ∷ 20 ∷ 0 ∷ 0 ∷ id ∷ replicate 15 0)
 
 -- ---- the MADTs
 
@@ -78,34 +54,6 @@ two_ranges size e =
     ∷ [])
 
 -- ---- what they state
-
--- MPIDRs: bits 24 and 40, which are none of an affinity, not so 32 and 39; two of one MPIDR, not so of two, of 75
--- bytes, or if the second is off
-pub record AreMpidrs : Type 0 where
-  pub reserved : OnEntry (HasNumber reserved_mpidr) (one_entry 76 (interface zeros zeros (fourth 1))).entries 0x2c 0 0x1000000
-  pub affinity : IsKept (OnEntry (HasNumber reserved_mpidr) (one_entry 76 (interface zeros zeros (fifth 1))).entries)
-  pub past : OnEntry (HasNumber reserved_mpidr) (one_entry 76 (interface zeros zeros (sixth 1))).entries 0x2c 0 0x10000000000
-  pub highest : IsKept (OnEntry (HasNumber reserved_mpidr) (one_entry 76 (interface zeros zeros (fifth 0x80))).entries)
-  pub same : Repeats usable_mpidr (two_entries 76 (interface zeros zeros (fifth 1)) 76 (interface zeros zeros (fifth 1))).entries 0x78 0x2c 0x100000000
-  pub differ : IsKept (Repeats usable_mpidr (two_entries 76 (interface zeros zeros (fifth 1)) 76 (interface zeros zeros (fifth 2))).entries)
-  pub short : IsKept (Repeats usable_mpidr (two_entries 75 (sized_interface 75 15) 75 (sized_interface 75 15)).entries)
-  pub off : IsKept (Repeats usable_mpidr (two_entries 76 (interface zeros zeros (fifth 1)) 76 (off_interface (fifth 1))).entries)
-
--- a range of no bytes, not so of one; two services and two frames of one ID
-pub record AreGicParts : Type 0 where
-  pub empty : OnEntry (HasNumber empty_gicr) (one_entry 16 (range 0 0 0)).entries 0x2c 0 0
-  pub not_empty : IsKept (OnEntry (HasNumber empty_gicr) (one_entry 16 (range 1 0 0)).entries)
-  pub same_its : Repeats its_id (two_entries 20 (its 5) 20 (its 5)).entries 0x40 0x2c 5
-  pub its_differ : IsKept (Repeats its_id (two_entries 20 (its 5) 20 (its 6)).entries)
-  pub same_frame : Repeats msi_frame_id (two_entries 24 (msi_frame 5) 24 (msi_frame 5)).entries 0x44 0x2c 5
-  pub frames_differ : IsKept (Repeats msi_frame_id (two_entries 24 (msi_frame 5) 24 (msi_frame 6)).entries)
-
--- a CPU interface without a distributor; not so if there is one, also of another length, or if the MADT is cut
-pub record AreDistributors : Type 0 where
-  pub none : IsNoDistributor (one_entry 40 (gicc 3 1)) 0 0 0
-  pub one : IsKept (IsNoDistributor (two_entries 40 (gicc 3 1) 24 (distributor 2)))
-  pub short : IsKept (IsNoDistributor (two_entries 40 (gicc 3 1) 23 short_distributor))
-  pub cut : IsKept (IsNoDistributor (cut_madt (one_entry 40 (gicc 3 1))))
 
 -- a GIC of version 3 without redistributors, also if a CPU interface is a byte too short to name one; not so of
 -- version 2, if a CPU interface names one, or if there is an entry of their type of another length
@@ -135,9 +83,6 @@ pub record AreBases : Type 0 where
 
 -- all of them
 pub record IsGicAdvised : Type 0 where
-  pub mpidrs : AreMpidrs
-  pub parts : AreGicParts
-  pub distributors : AreDistributors
   pub redistributors : AreRedistributors
   pub ranges : AreRanges
   pub bases : AreBases

@@ -2,8 +2,7 @@
 use Rattle.std.specs.Prelude.{ℕ, ◌+◌, List, [], ◌∷◌, Option, Some, None}
 use Rattle.acpi_base.specs.Entries.{PlacedEntry}
 use Rattle.acpi_base.specs.Pptt.{PpttEntry, Node, Cache, PpttContents}
-use Rattle.acpi_lint.specs.Rules.Numbered.{OnEntry}
-use Rattle.acpi_lint.specs.Rules.PpttAdvice.{IsSameLeaf, IsCacheShape, IsSameCacheId, IsNoLeaf, IsLeafNowhere}
+use Rattle.acpi_lint.specs.Rules.PpttAdvice.{IsSameLeaf, IsNoLeaf, IsLeafNowhere}
 use Rattle.acpi_examples.specs.Tables.{placed_entry}
 use Rattle.acpi_examples.specs.Advice.{IsKept, one_entry, two_entries, processor, gicc, core_pic, short_gicc, sapic, cut_madt}
 
@@ -47,11 +46,6 @@ cache flags sets line_size id =
 abbrev pub one_cache : ℕ → ℕ → ℕ → PpttContents
 one_cache flags sets line_size = pptt_of 2 60 (placed_entry 36 (cache flags sets line_size None) ∷ [])
 
--- a cache of the Cache ID 3, which is valid, and another one
-abbrev pub two_caches : ℕ → ℕ → ℕ → Option ℕ → PpttContents
-two_caches revision size flags id =
-    pptt_of revision size (placed_entry 36 (cache 0x80 1 64 (Some 3)) ∷ placed_entry 64 (cache flags 1 64 id) ∷ [])
-
 -- ---- what they state
 
 -- two leaves of one ID; not so if the second is no leaf. From Revision 2 on the flags say so, below it that a node
@@ -63,22 +57,6 @@ pub record AreSameLeaves : Type 0 where
   pub old_parent : IsKept (IsSameLeaf (two_nodes 1 2 36))
   pub old_cut : IsKept (IsSameLeaf (cut_pptt (two_nodes 1 2 0)))
   pub cut : IsSameLeaf (cut_pptt (two_nodes 2 10 36)) 0x38 0x24 7
-
--- no sets, and Line Sizes that are no powers of two; not so 1 set and a Line Size of 1, nor if neither is valid
-pub record AreCacheShapes : Type 0 where
-  pub no_sets : OnEntry IsCacheShape (one_cache 2 0 64).entries 0x24 0 0
-  pub odd_line : OnEntry IsCacheShape (one_cache 0x40 1 48).entries 0x24 0 0
-  pub no_line : OnEntry IsCacheShape (one_cache 0x40 1 0).entries 0x24 0 0
-  pub least : IsKept (OnEntry IsCacheShape (one_cache 0x42 1 1).entries)
-  pub not_valid : IsKept (OnEntry IsCacheShape (one_cache 0xbd 0 48).entries)
-
--- two caches of one Cache ID; not so at Revision 2, or if the second's is not valid, is another one, or is absent
-pub record AreSameCacheIds : Type 0 where
-  pub same : IsSameCacheId (two_caches 3 92 0x80 (Some 3)) 0x40 0x24 3
-  pub old : IsKept (IsSameCacheId (two_caches 2 92 0x80 (Some 3)))
-  pub not_valid : IsKept (IsSameCacheId (two_caches 3 92 0x7f (Some 3)))
-  pub differ : IsKept (IsSameCacheId (two_caches 3 92 0x80 (Some 4)))
-  pub no_id : IsKept (IsSameCacheId (two_caches 3 88 0x80 None))
 
 -- a usable processor without a leaf, even if there is none; not so if it has one, is not usable, if there is no node,
 -- a local SAPIC is not read, or the PPTT is cut
@@ -104,7 +82,5 @@ pub record AreLeavesNowhere : Type 0 where
 -- all of them
 pub record IsPpttAdvised : Type 0 where
   pub leaves : AreSameLeaves
-  pub shapes : AreCacheShapes
-  pub ids : AreSameCacheIds
   pub none : AreNoLeaves
   pub nowhere : AreLeavesNowhere

@@ -1,16 +1,13 @@
 -- The examples of each table, and of sets of tables.
 pub mod Advice
-pub mod AdviceApic
 pub mod AdviceDomains
 pub mod AdviceFadt
 pub mod AdviceFadtFields
 pub mod AdviceFadtMadt
 pub mod AdviceGic
 pub mod AdviceHierarchy
-pub mod AdviceMadt
 pub mod AdvicePptt
 pub mod AdviceRanges
-pub mod AdviceReserved
 pub mod AdviceSet
 pub mod AdviceSlots
 pub mod AdviceSrat
@@ -19,6 +16,7 @@ pub mod ExampleSet
 pub mod Madts
 pub mod Pptts
 pub mod RebuiltSets
+pub mod Rows
 pub mod Sets
 pub mod Slits
 pub mod Srats

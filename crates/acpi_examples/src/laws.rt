@@ -6,23 +6,21 @@ ghost use Rattle.acpi_base.specs.Policy.{PolicyValue, IsPolicy};
 ghost use Rattle.acpi_base.specs.Statements.{IsClean};
 ghost use Rattle.acpi_write.specs.Rebuilding.{IsRebuilt};
 ghost use Rattle.acpi_write.specs.SetValues.{IsSetValue};
-ghost use Rattle.acpi_examples.specs.AdviceApic.{IsApicAdvised};
 ghost use Rattle.acpi_examples.specs.AdviceDomains.{AreDomainsAdvised};
 ghost use Rattle.acpi_examples.specs.AdviceFadt.{IsFadtAdvised};
 ghost use Rattle.acpi_examples.specs.AdviceFadtFields.{AreFadtFieldsAdvised};
 ghost use Rattle.acpi_examples.specs.AdviceFadtMadt.{AreFadtMadtsAdvised};
 ghost use Rattle.acpi_examples.specs.AdviceGic.{IsGicAdvised};
 ghost use Rattle.acpi_examples.specs.AdviceHierarchy.{IsHierarchyAdvised};
-ghost use Rattle.acpi_examples.specs.AdviceMadt.{IsMadtAdvised};
 ghost use Rattle.acpi_examples.specs.AdvicePptt.{IsPpttAdvised};
 ghost use Rattle.acpi_examples.specs.AdviceRanges.{AreRangesAdvised};
-ghost use Rattle.acpi_examples.specs.AdviceReserved.{IsReservedAdvised};
 ghost use Rattle.acpi_examples.specs.AdviceSet.{AreSetsAdvised};
 ghost use Rattle.acpi_examples.specs.AdviceSlots.{AreSlotsAdvised};
 ghost use Rattle.acpi_examples.specs.AdviceSrat.{IsSratAdvised};
 ghost use Rattle.acpi_examples.specs.AlteredSets.{AreRsdpFaults, AreRootFaults, AreTableFaults, AreFadtFaults, AreFacsFaults};
 ghost use Rattle.acpi_examples.specs.Madts.{AreMadtContents, AreMadtFaults, IsFirstInterrupt, HasNoMadtFault};
 ghost use Rattle.acpi_examples.specs.Pptts.{ArePpttContents, ArePpttFaults, AreCycleFaults, HasNoPpttFault};
+ghost use Rattle.acpi_examples.specs.Rows.{AreRowsFound};
 ghost use Rattle.acpi_examples.specs.Sets.{AreListedTables, AreSetFaults};
 ghost use Rattle.acpi_examples.specs.Slits.{AreSlitContents, AreSlitFaults, AreValidSlits};
 ghost use Rattle.acpi_examples.specs.Srats.{AreSratContents, AreSratFaults, AreFirstOverlaps, HasNoSratFault};
@@ -85,15 +83,13 @@ pub fn advice_examples()
     ensures fadt { (q : PolicyValue) → IsFadtAdvised q }
     ensures fadt_fields { AreFadtFieldsAdvised }
     ensures fadt_and_madt { AreFadtMadtsAdvised }
-    ensures madt { IsMadtAdvised }
     ensures srat_and_slit { IsSratAdvised }
     ensures pptt { IsPpttAdvised }
-    ensures reserved { IsReservedAdvised }
     ensures domains { AreDomainsAdvised }
     ensures hierarchy { IsHierarchyAdvised }
-    ensures apic { IsApicAdvised }
     ensures gic { IsGicAdvised }
     ensures ranges { AreRangesAdvised }
+    ensures rows { AreRowsFound }
 {}
 
 /// An example: the value of that clean set, and its rebuilt image from 0xF0000 on, byte by byte.

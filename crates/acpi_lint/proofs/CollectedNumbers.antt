@@ -7,20 +7,18 @@ use Rattle.std.proofs.lemmas.Option.{same_Some}
 use denote.Ref.{Bor}
 use Rattle.acpi_base.specs.Entries.{PlacedEntry}
 use Rattle.acpi_base.specs.Madt.{MadtEntry}
-use Rattle.acpi_lint.specs.Rules.Numbered.{NamesAt, IsNamed, IsLater, numbers_of}
+use Rattle.acpi_lint.specs.Rules.Numbered.{NamesAt, IsLater, numbers_of}
 use Rattle.acpi_read.specs.Entries.{entry_at_value}
 use Rattle.acpi_read.specs.declared.typed_entries.EntryAt.{EntryAt}
 use Rattle.acpi_check.specs.CollectedValues.{Picks, Collects}
 use Rattle.acpi_check.proofs.EntryPasses.Collecting.{are_collected, gathered_same, itself}
 use Rattle.acpi_check.proofs.EntryPasses.Kept.{AreRising, kept_has, kept_from, keys_rise}
-use Rattle.acpi_lint.specs.EntryNumbers.{AreGathered, AreKnown}
 use Rattle.acpi_lint.specs.MadtNumbers.{Makes}
 use Rattle.acpi_lint.specs.Numbered.{at_place, HasAt, AreNumbersAt}
-use Rattle.acpi_lint.specs.Places.{FindsLeast}
-use Rattle.acpi_lint.specs.declared.numbered.Numbered.{Numbered}
-use Rattle.acpi_lint.specs.declared.place.Place.{Place}
-use Rattle.acpi_lint.proofs.KnownOnes.{are_known}
-use Rattle.acpi_lint.proofs.LeastPlaces.{least_as}
+use Rattle.acpi_rules.specs.Places.{FindsLeast}
+use Rattle.acpi_rules.specs.declared.numbered.Numbered.{Numbered}
+use Rattle.acpi_rules.specs.declared.place.Place.{Place}
+use Rattle.acpi_rules.proofs.LeastPlaces.{least_as}
 
 -- ---- collected
 
@@ -138,23 +136,6 @@ numbers_made read entries r made each =
     (λ v collects. collected_same (λ s. read s.entry) entries v.items collects
     (λ s picked makes. number_made read s picked each makes)) made
 
-place_made : {Answers : Numbered → Numbered → Type 0} (read : MadtEntry → Option ℕ) (s : PlacedEntry MadtEntry)
-    (picked : Option Numbered) → ((g h : Numbered) → Answers g h → h ≡ g) → Makes read Answers s picked
-    → picked ≡ option_map (at_place s.offset) (read s.entry)
-place_made read s None each makes = rw makes refl
-place_made read s (Some h) each (g, is, answers) = ap Some (each g h answers) ∙ sym is
-
--- if each is made as it is, those of all entries are made, each at its place
-pub places_made : {X : Type 0} {Answers : Numbered → Numbered → Type 0} (read : MadtEntry → Option ℕ) (low : ℕ)
-    (entries : List (PlacedEntry MadtEntry)) (r : Result (Vec Numbered Global) X) → AreRising low entries
-    → IfOk r (λ v. Collects (Makes read Answers) entries v.items) → ((g h : Numbered) → Answers g h → h ≡ g)
-    → IfOk r (λ v. AreNumbersAt (NamesAt read entries) v.items)
-places_made read low entries r rises made each =
-    each_ok r
-    (λ v collects. are_numbers (λ s. read s.entry) (NamesAt read entries) low entries v.items rises
-    (collected_same (λ s. option_map (at_place s.offset) (read s.entry)) entries v.items collects
-    (λ s picked makes. place_made read s picked each makes)) (as_named read entries)) made
-
 -- ---- the first number that occurs twice
 
 pub same_later : {A B : ℕ → ℕ → Type 0} (at other x : ℕ) → ((p n : ℕ) → A p n → B p n) → ((p n : ℕ) → B p n → A p n)
@@ -179,16 +160,3 @@ found_twice given r are least =
     (λ at other point later. same_later at other point (λ p n stands. (are.all p n).1 stands)
     (λ p n has. (are.all p n).0 has) later)
     holds) (least are.rise)
-
--- ---- numbers that are gathered from entries, if each call returns the number that `read` gives
-
-pub known_read : {E Said : Type 0} (value : E → Said) {Answers : Bor (EntryAt E) → Option ℕ → Type 0}
-    (read : Said → Option ℕ) (entries : List (PlacedEntry Said)) (known : List ℕ)
-    → AreGathered (Picks value Answers) entries known
-    → ((at : Bor (EntryAt E)) (number : Option ℕ) → Answers at number → number ≡ read (value at.now.entry))
-    → AreKnown (IsNamed read entries) known
-known_read {Said = Said} value read entries known (rise, (given, collects, same)) each =
-    are_known read entries given known
-    (collected_same (λ s. read s.entry) entries given collects
-    (λ s number (at, is, answers). each at number answers ∙ ap (λ (t : PlacedEntry Said). read t.entry) is))
-    rise same

@@ -2,9 +2,9 @@
 use Rattle.std.proofs.Common.{◌≡◌, ℕ, ◌<◌, Option, Some, None, true, false, inl, inr}
 use Rattle.std.specs.Option.{is_some}
 use Rattle.std.specs.Prelude.{◌⊎◌}
-use Rattle.acpi_lint.specs.Places.{FindsLeast}
-use Rattle.acpi_lint.specs.declared.place.Place.{Place}
-use Rattle.acpi_lint.proofs.LeastPlaces.{least_as}
+use Rattle.acpi_rules.specs.Places.{FindsLeast}
+use Rattle.acpi_rules.specs.declared.place.Place.{Place}
+use Rattle.acpi_rules.proofs.LeastPlaces.{least_as}
 
 -- one of the two holds
 abbrev pub Either : (ℕ → ℕ → ℕ → Type 0) → (ℕ → ℕ → ℕ → Type 0) → ℕ → ℕ → ℕ → Type 0

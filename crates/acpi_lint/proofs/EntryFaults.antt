@@ -12,12 +12,14 @@ use Rattle.acpi_read.specs.declared.entry_codes.Subject.{Subject}
 use Rattle.acpi_read.specs.declared.entry_codes.Subject.TheVariants.{Second, Own}
 use Rattle.acpi_check.proofs.EntryPasses.Kept.{rising}
 use Rattle.acpi_check.proofs.EntryPasses.Passes.{none_said}
-use Rattle.acpi_lint.specs.Places.{IsSoughtEntry, PicksFirst, FindsOwn, FindsLeast}
+use Rattle.acpi_rules.specs.Places.{FindsLeast}
+use Rattle.acpi_lint.specs.Places.{IsSoughtEntry, PicksFirst, FindsOwn}
 use Rattle.acpi_lint.specs.declared.passes.SoughtEntry.{SoughtEntry}
 use Rattle.acpi_lint.specs.declared.passes.SoughtEntry.TheVariants as sought
-use Rattle.acpi_lint.specs.declared.place.Place.{Place}
+use Rattle.acpi_rules.specs.declared.place.Place.{Place}
 use Rattle.acpi_lint.proofs.FirstEntries.{IsFaultAt, least_picked}
-use Rattle.acpi_lint.proofs.LeastPlaces.{least_as, least_outside, no_two, first_two}
+use Rattle.acpi_rules.proofs.LeastPlaces.{least_as}
+use Rattle.acpi_lint.proofs.LeastPlaces.{least_outside, no_two, first_two}
 
 -- ---- what is looked for
 

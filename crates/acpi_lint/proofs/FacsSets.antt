@@ -5,10 +5,11 @@ use Rattle.acpi_base.specs.Memory.{Memory}
 use Rattle.acpi_base.specs.Policy.{PolicyValue}
 use Rattle.acpi_base.specs.declared.code.Code.{Code}
 use Rattle.acpi_base.specs.declared.stage.Stage.TheVariants as stage
-use Rattle.acpi_lint.specs.Places.{IsFacsFaultOf, FindsLeast}
+use Rattle.acpi_rules.specs.Places.{FindsLeast}
+use Rattle.acpi_lint.specs.Places.{IsFacsFaultOf}
 use Rattle.acpi_lint.specs.StageFaults.{IsFaultOfStage}
-use Rattle.acpi_lint.specs.declared.place.Place.{Place}
-use Rattle.acpi_lint.proofs.LeastPlaces.{least_as}
+use Rattle.acpi_rules.specs.declared.place.Place.{Place}
+use Rattle.acpi_rules.proofs.LeastPlaces.{least_as}
 use Rattle.acpi_lint.proofs.OfTables.{of_table, of_no_table}
 
 -- faults of the stage are those of the table

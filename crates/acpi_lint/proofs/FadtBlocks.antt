@@ -2,9 +2,9 @@
 use Rattle.std.proofs.Common.{◌≡◌, ℕ, ◌+◌, ◌<◌, None, subst, inl, inr, arith}
 use Rattle.std.proofs.lemmas.Bool.{cases_lt}
 use Rattle.acpi_lint.specs.FadtPlaces.{IsOfBlock}
-use Rattle.acpi_lint.specs.Places.{FindsLeast, IsLeast, IsNotAfter}
+use Rattle.acpi_rules.specs.Places.{FindsLeast, IsLeast, IsNotAfter}
 use Rattle.acpi_lint.specs.Rules.FadtBlocks.{block_at, OnBlock}
-use Rattle.acpi_lint.specs.declared.place.Place.{Place}
+use Rattle.acpi_rules.specs.declared.place.Place.{Place}
 
 -- it holds for none of the blocks before k
 abbrev pub NoneBefore : (ℕ → ℕ → ℕ → Type 0) → ℕ → Type 0

@@ -11,12 +11,13 @@ use Rattle.acpi_base.specs.declared.stage.Stage.TheVariants as stage
 use Rattle.acpi_base.proofs.Root.Slots.{slot_of_root, root_slot}
 use Rattle.acpi_base.proofs.Tables.Listed.{none_in_root}
 use Rattle.acpi_read.specs.Roots.{RootValue, IsCompleteRoot}
-use Rattle.acpi_lint.specs.Places.{IsFadtFault, FindsLeast}
+use Rattle.acpi_rules.specs.Places.{FindsLeast}
+use Rattle.acpi_lint.specs.Places.{IsFadtFault}
 use Rattle.acpi_lint.specs.Slots.{FindsSlot}
 use Rattle.acpi_lint.specs.StageFaults.{IsFaultOfStage}
 use Rattle.acpi_lint.specs.declared.listed_slots.Slot.{Slot}
-use Rattle.acpi_lint.specs.declared.place.Place.{Place}
-use Rattle.acpi_lint.proofs.LeastPlaces.{least_as}
+use Rattle.acpi_rules.specs.declared.place.Place.{Place}
+use Rattle.acpi_rules.proofs.LeastPlaces.{least_as}
 use Rattle.acpi_lint.proofs.OfTables.{of_table, of_no_table}
 
 -- ---- a set that lists none

@@ -2,7 +2,8 @@
 use Rattle.std.proofs.Common.{◌≡◌, List, [], ◌∷◌, Option, Some, None, refl, inl, inr, ℕ, suc, ◌<◌, sym, ◌∙◌, ap, subst, arith}
 use Rattle.std.specs.Prelude.{Contains, ◌⊎◌}
 use Rattle.acpi_base.proofs.Elements.{later_element, first_element, first_or_later, no_element}
-use Rattle.acpi_lint.specs.Places.{PicksFirst, FindsOwn, IsLeast, FindsLeast}
+use Rattle.acpi_rules.specs.Places.{IsLeast, FindsLeast}
+use Rattle.acpi_lint.specs.Places.{PicksFirst, FindsOwn}
 use denote.Ref.{Bor}
 use Rattle.acpi_base.specs.Entries.{PlacedEntry, Stands, StandsWith}
 use Rattle.acpi_read.specs.Entries.{entry_at_value}
@@ -10,7 +11,7 @@ use Rattle.acpi_read.specs.declared.typed_entries.EntryAt.{EntryAt}
 use Rattle.acpi_check.specs.CollectedValues.{Picks}
 use Rattle.acpi_check.proofs.EntryPasses.Kept.{AreRising}
 use Rattle.acpi_check.proofs.EntryPasses.Passes.{none_passed, left_behind}
-use Rattle.acpi_lint.specs.declared.place.Place.{Place}
+use Rattle.acpi_rules.specs.declared.place.Place.{Place}
 
 -- ---- a pass over entries up to the first from which something is picked
 

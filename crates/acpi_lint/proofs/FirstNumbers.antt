@@ -1,21 +1,20 @@
 -- The first number that entries have, and whether they have any.
-use Rattle.std.proofs.Common.{◌≡◌, ℕ, suc, ◌<◌, ◌≤◌, List, [], ◌∷◌, Option, Some, None, refl, sym, ◌∙◌, ap, subst, inl, inr, arith}
+use Rattle.std.proofs.Common.{◌≡◌, ℕ, ◌≤◌, List, Option, Some, None, refl, sym, ◌∙◌, subst, arith}
 use Rattle.std.specs.Prelude.{◌↔◌, IsTrue, is_some}
-use Rattle.std.proofs.lemmas.Option.{none-some, same_Some}
+use Rattle.std.proofs.lemmas.Option.{same_Some}
 use Rattle.acpi_base.specs.Entries.{PlacedEntry, Stands}
 use Rattle.acpi_base.specs.Madt.{MadtEntry}
-use Rattle.acpi_base.proofs.Elements.{first_element, later_element, first_or_later, no_element}
 use Rattle.acpi_base.proofs.EntryOffsets.{AreOnes}
-use Rattle.acpi_base.proofs.Options.{cases_Option}
 use Rattle.acpi_check.proofs.EntryPasses.Kept.{AreRising}
-use Rattle.acpi_check.proofs.EntryPasses.Passes.{none_passed, left_behind}
 use Rattle.acpi_lint.specs.EntryNumbers.{IsAnyNamed}
 use Rattle.acpi_lint.specs.MadtNumbers.{HasNumberWith, NamesWith}
-use Rattle.acpi_lint.specs.Places.{IsLeast, PicksFirst, FindsOwn, FindsLeast}
+use Rattle.acpi_rules.specs.Places.{IsLeast, FindsLeast}
+use Rattle.acpi_lint.specs.Places.{PicksFirst, FindsOwn}
 use Rattle.acpi_lint.specs.Rules.Numbered.{NamesAt, IsFirstNamed}
-use Rattle.acpi_lint.specs.declared.place.Place.{Place}
+use Rattle.acpi_rules.specs.declared.place.Place.{Place}
 use Rattle.acpi_lint.proofs.FirstEntries.{IsFaultAt, least_picked}
-use Rattle.acpi_lint.proofs.LeastPlaces.{least_as, place_upto}
+use Rattle.acpi_rules.proofs.LeastPlaces.{least_as}
+use Rattle.acpi_lint.proofs.LeastPlaces.{place_upto}
 
 -- ---- what is found first
 
@@ -65,46 +64,3 @@ one_first_named read entries ones o p n m (here, least) (there, first) =
     let place : o ≡ p = omega arith in
     let (e, stands, one, two) = one_number read read entries ones o p n m place here there in
     (place, same_Some n m (sym one ∙ two))
-
--- ---- if there is any, there is a first one
-
-later_named : {E : Type 0} (read : E → Option ℕ) (low : ℕ) (s : PlacedEntry E) (left : List (PlacedEntry E))
-    → AreRising low (s ∷ left) → read s.entry ≡ None → (p m : ℕ) → IsFirstNamed read left p m
-    → IsFirstNamed read (s ∷ left) p m
-later_named {E} read low s left rises none p m ((e, stands, is), least) = (
-  (e, later_element s (record { offset = p; entry = e }) left stands, is),
-  λ q n (f, also, names).
-      elim (first_or_later s (record { offset = q; entry = f }) left also) [
-        | inl same ↦ absurd (none-some n (sym none ∙ ap (λ (t : PlacedEntry E). read t.entry) same ∙ names))
-        | inr later ↦ least q n (f, later, names)
-      ],
-)
-
-here_named : {E : Type 0} (read : E → Option ℕ) (low : ℕ) (s : PlacedEntry E) (left : List (PlacedEntry E))
-    → AreRising low (s ∷ left) → (m : ℕ) → read s.entry ≡ Some m → IsFirstNamed read (s ∷ left) s.offset m
-here_named {E} read low s left rises m is = (
-  (s.entry, first_element s left, is),
-  λ q n (f, also, names).
-      elim (first_or_later s (record { offset = q; entry = f }) left also) [
-        | inl same ↦ omega (arith, ap (λ (t : PlacedEntry E). t.offset) same)
-        | inr later ↦
-            let behind : s.offset < q =
-            left_behind {s = s} (none_passed low (λ o e. Unit {0}) rises) q f later in
-            omega arith
-      ],
-)
-
-pub first_there : {E : Type 0} (read : E → Option ℕ) (low : ℕ) (entries : List (PlacedEntry E))
-    → AreRising low entries → (o n : ℕ) → NamesAt read entries o n → (p m : ℕ) × IsFirstNamed read entries p m
-first_there {E} read low [] rises o n (e, stands, is) = absurd (no_element _ stands)
-first_there {E} read low (s ∷ left) rises o n (e, stands, is) =
-    elim (cases_Option (read s.entry)) [
-      | inl (m, some) ↦ (s.offset, m, here_named read low s left rises m some)
-      | inr none ↦
-          elim (first_or_later s (record { offset = o; entry = e }) left stands) [
-            | inl same ↦ absurd (none-some n (sym none ∙ ap (λ (t : PlacedEntry E). read t.entry) same ∙ is))
-            | inr later ↦
-                let (p, m, first) = first_there read (suc s.offset) left rises.1 o n (e, later, is) in
-                (p, m, later_named read low s left rises none p m first)
-          ]
-    ]

@@ -12,9 +12,9 @@ use Rattle.acpi_base.specs.declared.code.Code.TheVariants as code
 use Rattle.acpi_base.specs.declared.stage.Stage.{Stage}
 use Rattle.acpi_base.specs.declared.stage.Stage.TheVariants as stage
 use Rattle.acpi_base.specs.declared.witness.Witness.{Witness}
-use Rattle.acpi_lint.specs.Places.{IsNotAfter, FindsLeast}
+use Rattle.acpi_rules.specs.Places.{IsNotAfter, FindsLeast}
 use Rattle.acpi_lint.specs.StageFaults.{IsFaultOfStage, FindsFirstAt, fault_at}
-use Rattle.acpi_lint.specs.declared.place.Place.{Place}
+use Rattle.acpi_rules.specs.declared.place.Place.{Place}
 
 -- the stage is not one of the two of overlaps, whose faults have their own order
 abbrev pub IsPlain : Stage → Type 0

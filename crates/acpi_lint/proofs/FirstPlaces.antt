@@ -2,8 +2,8 @@
 use Rattle.std.proofs.Common.{ℕ, ◌<◌, ◌≤◌, Option, Some, None, inl, inr, arith}
 use Rattle.std.specs.Prelude.{◌⊎◌}
 use Rattle.std.specs.Option.{option_or}
-use Rattle.acpi_lint.specs.Places.{FindsLeast}
-use Rattle.acpi_lint.specs.declared.place.Place.{Place}
+use Rattle.acpi_rules.specs.Places.{FindsLeast}
+use Rattle.acpi_rules.specs.declared.place.Place.{Place}
 
 -- P holds below the offset n alone, and Q from there on alone
 pub first_of_two : {P Q : ℕ → ℕ → ℕ → Type 0} (n : ℕ) (one other : Option Place) → FindsLeast P one

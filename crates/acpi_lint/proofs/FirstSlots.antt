@@ -9,12 +9,12 @@ use Rattle.acpi_base.specs.Root.{IsSlot}
 use Rattle.acpi_base.specs.Tables.{IsTable, IsSigned}
 use Rattle.acpi_base.proofs.Root.Slots.{one_slot, root_slot, slot_of_root}
 use Rattle.acpi_base.proofs.Tables.Listed.{one_first_listed, listed_of_root, listed_in_root}
-use Rattle.acpi_lint.specs.Places.{FindsLeast}
+use Rattle.acpi_rules.specs.Places.{FindsLeast}
 use Rattle.acpi_lint.specs.Slots.{FindsSlot}
 use Rattle.acpi_lint.specs.CompleteTables.{IsFound}
-use Rattle.acpi_lint.specs.declared.place.Place.{Place}
+use Rattle.acpi_rules.specs.declared.place.Place.{Place}
 use Rattle.acpi_lint.specs.declared.listed_slots.Slot.{Slot}
-use Rattle.acpi_lint.proofs.LeastPlaces.{not_after_itself}
+use Rattle.acpi_rules.proofs.LeastPlaces.{not_after_itself}
 
 pub one_listed : {m : Memory} {p k a b : ℕ} → IsSlot m p k a → IsSlot m p k b → a ≡ b
 one_listed {m} {p} {k} {a} {b} one other =

@@ -7,7 +7,7 @@ use Rattle.std.proofs.lemmas.Bool.{cases_lt}
 use Rattle.std.proofs.lemmas.List.Elements.{Contains-get_or}
 use Rattle.acpi_base.specs.Memory.{Memory}
 use Rattle.acpi_base.specs.Root.{IsSlot}
-use Rattle.acpi_lint.specs.Places.{FindsLeast, IsNotAfter}
+use Rattle.acpi_rules.specs.Places.{FindsLeast, IsNotAfter}
 use Rattle.acpi_lint.specs.Rules.HeaderAdvice.{IsNoText, IsOddField, IsOddText, IsHeaderText}
 use Rattle.acpi_lint.specs.Slots.{FindsOddAt, AreSlots}
 use Rattle.acpi_lint.specs.declared.listed_slots.Slot.{Slot}

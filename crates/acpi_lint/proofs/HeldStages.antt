@@ -24,7 +24,7 @@ use Rattle.acpi_lint.specs.HeldStages.{is_held, AreHeld}
 use Rattle.acpi_lint.specs.StageFaults.{FindsFirstAt, IsPlaceOf}
 use Rattle.acpi_lint.specs.declared.complete_tables.CompleteTables.{CompleteTables}
 use Rattle.acpi_lint.specs.declared.held_stages.HeldStages.{HeldStages}
-use Rattle.acpi_lint.specs.declared.place.Place.{Place}
+use Rattle.acpi_rules.specs.declared.place.Place.{Place}
 
 -- what holds for the table that was found holds for each that the set lists first
 for_found : (m : Memory) (p : ℕ) (signature : List ℕ) (P : List ℕ → Type 0) (found : Option (List ℕ))

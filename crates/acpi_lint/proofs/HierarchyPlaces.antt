@@ -3,13 +3,14 @@ use Rattle.std.proofs.Common.{◌≡◌, ℕ, ◌<◌, ◌≤◌, ◌⊎◌, Lis
 use Rattle.std.specs.Prelude.{◌↔◌, Contains}
 use Rattle.acpi_base.specs.Pptt.{PpttContents, NamesParent}
 use Rattle.acpi_lint.specs.Hierarchy.{IsUnmarkedLeaf, IsMarkedParent, IsChildOf}
-use Rattle.acpi_lint.specs.Places.{FindsLeast, IsLeast, IsNotAfter}
+use Rattle.acpi_rules.specs.Places.{FindsLeast, IsLeast, IsNotAfter}
 use Rattle.acpi_lint.specs.Rules.Hierarchy.{IsLeafUnflagged, IsLeafAsParent}
 use Rattle.acpi_lint.specs.Rules.Processors.{IsParent}
 use Rattle.acpi_lint.specs.Rules.WellFormed.{IsWellFormedPptt}
-use Rattle.acpi_lint.specs.declared.place.Place.{Place}
+use Rattle.acpi_rules.specs.declared.place.Place.{Place}
 use Rattle.acpi_lint.proofs.FirstEntries.{IsFaultAt}
-use Rattle.acpi_lint.proofs.LeastPlaces.{least_as, place_upto}
+use Rattle.acpi_rules.proofs.LeastPlaces.{least_as}
+use Rattle.acpi_lint.proofs.LeastPlaces.{place_upto}
 
 -- these are the Parents of nodes
 abbrev pub AreParents : PpttContents → List ℕ → Type 0

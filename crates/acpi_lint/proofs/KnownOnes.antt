@@ -8,7 +8,7 @@ use Rattle.acpi_base.proofs.Elements.{element_of_map}
 use Rattle.acpi_check.proofs.EntryPasses.Kept.{kept_has, kept_from, map_has}
 use Rattle.acpi_lint.specs.EntryNumbers.{AreKnown}
 use Rattle.acpi_lint.specs.Numbered.{at_place, AreNumbersAt}
-use Rattle.acpi_lint.specs.declared.numbered.Numbered.{Numbered}
+use Rattle.acpi_rules.specs.declared.numbered.Numbered.{Numbered}
 use Rattle.acpi_lint.proofs.SameNumbers.{has_at}
 
 -- the numbers of entries are those that entries name

@@ -16,7 +16,7 @@ use Rattle.acpi_base.specs.Pptt.{PpttEntry, Node, Cache, Opaque, NodeValue, Pptt
 use Rattle.acpi_check.proofs.EntryPasses.Kept.{kept_has, kept_from}
 use Rattle.acpi_lint.specs.Leaves.{valid_id, said_leaf_id, unnamed_id, IsUnnamedAt}
 use Rattle.acpi_lint.specs.Numbered.{AreNumbersAt}
-use Rattle.acpi_lint.specs.declared.numbered.Numbered.{Numbered}
+use Rattle.acpi_rules.specs.declared.numbered.Numbered.{Numbered}
 use Rattle.acpi_lint.proofs.CollectedNumbers.{IsReadAt, as_named, numbers_as}
 
 -- ---- Parents

@@ -14,7 +14,7 @@ use Rattle.acpi_check.proofs.EntryPasses.Kept.{map_has}
 use Rattle.acpi_lint.specs.Numbered.{at_place, HasAt, AreNumbersAt}
 use Rattle.acpi_lint.specs.Slots.{IsTableAt, AreSlots, numbered_slot}
 use Rattle.acpi_lint.specs.declared.listed_slots.Slot.{Slot}
-use Rattle.acpi_lint.specs.declared.numbered.Numbered.{Numbered}
+use Rattle.acpi_rules.specs.declared.numbered.Numbered.{Numbered}
 use Rattle.acpi_lint.proofs.RisingLists.{rise_more}
 
 -- a slot to read lists with
@@ -38,14 +38,6 @@ no_slot =
 -- the slots before this one list these addresses
 abbrev pub ListsBefore : List ℕ → ℕ → ℕ → ℕ → ℕ → Type 0
 ListsBefore whole d end k a = (k < end) × HasSlot whole d k a
-
-pub none_before : {m : Memory} {whole : List ℕ} {d : ℕ} → AreSlots m (ListsBefore whole d 0) []
-none_before =
-    record {
-      rise = λ i j d less within. absurd (omega (arith, within));
-      listed = λ s here. absurd (no_element s here);
-      all = λ k a lists. absurd (omega (arith, lists.0));
-    }
 
 -- a slot that lists one more address
 pub one_more : {m : Memory} {whole : List ℕ} {d n : ℕ} (s : Slot) (slots : List Slot)

@@ -16,11 +16,12 @@ use Rattle.acpi_check.specs.declared.nodes.Chain.{Chain}
 use Rattle.acpi_check.specs.declared.bit_set.BitSet.{BitSet}
 use Rattle.acpi_check.proofs.EntryPasses.Kept.{kept_has, kept_from}
 use Rattle.acpi_check.proofs.NodeLinks.NamedPlaces.{numbers_in, number_is, is_number}
-use Rattle.acpi_lint.specs.Places.{FindsOwn, FindsLeast}
+use Rattle.acpi_rules.specs.Places.{FindsLeast}
+use Rattle.acpi_lint.specs.Places.{FindsOwn}
 use Rattle.acpi_lint.specs.References.{offset_where, is_linked, is_resource, AreOffsets, IsDanglingLink, NamesNoLink, NamesNoResource}
-use Rattle.acpi_lint.specs.declared.place.Place.{Place}
+use Rattle.acpi_rules.specs.declared.place.Place.{Place}
 use Rattle.acpi_lint.proofs.FirstEntries.{IsFaultAt}
-use Rattle.acpi_lint.proofs.LeastPlaces.{least_as}
+use Rattle.acpi_rules.proofs.LeastPlaces.{least_as}
 
 -- ---- offsets
 

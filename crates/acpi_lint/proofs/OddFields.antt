@@ -7,13 +7,13 @@ use Rattle.acpi_base.specs.Fadt.{facs_address}
 use Rattle.acpi_base.specs.Memory.{Memory}
 use Rattle.acpi_base.proofs.Frames.{one_frame}
 use Rattle.acpi_base.proofs.Options.{same_value}
-use Rattle.acpi_lint.specs.Places.{FindsLeast}
+use Rattle.acpi_rules.specs.Places.{FindsLeast}
 use Rattle.acpi_lint.specs.Rules.NamedAdvice.{IsOddFacs, IsFacsReserved}
 use Rattle.acpi_lint.specs.Rules.FixedFields.{IsAbove, IsUsed}
 use Rattle.acpi_lint.specs.Rules.RsdpAdvice.{AreExtendedBytes, IsOddRevision, IsLongRsdp, IsOddExtended, IsRsdpReserved}
-use Rattle.acpi_lint.specs.declared.place.Place.{Place}
+use Rattle.acpi_rules.specs.declared.place.Place.{Place}
 use Rattle.acpi_lint.proofs.FirstPlaces.{first_of_two}
-use Rattle.acpi_lint.proofs.LeastPlaces.{least_as}
+use Rattle.acpi_rules.proofs.LeastPlaces.{least_as}
 
 -- ---- of a FACS
 

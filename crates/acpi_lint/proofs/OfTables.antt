@@ -5,10 +5,10 @@ use Rattle.std.proofs.lemmas.Option.{same_Some}
 use denote.Ref.{Bor}
 use Rattle.acpi_base.specs.Contents.{HasPptt}
 use Rattle.acpi_base.specs.Entries.{PlacedEntry}
-use Rattle.acpi_lint.specs.Rules.Numbered.{OnEntry, HasNumber, Repeats}
-use Rattle.acpi_lint.specs.Rules.Broken.{OfFadt, OfMadt, OfSrat, OfSlit, OfMadtBytes, OfSratBytes, Condition, HoldsAt, Slots, Set, OnFadt, OnMadt, OnSrat, OnPptt, Fadt, FadtMemory, FadtMadt, Madt, MadtEntries, MadtNumbers, MadtBytes, MadtSrat, MadtPptt, Srat, SratEntries, SratBytes, SratSlit, Slit, Pptt, PpttEntries, PpttBytes}
+use Rattle.acpi_lint.specs.Rules.Numbered.{OnEntry}
+use Rattle.acpi_lint.specs.Rules.Broken.{OfFadt, OfMadt, OfSrat, OfSlit, Condition, HoldsAt, Rows, Slots, Set, Fadt, FadtMemory, FadtMadt, Madt, MadtPptt, SratSlit, Slit, Pptt, PpttEntries}
 use Rattle.acpi_base.specs.Listed.{fadt_signature, madt_signature, srat_signature, slit_signature, pptt_signature, HasListed, IsListedTable}
-use Rattle.acpi_base.specs.Madt.{MadtEntry, madt_contents}
+use Rattle.acpi_base.specs.Madt.{madt_contents}
 use Rattle.acpi_base.specs.Memory.{Memory}
 use Rattle.acpi_base.specs.Policy.{PolicyValue}
 use Rattle.acpi_base.specs.Pptt.{PpttEntry, pptt_contents}
@@ -20,15 +20,14 @@ use Rattle.acpi_read.specs.Entries.{entry_at_value}
 use Rattle.acpi_read.specs.declared.typed_entries.EntryAt.{EntryAt}
 use Rattle.acpi_check.specs.CollectedValues.{Picks}
 use Rattle.acpi_check.proofs.EntryPasses.Kept.{AreRising, srat_rising, pptt_rising}
-use Rattle.acpi_lint.specs.MadtNumbers.{NamesWith}
-use Rattle.acpi_lint.specs.Places.{PicksFirst, FindsOwn, FindsLeast}
+use Rattle.acpi_rules.specs.Places.{FindsLeast}
+use Rattle.acpi_lint.specs.Places.{PicksFirst, FindsOwn}
 use Rattle.acpi_lint.specs.CompleteTables.{IsFound, IsLong, AreEntries, AreCompleteTables, table_of}
-use Rattle.acpi_lint.specs.SeenTypes.{AreSeenTypes}
-use Rattle.acpi_lint.specs.declared.place.Place.{Place}
+use Rattle.acpi_rules.specs.declared.place.Place.{Place}
 use Rattle.acpi_lint.specs.declared.complete_tables.CompleteTables.{CompleteTables}
 use Rattle.acpi_lint.proofs.CollectedNumbers.{each_ok}
 use Rattle.acpi_lint.proofs.FirstEntries.{least_of_entries}
-use Rattle.acpi_lint.proofs.LeastPlaces.{least_as}
+use Rattle.acpi_rules.proofs.LeastPlaces.{least_as}
 use Rattle.acpi_base.specs.Root.{IsSlot}
 use Rattle.acpi_base.specs.TableKinds.{signature_of}
 use Rattle.acpi_base.specs.declared.table_kind.TableKind.{TableKind}
@@ -83,9 +82,9 @@ pub are_whole : {m : Memory} {p : ℕ} (tables : CompleteTables)
     → IsRootOf m p tables.root → AreSlots m (IsSlot m p) tables.slots.items → AreFirstSlots m p tables.firsts
     → IsFound m p fadt_signature tables.fadt → IsFound m p madt_signature tables.madt
     → IsFound m p srat_signature tables.srat → IsFound m p slit_signature tables.slit
-    → IsFound m p pptt_signature tables.pptt → AreSeenTypes tables.seen tables.madt → AreCompleteTables m p tables
-are_whole {m} {p} tables root slots firsts fadt madt srat slit pptt seen =
-    record { root = root; slots = slots; firsts = firsts; listed = listed; seen = seen }
+    → IsFound m p pptt_signature tables.pptt → AreCompleteTables m p tables
+are_whole {m} {p} tables root slots firsts fadt madt srat slit pptt =
+    record { root = root; slots = slots; firsts = firsts; listed = listed }
   where
     listed : (k : TableKind) → IsFound m p (signature_of k) (table_of tables k)
     listed kind.Fadt = fadt
@@ -147,24 +146,6 @@ srat_lifts m q {tables = tables} view are long =
     read_lifts (λ P. HasListed m q.rsdp srat_signature (λ whole. (48 ≤ length whole) × P whole)) srat_contents view
     (long_lifts (HasListed m q.rsdp srat_signature) 48 tables.srat view
     (listed_lifts m q.rsdp srat_signature tables.srat (are.listed kind.Srat)) long)
-
-pub madt_bytes_lifts : (m : Memory) (q : PolicyValue) {tables : CompleteTables} (view : Option (List ℕ))
-    → AreCompleteTables m q.rsdp tables → IsLong 44 tables.madt view → Lifts (OfMadtBytes m q) (λ whole. whole) view
-madt_bytes_lifts m q {tables = tables} view are long =
-    long_lifts (HasListed m q.rsdp madt_signature) 44 tables.madt view
-    (listed_lifts m q.rsdp madt_signature tables.madt (are.listed kind.Madt)) long
-
-pub srat_bytes_lifts : (m : Memory) (q : PolicyValue) {tables : CompleteTables} (view : Option (List ℕ))
-    → AreCompleteTables m q.rsdp tables → IsLong 48 tables.srat view → Lifts (OfSratBytes m q) (λ whole. whole) view
-srat_bytes_lifts m q {tables = tables} view are long =
-    long_lifts (HasListed m q.rsdp srat_signature) 48 tables.srat view
-    (listed_lifts m q.rsdp srat_signature tables.srat (are.listed kind.Srat)) long
-
-pub pptt_bytes_lifts : (m : Memory) (q : PolicyValue) {tables : CompleteTables} (view : Option (List ℕ))
-    → AreCompleteTables m q.rsdp tables → view ≡ tables.pptt
-    → Lifts (HasListed m q.rsdp pptt_signature) (λ whole. whole) view
-pptt_bytes_lifts m q {tables = tables} view are is =
-    rw is (listed_lifts m q.rsdp pptt_signature tables.pptt (are.listed kind.Pptt))
 
 pub pptt_lifts : (m : Memory) (q : PolicyValue) {tables : CompleteTables} (view : Option (List ℕ))
     → AreCompleteTables m q.rsdp tables → view ≡ tables.pptt → Lifts (HasPptt m q) pptt_contents view
@@ -280,42 +261,6 @@ own_pptt m q value Is found said entries {tables = tables} are same is each =
     own_of (HasPptt m q) pptt_contents (λ c. c.entries) 36 pptt_rising value Is found said entries tables.pptt
     (pptt_lifts m q tables.pptt are refl) same is each
 
--- ---- what is found for the entries of the MADT, and in a set without one
-
-pub entry_there : (Is : MadtEntry → ℕ → ℕ → Type 0) (found : Option Place) {tables : CompleteTables}
-    {view : Option (List ℕ)} {whole : List ℕ} → IsLong 44 tables.madt view → view ≡ Some whole
-    → FindsLeast (λ at other point. OnEntry Is (madt_contents whole).entries at other point) found
-    → Finds (OnMadt (MadtEntries Is)) tables found
-entry_there Is found {view = view} long is least = λ m q are.
-    there (OfMadt m q) madt_contents (λ madt. OnEntry Is madt.entries) found (madt_lifts m q view are long) is least
-
-pub no_entry : (Is : MadtEntry → ℕ → ℕ → Type 0) (view : Option (List ℕ)) {tables : CompleteTables}
-    → IsLong 44 tables.madt view → view ≡ None → Finds (OnMadt (MadtEntries Is)) tables None
-no_entry Is view long none = λ m q are.
-    not_there (OfMadt m q) madt_contents (λ madt. OnEntry Is madt.entries) (madt_lifts m q view are long) none
-
-pub number_there : (read : MadtEntry → Option ℕ) (found : Option Place) {tables : CompleteTables}
-    {view : Option (List ℕ)} {whole : List ℕ} → IsLong 44 tables.madt view → view ≡ Some whole
-    → FindsLeast (NamesWith read 0 (madt_contents whole).entries) found
-    → Finds (OnMadt (MadtEntries (HasNumber read))) tables found
-number_there read found long is least =
-    entry_there (HasNumber read) found long is
-    (least_as found (λ at other point ((e, stands, number), none). (e, stands, (number, none)))
-    (λ at other point (e, stands, (number, none)). ((e, stands, number), none)) least)
-
-pub repeated_there : (tables : CompleteTables) (read : MadtEntry → Option ℕ) {X : Type 0} (r : Result (Option Place) X)
-    {view : Option (List ℕ)} {whole : List ℕ} → IsLong 44 tables.madt view → view ≡ Some whole
-    → IfOk r (FindsLeast (Repeats read (madt_contents whole).entries))
-    → IfOk r (Finds (OnMadt (MadtNumbers read)) tables)
-repeated_there tables read r {view = view} long is =
-    each_ok r (λ found least. λ m q are.
-    there (OfMadt m q) madt_contents (λ madt. Repeats read madt.entries) found (madt_lifts m q view are long) is least)
-
-pub no_repeated : (read : MadtEntry → Option ℕ) (view : Option (List ℕ)) {tables : CompleteTables}
-    → IsLong 44 tables.madt view → view ≡ None → Finds (OnMadt (MadtNumbers read)) tables None
-no_repeated read view long none = λ m q are.
-    not_there (OfMadt m q) madt_contents (λ madt. Repeats read madt.entries) (madt_lifts m q view are long) none
-
 -- ---- the SRAT and the SLIT
 
 pub slit_found : (m : Memory) (q : PolicyValue) {tables : CompleteTables} (view : Option (List ℕ))
@@ -375,25 +320,18 @@ with_localities m q P slit n found rows lifts least =
 
 -- a condition is that of its group
 in_group : (c : Condition) → as_group (group_of c) c ≡ c
+in_group Rows = refl
 in_group (Slots P) = refl
 in_group (Set P) = refl
-in_group (OnFadt (Fadt P)) = refl
-in_group (OnFadt (FadtMemory P)) = refl
-in_group (OnFadt (FadtMadt P)) = refl
-in_group (OnMadt (Madt P)) = refl
-in_group (OnMadt (MadtEntries P)) = refl
-in_group (OnMadt (MadtNumbers read)) = refl
-in_group (OnMadt (MadtBytes P)) = refl
-in_group (OnMadt (MadtSrat P)) = refl
-in_group (OnMadt (MadtPptt P)) = refl
-in_group (OnSrat (Srat P)) = refl
-in_group (OnSrat (SratEntries P)) = refl
-in_group (OnSrat (SratBytes P)) = refl
-in_group (OnSrat (SratSlit P)) = refl
+in_group (Fadt P) = refl
+in_group (FadtMemory P) = refl
+in_group (FadtMadt P) = refl
+in_group (Madt P) = refl
+in_group (MadtPptt P) = refl
+in_group (SratSlit P) = refl
 in_group (Slit P) = refl
-in_group (OnPptt (Pptt P)) = refl
-in_group (OnPptt (PpttEntries P)) = refl
-in_group (OnPptt (PpttBytes P)) = refl
+in_group (Pptt P) = refl
+in_group (PpttEntries P) = refl
 
 pub is_of_group : (c : Condition) {found g : RuleGroup} → found ≡ group_of c → found ≡ g → as_group g c ≡ c
 is_of_group c is same = subst (λ (h : RuleGroup). as_group h c ≡ c) (sym is ∙ same) (in_group c)

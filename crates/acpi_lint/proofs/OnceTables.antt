@@ -11,15 +11,15 @@ use Rattle.acpi_base.specs.Root.{IsSlot}
 use Rattle.acpi_base.proofs.Options.{cases_Option}
 use Rattle.acpi_check.proofs.EntryPasses.Kept.{kept_has, kept_from}
 use Rattle.acpi_lint.specs.Headers.{once_numbered}
-use Rattle.acpi_lint.specs.Numbered.{IsNoLater, IsUnlikeAt}
-use Rattle.acpi_lint.specs.Places.{FindsLeast, IsLeast, IsNotAfter}
+use Rattle.acpi_rules.specs.Numbered.{IsNoLater, IsRepeated}
+use Rattle.acpi_rules.specs.Places.{FindsLeast, IsLeast, IsNotAfter}
 use Rattle.acpi_lint.specs.Rules.HeaderAdvice.{is_once, once_signatures, signature_number, ListsNumber, IsSecondOther}
 use Rattle.acpi_lint.specs.Rules.Slots.{IsSecond}
 use Rattle.acpi_lint.specs.Slots.{signature_at, IsTableAt, AreSlots}
 use Rattle.acpi_lint.specs.declared.listed_slots.Slot.{Slot}
-use Rattle.acpi_lint.specs.declared.numbered.Numbered.{Numbered}
-use Rattle.acpi_lint.specs.declared.numbered.Order.TheVariants.{Later}
-use Rattle.acpi_lint.specs.declared.place.Place.{Place}
+use Rattle.acpi_rules.specs.declared.numbered.Numbered.{Numbered}
+use Rattle.acpi_rules.specs.declared.numbered.Repeat.TheVariants as repeat
+use Rattle.acpi_rules.specs.declared.place.Place.{Place}
 use Rattle.acpi_lint.proofs.FirstSlots.{one_listed}
 use Rattle.acpi_lint.proofs.ListedSlots.{no_slot}
 use Rattle.acpi_lint.proofs.RisingLists.{at_or_behind, none_such}
@@ -47,9 +47,6 @@ no_address slots i number s end passed listed =
 -- slot k lists the address a of a table with the signature n, of which a set has one
 abbrev IsOnceAt : Memory → ℕ → ℕ → ℕ → ℕ → Type 0
 IsOnceAt m p n k a = ListsNumber m p n k a × (is_once n ≡ true)
-
-numbered : ℕ → ℕ → ℕ → Numbered
-numbered n k a = record { number = n; at = k; value = a }
 
 -- no table has the signature 0
 not_once : is_once 0 ≡ false
@@ -101,12 +98,12 @@ given_to {m} {p} slots n k a are once =
 -- ---- what is found among them
 
 second_from : {m : Memory} {p : ℕ} (slots : List Slot) (at other n : ℕ) → AreSlots m (IsSlot m p) slots
-    → IsUnlikeAt Later (filter_map once_numbered slots) at other n
+    → IsRepeated repeat.Unlike (λ g. Contains (filter_map once_numbered slots) g) at other n
     → (point : ℕ) × IsSecondOther m p at other point
     × ((s : Slot) × Contains slots s × (s.number ≡ at) × (s.table.address ≡ point))
 second_from {m} {p} slots at other n are (g, f, unlike, is) =
-    let (here, place) = given_from slots g are unlike.listed in
-    let (there, _) = given_from slots f are unlike.first.listed in
+    let (here, place) = given_from slots g are unlike.here in
+    let (there, _) = given_from slots f are unlike.first.here in
     rw (← ap (λ (x : Place). x.at) is, ← ap (λ (x : Place). x.other) is) (
       g.value,
       (
@@ -119,7 +116,7 @@ second_from {m} {p} slots at other n are (g, f, unlike, is) =
           first = λ k b lists.
               upto k b (unlike.first.least (record { number = g.number; at = k; value = b })
               (given_to slots g.number k b are (lists, here.1)) unlike.same);
-          differs = λ same. unlike.differ (sym same);
+          differs = λ same. unlike.told (sym same);
         },
       ),
       place,
@@ -131,14 +128,14 @@ second_from {m} {p} slots at other n are (g, f, unlike, is) =
 
 second_to : {m : Memory} {p at other point n : ℕ} (slots : List Slot) → AreSlots m (IsSlot m p) slots
     → is_once n ≡ true → IsSecond (ListsNumber m p n) at other point
-    → IsUnlikeAt Later (filter_map once_numbered slots) at other n
+    → IsRepeated repeat.Unlike (λ g. Contains (filter_map once_numbered slots) g) at other n
 second_to {m} {p} {at} {other} {point} {n} slots are once second = (
   record { number = n; at = at; value = point },
   record { number = n; at = other; value = second.a },
   record {
     first =
         record {
-          listed = given_to slots n other second.a are (second.there, once);
+          here = given_to slots n other second.a are (second.there, once);
           least = λ g listed same.
               let ((lists, _), _) = given_from slots g are listed in
               let low = second.first g.at g.value (rw same at lists) in
@@ -149,21 +146,22 @@ second_to {m} {p} {at} {other} {point} {n} slots are once second = (
                 | inr less ↦ inl less
               ];
         };
-    listed = given_to slots n at point are (second.here, once);
+    here = given_to slots n at point are (second.here, once);
     same = refl;
-    differ = λ same. second.differs (sym same);
+    told = λ same. second.differs (sym same);
   },
   refl,
 )
 
 -- no such slot is found
 pub no_second : {m : Memory} {p : ℕ} (slots : List Slot) → AreSlots m (IsSlot m p) slots
-    → FindsLeast (IsUnlikeAt Later (filter_map once_numbered slots)) None → FindsLeast (IsSecondOther m p) None
+    → FindsLeast (IsRepeated repeat.Unlike (λ g. Contains (filter_map once_numbered slots) g)) None
+    → FindsLeast (IsSecondOther m p) None
 no_second slots are none = λ at other point (n, once, second). none at other n (second_to slots are once second)
 
 -- the first one is found, and this is the address that it lists
 pub first_second : {m : Memory} {p : ℕ} (slots : List Slot) (r : Place) (address : ℕ) → AreSlots m (IsSlot m p) slots
-    → IsLeast (IsUnlikeAt Later (filter_map once_numbered slots)) r
+    → IsLeast (IsRepeated repeat.Unlike (λ g. Contains (filter_map once_numbered slots) g)) r
     → ((s : Slot) → Contains slots s → s.number ≡ r.at → address ≡ s.table.address)
     → FindsLeast (IsSecondOther m p) (Some (record { at = r.at; other = r.other; point = address }))
 first_second {m} {p} slots r address are least tells =

@@ -27,10 +27,10 @@ use Rattle.acpi_check.specs.TableResults.{Finds}
 use Rattle.acpi_check.specs.declared.nodes.Chain.{Chain}
 use Rattle.acpi_check.specs.declared.refusal.Refusal.{Refusal}
 use Rattle.acpi_check.specs.declared.refusal.Refusal.TheVariants as refusal
-use Rattle.acpi_lint.specs.Places.{IsLeast}
+use Rattle.acpi_rules.specs.Places.{IsLeast}
 use Rattle.acpi_lint.specs.StageFaults.{FindsFirstAt, IsPlaceOf}
 use Rattle.acpi_lint.specs.CompleteTables.{IsFound, IsLong}
-use Rattle.acpi_lint.specs.declared.place.Place.{Place}
+use Rattle.acpi_rules.specs.declared.place.Place.{Place}
 use Rattle.acpi_lint.proofs.ShortTables.{no_madt_entry, no_srat_entry}
 use Rattle.acpi_lint.proofs.OfTables.{none_long}
 use Rattle.acpi_lint.proofs.StageVerdicts.{place, place_not_after}

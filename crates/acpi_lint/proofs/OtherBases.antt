@@ -7,13 +7,13 @@ use Rattle.std.proofs.lemmas.Option.{cond_some}
 use Rattle.acpi_base.specs.Madt.{MadtContents}
 use Rattle.acpi_base.proofs.EntryOffsets.{AreOnes}
 use Rattle.acpi_lint.specs.MadtNumbers.{other_gicc_base, NamesWith}
-use Rattle.acpi_lint.specs.Places.{FindsLeast}
+use Rattle.acpi_rules.specs.Places.{FindsLeast}
 use Rattle.acpi_lint.specs.Rules.Gic.{gicc_base}
 use Rattle.acpi_lint.specs.Rules.GicAdvice.{HasVersion, IsGiccBaseDiffers}
 use Rattle.acpi_lint.specs.Rules.Numbered.{IsFirstNamed}
-use Rattle.acpi_lint.specs.declared.place.Place.{Place}
+use Rattle.acpi_rules.specs.declared.place.Place.{Place}
 use Rattle.acpi_lint.proofs.FirstNumbers.{one_first_named}
-use Rattle.acpi_lint.proofs.LeastPlaces.{least_as}
+use Rattle.acpi_rules.proofs.LeastPlaces.{least_as}
 
 other_from : (base n : ℕ) (own : Option ℕ)
     → option_and_then (λ m. if not (m == base) then Some m else None) own ≡ Some n → (own ≡ Some n) × (n ≢ base)

@@ -90,16 +90,6 @@ abbrev pub NoneEnds : (ℕ → ℕ → Type 0) → List ℕ → List Bool → Ty
 NoneEnds Names offsets visited =
     (k : ℕ) → k < length offsets → get_or visited k false ≡ true → ¬ Ends Names (get_or offsets k 0)
 
-pub begin_walk : (Names : ℕ → ℕ → Type 0) (offsets : List ℕ) (visited : List Bool) (start : ℕ)
-    → length visited ≡ length offsets → NoneEnds Names offsets visited → IsWalk Names offsets visited start start
-begin_walk Names offsets visited start count none =
-    record {
-      count = count;
-      back = λ ends. ends;
-      leads = λ n ends. (n, omega arith, ends);
-      marks = λ k within marked. inl (none k within marked);
-    }
-
 pub walk_on : (Names : ℕ → ℕ → Type 0) (offsets : List ℕ) (visited : List Bool) (start here next index : ℕ)
     → NamesOne Names → IsWalk Names offsets visited start here → index < length offsets → get_or offsets index 0 ≡ here
     → Names here next → next ≢ 0 → IsWalk Names offsets (set visited index true) start next

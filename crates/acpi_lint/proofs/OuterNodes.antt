@@ -8,13 +8,13 @@ use Rattle.acpi_base.specs.Chains.{Ends}
 use Rattle.acpi_base.specs.Pptt.{PpttContents}
 use Rattle.acpi_lint.specs.Hierarchy.{IsOutsideAt}
 use Rattle.acpi_lint.specs.Numbered.{at_place, HasAt, AreNumbersAt}
-use Rattle.acpi_lint.specs.Places.{FindsLeast}
+use Rattle.acpi_rules.specs.Places.{FindsLeast}
 use Rattle.acpi_lint.specs.Rules.Hierarchy.{outer_parent, IsNoPackage}
 use Rattle.acpi_lint.specs.Rules.Numbered.{NamesAt}
 use Rattle.acpi_lint.specs.Rules.Processors.{IsLeafAt}
-use Rattle.acpi_lint.specs.declared.numbered.Numbered.{Numbered}
-use Rattle.acpi_lint.specs.declared.place.Place.{Place}
-use Rattle.acpi_lint.proofs.LeastPlaces.{least_as}
+use Rattle.acpi_rules.specs.declared.numbered.Numbered.{Numbered}
+use Rattle.acpi_rules.specs.declared.place.Place.{Place}
+use Rattle.acpi_rules.proofs.LeastPlaces.{least_as}
 use Rattle.acpi_lint.proofs.OuterChains.{NamesOne, nowhere, ends_as}
 use Rattle.acpi_lint.proofs.SameNumbers.{AreAtPlaces, has_at}
 

@@ -10,13 +10,13 @@ use Rattle.acpi_base.proofs.Faults.Deciding.{decided_as, all4, same, at_most, be
 use Rattle.acpi_base.proofs.Overlaps.{AreFiniteRanges, one_first}
 use Rattle.acpi_check.specs.RangeSpans.{HasSpan, BeginLow}
 use Rattle.acpi_graph.specs.Spans as graph
-use Rattle.acpi_graph.specs.Spans.{NamesDiffer, HasNumber, LiesInTwo, IsClear, IfAt}
+use Rattle.acpi_graph.specs.Spans.{NamesDiffer, HasNumber, LiesInTwo, IsClear}
 use Rattle.acpi_graph.specs.declared.span.Span.{Span}
-use Rattle.acpi_lint.specs.Places.{FindsLeast}
+use Rattle.acpi_rules.specs.Places.{FindsLeast}
 use Rattle.acpi_lint.specs.Ranges.{AreRanges}
 use Rattle.acpi_lint.specs.Rules.Overlaps.{IsInRange, IsRangeOverlap}
-use Rattle.acpi_lint.specs.declared.place.Place.{Place}
-use Rattle.acpi_lint.proofs.LeastPlaces.{least_as, not_after_itself}
+use Rattle.acpi_rules.specs.declared.place.Place.{Place}
+use Rattle.acpi_rules.proofs.LeastPlaces.{least_as, not_after_itself}
 
 -- ---- spans by their names
 

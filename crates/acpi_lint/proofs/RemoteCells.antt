@@ -5,9 +5,10 @@ use Rattle.std.proofs.lemmas.Bool.{cases_order}
 use Rattle.acpi_base.specs.Slit.{SlitContents, slit_contents, IsCell}
 use Rattle.acpi_read.specs.Slits.{HasRows}
 use Rattle.acpi_read.proofs.SlitCells.{cell_at, distance_at}
-use Rattle.acpi_lint.specs.Places.{IsLeast, FindsLeast, IsRowLocal}
+use Rattle.acpi_rules.specs.Places.{IsLeast, FindsLeast}
+use Rattle.acpi_lint.specs.Places.{IsRowLocal}
 use Rattle.acpi_lint.specs.Rules.SlitAdvice.{IsRemoteAsLocal}
-use Rattle.acpi_lint.specs.declared.place.Place.{Place}
+use Rattle.acpi_rules.specs.declared.place.Place.{Place}
 use Rattle.acpi_lint.proofs.SlitFaults.{IsPlaced, placed, row_before}
 
 -- the distances from i to other localities before j are not 10

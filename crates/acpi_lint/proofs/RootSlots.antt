@@ -4,11 +4,11 @@ use Rattle.acpi_base.specs.Memory.{Memory}
 use Rattle.acpi_base.specs.Number.{field}
 use Rattle.acpi_base.proofs.Root.Named.{of_root}
 use Rattle.acpi_read.specs.Roots.{RootValue}
-use Rattle.acpi_lint.specs.Places.{FindsLeast}
+use Rattle.acpi_rules.specs.Places.{FindsLeast}
 use Rattle.acpi_lint.specs.Rules.RootAdvice.{IsNullIn, IsNullSlot}
 use Rattle.acpi_lint.specs.Slots.{IsRootOf}
-use Rattle.acpi_lint.specs.declared.place.Place.{Place}
-use Rattle.acpi_lint.proofs.LeastPlaces.{least_as}
+use Rattle.acpi_rules.specs.declared.place.Place.{Place}
+use Rattle.acpi_rules.proofs.LeastPlaces.{least_as}
 
 -- no slot below n is 0
 abbrev pub AreUsedBelow : List ℕ → ℕ → ℕ → Type 0

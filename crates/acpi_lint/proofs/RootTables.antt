@@ -16,7 +16,7 @@ use Rattle.acpi_base.proofs.Frames.{one_frame}
 use Rattle.acpi_base.proofs.Options.{same_value}
 use Rattle.acpi_base.proofs.Root.Named.{one_root_table}
 use Rattle.acpi_lint.specs.Differences.{FindsDifference}
-use Rattle.acpi_lint.specs.Places.{FindsLeast}
+use Rattle.acpi_rules.specs.Places.{FindsLeast}
 use Rattle.acpi_lint.specs.Rules.RootAdvice.{listed_signatures, times_in, IsXsdt, IsNamedRsdt, IsRsdtDiffers}
 use Rattle.acpi_lint.specs.Slots.{IsRootOf}
 

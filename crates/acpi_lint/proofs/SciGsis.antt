@@ -10,8 +10,8 @@ use Rattle.acpi_base.specs.Number.{field}
 use Rattle.acpi_base.specs.Policy.{PolicyValue}
 use Rattle.acpi_base.proofs.Madt.Faults.{ones}
 use Rattle.acpi_lint.specs.Overrides.{IsOverrideAt, ServesNumber, IsNowhere}
-use Rattle.acpi_lint.specs.Places.{IsNotAfter, IsLeast, FindsLeast}
-use Rattle.acpi_lint.specs.declared.place.Place.{Place}
+use Rattle.acpi_rules.specs.Places.{IsNotAfter, IsLeast, FindsLeast}
+use Rattle.acpi_rules.specs.declared.place.Place.{Place}
 use Rattle.acpi_lint.proofs.LeastPlaces.{finds_one}
 
 some_number : (c : MadtContents) (source at : ℕ) → StandsWith c.entries at (IsOverrideOf source)

@@ -11,7 +11,7 @@ use Rattle.acpi_base.specs.declared.table_kind.TableKind.{TableKind}
 use Rattle.acpi_lint.specs.Slots.{IsTableAt, IsSought, FindsSlot, AreFirstSlots, first_of, second_after, second_place}
 use Rattle.acpi_lint.specs.declared.first_slots.FirstSlots.{FirstSlots}
 use Rattle.acpi_lint.specs.declared.listed_slots.Slot.{Slot}
-use Rattle.acpi_lint.specs.declared.place.Place.{Place}
+use Rattle.acpi_rules.specs.declared.place.Place.{Place}
 use Rattle.acpi_lint.specs.declared.table_at.Sought.TheVariants as sought
 use Rattle.acpi_lint.proofs.FirstSlots.{one_listed}
 

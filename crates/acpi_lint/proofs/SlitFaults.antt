@@ -10,9 +10,10 @@ use Rattle.acpi_base.specs.declared.code.Code.TheVariants as code
 use Rattle.acpi_base.proofs.Slit.{slit_size, slit_count}
 use Rattle.acpi_read.specs.Slits.{HasRows}
 use Rattle.acpi_read.proofs.SlitCells.{cell_at, distance_at, right_size}
-use Rattle.acpi_lint.specs.Places.{IsLeast, FindsLeast, IsRowDiffers}
-use Rattle.acpi_lint.specs.declared.place.Place.{Place}
-use Rattle.acpi_lint.proofs.LeastPlaces.{least_as}
+use Rattle.acpi_rules.specs.Places.{IsLeast, FindsLeast}
+use Rattle.acpi_lint.specs.Places.{IsRowDiffers}
+use Rattle.acpi_rules.specs.declared.place.Place.{Place}
+use Rattle.acpi_rules.proofs.LeastPlaces.{least_as}
 
 -- ---- its size
 

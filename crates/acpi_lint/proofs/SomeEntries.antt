@@ -8,7 +8,6 @@ use Rattle.acpi_base.proofs.Elements.{first_element, later_element, first_or_lat
 use Rattle.acpi_read.specs.declared.typed_entries.EntryAt.{EntryAt}
 use Rattle.acpi_check.specs.CollectedValues.{Picks}
 use Rattle.acpi_lint.specs.Places.{PicksFirst}
-use Rattle.acpi_lint.specs.EntryNumbers.{IsAnyNamed}
 
 -- something is given for an entry exactly if this holds for it
 abbrev GivesWhere : {S T : Type 0} → (S → Option T → Type 0) → (S → Type 0) → Type 0
@@ -76,19 +75,3 @@ any_of_entries {E} {Said} {T} value {Answers} Is {said} {entries} found picks sa
 pub none_there : {Q : ℕ → Type 0} (any : Bool) → IsTrue any ↔ ((o : ℕ) × Q o) → IsTrue (not any) ↔ ((o : ℕ) → ¬ Q o)
 none_there true tells = (λ none. absurd cc, λ none. (let (o, holds) = tells.0 refl in absurd (none o holds)))
 none_there false tells = (λ yes. λ o holds. absurd (let there = tells.1 (o, holds) in cc), λ none. refl)
-
--- a number that `read` gives for any entry
-abbrev pub HasSome : {E : Type 0} → (E → Option ℕ) → E → Type 0
-HasSome read e = (n : ℕ) × (read e ≡ Some n)
-
-pub number_where : (number picked : Option ℕ) → picked ≡ number
-    → IsTrue (is_some picked) ↔ ((n : ℕ) × (number ≡ Some n))
-number_where None picked is = rw is (λ some. cc, λ (n, some). cc)
-number_where (Some n) picked is = rw is (λ some. (n, refl), λ there. refl)
-
-pub any_named : {E : Type 0} (read : E → Option ℕ) (entries : List (PlacedEntry E)) (answer : Bool)
-    → IsTrue answer ↔ ((o : ℕ) × StandsWith entries o (HasSome read)) → IsTrue answer ↔ IsAnyNamed read entries
-any_named read entries answer tells = (
-  λ true. let (o, (e, stands, (n, is))) = tells.0 true in (n, (o, (e, stands, is))),
-  λ (n, (o, (e, stands, is))). tells.1 (o, (e, stands, (n, is))),
-)

@@ -9,9 +9,9 @@ use Rattle.acpi_base.specs.declared.witness.Witness.{Witness}
 use Rattle.acpi_check.specs.TableResults.{FindsFirst}
 use Rattle.acpi_check.specs.declared.refusal.Refusal.{Refusal}
 use Rattle.acpi_check.specs.declared.refusal.Refusal.TheVariants.{Fault}
-use Rattle.acpi_lint.specs.Places.{IsNotAfter, FindsLeast}
+use Rattle.acpi_rules.specs.Places.{IsNotAfter, FindsLeast}
 use Rattle.acpi_lint.specs.StageFaults.{IsPlaceOf}
-use Rattle.acpi_lint.specs.declared.place.Place.{Place}
+use Rattle.acpi_rules.specs.declared.place.Place.{Place}
 
 -- the place of a witness
 abbrev pub place : Witness → Place

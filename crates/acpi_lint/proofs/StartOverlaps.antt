@@ -5,31 +5,33 @@ use Rattle.std.proofs.Math.Nat.{eq-or-lt_of_le}
 use Rattle.std.proofs.lemmas.Bool.{cases_lt, cases_order}
 use Rattle.std.proofs.lemmas.List.{get_or_default}
 use Rattle.acpi_base.specs.Overlaps.{IsIntervalOverlap}
-use Rattle.acpi_lint.specs.Numbered.{IsNotAbove, IsFirstOfNumber, IsFirstRange}
-use Rattle.acpi_lint.specs.Places.{FindsLeast}
+use Rattle.acpi_rules.specs.Numbered.{IsNotAbove, IsFirst}
+use Rattle.acpi_lint.specs.Numbered.{IsFirstRange}
+use Rattle.acpi_rules.specs.Places.{FindsLeast}
 use Rattle.acpi_lint.specs.Rules.Overlaps.{IsInRange, IsRangeOverlap}
-use Rattle.acpi_lint.specs.declared.numbered.Numbered.{Numbered}
-use Rattle.acpi_lint.proofs.LeastPlaces.{not_after_itself}
-use Rattle.acpi_lint.proofs.UnlikeNumbers.{one_first, IsStanding, never_falls, next_number}
+use Rattle.acpi_rules.specs.declared.numbered.Numbered.{Numbered}
+use Rattle.acpi_rules.proofs.LeastPlaces.{not_after_itself}
+use Rattle.acpi_rules.proofs.RepeatedNumbers.{one_first, IsStanding, never_falls, next_number}
 
 -- ---- those that were passed
 
 -- of the first ones of each start, those that begin where f begins or before end before the next one begins
 abbrev pub AreApartUpTo : List Numbered → Numbered → Type 0
 AreApartUpTo sorted f =
-    (a b : Numbered) → IsFirstOfNumber sorted a → IsFirstOfNumber sorted b → a.number < b.number → b.number ≤ f.number
+    (a b : Numbered) → IsFirst (λ x. Contains sorted x) a → IsFirst (λ x. Contains sorted x) b → a.number < b.number
+    → b.number ≤ f.number
     → a.number + a.value ≤ b.number
 
 pub none_passed : (sorted : List Numbered) (f : Numbered) → IsStanding sorted 0 f → AreApartUpTo sorted f
 none_passed sorted f standing a b one other less upto =
-    let (k, within, is) = one.listed in
+    let (k, within, is) = one.here in
     absurd (omega
     (arith, standing.behind k a (omega arith) within, ap (λ (x : Numbered). x.number) is, less, upto))
 
 -- h is the first one of the start after that of f
 pub record IsNext (sorted : List Numbered) (f h : Numbered) : Type 0 where
-  pub first : IsFirstOfNumber sorted f
-  pub next : IsFirstOfNumber sorted h
+  pub first : IsFirst (λ x. Contains sorted x) f
+  pub next : IsFirst (λ x. Contains sorted x) h
   pub less : f.number < h.number
   pub between : (x : Numbered) → Contains sorted x → (x.number ≤ f.number) ⊎ (h.number ≤ x.number)
   pub apart : AreApartUpTo sorted f
@@ -60,13 +62,13 @@ next_after sorted i f h order within here standing apart differ =
 pub next_apart : (sorted : List Numbered) (f h : Numbered) → IsNext sorted f h → f.number + f.value ≤ h.number
     → AreApartUpTo sorted h
 next_apart sorted f h is end a b one other less upto =
-    elim (is.between b other.listed) [
+    elim (is.between b other.here) [
       | inl early ↦ is.apart a b one other less early
       | inr late ↦
-          elim (is.between a one.listed) [
+          elim (is.between a one.here) [
             | inl before ↦
                 elim (eq-or-lt_of_le {n = a.number} {m = f.number} before) [
-                  | inl same ↦ rw (one_first one is.first same) (omega (arith, end, late))
+                  | inl same ↦ rw (one_first (λ x. Contains sorted x) one is.first same) (omega (arith, end, late))
                   | inr lower ↦
                       omega (arith, is.apart a f one is.first lower (omega arith), is.less, late)
                 ]
@@ -101,7 +103,7 @@ none_at_end sorted i f end standing apart at other point also =
   where
     upto : (o s : ℕ) → IsInRange (IsFirstRange sorted) o s point → s ≤ f.number
     upto o s (n, (named, (a, first, start, count)), from, below) =
-        let (k, within, is) = first.listed in
+        let (k, within, is) = first.here in
         omega
         (arith, standing.before k a (omega (arith, within, end)), ap (λ (x : Numbered). x.number) is, start)
 
@@ -143,7 +145,7 @@ one_at sorted f h is reaches some =
 
     early : (o s x : ℕ) → IsInRange (IsFirstRange sorted) o s x → x < h.number → s ≤ f.number
     early o s x (n, (named, (a, first, start, count)), least, below) before =
-        elim (is.between a first.listed) [
+        elim (is.between a first.here) [
           | inl upto ↦ omega (arith, upto, start)
           | inr behind ↦ absurd (omega (arith, behind, start, least, before))
         ]
@@ -161,7 +163,7 @@ one_at sorted f h is reaches some =
     holder : (p u : ℕ) → IsInRange (IsFirstRange sorted) p u h.number
         → ((p ≡ f.number) × (u ≡ f.number)) ⊎ ((p ≡ h.number) × (u ≡ h.number))
     holder p u (n, (named, (a, first, start, count)), least, below) =
-        elim (is.between a first.listed) [
+        elim (is.between a first.here) [
           | inl upto ↦
               elim (eq-or-lt_of_le {n = a.number} {m = f.number} upto) [
                 | inl same ↦ inl (named ∙ sym start ∙ same, sym start ∙ same)

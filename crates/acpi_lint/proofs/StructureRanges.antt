@@ -19,20 +19,21 @@ use Rattle.acpi_base.proofs.Root.Named.{one_root, one_root_table}
 use Rattle.acpi_check.proofs.EntryPasses.Kept.{map_has}
 use Rattle.acpi_read.specs.Roots.{RootValue, IsCompleteRoot}
 use Rattle.acpi_lint.specs.CompleteTables.{AreCompleteTables, IsLong}
-use Rattle.acpi_lint.specs.Numbered.{IsNoLater, AreNumberedRanges, FindsNumbered, IsFirstRange, range_at}
-use Rattle.acpi_lint.specs.Places.{FindsLeast}
+use Rattle.acpi_rules.specs.Numbered.{IsNoLater}
+use Rattle.acpi_lint.specs.Numbered.{AreNumberedRanges, FindsNumbered, IsFirstRange, range_at}
+use Rattle.acpi_rules.specs.Places.{FindsLeast}
 use Rattle.acpi_lint.specs.Rules.Overlaps.{IsInRange, IsRangeOverlap}
 use Rattle.acpi_lint.specs.Rules.Structures.{IsRsdpRange, IsRootRange, IsFacsRange, IsDsdtRange, IsTableRange, OfNamingFadt, IsStructure, IsFirstStructure, IsTablesOverlap}
 use Rattle.acpi_lint.specs.Rules.Slots.{dsdt_signature}
 use Rattle.acpi_lint.specs.Slots.{AreSlots, listed_address}
 use Rattle.acpi_lint.specs.declared.complete_tables.CompleteTables.{CompleteTables}
 use Rattle.acpi_lint.specs.declared.listed_slots.Slot.{Slot}
-use Rattle.acpi_lint.specs.declared.numbered.Numbered.{Numbered}
-use Rattle.acpi_lint.specs.declared.place.Place.{Place}
+use Rattle.acpi_rules.specs.declared.numbered.Numbered.{Numbered}
+use Rattle.acpi_rules.specs.declared.place.Place.{Place}
 use Rattle.acpi_lint.proofs.OfTables.{fadt_lifts}
 use Rattle.acpi_lint.proofs.RangeOverlaps.{overlap_as, range_moved}
 use Rattle.acpi_lint.proofs.RisingLists.{IsUpTo, none_below, none_until, none_next, one_next, one_of_key}
-use Rattle.acpi_lint.proofs.UnlikeNumbers.{same_numbered}
+use Rattle.acpi_rules.proofs.RepeatedNumbers.{same_numbered}
 
 -- ---- collected by their kinds
 
@@ -363,7 +364,7 @@ of_structures {m} {p} given found are = overlap_as found to from
       record {
         named = named;
         o = f.at;
-        here = range_moved (IsStructure m p) (are.listed f first.listed) refl start count;
+        here = range_moved (IsStructure m p) (are.listed f first.here) refl start count;
         first = λ k c other.
             named_upto f k s c (first.least (range_at k s c) (are.all k s c other) (sym start));
       },
@@ -383,7 +384,7 @@ of_structures {m} {p} given found are = overlap_as found to from
         (
           range_at is.o s n,
           record {
-            listed = are.all is.o s n is.here;
+            here = are.all is.o s n is.here;
             least = λ g there same. no_later g there same
                 (is.first g.at g.value (range_moved (IsStructure m p) (are.listed g there) refl same refl));
           },

@@ -5,11 +5,12 @@ use Rattle.std.specs.Prelude.{◌↔◌, IsTrue}
 use Rattle.acpi_base.specs.Entries.{StandsWith, AreUnused}
 use Rattle.acpi_base.specs.Madt.{MadtContents}
 use Rattle.acpi_lint.specs.FadtPlaces.{IsGiccAt, IsGiccAfter, AreTwoGiccs}
-use Rattle.acpi_lint.specs.Places.{FindsLeast}
+use Rattle.acpi_rules.specs.Places.{FindsLeast}
 use Rattle.acpi_lint.specs.Rules.FadtWithMadt.{IsUsableGicc, HasTwoGiccs}
-use Rattle.acpi_lint.specs.declared.place.Place.{Place}
+use Rattle.acpi_rules.specs.declared.place.Place.{Place}
 use Rattle.acpi_lint.proofs.FirstEntries.{IsFaultAt}
-use Rattle.acpi_lint.proofs.LeastPlaces.{least_as, least_outside, no_two, first_two}
+use Rattle.acpi_rules.proofs.LeastPlaces.{least_as}
+use Rattle.acpi_lint.proofs.LeastPlaces.{least_outside, no_two, first_two}
 
 abbrev IsUsableAt : MadtContents → ℕ → Type 0
 IsUsableAt c o = StandsWith c.entries o IsUsableGicc

@@ -1,6 +1,5 @@
 -- A table of entries is well-formed exactly if it has no fault of the cut, and none of an entry's length.
-use Rattle.std.proofs.Common.{◌≡◌, ℕ, List, Option, Some, None, IsTrue, refl, sym, ◌∙◌, inl, inr}
-use Rattle.std.specs.Option.{is_none}
+use Rattle.std.proofs.Common.{◌≡◌, ℕ, List, Option, Some, refl, sym, ◌∙◌, inl, inr}
 use Rattle.std.specs.Prelude.{◌↔◌}
 use Rattle.std.proofs.lemmas.Option.{none-some}
 use Rattle.acpi_base.proofs.Options.{cases_Option}
@@ -8,16 +7,9 @@ use Rattle.acpi_base.specs.Entries.{PlacedEntry, StandsWith, AreUnused}
 use Rattle.acpi_base.specs.Madt as madt
 use Rattle.acpi_base.specs.Policy.{PolicyValue}
 use Rattle.acpi_base.specs.Pptt as pptt
-use Rattle.acpi_base.specs.Srat as srat
 use Rattle.acpi_base.specs.declared.code.Code.TheVariants as code
-use Rattle.acpi_lint.specs.Places.{HasNone, FindsLeast}
-use Rattle.acpi_lint.specs.Rules.WellFormed.{IsWellFormed, IsWellFormedMadt, IsWellFormedSrat, IsWellFormedPptt, HasOtherMadtLength, HasOtherSratLength}
-use Rattle.acpi_lint.specs.declared.place.Place.{Place}
-
-pub none_found : (P : ℕ → ℕ → ℕ → Type 0) (found : Option Place) → FindsLeast P found
-    → IsTrue (is_none found) ↔ HasNone P
-none_found P None none = (λ is. none, λ is. refl)
-none_found P (Some p) first = (λ is. cc, λ none. absurd (none p.at p.other p.point first.here))
+use Rattle.acpi_rules.specs.Places.{HasNone}
+use Rattle.acpi_lint.specs.Rules.WellFormed.{IsWellFormed, IsWellFormedMadt, IsWellFormedPptt, HasOtherMadtLength}
 
 module _ {E : Type 0} (IsOther IsWrong : E → Type 0) (to : (e : E) → IsOther e → IsWrong e)
     (from : (e : E) → IsWrong e → IsOther e) (entries : List (PlacedEntry E)) (cut : Option ℕ) where
@@ -60,20 +52,6 @@ pub madt_well_formed : (q : PolicyValue) (c : madt.MadtContents)
 madt_well_formed q c =
     well_formed HasOtherMadtLength (madt.MadtEntryFault q code.MadtEntryLength) (madt_to q) (madt_from q)
     c.entries c.cut
-
-srat_to : (e : srat.SratEntry) → HasOtherSratLength e → srat.SratEntryFault code.SratEntryLength e
-srat_to (srat.Opaque e) is = is
-srat_to _ is = absurd is
-
-srat_from : (e : srat.SratEntry) → srat.SratEntryFault code.SratEntryLength e → HasOtherSratLength e
-srat_from (srat.Opaque e) is = is
-srat_from _ is = absurd is
-
-pub srat_well_formed : (c : srat.SratContents)
-    → (HasNone (srat.SratFault c code.SratEntryCut) × HasNone (srat.SratFault c code.SratEntryLength))
-    ↔ IsWellFormedSrat c
-srat_well_formed c =
-    well_formed HasOtherSratLength (srat.SratEntryFault code.SratEntryLength) srat_to srat_from c.entries c.cut
 
 pub pptt_well_formed : (c : pptt.PpttContents)
     → (HasNone (pptt.PpttFault c code.PpttEntryCut) × HasNone (pptt.PpttFault c code.PpttEntryLength))

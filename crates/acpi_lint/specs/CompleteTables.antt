@@ -7,7 +7,6 @@ use Rattle.acpi_base.specs.TableKinds.{signature_of}
 use Rattle.acpi_base.specs.declared.table_kind.TableKind.{TableKind}
 use Rattle.acpi_base.specs.declared.table_kind.TableKind.TheVariants as kind
 use Rattle.acpi_read.specs.Roots.{RootValue, IsCompleteRoot}
-use Rattle.acpi_lint.specs.SeenTypes.{AreSeenTypes}
 use Rattle.acpi_lint.specs.Slots.{IsRootOf, AreSlots, AreFirstSlots}
 use Rattle.acpi_lint.specs.declared.complete_tables.CompleteTables.{CompleteTables}
 
@@ -34,7 +33,6 @@ pub record AreCompleteTables (m : Memory) (p : ℕ) (tables : CompleteTables) : 
   pub slots : AreSlots m (IsSlot m p) tables.slots.items
   pub firsts : AreFirstSlots m p tables.firsts
   pub listed : (kind : TableKind) → IsFound m p (signature_of kind) (table_of tables kind)
-  pub seen : AreSeenTypes tables.seen tables.madt
 
 -- this is the table that was found, of at least this many bytes; or none was found, or it is shorter
 abbrev pub IsLong : ℕ → Option (List ℕ) → Option (List ℕ) → Type 0

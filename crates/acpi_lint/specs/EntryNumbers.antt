@@ -1,15 +1,11 @@
 -- Numbers that are read from entries, numbers that are looked up, and those that are unknown.
-use Rattle.std.specs.Prelude.{◌<◌, ◌↔◌, ℕ, List, AllPairs, Contains, Option, option_map, ◌≡◌, ◌⊎◌, Some, None, MatchOption}
-use Rattle.std.specs.Option.{option_and_then}
+use Rattle.std.specs.Prelude.{◌<◌, ◌↔◌, ℕ, List, AllPairs, Contains, Option, ◌≡◌, Some, None, MatchOption}
 use Rattle.acpi_lint.specs.Rules.Processors as said
-use Rattle.acpi_lint.specs.Rules.Processors.{placed_uid, processor_domain, usable_apic_id, usable_uid_without_id, placed_apic_id}
-use Rattle.acpi_base.specs.Srat.{SratEntry}
 use Rattle.acpi_base.specs.Entries.{PlacedEntry}
 use Rattle.acpi_lint.specs.Rules.Numbered.{IsNamed}
-use Rattle.acpi_base.specs.Madt.{MadtEntry}
 use Rattle.acpi_check.specs.CollectedValues.{Collects}
-use Rattle.acpi_lint.specs.declared.numbered.Numbered.{Numbered}
-use Rattle.acpi_lint.specs.declared.place.Place.{Place}
+use Rattle.acpi_rules.specs.declared.numbered.Numbered.{Numbered}
+use Rattle.acpi_rules.specs.declared.place.Place.{Place}
 use Rattle.acpi_lint.specs.declared.processors.Processor.{Processor}
 
 -- ---- numbers that are read from entries
@@ -17,11 +13,6 @@ use Rattle.acpi_lint.specs.declared.processors.Processor.{Processor}
 -- the processor that a struct describes
 abbrev pub processor_value : Processor → said.Processor
 processor_value p = record { uid = p.uid; apic_id = p.apic_id; usable = p.usable }
-
--- the domain into which an entry at a place puts the processor with a UID
-abbrev pub domain_of_uid : ℕ → SratEntry → Option Numbered
-domain_of_uid at e =
-    option_and_then (λ uid. option_map (λ d. record { number = uid; at = at; value = d }) (processor_domain e)) (placed_uid e)
 
 -- ---- numbers that are gathered from entries: `Gives` says what may be gathered of each
 
@@ -42,10 +33,6 @@ pub record AreKnown (IsKnown : ℕ → Type 0) (numbers : List ℕ) : Type 0 whe
 abbrev pub IsAnyNamed : {E : Type 0} → (E → Option ℕ) → List (PlacedEntry E) → Type 0
 IsAnyNamed read entries = (n : ℕ) × IsNamed read entries n
 
--- the numbers rise, and are the known ones, if any of these entries has a number to look up
-abbrev pub AreSought : {E : Type 0} → (E → Option ℕ) → List (PlacedEntry E) → (ℕ → Type 0) → List ℕ → Type 0
-AreSought read entries IsKnown numbers = AreKnown (λ n. IsAnyNamed read entries × IsKnown n) numbers
-
 -- ---- numbers that are not among the known ones
 
 -- the number at `at`, if any, is `point`, which is unknown
@@ -55,16 +42,6 @@ IsUnknown known at number other point = (number ≡ Some point) × (¬ Contains 
 -- the same for the number that `read` gives for an entry at `at`
 abbrev pub IsUnknownOf : {E : Type 0} → (E → Option ℕ) → List ℕ → ℕ → E → ℕ → ℕ → Type 0
 IsUnknownOf read known at e other point = IsUnknown known at (read e) other point
-
--- the affinity is for an APIC ID or x2APIC ID that is not among these, or for a UID that is not among those
-abbrev pub IsUnknownAffinity : List ℕ → List ℕ → ℕ → SratEntry → ℕ → ℕ → Type 0
-IsUnknownAffinity ids uids at e other point =
-    IsUnknown ids at (placed_apic_id e) other point ⊎ IsUnknown uids at (placed_uid e) other point
-
--- the same for a usable processor, by its UID if it has no APIC ID
-abbrev pub IsUnplaced : List ℕ → List ℕ → ℕ → MadtEntry → ℕ → ℕ → Type 0
-IsUnplaced ids uids at e other point =
-    IsUnknown ids at (usable_apic_id e) other point ⊎ IsUnknown uids at (usable_uid_without_id e) other point
 
 -- one of these numbers is at `at` and is unknown
 abbrev pub IsUnknownAt : List ℕ → List Numbered → ℕ → ℕ → ℕ → Type 0

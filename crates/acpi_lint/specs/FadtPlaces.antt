@@ -1,24 +1,13 @@
 -- Places of a FADT's fields that are tested one by one, and of the GICCs of a MADT (ACPI 6.5, 5.2.9, 5.2.12.14).
-use Rattle.std.specs.Prelude.{◌≡◌, ◌≢◌, ℕ, ◌<◌, ◌⊎◌, List}
+use Rattle.std.specs.Prelude.{◌≡◌, ℕ, ◌<◌}
 use Rattle.acpi_base.specs.Entries.{StandsWith, AreUnused}
 use Rattle.acpi_base.specs.Madt.{MadtEntry, MadtContents}
-use Rattle.acpi_base.specs.Number.{field}
 use Rattle.acpi_lint.specs.Rules.FadtBlocks.{block_at}
-use Rattle.acpi_lint.specs.Rules.FadtFields.{IsCommand, IsOddRegister, IsLeftOut}
 use Rattle.acpi_lint.specs.Rules.FadtWithMadt.{IsUsableGicc}
 
 -- `at` is the offset of the 4-byte address of register block k, for which `Is` holds
 abbrev pub IsOfBlock : (ℕ → ℕ → ℕ → Type 0) → ℕ → ℕ → ℕ → ℕ → Type 0
 IsOfBlock Is k at other point = (at ≡ block_at k) × Is k other point
-
--- the command at `other` is not 0
-abbrev pub IsStrayCommand : List ℕ → ℕ → ℕ → ℕ → Type 0
-IsStrayCommand whole at other point = (at ≡ 48) × (point ≡ 0) × IsCommand other × (field whole other 1 ≢ 0)
-
--- the sleep register at `offset` is odd, or has no address though the one at `beside` has one
-abbrev pub IsRegisterAt : List ℕ → ℕ → ℕ → ℕ → ℕ → ℕ → Type 0
-IsRegisterAt whole offset beside at other point =
-    (at ≡ offset) × (IsOddRegister whole offset other point ⊎ IsLeftOut whole offset beside other point)
 
 -- ---- the usable GICCs of a MADT
 

@@ -2,7 +2,7 @@
 use Rattle.std.specs.Prelude.{ℕ, ◌≤◌, if◌then◌else◌, List, Option, Some, None}
 use Rattle.acpi_lint.specs.Rules.HeaderAdvice.{IsOddField, is_once}
 use Rattle.acpi_lint.specs.declared.listed_slots.Slot.{Slot}
-use Rattle.acpi_lint.specs.declared.numbered.Numbered.{Numbered}
+use Rattle.acpi_rules.specs.declared.numbered.Numbered.{Numbered}
 
 -- no text of a header is odd, or the first one that is is at this offset
 abbrev pub IsFirstOdd : List ℕ → Option ℕ → Type 0

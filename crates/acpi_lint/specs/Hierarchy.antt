@@ -5,7 +5,7 @@ use Rattle.acpi_base.specs.Entries.{AreUnused}
 use Rattle.acpi_base.specs.Pptt.{PpttEntry, parent_of}
 use Rattle.acpi_lint.specs.Numbered.{HasAt}
 use Rattle.acpi_lint.specs.Rules.Hierarchy.{unmarked_id, IsMarked}
-use Rattle.acpi_lint.specs.declared.numbered.Numbered.{Numbered}
+use Rattle.acpi_rules.specs.declared.numbered.Numbered.{Numbered}
 
 -- the node at `at` has this ID and is not marked as a leaf, and `at` is not among the parents
 abbrev pub IsUnmarkedLeaf : List ℕ → ℕ → PpttEntry → ℕ → ℕ → Type 0

@@ -2,7 +2,6 @@
 pub mod AdviceText
 pub mod CompleteTables
 pub mod Differences
-pub mod Domains
 pub mod EntryNumbers
 pub mod FadtPlaces
 pub mod Headers
@@ -16,10 +15,10 @@ pub mod Overrides
 pub mod Places
 pub mod Ranges
 pub mod References
-pub mod Reserved
-pub mod ReservedLayouts
+pub mod RowFindings
+pub mod RowGroups
 pub mod RuleGroups
 pub mod Rules
-pub mod SeenTypes
 pub mod Slots
 pub mod StageFaults
+pub mod TableLengths

@@ -5,7 +5,6 @@ use Rattle.acpi_base.specs.Entries.{StandsWith}
 use Rattle.acpi_base.specs.Madt.{MadtEntry, MadtContents}
 use Rattle.acpi_lint.specs.Rules.EntryTypes.{type_of}
 use Rattle.acpi_lint.specs.Rules.FadtWithMadt.{IsParking}
-use Rattle.acpi_lint.specs.Rules.Its.{IsOtherIts}
 use Rattle.acpi_lint.specs.Rules.Processors.{IsOpaqueProcessor, IsUnreadProcessor}
 use Rattle.acpi_lint.specs.declared.madt_forms.MadtForm.{MadtForm}
 use Rattle.acpi_lint.specs.declared.madt_forms.MadtForm.TheVariants as form
@@ -15,7 +14,6 @@ abbrev pub IsOfForm : MadtForm → MadtEntry → Type 0
 IsOfForm (form.Type wanted) e = type_of e ≡ wanted
 IsOfForm form.OpaqueProcessor e = IsOpaqueProcessor e
 IsOfForm form.UnreadProcessor e = IsUnreadProcessor e
-IsOfForm form.OtherIts e = IsOtherIts e
 IsOfForm form.IoApic e = IsIoApic e
 IsOfForm form.Parking e = IsParking e
 

@@ -1,39 +1,16 @@
 -- Places of findings: the lowest, the first of a table's entries, and those of the FADT, the FACS and the SLIT.
-use Rattle.std.specs.Prelude.{◌≡◌, ℕ, List, [], ◌∷◌, Option, Some, None, ◌<◌, ◌≤◌, ◌⊎◌, ◌+◌, length}
-use Rattle.acpi_base.specs.Order.{AreNotAfter}
+use Rattle.std.specs.Prelude.{◌≡◌, ℕ, List, [], ◌∷◌, Option, Some, None, ◌<◌, ◌≤◌, ◌⊎◌, length}
 use Rattle.acpi_base.specs.Entries.{PlacedEntry, AreUnused}
-use Rattle.acpi_base.specs.Fadt.{gas_at, FadtTableFault}
-use Rattle.acpi_lint.specs.Rules.FadtBlocks.{block_at, structure_at}
-use Rattle.acpi_lint.specs.Rules.FadtAdvice.{DoFieldsDiffer}
+use Rattle.acpi_base.specs.Fadt.{FadtTableFault}
 use Rattle.acpi_base.specs.declared.code.Code.{Code}
 use Rattle.acpi_base.specs.Facs.{NamedFacsFault}
 use Rattle.acpi_base.specs.Memory.{Memory}
 use Rattle.acpi_base.specs.Slit.{SlitContents}
 use Rattle.acpi_lint.specs.Rules.SlitAdvice.{IsSlitDiffers, IsRemoteAsLocal}
 use Rattle.acpi_read.specs.EntryTables.{EntryTable}
-use Rattle.acpi_lint.specs.declared.place.Place.{Place}
+use Rattle.acpi_rules.specs.declared.place.Place.{Place}
 use Rattle.acpi_lint.specs.declared.passes.SoughtEntry.{SoughtEntry}
 use Rattle.acpi_lint.specs.declared.passes.SoughtEntry.TheVariants as sought
-
--- ---- places of findings, and the lowest of them
-
--- the place comes before these numbers in the order of findings, or is equal to them
-abbrev pub IsNotAfter : Place → ℕ → ℕ → ℕ → Type 0
-IsNotAfter p at other point = AreNotAfter (p.at ∷ p.other ∷ p.point ∷ []) (at ∷ other ∷ point ∷ [])
-
--- P holds for the place's numbers, and for none before it
-pub record IsLeast (P : ℕ → ℕ → ℕ → Type 0) (p : Place) : Type 0 where
-  pub here : P p.at p.other p.point
-  pub least : (at other point : ℕ) → P at other point → IsNotAfter p at other point
-
--- P holds for no numbers
-abbrev pub HasNone : (ℕ → ℕ → ℕ → Type 0) → Type 0
-HasNone P = (at other point : ℕ) → ¬ P at other point
-
--- P holds for no numbers, or this is the lowest place where it does
-abbrev pub FindsLeast : (ℕ → ℕ → ℕ → Type 0) → Option Place → Type 0
-FindsLeast P None = HasNone P
-FindsLeast P (Some p) = IsLeast P p
 
 -- ---- what is picked from the entries of a table: the first place
 
@@ -65,16 +42,6 @@ IsSoughtEntry t (sought.SingleAfter first) at e other point = t.IsSingle e × (f
 -- the table has the fault with this code, which is reported at the offset `at`
 abbrev pub IsFadtFault : List ℕ → Code → ℕ → ℕ → ℕ → Type 0
 IsFadtFault whole fault at other point = FadtTableFault whole fault at × AreUnused other point
-
--- `at` is the offset of the 4-byte field at `narrow`, which differs from the 8-byte field at `wide`
-abbrev pub AreTwoFields : List ℕ → ℕ → ℕ → ℕ → ℕ → ℕ → Type 0
-AreTwoFields whole narrow wide at other point = (at ≡ narrow) × DoFieldsDiffer whole narrow wide other point
-
--- `at` is the offset of the 4-byte address of register block k, which differs from that of its X_ structure, in
--- system I/O
-abbrev pub IsBlock : List ℕ → ℕ → ℕ → ℕ → ℕ → Type 0
-IsBlock whole k at other point =
-    ((gas_at whole (structure_at k)).space ≡ 1) × AreTwoFields whole (block_at k) (structure_at k + 4) at other point
 
 -- ---- places of the faults of the FACS that a FADT names (ACPI 6.5, 5.2.10)
 

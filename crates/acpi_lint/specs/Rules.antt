@@ -1,12 +1,9 @@
 -- The rules of advice: when each is broken, its first finding, and what is reported.
 pub mod Advice
-pub mod ApicAdvice
 pub mod Broken
-pub mod Domains
 pub mod EntryTypes
 pub mod FadtAdvice
 pub mod FadtBlocks
-pub mod FadtFields
 pub mod FadtWithMadt
 pub mod Findings
 pub mod FixedFields
@@ -15,15 +12,12 @@ pub mod GicAdvice
 pub mod GicRanges
 pub mod HeaderAdvice
 pub mod Hierarchy
-pub mod Its
-pub mod MadtAdvice
 pub mod NamedAdvice
 pub mod Numbered
 pub mod Overlaps
 pub mod Ports
 pub mod PpttAdvice
 pub mod Processors
-pub mod Reserved
 pub mod RootAdvice
 pub mod Rows
 pub mod RsdpAdvice

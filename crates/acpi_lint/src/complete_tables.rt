@@ -1,19 +1,18 @@
 //! The tables of a set that the finders read.
 
-ghost use Rattle.std.specs.Prelude.{◌≡◌, ◌↔◌, ℕ, IfOk, IsTrue, option_map, OnErr};
+ghost use Rattle.std.specs.Prelude.{◌≡◌, ℕ, IfOk, option_map, OnErr};
 ghost use Rattle.acpi_base.specs.Entries.{entries_read_by};
 ghost use Rattle.acpi_base.specs.Pptt.{pptt_contents, pptt_entry};
 ghost use Rattle.acpi_base.specs.Srat.{srat_contents, srat_entry};
 ghost use Rattle.acpi_base.specs.TableKinds.{signature_of};
 ghost use Rattle.acpi_lint.specs.Slots.{AreFirstSlots};
 ghost use Rattle.acpi_lint.specs.CompleteTables.{HasRoot, IsFound, IsLong, AreEntries, table_of, AreCompleteTables};
-ghost use Rattle.acpi_lint.specs.SeenTypes.{IsAnySeen};
+ghost use Rattle.acpi_lint.specs.TableLengths.{least_length};
 
 use crate::first_slots::FirstSlots;
 use crate::listed_slots::{Slot, listed_slots};
-use crate::seen_types::SeenTypes;
 use acpi_base::{LentImage, TableKind};
-use acpi_read::{Fadt, MadtEntry, PpttEntry, Root, SratEntry, Table, TableEntry, TypedEntries};
+use acpi_read::{Fadt, PpttEntry, Root, SratEntry, Table, TypedEntries};
 use std::alloc::{AllocError, Global};
 
 /// The root table of a set and the first listed table of each kind, if they are complete, whatever their checksums.
@@ -36,8 +35,6 @@ pub struct CompleteTables<'a> {
     pub slit: Option<Table<'a>>,
     /// The PPTT.
     pub pptt: Option<Table<'a>>,
-    /// As which types the entries of the MADT are told.
-    seen: SeenTypes,
 }
 
 /// The first listed table of a kind in a set with these first slots.
@@ -47,6 +44,19 @@ fn found<'a>(image: &'a LentImage<'_>, firsts: &FirstSlots, kind: TableKind) -> 
 {
     let slot = firsts.of_kind(kind)?;
     Table::complete(image, slot.table.address)
+}
+
+/// How many bytes a table of a kind has at least that has all its fields.
+fn least_length(kind: TableKind) -> usize
+    ensures { result ≡ least_length kind }
+{
+    match kind {
+        TableKind::Fadt => 116,
+        TableKind::Madt => 44,
+        TableKind::Srat => 48,
+        TableKind::Slit => 44,
+        TableKind::Pptt => 36,
+    }
 }
 
 impl<'a> CompleteTables<'a> {
@@ -63,11 +73,9 @@ impl<'a> CompleteTables<'a> {
         let root = Root::complete(image, rsdp);
         let slots = listed_slots(alloc, image, &root)?;
         let firsts = FirstSlots::of(&slots);
-        let madt = found(image, &firsts, TableKind::Madt);
         Ok(CompleteTables {
             fadt: found(image, &firsts, TableKind::Fadt),
-            seen: SeenTypes::of(&madt),
-            madt,
+            madt: found(image, &firsts, TableKind::Madt),
             srat: found(image, &firsts, TableKind::Srat),
             slit: found(image, &firsts, TableKind::Slit),
             pptt: found(image, &firsts, TableKind::Pptt),
@@ -75,13 +83,6 @@ impl<'a> CompleteTables<'a> {
             slots,
             firsts,
         })
-    }
-
-    /// Whether an entry of the MADT is told as one of these types: as its own, or as `UNREAD_TYPE`.
-    pub fn has_any_type(&self, types: &[u8]) -> bool
-        ensures { IsTrue result ↔ IsAnySeen self.now.seen types.now }
-    {
-        self.seen.has_any(types)
     }
 
     /// The table of a kind, if there is one.
@@ -105,12 +106,12 @@ impl<'a> CompleteTables<'a> {
         Fadt::new(self.table(TableKind::Fadt)?).ok()
     }
 
-    /// The table of a kind, if it does not end before the offset of its first entry.
-    fn long<E: TableEntry<'a>>(&self, kind: TableKind) -> Option<Table<'a>>
-        ensures { IsLong E.first (table_of self.now kind) result }
+    /// The table of a kind, if it has all its fields.
+    pub fn long(&self, kind: TableKind) -> Option<Table<'a>>
+        ensures { IsLong (least_length kind) (table_of self.now kind) result }
     {
         let table = self.table(kind)?;
-        if table.bytes().len() < E::first() {
+        if table.bytes().len() < least_length(kind) {
             return None;
         }
         Some(table)
@@ -120,14 +121,14 @@ impl<'a> CompleteTables<'a> {
     pub fn madt(&self) -> Option<Table<'a>>
         ensures { IsLong 44 self.now.madt result }
     {
-        self.long::<MadtEntry<'a>>(TableKind::Madt)
+        self.long(TableKind::Madt)
     }
 
     /// The SRAT, if it has the 48 bytes of its fields.
     pub fn srat(&self) -> Option<Table<'a>>
         ensures { IsLong 48 self.now.srat result }
     {
-        self.long::<SratEntry<'a>>(TableKind::Srat)
+        self.long(TableKind::Srat)
     }
 
     /// The PPTT.

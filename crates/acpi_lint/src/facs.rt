@@ -5,14 +5,15 @@ ghost use Rattle.acpi_base.specs.Fadt.{facs_address};
 ghost use Rattle.acpi_base.specs.Facs.{NamedFacsFault};
 ghost use Rattle.acpi_base.specs.Policy.{PolicyValue};
 ghost use Rattle.acpi_base.specs.declared.stage.Stage.{Stage};
-ghost use Rattle.acpi_lint.specs.Places.{IsFacsFault, IsFacsFaultOf, FindsLeast};
+ghost use Rattle.acpi_rules.specs.Places.{FindsLeast};
+ghost use Rattle.acpi_lint.specs.Places.{IsFacsFault, IsFacsFaultOf};
 ghost use Rattle.acpi_lint.specs.StageFaults.{IsFaultOfStage};
 ghost use Rattle.acpi_lint.specs.CompleteTables.{AreCompleteTables};
 
 use crate::complete_tables::CompleteTables;
-use crate::place::Place;
 use acpi_base::{Code, Frame, LentImage, Question, TableKind};
 use acpi_read::{Fadt, Table, fails};
+use acpi_rules::Place;
 
 /// Whether the FACS at the address that a FADT names, which is not 0, has the fault with this code. Each code is
 /// looked for, even if earlier bytes are wrong.

@@ -5,15 +5,16 @@ ghost use Rattle.acpi_base.specs.Fadt.{gas_at, HasNoFadt, IsNoResetRegister};
 ghost use Rattle.acpi_base.specs.Memory.{Memory};
 ghost use Rattle.acpi_base.specs.Policy.{PolicyValue};
 ghost use Rattle.acpi_base.specs.declared.stage.Stage.{Stage};
-ghost use Rattle.acpi_lint.specs.Places.{IsFadtFault, FindsLeast};
+ghost use Rattle.acpi_rules.specs.Places.{FindsLeast};
+ghost use Rattle.acpi_lint.specs.Places.{IsFadtFault};
 ghost use Rattle.acpi_lint.specs.StageFaults.{IsFaultOfStage};
 ghost use Rattle.acpi_lint.specs.CompleteTables.{AreCompleteTables};
 
 use crate::complete_tables::CompleteTables;
-use crate::place::Place;
 use acpi_base::field::u8_at;
 use acpi_base::{Code, TableKind};
 use acpi_read::{Fadt, RESET_REG_SUP, Table, has_flag};
+use acpi_rules::Place;
 
 /// Whether RESET_REG, at 116, has a space above 2, a width other than 8 bits or a bit offset other than 0.
 fn is_no_reset_register(bytes: &[u8]) -> bool

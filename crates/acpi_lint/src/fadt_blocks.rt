@@ -2,13 +2,13 @@
 
 ghost use Rattle.std.specs.Prelude.{◌≡◌, ◌<◌, ◌+◌, ◌*◌, ◌↔◌, IsTrue};
 ghost use Rattle.acpi_lint.specs.FadtPlaces.{IsOfBlock};
-ghost use Rattle.acpi_lint.specs.Places.{FindsLeast};
-ghost use Rattle.acpi_lint.specs.Rules.FadtBlocks.{block_at, structure_at, block_address, block_length, port_count, port_bytes, IsNoPm1Block, DoWidthsDiffer, IsBlockWidth, IsHalf, IsHalfBlock, IsPastEndAt, IsSmiPastEnd, IsBlockPastEnd, IsFixedPastEnd, IsResetPort, IsResetPastEnd, HasResetRegister, IsPortPastEnd, OnBlock, IsGiven, IsGpeOverlap};
+ghost use Rattle.acpi_rules.specs.Places.{FindsLeast};
+ghost use Rattle.acpi_lint.specs.Rules.FadtBlocks.{block_at, block_address, block_length, port_count, port_bytes, IsPastEndAt, IsSmiPastEnd, IsBlockPastEnd, IsFixedPastEnd, IsResetPort, IsResetPastEnd, HasResetRegister, IsPortPastEnd, OnBlock};
 ghost use Rattle.acpi_read.specs.Fadts.{block_view_value};
 
-use crate::place::Place;
 use acpi_base::field::{u8_at, u32_at, u64_at};
 use acpi_read::{BLOCK_LENGTHS, Block, Fadt, RESET_REG_SUP, has_flag};
+use acpi_rules::Place;
 
 /// System I/O, an address space.
 const SYSTEM_IO: u8 = 1;
@@ -63,105 +63,6 @@ pub fn block_offset(k: u8) -> u32
     ensures { result ≡ block_at k }
 {
     56 + 4 * u32::from(k)
-}
-
-/// The offset of its X_ structure.
-pub fn structure_offset(k: u8) -> u32
-    ensures { result ≡ structure_at k }
-{
-    148 + 12 * u32::from(k)
-}
-
-// ---- rules on one block
-
-/// The 4-byte field of PM1a_EVT, at 56, or else of PM1a_CNT, at 64, if the block is none, and the hardware is not
-/// reduced.
-pub fn no_pm1_block(fadt: &Fadt<'_>) -> Option<Place>
-    ensures { FindsLeast (IsNoPm1Block fadt.now) result }
-{
-    if fadt.reduced() {
-        return None;
-    }
-    if block_address(fadt, 0) == 0 {
-        return Some(Place::at(56));
-    }
-    if block_address(fadt, 2) == 0 {
-        return Some(Place::at(64));
-    }
-    None
-}
-
-/// The 4-byte field of register block k, if both its fields have an address, and its length byte in bits is not the
-/// width of its X_ structure, both of which are given.
-fn width_differs(fadt: &Fadt<'_>, k: u8) -> Option<Place>
-    requires { k < 8 }
-    ensures { FindsLeast (IsOfBlock (DoWidthsDiffer fadt.now) k) result }
-{
-    let bytes = fadt.bytes();
-    let structure = structure_offset(k) as usize;
-    if structure + 12 > bytes.len()
-        || u32_at(bytes, block_offset(k) as usize) == 0
-        || u64_at(bytes, structure + 4) == 0
-    {
-        return None;
-    }
-    let other = 8 * u64::from(block_length(fadt, k));
-    let point = u64::from(u8_at(bytes, structure + 1));
-    if other == 0 || other > 255 || point == 0 || other == point {
-        return None;
-    }
-    Some(Place {
-        at: u64::from(block_offset(k)),
-        other,
-        point,
-    })
-}
-
-/// The first register block with two widths, if the hardware is not reduced.
-pub fn block_width(fadt: &Fadt<'_>) -> Option<Place>
-    ensures { FindsLeast (IsBlockWidth fadt.now) result }
-{
-    if fadt.reduced() {
-        return None;
-    }
-    for k in 0..8 {
-        if let Some(place) = width_differs(fadt, k) {
-            return Some(place);
-        }
-    }
-    None
-}
-
-/// The 4-byte field of register block k, if just one of its length byte and its address is 0.
-fn half_at(fadt: &Fadt<'_>, k: u8) -> Option<Place>
-    requires { k < 8 }
-    ensures { FindsLeast (IsOfBlock (IsHalf fadt.now) k) result }
-{
-    let other = u64::from(block_length(fadt, k));
-    let point = block_address(fadt, k);
-    if (other == 0) == (point == 0) {
-        return None;
-    }
-    Some(Place {
-        at: u64::from(block_offset(k)),
-        other,
-        point,
-    })
-}
-
-/// The first such block of those that hardware may lack, from PM2_CNT to GPE1, if the hardware is not reduced.
-pub fn half_block(fadt: &Fadt<'_>) -> Option<Place>
-    ensures { FindsLeast (IsHalfBlock fadt.now) result }
-{
-    if fadt.reduced() {
-        return None;
-    }
-    for k in 4..8 {
-        if let Some(place) = half_at(fadt, k) {
-            return Some(place);
-        }
-    }
-    None
 }
 
 // ---- ports past the last one
@@ -262,30 +163,4 @@ pub fn port_past_end(fadt: &Fadt<'_>) -> Option<Place>
         return fixed;
     }
     reset_past_end(fadt)
-}
-
-// ---- events
-
-/// Whether register block k has an address and a length.
-fn is_given(fadt: &Fadt<'_>, k: u8) -> bool
-    requires { k < 8 }
-    ensures { IsTrue result ↔ IsGiven fadt.now k }
-{
-    block_address(fadt, k) != 0 && block_length(fadt, k) != 0
-}
-
-/// GPE1_BASE, at 94, if it is among the events of GPE0, and the hardware is not reduced.
-pub fn gpe_overlap(fadt: &Fadt<'_>) -> Option<Place>
-    ensures { FindsLeast (IsGpeOverlap fadt.now) result }
-{
-    if fadt.reduced() || !is_given(fadt, 6) || !is_given(fadt, 7) {
-        return None;
-    }
-    let other = 4 * u64::from(block_length(fadt, 6));
-    let point = u64::from(u8_at(fadt.bytes(), 94));
-    (point < other).then_some(Place {
-        at: 94,
-        other,
-        point,
-    })
 }

@@ -6,150 +6,23 @@ ghost use Rattle.acpi_base.specs.Entries.{StandsWith};
 ghost use Rattle.acpi_base.specs.Madt.{madt_contents};
 ghost use Rattle.acpi_base.specs.Number.{field};
 ghost use Rattle.acpi_lint.specs.FadtPlaces.{IsGiccAt, IsGiccAfter, AreTwoGiccs};
-ghost use Rattle.acpi_lint.specs.Places.{FindsLeast, FindsOwn};
-ghost use Rattle.acpi_lint.specs.Rules.FadtWithMadt.{minor_version, IsVersion, IsOlder, IsFadtForArch, is_capable_only, capable_since, IsTooEarly, IsCapableTooEarly, IsPastIsa, IsOverridePastIsa, IsParking, HasTwoGiccs, IsNoneParking, AreUnstarted, HasNoPsci, IsNoBootMethod};
+ghost use Rattle.acpi_rules.specs.Places.{FindsLeast};
+ghost use Rattle.acpi_lint.specs.Places.{FindsOwn};
+ghost use Rattle.acpi_lint.specs.Rules.FadtWithMadt.{IsParking, HasTwoGiccs, IsNoneParking, AreUnstarted, HasNoPsci, IsNoBootMethod};
 ghost use Rattle.acpi_read.specs.Entries.{entry_at_value};
 ghost use Rattle.acpi_read.specs.Madts.{madt_value};
 
 use crate::gic::is_usable_gicc;
-use crate::madt_forms::{MadtForm, has_form, has_type};
+use crate::madt_forms::{MadtForm, has_form};
 use crate::passes::first_picked;
-use crate::place::Place;
-use crate::processors::{RINTC, is_gicc, is_set};
+use crate::processors::is_set;
 use crate::well_formed::is_madt_well_formed;
 use acpi_base::Policy;
-use acpi_base::field::{u8_at, u16_at, u32_at};
-use acpi_read::{EntryAt, Fadt, GICC, MadtEntry, Table};
+use acpi_base::field::{u8_at, u16_at};
+use acpi_read::{EntryAt, Fadt, MadtEntry, Table};
+use acpi_rules::Place;
 
 // ---- the version of a FADT
-
-/// The Revision of a FADT, at 8.
-fn revision(fadt: &Fadt<'_>) -> u8
-    ensures { result ≡ field fadt.now 8 1 }
-{
-    u8_at(fadt.bytes(), 8)
-}
-
-/// The minor version, the lower 4 bits of the byte at 131; 0 if the table ends before it.
-fn minor_version(fadt: &Fadt<'_>) -> u8
-    ensures { result ≡ minor_version fadt.now }
-{
-    let bytes = fadt.bytes();
-    if bytes.len() < 132 {
-        return 0;
-    }
-    u8_at(bytes, 131) % 16
-}
-
-/// Whether a FADT is older than this version.
-fn is_older(fadt: &Fadt<'_>, major: u8, minor: u8) -> bool
-    ensures { IsTrue result ↔ IsOlder fadt.now major minor }
-{
-    let revision = revision(fadt);
-    revision < major || revision == major && minor_version(fadt) < minor
-}
-
-/// A place with the version of a FADT.
-fn version_at(fadt: &Fadt<'_>, at: u64) -> Place
-    ensures { (result.at ≡ at) × IsVersion fadt.now result.other result.point }
-{
-    Place {
-        at,
-        other: u64::from(revision(fadt)),
-        point: u64::from(minor_version(fadt)),
-    }
-}
-
-// ---- processors that are not of x86
-
-/// Revision, at 8, if there is a GICC and the FADT is older than 5.1; or else Flags, at 112, if there is a GICC or a
-/// hart and the hardware is not reduced.
-pub fn fadt_for_arch(fadt: &Fadt<'_>, madt: &Table<'_>) -> Option<Place>
-    ensures { FindsLeast (IsFadtForArch fadt.now (madt_contents madt.now)) result }
-{
-    let gicc = has_type(madt, GICC);
-    if gicc && is_older(fadt, 5, 1) {
-        return Some(version_at(fadt, 8));
-    }
-    if fadt.reduced() || !(gicc || has_type(madt, RINTC)) {
-        return None;
-    }
-    Some(Place::at(112))
-}
-
-// ---- processors that are Online Capable
-
-/// Whether flags have the bit Online Capable, and not Enabled, bit 0.
-fn is_capable_only(flags: u32, bit: u32) -> bool
-    requires { bit < 32 }
-    ensures { result ≡ is_capable_only flags bit }
-{
-    !is_set(flags, 0) && is_set(flags, bit)
-}
-
-/// The latest minor version of ACPI 6 in which a kind of processor got the bit: a FADT of this version is too old for
-/// none.
-const LAST_CAPABLE: u8 = 5;
-
-/// Of an entry with such flags, the minor version of ACPI 6 since which they may be so.
-fn capable_since(entry: &MadtEntry<'_>) -> Option<u8>
-    ensures { result ≡ capable_since (madt_value entry.now) }
-{
-    match entry {
-        MadtEntry::LocalApic(processor) => is_capable_only(processor.flags, 1).then_some(3),
-        MadtEntry::X2apic(processor) => is_capable_only(processor.flags, 1).then_some(3),
-        MadtEntry::Opaque(bytes) => {
-            (is_gicc(bytes) && is_capable_only(u32_at(bytes, 12), 3)).then_some(LAST_CAPABLE)
-        }
-        _ => None,
-    }
-}
-
-/// The place of an entry that is Online Capable and not Enabled, if the FADT is older than that
-/// flag.
-fn too_early(fadt: &Fadt<'_>, at: &EntryAt<MadtEntry<'_>>) -> Option<Place>
-    ensures { FindsOwn (λ at. IsTooEarly fadt.now) (entry_at_value madt_value at.now) result }
-{
-    let minor = capable_since(&at.entry)?;
-    is_older(fadt, 6, minor).then_some(version_at(fadt, at.offset))
-}
-
-/// The first entry that is Online Capable and not Enabled, with the FADT's version, if the FADT is older than that flag.
-/// It looks at no entry if the FADT is older than none.
-pub fn capable_too_early(fadt: &Fadt<'_>, madt: &Table<'_>) -> Option<Place>
-    ensures { FindsLeast (IsCapableTooEarly fadt.now (madt_contents madt.now)) result }
-{
-    if !is_older(fadt, 6, LAST_CAPABLE) {
-        return None;
-    }
-    first_picked(madt.entries::<MadtEntry<'_>>(), |at| too_early(fadt, at))
-}
-
-// ---- overrides
-
-/// The place of an override whose Source is above 15 and is not SCI_INT.
-fn past_isa(sci: u16, at: &EntryAt<MadtEntry<'_>>) -> Option<Place>
-    ensures { FindsOwn (λ at. IsPastIsa sci) (entry_at_value madt_value at.now) result }
-{
-    match &at.entry {
-        MadtEntry::Override(named) if named.source > 15 && u16::from(named.source) != sci => {
-            Some(Place {
-                at: at.offset,
-                other: u64::from(named.source),
-                point: u64::from(named.gsi),
-            })
-        }
-        _ => None,
-    }
-}
-
-/// The first override whose Source, `other`, is above 15 and is not SCI_INT.
-pub fn override_past_isa(fadt: &Fadt<'_>, madt: &Table<'_>) -> Option<Place>
-    ensures { FindsLeast (IsOverridePastIsa fadt.now (madt_contents madt.now)) result }
-{
-    let sci = u16_at(fadt.bytes(), 46);
-    first_picked(madt.entries::<MadtEntry<'_>>(), |at| past_isa(sci, at))
-}
 
 // ---- how processors with a GIC are started
 

@@ -1,16 +1,16 @@
 //! Advice on what a FADT names in memory: the DSDT and the FACS (ACPI 6.5, 5.2.10, 5.2.11).
 
 ghost use Rattle.std.specs.Prelude.{◌≤◌, ◌↔◌, IsTrue, length};
-ghost use Rattle.acpi_lint.specs.Places.{FindsLeast};
+ghost use Rattle.acpi_rules.specs.Places.{FindsLeast};
 ghost use Rattle.acpi_lint.specs.RuleGroups.{in_fadt_memory};
 ghost use Rattle.acpi_lint.specs.Rules.Broken.{condition};
 ghost use Rattle.acpi_lint.specs.Rules.NamedAdvice.{IsBrokenDsdt, IsDsdtWrong, IsOddFacs, IsFacsReserved};
 
 use crate::limits::{above, used};
-use crate::place::Place;
 use crate::rule::Rule;
 use acpi_base::{Frame, LentImage, Question};
 use acpi_read::{Facs, Fadt, fails};
+use acpi_rules::Place;
 
 /// Whether the header at an address is not that of a DSDT, or says a Length that no table has, or the table there has a
 /// wrong checksum.

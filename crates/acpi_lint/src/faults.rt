@@ -14,7 +14,6 @@ use crate::one_code::{
     cycle_place, gsi_clash, gsi_nowhere, leaf_unknown, overlap, override_clash, two_domains,
 };
 use crate::passes::listed_fault;
-use crate::place::Place;
 use crate::references::reference_fault;
 use crate::root::root_fault;
 use crate::rsdp::rsdp_fault;
@@ -23,6 +22,7 @@ use crate::slots::slot_fault;
 use acpi_base::{Code, LentImage, Policy, Stage, TableKind, Witness};
 use acpi_check::Chain;
 use acpi_read::{MadtEntry, PpttEntry, SratEntry};
+use acpi_rules::Place;
 use std::alloc::{AllocError, Global};
 
 /// The place of the first fault with a code, whether or not earlier stages hold.

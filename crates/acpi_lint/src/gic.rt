@@ -1,8 +1,8 @@
 //! The parts of a GIC, as entries of a MADT describe them, and their fields (ACPI 6.5, 5.2.12.14 to 5.2.12.18).
 
 ghost use Rattle.std.specs.Prelude.{◌≡◌, ◌≤◌, length, IsTrue};
-ghost use Rattle.acpi_lint.specs.Rules.Gic.{is_usable_gicc, has_mpidr, names_redistributor, is_gicd, is_msi_frame, is_gicr, is_its, gicc_base, usable_gicc_uid, usable_mpidr, own_redistributor, gicd_base, gicd_version, msi_frame_id, msi_frame_base, gicr_base, gicr_length, its_id, its_base};
-ghost use Rattle.acpi_lint.specs.Rules.GicAdvice.{is_reserved_mpidr, reserved_mpidr, empty_gicr, other_gicr};
+ghost use Rattle.acpi_lint.specs.Rules.Gic.{is_usable_gicc, names_redistributor, is_gicd, is_msi_frame, is_gicr, is_its, gicc_base, usable_gicc_uid, own_redistributor, gicd_base, gicd_version, msi_frame_base, gicr_base, gicr_length, its_base};
+ghost use Rattle.acpi_lint.specs.Rules.GicAdvice.{other_gicr};
 ghost use Rattle.acpi_lint.specs.MadtNumbers.{other_gicc_base};
 ghost use Rattle.acpi_read.specs.Madts.{madt_value};
 
@@ -37,15 +37,6 @@ pub fn is_usable_gicc(bytes: &[u8]) -> bool
     ensures size { IsTrue result → 40 ≤ length bytes.now }
 {
     is_gicc(bytes) && is_usable(u32_at(bytes, 12), 3)
-}
-
-/// Whether they are a usable one that has an MPIDR.
-#[inline(always)]
-fn has_mpidr(bytes: &[u8]) -> bool
-    ensures value { result ≡ has_mpidr bytes.now }
-    ensures size { IsTrue result → 76 ≤ length bytes.now }
-{
-    is_usable_gicc(bytes) && bytes.len() >= 76
 }
 
 /// Whether they are a usable one that names a redistributor of its own.
@@ -117,17 +108,6 @@ pub fn usable_gicc_uid(entry: &MadtEntry<'_>) -> Option<u64>
     }
 }
 
-/// The MPIDR of a usable CPU interface.
-#[inline(always)]
-pub fn usable_mpidr(entry: &MadtEntry<'_>) -> Option<u64>
-    ensures { result ≡ usable_mpidr (madt_value entry.now) }
-{
-    match entry {
-        MadtEntry::Opaque(bytes) if has_mpidr(bytes) => Some(u64_at(bytes, 68)),
-        _ => None,
-    }
-}
-
 /// The address of the redistributor that a usable CPU interface names as its own.
 #[inline(always)]
 pub fn own_redistributor(entry: &MadtEntry<'_>) -> Option<u64>
@@ -157,17 +137,6 @@ pub fn gicd_version(entry: &MadtEntry<'_>) -> Option<u64>
 {
     match entry {
         MadtEntry::Opaque(bytes) if is_gicd(bytes) => Some(u64::from(u8_at(bytes, 20))),
-        _ => None,
-    }
-}
-
-/// The ID of an MSI frame.
-#[inline(always)]
-pub fn msi_frame_id(entry: &MadtEntry<'_>) -> Option<u64>
-    ensures { result ≡ msi_frame_id (madt_value entry.now) }
-{
-    match entry {
-        MadtEntry::Opaque(bytes) if is_msi_frame(bytes) => Some(u64::from(u32_at(bytes, 4))),
         _ => None,
     }
 }
@@ -205,17 +174,6 @@ pub fn gicr_length(entry: &MadtEntry<'_>) -> Option<u64>
     }
 }
 
-/// The ID of an interrupt translation service.
-#[inline(always)]
-pub fn its_id(entry: &MadtEntry<'_>) -> Option<u64>
-    ensures { result ≡ its_id (madt_value entry.now) }
-{
-    match entry {
-        MadtEntry::Opaque(bytes) if is_its(bytes) => Some(u64::from(u32_at(bytes, 4))),
-        _ => None,
-    }
-}
-
 /// The address of an interrupt translation service.
 #[inline(always)]
 pub fn its_base(entry: &MadtEntry<'_>) -> Option<u64>
@@ -228,36 +186,6 @@ pub fn its_base(entry: &MadtEntry<'_>) -> Option<u64>
 }
 
 // ---- fields that are wrong, or of another length
-
-/// Whether a bit of an MPIDR is set that is none of an affinity: bits 23:0 and 39:32 are.
-#[inline(always)]
-fn is_reserved_mpidr(mpidr: u64) -> bool
-    ensures { result ≡ is_reserved_mpidr mpidr }
-{
-    mpidr >> 24 & 0xFF != 0 || mpidr >> 40 != 0
-}
-
-/// The MPIDR of a usable CPU interface, if such a bit is set.
-#[inline(always)]
-pub fn reserved_mpidr(entry: &MadtEntry<'_>) -> Option<u64>
-    ensures { result ≡ reserved_mpidr (madt_value entry.now) }
-{
-    let mpidr = usable_mpidr(entry)?;
-    is_reserved_mpidr(mpidr).then_some(mpidr)
-}
-
-/// The address of a range of redistributors of no bytes.
-#[inline(always)]
-pub fn empty_gicr(entry: &MadtEntry<'_>) -> Option<u64>
-    ensures { result ≡ empty_gicr (madt_value entry.now) }
-{
-    match entry {
-        MadtEntry::Opaque(bytes) if is_gicr(bytes) && u32_at(bytes, 12) == 0 => {
-            Some(u64_at(bytes, 4))
-        }
-        _ => None,
-    }
-}
 
 /// The length of an entry of the type of a range of redistributors, if it is another one.
 #[inline(always)]

@@ -3,17 +3,17 @@
 ghost use Rattle.std.specs.Prelude.{◌≡◌, ◌<◌, ◌^◌, IfOk};
 ghost use Rattle.acpi_base.specs.Madt.{madt_contents};
 ghost use Rattle.acpi_check.specs.RangeSpans.{BeginLow};
-ghost use Rattle.acpi_lint.specs.Places.{FindsLeast};
+ghost use Rattle.acpi_rules.specs.Places.{FindsLeast};
 ghost use Rattle.acpi_lint.specs.Ranges.{AreRanges, FindsRange};
 ghost use Rattle.acpi_lint.specs.Rules.GicRanges.{gicd_size, registers_from, registers_of, HasRegisters, IsGicRange, IsGicOverlap};
 ghost use Rattle.acpi_read.specs.Madts.{madt_value};
 
 use crate::gic::{gicd_base, gicd_version, gicr_base, gicr_length, its_base, msi_frame_base};
 use crate::overlaps::{first_overlap, range_span};
-use crate::place::Place;
 use acpi_check::collected;
 use acpi_graph::Span;
 use acpi_read::{EntryAt, MadtEntry, Table};
+use acpi_rules::Place;
 use std::alloc::{AllocError, Global};
 
 /// How many bytes the registers of an interrupt translation service have.

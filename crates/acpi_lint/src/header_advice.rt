@@ -1,19 +1,18 @@
 //! Advice on the headers of listed tables (ACPI 6.5, 5.2.6).
 
-ghost use Rattle.std.specs.Prelude.{◌≡◌, ◌==◌, map, ◌≤◌, ◌<◌, ◌+◌, ◌↔◌, ℕ, AllPairs, Contains, IfOk, IsTrue, MatchOption, length, take, drop};
+ghost use Rattle.std.specs.Prelude.{◌≡◌, ◌==◌, map, ◌≤◌, ◌<◌, ◌+◌, ◌↔◌, ℕ, AllPairs, Contains, IfOk, IsTrue, length, take, drop};
 ghost use Rattle.std.specs.List.{filter_map, list_any};
 ghost use Rattle.acpi_base.specs.Memory.{Memory};
 ghost use Rattle.acpi_lint.specs.CompleteTables.{AreCompleteTables};
-ghost use Rattle.acpi_lint.specs.Places.{FindsLeast};
-ghost use Rattle.acpi_lint.specs.Rules.HeaderAdvice.{IsNoText, IsTextField, IsOddField, IsHeaderText, IsSecondOther, signature_number, is_once};
+ghost use Rattle.acpi_rules.specs.Places.{FindsLeast};
+ghost use Rattle.acpi_lint.specs.Rules.HeaderAdvice.{IsNoText, IsHeaderText, IsSecondOther, signature_number, is_once};
 ghost use Rattle.acpi_lint.specs.Headers.{IsFirstOdd, once_numbered};
 ghost use Rattle.acpi_lint.specs.declared.listed_slots.Slot.{Slot};
 
 use crate::complete_tables::CompleteTables;
 use crate::listed_slots::Slot;
-use crate::numbered::{Numbered, Order, first_unlike};
-use crate::place::Place;
 use acpi_base::field::u32_at;
+use acpi_rules::{Numbered, Place, Repeat, first_repeated};
 use std::alloc::{AllocError, Global};
 
 // ---- text
@@ -153,7 +152,7 @@ pub fn second_other(alloc: Global, tables: &CompleteTables<'_>) -> Result<Option
         → IfOk result (FindsLeast (IsSecondOther m p)) }
 {
     let given = numbered_once(alloc, &tables.slots)?;
-    let Some(place) = first_unlike(given, Order::Later)? else {
+    let Some(place) = first_repeated(given, Repeat::Unlike)? else {
         return Ok(None);
     };
     Ok(Some(Place {

@@ -5,17 +5,18 @@ ghost use Rattle.acpi_base.specs.Pptt.{pptt_contents};
 ghost use Rattle.acpi_read.specs.Entries.{entry_at_value};
 ghost use Rattle.acpi_read.specs.Pptts.{pptt_value};
 ghost use Rattle.acpi_lint.specs.Hierarchy.{IsUnmarkedLeaf, IsMarkedParent, IsChildOf};
-ghost use Rattle.acpi_lint.specs.Places.{FindsOwn, FindsLeast};
+ghost use Rattle.acpi_rules.specs.Places.{FindsLeast};
+ghost use Rattle.acpi_lint.specs.Places.{FindsOwn};
 ghost use Rattle.acpi_lint.specs.Rules.Hierarchy.{unmarked_id, IsLeafUnflagged, IsLeafAsParent};
 
 use crate::leaves::{parents_of, revision};
 use crate::passes::first_picked;
-use crate::place::Place;
 use crate::processors::is_set;
 use crate::well_formed::is_pptt_well_formed;
 use acpi_base::Policy;
 use acpi_check::{HAS_LEAVES, binary_search};
 use acpi_read::{EntryAt, PpttEntry, Table};
+use acpi_rules::Place;
 use std::alloc::{AllocError, Global};
 
 /// The ID of a node that has a valid one, by bit 1 of its flags, and is not marked as a leaf, by bit 3.

@@ -8,12 +8,13 @@ ghost use Rattle.acpi_read.specs.Pptts.{pptt_value};
 ghost use Rattle.acpi_lint.specs.Leaves.{valid_id, said_leaf_id, unnamed_id, IsUnnamedAt};
 ghost use Rattle.acpi_lint.specs.Numbered.{at_place, AreNumbersAt};
 
-use crate::numbered::{Numbered, at_place};
+use crate::numbered::at_place;
 use crate::processors::is_set;
 use crate::well_formed::is_pptt_well_formed;
 use acpi_base::Policy;
 use acpi_check::{HAS_LEAVES, binary_search, collected, sorted_unique};
 use acpi_read::{EntryAt, PpttEntry, Table};
+use acpi_rules::Numbered;
 use std::alloc::{AllocError, Global};
 
 /// A PPTT's Revision.

@@ -1,11 +1,11 @@
 //! Fields and reserved bytes of a structure that have no meaning.
 
 ghost use Rattle.std.specs.Prelude.{◌≤◌, ◌+◌, length};
-ghost use Rattle.acpi_lint.specs.Places.{FindsLeast};
+ghost use Rattle.acpi_rules.specs.Places.{FindsLeast};
 ghost use Rattle.acpi_lint.specs.Rules.FixedFields.{IsAbove, IsUsed};
 
-use crate::place::Place;
 use acpi_base::field::{number_at, u8_at};
+use acpi_rules::Place;
 
 /// The place of the number of this width at an offset, if it is above the greatest one that has a meaning.
 pub fn above(bytes: &[u8], offset: usize, width: usize, greatest: u64) -> Option<Place>

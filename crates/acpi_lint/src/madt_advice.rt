@@ -2,117 +2,21 @@
 
 ghost use Rattle.std.specs.Prelude.{◌≡◌, ◌↔◌, ◌⊎◌, ◌/◌, IfOk, IsTrue, sum_by};
 ghost use Rattle.acpi_base.specs.Madt.{madt_contents};
-ghost use Rattle.acpi_read.specs.Madts.{madt_value};
-ghost use Rattle.acpi_lint.specs.MadtNumbers.{source_of_gsi};
-ghost use Rattle.acpi_lint.specs.Places.{FindsLeast};
-ghost use Rattle.acpi_lint.specs.Rules.ApicAdvice.{IsX2ApicBelow255, IsTwoSourcesOneGsi, LacksIoApic, IsNoIoApic};
-ghost use Rattle.acpi_lint.specs.Rules.EntryTypes.{HasType};
-ghost use Rattle.acpi_lint.specs.Rules.GicAdvice.{LacksDistributor, IsNoDistributor, LacksRedistributor, IsNoRedistributor, AreGicrsKnown, IsGicrTooSmall, IsGiccBaseDiffers, IsRedistributorTwice, HasVersion};
+ghost use Rattle.acpi_rules.specs.Places.{FindsLeast};
+ghost use Rattle.acpi_lint.specs.Rules.GicAdvice.{LacksRedistributor, IsNoRedistributor, AreGicrsKnown, IsGicrTooSmall, IsGiccBaseDiffers, IsRedistributorTwice, HasVersion};
 
 use crate::gic::GICR;
-use crate::madt_forms::{IO_APIC, NMI_SOURCE, OVERRIDE, has_type};
+use crate::madt_forms::has_type;
 use crate::madt_numbers::{MadtNumber, all_numbers, first_number, has_number};
-use crate::numbered::{Numbered, Order, first_unlike, thinned};
-use crate::place::Place;
-use crate::processors::GICD;
 use crate::well_formed::is_madt_well_formed;
 use acpi_base::Policy;
-use acpi_check::collected;
-use acpi_read::{EntryAt, GICC, MadtEntry, Table};
+use acpi_read::Table;
+use acpi_rules::Place;
 use std::alloc::{AllocError, Global};
 
 // ---- local APICs and interrupts
 
-/// The first usable local x2APIC with an ID below 255, if a usable local APIC has another ID than 255.
-pub fn x2apic_below_255(madt: &Table<'_>) -> Option<Place>
-    ensures { FindsLeast (IsX2ApicBelow255 (madt_contents madt.now)) result }
-{
-    if !has_number(madt, MadtNumber::PlainApicId) {
-        return None;
-    }
-    first_number(madt, MadtNumber::LowX2apicId, 0)
-}
-
-/// The source of an override, by the interrupt number that it is given.
-fn source_of_gsi(at: &EntryAt<MadtEntry<'_>>) -> Option<Numbered>
-    ensures { result ≡ source_of_gsi at.now.offset (madt_value at.now.entry) }
-{
-    match &at.entry {
-        MadtEntry::Override(named) => Some(Numbered {
-            number: u64::from(named.gsi),
-            at: at.offset,
-            value: u64::from(named.source),
-        }),
-        _ => None,
-    }
-}
-
-/// The first override that gives an ISA interrupt the interrupt number of another one; `other` is the first that gives
-/// it to another, and `point` the number. Allocates for each override.
-pub fn two_sources_one_gsi(alloc: Global, madt: &Table<'_>) -> Result<Option<Place>, AllocError>
-    ensures { IfOk result (FindsLeast (IsTwoSourcesOneGsi (madt_contents madt.now))) }
-{
-    let sources = collected(alloc, madt.entries::<MadtEntry<'_>>(), source_of_gsi)?;
-    first_unlike(thinned(alloc, sources)?, Order::Later)
-}
-
-/// Whether a MADT has an entry of one of these two types, of any length.
-fn has_either_type(madt: &Table<'_>, low: u8, high: u8) -> bool
-    ensures { IsTrue result
-        ↔ (HasType (madt_contents madt.now) low ⊎ HasType (madt_contents madt.now) high) }
-{
-    has_type(madt, low) || has_type(madt, high)
-}
-
-/// The type of an I/O SAPIC (ACPI 6.5, 5.2.12.9), which no rule reads.
-const IO_SAPIC: u8 = 6;
-
-/// Whether a MADT that is well-formed has no I/O APIC or I/O SAPIC, though a local APIC or a local x2APIC is usable,
-/// and there is an override or an NMI source.
-fn lacks_io_apic(policy: &Policy, madt: &Table<'_>) -> bool
-    ensures { IsTrue result ↔ LacksIoApic (madt_contents madt.now) }
-{
-    if !has_number(madt, MadtNumber::LocalId) {
-        return false;
-    }
-    if !has_either_type(madt, OVERRIDE, NMI_SOURCE) {
-        return false;
-    }
-    if has_either_type(madt, IO_APIC, IO_SAPIC) {
-        return false;
-    }
-    is_madt_well_formed(policy, madt)
-}
-
-/// A place without numbers, if a MADT that is well-formed has no I/O APIC or I/O SAPIC, though a
-/// local APIC or a local x2APIC is usable, and there is an override or an NMI source.
-pub fn no_io_apic(policy: &Policy, madt: &Table<'_>) -> Option<Place>
-    ensures { FindsLeast (IsNoIoApic (madt_contents madt.now)) result }
-{
-    lacks_io_apic(policy, madt).then_some(Place::at(0))
-}
-
 // ---- a GIC
-
-/// Whether a MADT that is well-formed has no distributor, though it has a CPU interface.
-fn lacks_distributor(policy: &Policy, madt: &Table<'_>) -> bool
-    ensures { IsTrue result ↔ LacksDistributor (madt_contents madt.now) }
-{
-    if !has_type(madt, GICC) {
-        return false;
-    }
-    if has_type(madt, GICD) {
-        return false;
-    }
-    is_madt_well_formed(policy, madt)
-}
-
-/// A place without numbers, if a MADT that is well-formed has a CPU interface and no distributor.
-pub fn no_distributor(policy: &Policy, madt: &Table<'_>) -> Option<Place>
-    ensures { FindsLeast (IsNoDistributor (madt_contents madt.now)) result }
-{
-    lacks_distributor(policy, madt).then_some(Place::at(0))
-}
 
 /// Whether a number is one of these two.
 fn is_either(number: u64, low: u64, high: u64) -> bool

@@ -7,10 +7,9 @@ ghost use Rattle.acpi_read.specs.Madts.{madt_value};
 ghost use Rattle.acpi_lint.specs.MadtForms.{IsOfForm, HasForm};
 ghost use Rattle.acpi_lint.specs.Rules.EntryTypes.{type_of, HasType};
 ghost use Rattle.acpi_lint.specs.Rules.FadtWithMadt.{IsParking};
-ghost use Rattle.acpi_lint.specs.Rules.Its.{IsOtherIts};
 ghost use Rattle.acpi_lint.specs.Rules.Processors.{IsOpaqueProcessor, IsUnreadProcessor};
 
-use crate::gic::{ITS, ITS_LEN, is_usable_gicc};
+use crate::gic::is_usable_gicc;
 use crate::processors::{CORE_PIC, CORE_PIC_LEN, RINTC, RINTC_LEN, opaque_processor};
 use acpi_base::field::u32_at;
 use acpi_read::{GICC, GICC_LEN, MadtEntry, Table};
@@ -45,8 +44,6 @@ pub enum MadtForm {
     OpaqueProcessor,
     /// One that describes a processor that no rule reads.
     UnreadProcessor,
-    /// One with the type of an interrupt translation service, ITS, and another length.
-    OtherIts,
     /// An I/O APIC.
     IoApic,
     /// A usable GIC CPU interface with a version of the parking protocol.
@@ -63,7 +60,6 @@ impl MadtForm {
             MadtForm::Type(wanted) => type_of(entry) == wanted,
             MadtForm::OpaqueProcessor => is_opaque_processor(entry),
             MadtForm::UnreadProcessor => is_unread_processor(entry),
-            MadtForm::OtherIts => is_other_its(entry),
             MadtForm::IoApic => is_io_apic(entry),
             MadtForm::Parking => is_parking(entry),
         }
@@ -127,17 +123,6 @@ fn is_unread_processor(entry: &MadtEntry<'_>) -> bool
             RINTC => bytes.len() < RINTC_LEN,
             _ => false,
         },
-        _ => false,
-    }
-}
-
-/// Whether it has the type of an ITS and another length.
-#[inline(always)]
-fn is_other_its(entry: &MadtEntry<'_>) -> bool
-    ensures { IsTrue result ↔ IsOtherIts (madt_value entry.now) }
-{
-    match entry {
-        MadtEntry::Opaque(bytes) => first_byte(bytes) == ITS && bytes.len() != ITS_LEN,
         _ => false,
     }
 }

@@ -7,25 +7,19 @@ ghost use Rattle.acpi_read.specs.Entries.{entry_at_value};
 ghost use Rattle.acpi_lint.specs.EntryNumbers.{AreKnown, IsAnyNamed};
 ghost use Rattle.acpi_check.specs.CollectedValues.{Collects};
 ghost use Rattle.acpi_lint.specs.MadtNumbers.{number_of, HasNumberWith, Makes, NamesWith};
-ghost use Rattle.acpi_lint.specs.Numbered.{at_place, AreNumbersAt};
-ghost use Rattle.acpi_lint.specs.Places.{FindsOwn, FindsLeast};
-ghost use Rattle.acpi_lint.specs.Rules.Numbered.{IsNamed, NamesAt, Repeats, numbers_of};
+ghost use Rattle.acpi_lint.specs.Numbered.{at_place};
+ghost use Rattle.acpi_rules.specs.Places.{FindsLeast};
+ghost use Rattle.acpi_lint.specs.Places.{FindsOwn};
+ghost use Rattle.acpi_lint.specs.Rules.Numbered.{IsNamed, numbers_of};
 
-use crate::apic::{
-    both_flags, broadcast_id, level_timer, low_x2apic_id, other_lint, plain_apic_id,
-    usable_hart_id, usable_local_id,
-};
 use crate::gic::{
-    empty_gicr, gicc_base, gicd_version, gicr_base, gicr_length, its_id, msi_frame_id,
-    other_gicc_base, other_gicr, own_redistributor, reserved_mpidr, usable_gicc_uid, usable_mpidr,
+    gicc_base, gicd_version, gicr_base, gicr_length, other_gicc_base, other_gicr,
+    own_redistributor, usable_gicc_uid,
 };
-use crate::numbered::{Numbered, first_repeated};
-use crate::place::Place;
-use crate::processors::{
-    apic_id_of, gicd, io_apic_id, nonzero_io_apic_address, uid_of, usable_apic_id, usable_uid,
-};
+use crate::processors::uid_of;
 use acpi_check::sorted_unique;
 use acpi_read::{EntryAt, MadtEntry, Table};
+use acpi_rules::{Numbered, Place};
 use std::alloc::{AllocError, Global};
 
 /// A number that an entry of a MADT may have.
@@ -33,42 +27,12 @@ use std::alloc::{AllocError, Global};
 pub enum MadtNumber {
     /// The UID of a processor.
     Uid,
-    /// The UID of a usable processor.
-    UsableUid,
-    /// The APIC ID, x2APIC ID or core's ID of a processor that has one.
-    ApicId,
-    /// The same of a usable processor.
-    UsableApicId,
-    /// The ID of a usable local APIC or local x2APIC.
-    LocalId,
-    /// The ID of a usable local APIC, if it is not 255.
-    PlainApicId,
-    /// The ID of a usable local x2APIC, if it is below 255.
-    LowX2apicId,
-    /// The ID of a usable local APIC or local x2APIC, if it means all.
-    BroadcastId,
-    /// The flags of a processor, if it is Enabled and Online Capable.
-    BothFlags,
-    /// The flags of an override, if they make the timer's interrupt level-triggered.
-    LevelTimer,
-    /// The Local APIC LINT# of an NMI of local APICs, if it is not 1.
-    OtherLint,
-    /// The ID of an I/O APIC.
-    IoApicId,
-    /// The address of an I/O APIC, if it is not 0.
-    IoApicAddress,
-    /// The ID of a usable hart.
-    UsableHartId,
-    /// The number 0 of a GIC distributor.
-    Gicd,
     /// The version of a GIC distributor.
     GicdVersion,
     /// The address of a range of redistributors.
     GicrBase,
     /// The length of a range of redistributors.
     GicrLength,
-    /// The address of a range of redistributors of no bytes.
-    EmptyGicr,
     /// The length of an entry of the type of such a range that has another length.
     OtherGicr,
     /// The UID of a usable GIC CPU interface.
@@ -79,14 +43,6 @@ pub enum MadtNumber {
     OtherGiccBase(u64),
     /// The address of the redistributor that a usable GIC CPU interface names as its own.
     OwnRedistributor,
-    /// The MPIDR of a usable GIC CPU interface.
-    UsableMpidr,
-    /// The same, if a bit is set that is none of an affinity.
-    ReservedMpidr,
-    /// The ID of an interrupt translation service.
-    ItsId,
-    /// The ID of an MSI frame.
-    MsiFrameId,
 }
 
 impl MadtNumber {
@@ -101,33 +57,14 @@ impl MadtNumber {
     {
         match self {
             MadtNumber::Uid => uid_of(entry).map(u64::from),
-            MadtNumber::UsableUid => usable_uid(entry).map(u64::from),
-            MadtNumber::ApicId => apic_id_of(entry).map(u64::from),
-            MadtNumber::UsableApicId => usable_apic_id(entry).map(u64::from),
-            MadtNumber::LocalId => usable_local_id(entry),
-            MadtNumber::PlainApicId => plain_apic_id(entry),
-            MadtNumber::LowX2apicId => low_x2apic_id(entry),
-            MadtNumber::BroadcastId => broadcast_id(entry),
-            MadtNumber::BothFlags => both_flags(entry),
-            MadtNumber::LevelTimer => level_timer(entry),
-            MadtNumber::OtherLint => other_lint(entry),
-            MadtNumber::IoApicId => io_apic_id(entry).map(u64::from),
-            MadtNumber::IoApicAddress => nonzero_io_apic_address(entry).map(u64::from),
-            MadtNumber::UsableHartId => usable_hart_id(entry),
-            MadtNumber::Gicd => gicd(entry).map(u64::from),
             MadtNumber::GicdVersion => gicd_version(entry),
             MadtNumber::GicrBase => gicr_base(entry),
             MadtNumber::GicrLength => gicr_length(entry),
-            MadtNumber::EmptyGicr => empty_gicr(entry),
             MadtNumber::OtherGicr => other_gicr(entry),
             MadtNumber::GiccUid => usable_gicc_uid(entry),
             MadtNumber::GiccBase => gicc_base(entry),
             MadtNumber::OtherGiccBase(base) => other_gicc_base(base, entry),
             MadtNumber::OwnRedistributor => own_redistributor(entry),
-            MadtNumber::UsableMpidr => usable_mpidr(entry),
-            MadtNumber::ReservedMpidr => reserved_mpidr(entry),
-            MadtNumber::ItsId => its_id(entry),
-            MadtNumber::MsiFrameId => msi_frame_id(entry),
         }
     }
 }
@@ -229,32 +166,4 @@ pub fn rising_numbers(
 {
     let numbers = all_numbers(alloc, madt, number)?;
     sorted_unique(numbers)
-}
-
-/// The numbers of all entries of a MADT that have one, each at its entry's offset. Allocates for each.
-#[inline(always)]
-fn numbers_at(
-    alloc: Global,
-    madt: &Table<'_>,
-    number: MadtNumber,
-) -> Result<Vec<Numbered>, AllocError>
-    ensures { IfOk result (λ given. AreNumbersAt
-        (NamesAt (number_of number) (madt_contents madt.now).entries) given.items) }
-{
-    made_of_numbers(alloc, madt, number, |numbered| numbered)
-}
-
-/// The first entry of a MADT that has the number of an earlier one; `other` is the first that has it, and `point` the
-/// number. Allocates for each number.
-#[inline(always)]
-pub fn repeated_number(
-    alloc: Global,
-    madt: &Table<'_>,
-    number: MadtNumber,
-) -> Result<Option<Place>, AllocError>
-    ensures { IfOk result
-        (FindsLeast (Repeats (number_of number) (madt_contents madt.now).entries)) }
-{
-    let given = numbers_at(alloc, madt, number)?;
-    first_repeated(alloc, given)
 }

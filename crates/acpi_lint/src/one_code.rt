@@ -1,19 +1,18 @@
 //! Codes 39, 40, 45 and 55 to 59, each alone in its stage. The stage's finder is called on the set's tables, whatever
 //! the earlier stages find.
 
-ghost use Rattle.std.specs.Prelude.{◌≡◌, IfOk, IsOk, IsSome, OnErr};
+ghost use Rattle.std.specs.Prelude.{IfOk, IsOk, IsSome, OnErr};
 ghost use Rattle.acpi_base.specs.Chains.{IsCycle};
 ghost use Rattle.acpi_base.specs.Memory.{Memory};
 ghost use Rattle.acpi_base.specs.Pptt.{pptt_contents};
 ghost use Rattle.acpi_base.specs.declared.code.Code.{Code};
 ghost use Rattle.acpi_base.specs.declared.stage.Stage.{Stage};
 ghost use Rattle.acpi_check.specs.Chains.{Names, most_of};
-ghost use Rattle.acpi_lint.specs.Places.{FindsLeast};
+ghost use Rattle.acpi_rules.specs.Places.{FindsLeast};
 ghost use Rattle.acpi_lint.specs.StageFaults.{IsFaultOfStage, FindsFirstAt};
 ghost use Rattle.acpi_lint.specs.CompleteTables.{AreCompleteTables};
 
 use crate::complete_tables::CompleteTables;
-use crate::place::Place;
 use crate::verdicts::place_of;
 use acpi_base::{Policy, TableKind};
 use acpi_check::{
@@ -21,6 +20,7 @@ use acpi_check::{
     check_served, first_cycle,
 };
 use acpi_read::Table;
+use acpi_rules::Place;
 use std::alloc::{AllocError, Global};
 
 /// The place of the first override of a set's MADT that gives its Source another interrupt number than an earlier one.

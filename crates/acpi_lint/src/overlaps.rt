@@ -5,11 +5,11 @@ ghost use Rattle.std.specs.Option.{option_to_list};
 ghost use Rattle.acpi_base.specs.Overlaps.{IsFirstIntervalOverlap};
 ghost use Rattle.acpi_check.specs.RangeSpans.{HasSpan, BeginLow};
 ghost use Rattle.acpi_graph.specs.Spans.{NamesDiffer};
-ghost use Rattle.acpi_lint.specs.Places.{FindsLeast};
+ghost use Rattle.acpi_rules.specs.Places.{FindsLeast};
 ghost use Rattle.acpi_lint.specs.Ranges.{IsSpanOf};
 
-use crate::place::Place;
 use acpi_graph::{Clash, Span, first_clash};
+use acpi_rules::Place;
 use std::alloc::{AllocError, Global};
 
 /// A range of `count` numbers from `start` on as a span with a name. None if it is empty.

@@ -1,22 +1,22 @@
 //! Leaves of a PPTT that are in no physical package (ACPI 6.5, 5.2.30.1).
 
-ghost use Rattle.std.specs.Prelude.{◌≡◌, ◌<◌, AllPairs, Contains, IfOk, IsTrue, false, length, map, option_map};
+ghost use Rattle.std.specs.Prelude.{◌≡◌, ◌<◌, AllPairs, Contains, IfOk, IsTrue, false, map, option_map};
 ghost use Rattle.acpi_base.specs.Chains.{Ends};
 ghost use Rattle.acpi_base.specs.Pptt.{pptt_contents};
 ghost use Rattle.acpi_read.specs.Pptts.{pptt_value};
 ghost use Rattle.acpi_lint.specs.Hierarchy.{AreNoneOutside, IsOutsideAt};
 ghost use Rattle.acpi_lint.specs.Numbered.{at_place, HasAt, AreNumbersAt};
-ghost use Rattle.acpi_lint.specs.Places.{FindsLeast};
+ghost use Rattle.acpi_rules.specs.Places.{FindsLeast};
 ghost use Rattle.acpi_lint.specs.Rules.Hierarchy.{outer_parent, IsNoPackage};
 ghost use Rattle.acpi_lint.specs.Rules.Numbered.{NamesAt};
 
 use crate::leaves::leaves_of;
-use crate::numbered::{Numbered, at_place};
-use crate::place::Place;
+use crate::numbered::at_place;
 use crate::processors::is_set;
 use acpi_base::Policy;
 use acpi_check::{binary_search, collected};
 use acpi_read::{EntryAt, PpttEntry, Table};
+use acpi_rules::{Numbered, Place};
 use std::alloc::{AllocError, Global};
 
 /// The Parent of a node that is not a physical package, by bit 0 of its flags.

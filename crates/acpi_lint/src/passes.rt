@@ -8,16 +8,17 @@ ghost use Rattle.acpi_base.specs.Listed.{HasListed};
 ghost use Rattle.acpi_base.specs.Memory.{Memory};
 ghost use Rattle.acpi_base.specs.TableKinds.{signature_of};
 ghost use Rattle.acpi_check.specs.CollectedValues.{Picks};
-ghost use Rattle.acpi_lint.specs.Places.{IsSoughtEntry, FindsOwn, PicksFirst, FindsLeast, HasNone};
+ghost use Rattle.acpi_rules.specs.Places.{FindsLeast, HasNone};
+ghost use Rattle.acpi_lint.specs.Places.{IsSoughtEntry, FindsOwn, PicksFirst};
 ghost use Rattle.acpi_lint.specs.CompleteTables.{AreCompleteTables};
 ghost use Rattle.acpi_read.specs.EntryTables.{entry_table, IsAbout};
 ghost use Rattle.acpi_read.specs.Entries.{entry_at_value};
 ghost use Rattle.acpi_read.specs.declared.entry_codes.Subject.{Subject};
 
 use crate::complete_tables::CompleteTables;
-use crate::place::Place;
 use acpi_base::{Code, Policy, TableKind};
 use acpi_read::{EntryAt, Subject, Table, TableEntry, TypedEntries};
+use acpi_rules::Place;
 
 /// The result of `pick` for the first entry for which it returns one.
 pub fn first_picked<'a, E: TableEntry<'a> + Copy, T: Drop, F: Fn(&EntryAt<E>) -> Option<T>>(

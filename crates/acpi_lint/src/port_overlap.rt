@@ -2,16 +2,16 @@
 
 ghost use Rattle.std.specs.Prelude.{◌≡◌, ◌<◌, IfOk};
 ghost use Rattle.acpi_check.specs.RangeSpans.{BeginLow};
-ghost use Rattle.acpi_lint.specs.Places.{FindsLeast};
+ghost use Rattle.acpi_rules.specs.Places.{FindsLeast};
 ghost use Rattle.acpi_lint.specs.Ranges.{AreRanges, FindsRange};
 ghost use Rattle.acpi_lint.specs.Rules.FadtBlocks.{block_at, block_address, port_bytes};
 ghost use Rattle.acpi_lint.specs.Rules.Ports.{IsBlockRange, IsPortsOverlap};
 
 use crate::fadt_blocks::{block_address, block_offset, port_bytes};
 use crate::overlaps::{first_overlap, push, range_span};
-use crate::place::Place;
 use acpi_graph::Span;
 use acpi_read::Fadt;
+use acpi_rules::Place;
 use std::alloc::{AllocError, Global};
 
 /// What register block k has of system I/O, by the offset of its 4-byte field.

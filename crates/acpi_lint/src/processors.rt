@@ -2,18 +2,15 @@
 
 ghost use Rattle.std.specs.Prelude.{◌≡◌, ◌<◌, ◌≤◌, length, IsTrue};
 ghost use Rattle.std.specs.Option.{option_map};
-ghost use Rattle.acpi_lint.specs.Rules.MadtAdvice.{io_apic_address, io_apic_id, nonzero_io_apic_address, nmi_uid, gicd};
-ghost use Rattle.acpi_lint.specs.Rules.PpttAdvice.{cache_id};
-ghost use Rattle.acpi_lint.specs.Rules.Processors.{is_usable, is_gicc, is_rintc, is_core_pic, opaque_processor, processor_of, uid_of, usable_uid, apic_id_of, usable_apic_id, usable_uid_without_id, is_gicc_affinity, is_rintc_affinity, is_its_affinity, is_generic_affinity, placed_apic_id, placed_uid, processor_domain, any_domain};
+ghost use Rattle.acpi_lint.specs.Rules.Processors.{is_usable, is_gicc, is_rintc, is_core_pic, opaque_processor, processor_of, uid_of, usable_uid, is_gicc_affinity, is_rintc_affinity, is_its_affinity, is_generic_affinity, processor_domain, any_domain};
 ghost use Rattle.acpi_base.specs.Number.{has_bit};
 ghost use Rattle.acpi_read.specs.Madts.{madt_value};
-ghost use Rattle.acpi_read.specs.Pptts.{pptt_value};
 ghost use Rattle.acpi_read.specs.Srats.{srat_value};
 ghost use Rattle.acpi_lint.specs.EntryNumbers.{processor_value};
 
 use acpi_base::field::u32_at;
 use acpi_read::{
-    GICC, GICC_AFFINITY, GICC_AFFINITY_LEN, GICC_LEN, MadtEntry, PpttEntry, SratEntry, is_enabled,
+    GICC, GICC_AFFINITY, GICC_AFFINITY_LEN, GICC_LEN, MadtEntry, SratEntry, is_enabled,
 };
 
 /// A processor, as an entry of a MADT describes it.
@@ -171,90 +168,6 @@ pub fn usable_uid(entry: &MadtEntry<'_>) -> Option<u32>
     processor.usable.then_some(processor.uid)
 }
 
-/// The APIC ID, x2APIC ID or core's ID of a processor that has one.
-#[inline(always)]
-pub fn apic_id_of(entry: &MadtEntry<'_>) -> Option<u32>
-    ensures { result ≡ apic_id_of (madt_value entry.now) }
-{
-    processor_of(entry)?.apic_id
-}
-
-/// The same for a usable processor.
-#[inline(always)]
-pub fn usable_apic_id(entry: &MadtEntry<'_>) -> Option<u32>
-    ensures { result ≡ usable_apic_id (madt_value entry.now) }
-{
-    let processor = processor_of(entry)?;
-    if processor.usable {
-        processor.apic_id
-    } else {
-        None
-    }
-}
-
-/// The UID of a usable processor that has no APIC ID.
-#[inline(always)]
-pub fn usable_uid_without_id(entry: &MadtEntry<'_>) -> Option<u32>
-    ensures { result ≡ usable_uid_without_id (madt_value entry.now) }
-{
-    let processor = processor_of(entry)?;
-    (processor.usable && processor.apic_id.is_none()).then_some(processor.uid)
-}
-
-/// The UID to which a local APIC NMI or local x2APIC NMI applies. None if it applies to all processors.
-#[inline(always)]
-pub fn nmi_uid(entry: &MadtEntry<'_>) -> Option<u32>
-    ensures { result ≡ nmi_uid (madt_value entry.now) }
-{
-    match entry {
-        MadtEntry::LocalNmi(nmi) if nmi.uid != u8::MAX => Some(u32::from(nmi.uid)),
-        MadtEntry::X2apicNmi(nmi) if nmi.uid != u32::MAX => Some(nmi.uid),
-        _ => None,
-    }
-}
-
-/// The ID of an I/O APIC.
-#[inline(always)]
-pub fn io_apic_id(entry: &MadtEntry<'_>) -> Option<u32>
-    ensures { result ≡ io_apic_id (madt_value entry.now) }
-{
-    match entry {
-        MadtEntry::IoApic(io_apic) => Some(u32::from(io_apic.id)),
-        _ => None,
-    }
-}
-
-/// The address of an I/O APIC.
-#[inline(always)]
-pub fn io_apic_address(entry: &MadtEntry<'_>) -> Option<u32>
-    ensures { result ≡ io_apic_address (madt_value entry.now) }
-{
-    match entry {
-        MadtEntry::IoApic(io_apic) => Some(io_apic.address),
-        _ => None,
-    }
-}
-
-/// The address of an I/O APIC, if it is not 0.
-#[inline(always)]
-pub fn nonzero_io_apic_address(entry: &MadtEntry<'_>) -> Option<u32>
-    ensures { result ≡ nonzero_io_apic_address (madt_value entry.now) }
-{
-    let address = io_apic_address(entry)?;
-    (address != 0).then_some(address)
-}
-
-/// The number 0 of a GIC distributor, the same for all, since there is only one.
-#[inline(always)]
-pub fn gicd(entry: &MadtEntry<'_>) -> Option<u32>
-    ensures { result ≡ gicd (madt_value entry.now) }
-{
-    match entry {
-        MadtEntry::Opaque(bytes) if bytes.first() == Some(&GICD) => Some(0),
-        _ => None,
-    }
-}
-
 // ---- the SRAT
 
 /// Whether the bytes are a GICC affinity that is enabled.
@@ -295,30 +208,6 @@ fn is_generic_affinity(bytes: &[u8]) -> bool
         && is_enabled(u32_at(bytes, 24))
 }
 
-/// The APIC ID or x2APIC ID that an enabled affinity places.
-#[inline(always)]
-pub fn placed_apic_id(entry: &SratEntry<'_>) -> Option<u32>
-    ensures { result ≡ placed_apic_id (srat_value entry.now) }
-{
-    match entry {
-        SratEntry::ApicDomain(put) => is_enabled(put.flags).then_some(u32::from(put.apic_id)),
-        SratEntry::X2apicDomain(put) => is_enabled(put.flags).then_some(put.x2apic_id),
-        _ => None,
-    }
-}
-
-/// The UID that an enabled affinity of a GIC CPU interface or of a hart places.
-#[inline(always)]
-pub fn placed_uid(entry: &SratEntry<'_>) -> Option<u32>
-    ensures { result ≡ placed_uid (srat_value entry.now) }
-{
-    match entry {
-        SratEntry::Opaque(bytes) if is_gicc_affinity(bytes) => Some(u32_at(bytes, 6)),
-        SratEntry::Opaque(bytes) if is_rintc_affinity(bytes) => Some(u32_at(bytes, 8)),
-        _ => None,
-    }
-}
-
 /// The domain into which an enabled affinity puts its processor.
 #[inline(always)]
 pub fn processor_domain(entry: &SratEntry<'_>) -> Option<u32>
@@ -343,18 +232,5 @@ pub fn any_domain(entry: &SratEntry<'_>) -> Option<u32>
         SratEntry::Opaque(bytes) if is_its_affinity(bytes) => Some(u32_at(bytes, 2)),
         SratEntry::Opaque(bytes) if is_generic_affinity(bytes) => Some(u32_at(bytes, 4)),
         _ => processor_domain(entry),
-    }
-}
-
-// ---- the PPTT
-
-/// The Cache ID of a cache that has a valid one, by bit 7 of its flags.
-#[inline(always)]
-pub fn cache_id(entry: &PpttEntry<'_>) -> Option<u32>
-    ensures { result ≡ cache_id (pptt_value entry.now) }
-{
-    match entry {
-        PpttEntry::Cache28(cache) => is_set(cache.fields.flags, 7).then_some(cache.id),
-        _ => None,
     }
 }

@@ -7,14 +7,15 @@ ghost use Rattle.acpi_base.specs.declared.code.Code.{Code};
 ghost use Rattle.acpi_check.specs.Chains.{named_offset};
 ghost use Rattle.acpi_read.specs.Pptts.{pptt_value, HasReferences};
 ghost use Rattle.acpi_read.specs.Entries.{entry_at_value};
-ghost use Rattle.acpi_lint.specs.Places.{FindsOwn, FindsLeast};
+ghost use Rattle.acpi_rules.specs.Places.{FindsLeast};
+ghost use Rattle.acpi_lint.specs.Places.{FindsOwn};
 ghost use Rattle.acpi_lint.specs.References.{is_linked, is_resource, offset_where, AreOffsets, IsDanglingLink, NamesNoLink, NamesNoResource};
 
 use crate::passes::first_picked;
-use crate::place::Place;
 use acpi_base::Code;
 use acpi_check::{BitSet, Chain, collected, first_dangling, named_offset};
 use acpi_read::{EntryAt, PpttEntry, Table};
+use acpi_rules::Place;
 use std::alloc::{AllocError, Global};
 
 /// The offset of an entry that is a node of such chains, so that another entry may refer to it.

@@ -4,13 +4,13 @@ ghost use Rattle.std.specs.Prelude.{◌↔◌, IsTrue};
 ghost use Rattle.acpi_base.specs.Root.{IsSlotWidth, RootTableFault};
 ghost use Rattle.acpi_base.specs.declared.code.Code.{Code};
 ghost use Rattle.acpi_base.specs.declared.stage.Stage.{Stage};
-ghost use Rattle.acpi_lint.specs.Places.{FindsLeast};
+ghost use Rattle.acpi_rules.specs.Places.{FindsLeast};
 ghost use Rattle.acpi_lint.specs.StageFaults.{IsFaultOfStage};
 
-use crate::place::Place;
 use acpi_base::field::u32_at;
 use acpi_base::{Code, Frame, LentImage, Policy, Question};
 use acpi_read::{RootPlace, fails, named_root};
+use acpi_rules::Place;
 
 /// Whether the header at a place is present, and its Length is at least 36 and ends within a slot.
 fn is_ragged(image: &LentImage<'_>, root: RootPlace) -> bool

@@ -6,16 +6,16 @@ ghost use Rattle.acpi_base.specs.Listed.{slot_numbers};
 ghost use Rattle.acpi_base.specs.Root.{IsSlotWidth};
 ghost use Rattle.acpi_base.specs.Memory.{Memory};
 ghost use Rattle.acpi_lint.specs.CompleteTables.{AreCompleteTables};
-ghost use Rattle.acpi_lint.specs.Places.{FindsLeast};
+ghost use Rattle.acpi_rules.specs.Places.{FindsLeast};
 ghost use Rattle.acpi_lint.specs.Rules.RootAdvice.{IsNullIn, IsNullSlot, listed_signature, IsXsdt, IsNamedRsdt, IsRsdtDiffers};
 ghost use Rattle.acpi_lint.specs.Differences.{first_difference, FindsDifference};
 
 use crate::complete_tables::CompleteTables;
-use crate::place::Place;
 use acpi_base::LentImage;
 use acpi_base::field::{is_signed, number_at, u32_at};
 use acpi_graph::sort_unless_sorted;
 use acpi_read::{Root, Rsdp, Table};
+use acpi_rules::Place;
 use std::alloc::{AllocError, Global};
 
 // ---- slots that list nothing

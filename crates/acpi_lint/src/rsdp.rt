@@ -5,13 +5,13 @@ ghost use Rattle.acpi_base.specs.Frames.{FrameFault};
 ghost use Rattle.acpi_base.specs.Memory.{bytes_at};
 ghost use Rattle.acpi_base.specs.Rsdp.{RsdpFault, IsExtended, extended_frame};
 ghost use Rattle.acpi_base.specs.declared.stage.Stage.{Stage};
-ghost use Rattle.acpi_lint.specs.Places.{FindsLeast};
+ghost use Rattle.acpi_rules.specs.Places.{FindsLeast};
 ghost use Rattle.acpi_lint.specs.StageFaults.{IsFaultOfStage};
 
-use crate::place::Place;
 use acpi_base::field::{is_signed, u8_at};
 use acpi_base::{Code, Frame, LentImage, Policy, Question, sum};
 use acpi_read::{Rsdp, fails};
+use acpi_rules::Place;
 
 /// Whether the RSDP at an address, which begins with `head`, has the extended form, and this question about that fails.
 fn is_extended_fault(image: &LentImage<'_>, address: u64, head: &[u8], question: Question) -> bool

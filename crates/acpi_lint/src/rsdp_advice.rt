@@ -2,14 +2,14 @@
 
 ghost use Rattle.std.specs.Prelude.{◌≡◌, ◌≤◌, ℕ, List, Some, length, MatchOption};
 ghost use Rattle.acpi_base.specs.Rsdp.{revision_of};
-ghost use Rattle.acpi_lint.specs.Places.{FindsLeast};
+ghost use Rattle.acpi_rules.specs.Places.{FindsLeast};
 ghost use Rattle.acpi_lint.specs.Rules.RsdpAdvice.{AreExtendedBytes, IsOddRevision, IsLongRsdp, IsOddExtended, IsRsdpReserved};
 
 use crate::limits::used;
-use crate::place::Place;
 use acpi_base::LentImage;
 use acpi_base::field::{u8_at, u32_at};
 use acpi_read::Rsdp;
+use acpi_rules::Place;
 
 /// The Revision of an RSDP, whose first bytes these are.
 pub fn revision_of(head: &[u8]) -> u8

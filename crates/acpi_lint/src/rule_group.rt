@@ -3,6 +3,8 @@
 /// What the rules of a group look at.
 #[derive(Clone, Copy)]
 pub enum RuleGroup {
+    /// Rows.
+    Rows,
     /// The slots of the root table.
     Slots,
     /// The memory of the set: the RSDP, the root table and what they lead to.
@@ -15,22 +17,8 @@ pub enum RuleGroup {
     FadtMadt,
     /// The MADT.
     Madt,
-    /// Each entry of the MADT by itself.
-    MadtEntries,
-    /// A number that each entry of the MADT may have, and that should be unique.
-    MadtNumbers,
-    /// The bytes of the MADT.
-    MadtBytes,
-    /// The MADT and the SRAT.
-    MadtSrat,
     /// The MADT and the PPTT.
     MadtPptt,
-    /// The SRAT.
-    Srat,
-    /// Each entry of the SRAT by itself.
-    SratEntries,
-    /// The bytes of the SRAT.
-    SratBytes,
     /// Each entry of the SRAT, with the SLIT.
     SratSlit,
     /// The SLIT.
@@ -39,6 +27,4 @@ pub enum RuleGroup {
     Pptt,
     /// Each entry of the PPTT by itself.
     PpttEntries,
-    /// The bytes of the PPTT.
-    PpttBytes,
 }

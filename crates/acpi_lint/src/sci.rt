@@ -6,20 +6,21 @@ ghost use Rattle.acpi_lint.specs.Rules.FadtAdvice.{IsGsiOf, IsSciNowhere};
 ghost use Rattle.acpi_base.specs.Madt.{madt_contents};
 ghost use Rattle.acpi_read.specs.Madts.{madt_value};
 ghost use Rattle.acpi_read.specs.Entries.{entry_at_value};
-ghost use Rattle.acpi_lint.specs.Places.{FindsOwn, FindsLeast};
+ghost use Rattle.acpi_rules.specs.Places.{FindsLeast};
+ghost use Rattle.acpi_lint.specs.Places.{FindsOwn};
 ghost use Rattle.acpi_lint.specs.RuleGroups.{in_fadt_madt};
 ghost use Rattle.acpi_lint.specs.Rules.Broken.{condition};
 ghost use Rattle.acpi_lint.specs.Overrides.{IsOwnOverride, IsOverrideAt, ServesNumber, IsUnserved, IsNowhere};
 
-use crate::fadt_madt::{capable_too_early, fadt_for_arch, no_boot_method, override_past_isa};
+use crate::fadt_madt::no_boot_method;
 use crate::madt_forms::{MadtForm, has_form};
 use crate::passes::first_picked;
-use crate::place::Place;
 use crate::rule::Rule;
 use crate::well_formed::is_madt_well_formed;
 use acpi_base::Policy;
 use acpi_base::field::u16_at;
 use acpi_read::{EntryAt, Fadt, MadtEntry, Table};
+use acpi_rules::Place;
 
 /// The place of an override of an ISA interrupt, and the interrupt number that it gives.
 fn own_override(source: u16, at: &EntryAt<MadtEntry<'_>>) -> Option<Place>
@@ -128,9 +129,6 @@ pub fn fadt_madt_place(
 {
     match rule {
         Rule::SciNowhere => sci_nowhere(policy, fadt, madt),
-        Rule::FadtForArch => fadt_for_arch(fadt, madt),
-        Rule::CapableTooEarly => capable_too_early(fadt, madt),
-        Rule::OverridePastIsa => override_past_isa(fadt, madt),
         Rule::NoBootMethod => no_boot_method(policy, fadt, madt),
         _ => None,
     }

@@ -2,17 +2,17 @@
 
 ghost use Rattle.std.specs.Prelude.{IfOk};
 ghost use Rattle.acpi_lint.specs.CompleteTables.{AreCompleteTables};
-ghost use Rattle.acpi_lint.specs.Places.{FindsLeast};
+ghost use Rattle.acpi_rules.specs.Places.{FindsLeast};
 ghost use Rattle.acpi_lint.specs.RuleGroups.{in_set};
 ghost use Rattle.acpi_lint.specs.Rules.Broken.{condition};
 
 use crate::complete_tables::CompleteTables;
-use crate::place::Place;
 use crate::root_advice::rsdt_differs;
 use crate::rsdp_advice::rsdp_reserved;
 use crate::rule::Rule;
 use crate::structures::tables_overlap;
 use acpi_base::LentImage;
+use acpi_rules::Place;
 use std::alloc::{AllocError, Global};
 
 /// The place where a rule on the memory of a set is broken. None for another rule. The tables are those of the set that

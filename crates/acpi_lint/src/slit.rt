@@ -5,15 +5,16 @@ ghost use Rattle.acpi_base.specs.Slit.{slit_contents, HasSlitSize, SlitFault};
 ghost use Rattle.acpi_lint.specs.Rules.SlitAdvice.{IsSlitDiffers, IsRemoteAsLocal};
 ghost use Rattle.acpi_base.specs.declared.code.Code.{Code};
 ghost use Rattle.acpi_read.specs.Slits.{HasRows};
-ghost use Rattle.acpi_lint.specs.Places.{FindsLeast, IsRowDiffers, IsRowLocal};
+ghost use Rattle.acpi_rules.specs.Places.{FindsLeast};
+ghost use Rattle.acpi_lint.specs.Places.{IsRowDiffers, IsRowLocal};
 ghost use Rattle.acpi_lint.specs.RuleGroups.{in_sized_slit};
 ghost use Rattle.acpi_lint.specs.Rules.Broken.{condition};
 
-use crate::place::Place;
 use crate::rule::Rule;
 use acpi_base::Code;
 use acpi_base::field::u64_at;
 use acpi_read::{Slit, Table};
+use acpi_rules::Place;
 
 /// How many rows of as many cells a table has, if it has these after its first 44 bytes, and nothing else.
 pub fn rows(bytes: &[u8]) -> Option<usize>

@@ -4,7 +4,7 @@
 ghost use Rattle.std.specs.Prelude.{◌≡◌, ℕ, map, IfOk};
 ghost use Rattle.acpi_lint.specs.Rules.Slots.{IsListedTwice, IsSecondTable, IsListedApart};
 ghost use Rattle.acpi_base.specs.Memory.{Memory};
-ghost use Rattle.acpi_lint.specs.Places.{FindsLeast};
+ghost use Rattle.acpi_rules.specs.Places.{FindsLeast};
 ghost use Rattle.acpi_lint.specs.Slots.{numbered_slot, second_place};
 ghost use Rattle.acpi_lint.specs.CompleteTables.{AreCompleteTables};
 ghost use Rattle.acpi_lint.specs.RuleGroups.{as_group, Finds};
@@ -15,11 +15,11 @@ use crate::complete_tables::CompleteTables;
 use crate::first_slots::FirstSlots;
 use crate::header_advice::{header_text, second_other};
 use crate::listed_slots::{Slot, first_slot};
-use crate::numbered::{Numbered, first_repeated};
-use crate::place::Place;
+use crate::numbered::first_later;
 use crate::root_advice::null_slot;
 use crate::rule::Rule;
 use crate::table_at::Sought;
+use acpi_rules::{Numbered, Place};
 use std::alloc::{AllocError, Global};
 
 /// The addresses that slots list, each at its slot's number.
@@ -44,7 +44,7 @@ fn listed_twice(alloc: Global, tables: &CompleteTables<'_>) -> Result<Option<Pla
         → IfOk result (FindsLeast (IsListedTwice m p)) }
 {
     let given = numbered_slots(alloc, &tables.slots)?;
-    first_repeated(alloc, given)
+    first_later(given)
 }
 
 /// The place of a slot that lists a table of a kind at another address than the first slot of this kind.

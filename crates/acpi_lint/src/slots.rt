@@ -3,15 +3,15 @@
 ghost use Rattle.acpi_base.specs.Memory.{Memory};
 ghost use Rattle.acpi_base.specs.Policy.{PolicyValue};
 ghost use Rattle.acpi_base.specs.declared.stage.Stage.{Stage};
-ghost use Rattle.acpi_lint.specs.Places.{FindsLeast};
+ghost use Rattle.acpi_rules.specs.Places.{FindsLeast};
 ghost use Rattle.acpi_lint.specs.StageFaults.{IsFaultOfStage};
 ghost use Rattle.acpi_lint.specs.CompleteTables.{AreCompleteTables};
 
 use crate::complete_tables::CompleteTables;
 use crate::listed_slots::first_slot;
-use crate::place::Place;
 use crate::table_at::Sought;
 use acpi_base::Code;
+use acpi_rules::Place;
 
 /// The first slot whose table has the fault with this code, and the table's address. The tables are those of the set.
 pub fn slot_fault(tables: &CompleteTables<'_>, code: Code) -> Option<Place>

@@ -2,22 +2,22 @@
 
 ghost use Rattle.std.specs.Prelude.{◌≡◌, ◌<◌, ◌↔◌, ℕ, AllPairs, Contains, IfOk, map};
 ghost use Rattle.acpi_lint.specs.CompleteTables.{AreCompleteTables};
-ghost use Rattle.acpi_lint.specs.Numbered.{IsNotAbove, AreNumberedRanges, FindsNumbered, IsFirstRange, range_at};
-ghost use Rattle.acpi_lint.specs.Places.{FindsLeast};
+ghost use Rattle.acpi_rules.specs.Numbered.{IsNotAbove};
+ghost use Rattle.acpi_lint.specs.Numbered.{AreNumberedRanges, FindsNumbered, IsFirstRange, range_at};
+ghost use Rattle.acpi_rules.specs.Places.{FindsLeast};
 ghost use Rattle.acpi_lint.specs.Slots.{listed_address};
 ghost use Rattle.acpi_lint.specs.Rules.Overlaps.{IsRangeOverlap};
 ghost use Rattle.acpi_lint.specs.Rules.Structures.{IsRsdpRange, IsFacsRange, IsDsdtRange, IsTableRange, IsStructure, IsTablesOverlap};
 
 use crate::complete_tables::CompleteTables;
 use crate::listed_slots::Slot;
-use crate::numbered::{Numbered, sort_numbers};
 use crate::overlaps::push;
-use crate::place::Place;
 use crate::rsdp_advice::revision_of;
 use acpi_base::LentImage;
 use acpi_base::field::is_signed;
 use acpi_check::sorted_unique;
 use acpi_read::{Facs, Fadt, Rsdp, Table};
+use acpi_rules::{Numbered, Place, sort_numbers};
 use std::alloc::{AllocError, Global};
 
 /// The kinds of structures. A range has its structure's kind as its name.

@@ -4,8 +4,8 @@ ghost use Rattle.std.specs.Prelude.{◌<◌, ◌^◌, IfOk, IfSome, ◌≡◌, E
 ghost use Rattle.acpi_check.specs.declared.refusal.Refusal.{Refusal};
 ghost use Rattle.acpi_lint.specs.StageFaults.{IsPlaceOf};
 
-use crate::place::Place;
 use acpi_check::Refusal;
+use acpi_rules::Place;
 use std::alloc::AllocError;
 
 /// The place of the fault that a stage finds. Refuses if the stage ran out of memory.

@@ -3,25 +3,17 @@
 ghost use Rattle.std.specs.Prelude.{◌↔◌, IsTrue};
 ghost use Rattle.acpi_base.specs.Madt.{madt_contents};
 ghost use Rattle.acpi_base.specs.Pptt.{pptt_contents};
-ghost use Rattle.acpi_base.specs.Srat.{srat_contents};
-ghost use Rattle.acpi_lint.specs.Rules.WellFormed.{IsWellFormedMadt, IsWellFormedSrat, IsWellFormedPptt};
+ghost use Rattle.acpi_lint.specs.Rules.WellFormed.{IsWellFormedMadt, IsWellFormedPptt};
 
 use crate::passes::is_well_formed;
 use acpi_base::{Code, Policy};
-use acpi_read::{MadtEntry, PpttEntry, SratEntry, Table};
+use acpi_read::{MadtEntry, PpttEntry, Table};
 
 /// Whether a MADT is well-formed.
 pub fn is_madt_well_formed(policy: &Policy, madt: &Table<'_>) -> bool
     ensures { IsTrue result ↔ IsWellFormedMadt (madt_contents madt.now) }
 {
     is_well_formed::<MadtEntry<'_>>(policy, Code::MadtEntryCut, Code::MadtEntryLength, madt)
-}
-
-/// Whether an SRAT is well-formed.
-pub fn is_srat_well_formed(policy: &Policy, srat: &Table<'_>) -> bool
-    ensures { IsTrue result ↔ IsWellFormedSrat (srat_contents srat.now) }
-{
-    is_well_formed::<SratEntry<'_>>(policy, Code::SratEntryCut, Code::SratEntryLength, srat)
 }
 
 /// Whether a PPTT is well-formed.

@@ -1,7 +1,6 @@
 -- The register blocks of a FADT (ACPI 6.5, 5.2.9), from 0 to 7: PM1a_EVT, PM1b_EVT, PM1a_CNT, PM1b_CNT, PM2_CNT, PM_TMR, GPE0 and
 -- GPE1.
-use Rattle.std.specs.Prelude.{◌≡◌, ◌≢◌, ℕ, ◌+◌, ◌*◌, ◌/◌, ◌^◌, ◌<◌, ◌≤◌, ◌⊎◌, List, length, slice_index, true, false, ◌==◌, if◌then◌else◌}
-use Rattle.acpi_base.specs.Entries.{AreUnused}
+use Rattle.std.specs.Prelude.{◌≡◌, ℕ, ◌+◌, ◌*◌, ◌/◌, ◌^◌, ◌<◌, ◌≤◌, ◌⊎◌, List, length, slice_index, true, false, ◌==◌, if◌then◌else◌}
 use Rattle.acpi_base.specs.Number.{field}
 use Rattle.acpi_base.specs.Fadt.{is_reduced, has_reset, gas_at, block_lengths, BlockValue, NoBlock, GasBlock, PortBlock, block_value}
 
@@ -10,9 +9,6 @@ use Rattle.acpi_base.specs.Fadt.{is_reduced, has_reset, gas_at, block_lengths, B
 -- the offset of the 4-byte field of block k, and that of its X_ structure
 abbrev pub block_at : ℕ → ℕ
 block_at k = 56 + 4 * k
-
-abbrev pub structure_at : ℕ → ℕ
-structure_at k = 148 + 12 * k
 
 -- the address of a block; 0 for none
 abbrev pub address_in : BlockValue → ℕ
@@ -49,37 +45,6 @@ pub record OnBlock (Is : ℕ → ℕ → ℕ → Type 0) (low at other point : �
   pub block : k < 8
   pub place : at ≡ block_at k
   pub is : Is k other point
-
--- PM1a_EVT or PM1a_CNT is none; applies if the hardware is not reduced, as the following do
-abbrev pub IsNoPm1Block : List ℕ → ℕ → ℕ → ℕ → Type 0
-IsNoPm1Block whole at other point =
-    (is_reduced whole ≡ false) × AreUnused other point
-    × (((at ≡ 56) × (block_address whole 0 ≡ 0)) ⊎ ((at ≡ 64) × (block_address whole 2 ≡ 0)))
-
--- both fields of block k have an address, and its length byte in bits, `other`, is not the width of the X_ structure, `point`,
--- though both are given, and a width can say it
-pub record DoWidthsDiffer (whole : List ℕ) (k other point : ℕ) : Type 0 where
-  pub narrow_used : field whole (block_at k) 4 ≢ 0
-  pub wide_there : structure_at k + 12 ≤ length whole
-  pub wide_used : (gas_at whole (structure_at k)).address ≢ 0
-  pub bits : other ≡ 8 * block_length whole k
-  pub bits_given : (other ≢ 0) × (other ≤ 255)
-  pub width : point ≡ (gas_at whole (structure_at k)).bit_width
-  pub width_given : point ≢ 0
-  pub differ : other ≢ point
-
-abbrev pub IsBlockWidth : List ℕ → ℕ → ℕ → ℕ → Type 0
-IsBlockWidth whole at other point = (is_reduced whole ≡ false) × OnBlock (DoWidthsDiffer whole) 0 at other point
-
--- just one of the length byte of block k, `other`, and its address, `point`, is 0
-abbrev pub IsHalf : List ℕ → ℕ → ℕ → ℕ → Type 0
-IsHalf whole k other point =
-    (other ≡ block_length whole k) × (point ≡ block_address whole k)
-    × (((other ≢ 0) × (point ≡ 0)) ⊎ ((other ≡ 0) × (point ≢ 0)))
-
--- that of a block that hardware may lack: PM2_CNT, PM_TMR, GPE0 or GPE1
-abbrev pub IsHalfBlock : List ℕ → ℕ → ℕ → ℕ → Type 0
-IsHalfBlock whole at other point = (is_reduced whole ≡ false) × OnBlock (IsHalf whole) 4 at other point
 
 -- ---- ports past the last one
 
@@ -123,19 +88,3 @@ IsFixedPastEnd whole at other point =
 -- SMI_CMD or a block of hardware that is not reduced, or the reset register of any, is past the last port
 abbrev pub IsPortPastEnd : List ℕ → ℕ → ℕ → ℕ → Type 0
 IsPortPastEnd whole at other point = IsFixedPastEnd whole at other point ⊎ IsResetPastEnd whole at other point
-
--- ---- events
-
--- block k has an address and a length
-abbrev pub IsGiven : List ℕ → ℕ → Type 0
-IsGiven whole k = (block_address whole k ≢ 0) × (block_length whole k ≢ 0)
-
--- GPE1_BASE, `point`, is among the events of GPE0, which has 8 for each byte of half its length: `other` of them
-pub record IsGpeOverlap (whole : List ℕ) (at other point : ℕ) : Type 0 where
-  pub not_reduced : is_reduced whole ≡ false
-  pub gpe0 : IsGiven whole 6
-  pub gpe1 : IsGiven whole 7
-  pub place : at ≡ 94
-  pub events : other ≡ 4 * block_length whole 6
-  pub base : point ≡ field whole 94 1
-  pub among : point < other

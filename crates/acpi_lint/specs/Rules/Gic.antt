@@ -11,10 +11,6 @@ use Rattle.acpi_lint.specs.Rules.Processors.{is_usable, is_gicc}
 abbrev pub is_usable_gicc : List ℕ → Bool
 is_usable_gicc e = is_gicc e && is_usable (field e 12 4) 3
 
--- a usable one that is long enough for an MPIDR, which ACPI 5.1 added
-abbrev pub has_mpidr : List ℕ → Bool
-has_mpidr e = is_usable_gicc e && nat_le 76 (length e)
-
 -- a usable one that is long enough for the address of a redistributor of its own, and names one
 abbrev pub names_redistributor : List ℕ → Bool
 names_redistributor e = is_usable_gicc e && nat_le 68 (length e) && not (field e 60 8 == 0)
@@ -50,10 +46,6 @@ gicc_base e = field_where is_gicc 32 8 e
 abbrev pub usable_gicc_uid : MadtEntry → Option ℕ
 usable_gicc_uid e = field_where is_usable_gicc 8 4 e
 
--- the MPIDR of a usable one, and the address of a redistributor of its own, if it names one
-abbrev pub usable_mpidr : MadtEntry → Option ℕ
-usable_mpidr e = field_where has_mpidr 68 8 e
-
 abbrev pub own_redistributor : MadtEntry → Option ℕ
 own_redistributor e = field_where names_redistributor 60 8 e
 
@@ -64,10 +56,6 @@ gicd_base e = field_where is_gicd 8 8 e
 abbrev pub gicd_version : MadtEntry → Option ℕ
 gicd_version e = field_where is_gicd 20 1 e
 
--- the ID and the address of an MSI frame
-abbrev pub msi_frame_id : MadtEntry → Option ℕ
-msi_frame_id e = field_where is_msi_frame 4 4 e
-
 abbrev pub msi_frame_base : MadtEntry → Option ℕ
 msi_frame_base e = field_where is_msi_frame 8 8 e
 
@@ -77,10 +65,6 @@ gicr_base e = field_where is_gicr 4 8 e
 
 abbrev pub gicr_length : MadtEntry → Option ℕ
 gicr_length e = field_where is_gicr 12 4 e
-
--- the ID and the address of an interrupt translation service
-abbrev pub its_id : MadtEntry → Option ℕ
-its_id e = field_where is_its 4 4 e
 
 abbrev pub its_base : MadtEntry → Option ℕ
 its_base e = field_where is_its 8 8 e

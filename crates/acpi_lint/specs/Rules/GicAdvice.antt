@@ -1,27 +1,10 @@
 -- Advice on the parts of a GIC in the MADT (ACPI 6.5, 5.2.12.14 to 5.2.12.18). `at` is an entry's offset in the table.
-use Rattle.std.specs.Prelude.{◌≡◌, ◌≢◌, ℕ, ◌/◌, ◌%◌, ◌^◌, ◌<◌, ◌⊎◌, Bool, length, slice_index, Option, Some, None, sum_by, not, ◌==◌, ◌&&◌, ◌||◌, if◌then◌else◌}
-use Rattle.std.specs.Option.{option_and_then}
-use Rattle.acpi_base.specs.Entries.{AreUnused}
+use Rattle.std.specs.Prelude.{◌≡◌, ◌≢◌, ℕ, ◌/◌, ◌<◌, ◌⊎◌, length, slice_index, Option, Some, None, sum_by, not, ◌==◌, ◌&&◌, if◌then◌else◌}
 use Rattle.acpi_base.specs.Madt.{MadtEntry, Opaque, MadtContents}
-use Rattle.acpi_base.specs.Number.{field}
 use Rattle.acpi_lint.specs.Rules.EntryTypes.{HasType}
-use Rattle.acpi_lint.specs.Rules.Gic.{is_gicr, field_where, gicc_base, usable_gicc_uid, usable_mpidr, own_redistributor, gicd_version, gicr_base, gicr_length}
+use Rattle.acpi_lint.specs.Rules.Gic.{gicc_base, usable_gicc_uid, own_redistributor, gicd_version, gicr_base, gicr_length}
 use Rattle.acpi_lint.specs.Rules.Numbered.{NamesAt, IsNamed, IsFirstNamed, numbers_of}
 use Rattle.acpi_lint.specs.Rules.WellFormed.{IsWellFormedMadt}
-
--- ---- single entries
-
--- a bit is set that is none of an affinity: bits 23:0 and 39:32 are (5.2.12.14)
-abbrev pub is_reserved_mpidr : ℕ → Bool
-is_reserved_mpidr n = not (n / 2 ^ 24 % 2 ^ 8 == 0) || not (n / 2 ^ 40 == 0)
-
--- the MPIDR of a usable CPU interface, if such a bit is set
-abbrev pub reserved_mpidr : MadtEntry → Option ℕ
-reserved_mpidr e = option_and_then (λ n. if is_reserved_mpidr n then Some n else None) (usable_mpidr e)
-
--- the address of a range of redistributors of no bytes (5.2.12.17)
-abbrev pub empty_gicr : MadtEntry → Option ℕ
-empty_gicr e = field_where (λ bytes. is_gicr bytes && (field bytes 12 4 == 0)) 4 8 e
 
 -- ---- the GIC's version
 
@@ -30,15 +13,6 @@ abbrev pub HasVersion : MadtContents → ℕ → ℕ → Type 0
 HasVersion c low high = (o v : ℕ) × IsFirstNamed gicd_version c.entries o v × ((v ≡ low) ⊎ (v ≡ high))
 
 -- ---- what is not there, in a MADT that is well-formed
-
--- there is an entry of a CPU interface (11), and none of a distributor (12)
-pub record LacksDistributor (c : MadtContents) : Type 0 where
-  pub has_interface : HasType c 11
-  pub none : ¬ HasType c 12
-  pub well_formed : IsWellFormedMadt c
-
-abbrev pub IsNoDistributor : MadtContents → ℕ → ℕ → ℕ → Type 0
-IsNoDistributor c at other point = LacksDistributor c × (at ≡ 0) × AreUnused other point
 
 -- a GIC of this version has redistributors (3 and 4 do), and there is no entry of a range of them (14), nor does a
 -- usable CPU interface name its own

@@ -23,14 +23,6 @@ pub record IsLater (HasAt : ℕ → ℕ → Type 0) (at other x : ℕ) : Type 0 
   pub before : other < at
   pub first : (p : ℕ) → HasAt p x → other ≤ p
 
--- two entries have the number `point`, as `read` gives it; `other` is the first that has it
-abbrev pub Repeats : {E : Type 0} → (E → Option ℕ) → List (PlacedEntry E) → ℕ → ℕ → ℕ → Type 0
-Repeats read entries = IsLater (NamesAt read entries)
-
--- the entry has the number `point`, as `read` gives it
-abbrev pub HasNumber : {E : Type 0} → (E → Option ℕ) → E → ℕ → ℕ → Type 0
-HasNumber read e other point = (read e ≡ Some point) × (other ≡ 0)
-
 -- n is the number that `read` gives of the entry at o, the first of which it gives one
 abbrev pub IsFirstNamed : {E : Type 0} → (E → Option ℕ) → List (PlacedEntry E) → ℕ → ℕ → Type 0
 IsFirstNamed read entries o n = NamesAt read entries o n × ((p m : ℕ) → NamesAt read entries p m → o ≤ p)

@@ -1,5 +1,5 @@
 -- Processors: as the MADT's entries describe them, as the SRAT's entries place them, and as the PPTT's leaves name them.
-use Rattle.std.specs.Prelude.{◌≡◌, ◌≢◌, ℕ, ◌<◌, ◌≤◌, ◌⊎◌, Bool, List, length, slice_index, Option, Some, None, IsSome, is_none, nat_le, true, ◌==◌, ◌&&◌, ◌||◌, if◌then◌else◌}
+use Rattle.std.specs.Prelude.{◌≡◌, ◌≢◌, ℕ, ◌<◌, ◌≤◌, ◌⊎◌, Bool, List, length, slice_index, Option, Some, None, IsSome, nat_le, true, ◌==◌, ◌&&◌, ◌||◌, if◌then◌else◌}
 use Rattle.std.specs.Option.{option_and_then, option_map}
 use Rattle.acpi_base.specs.Entries.{StandsWith}
 use Rattle.acpi_base.specs.Number.{field, has_bit}
@@ -59,18 +59,6 @@ uid_of e = option_map (λ p. p.uid) (processor_of e)
 abbrev pub usable_uid : madt.MadtEntry → Option ℕ
 usable_uid e = option_and_then (λ p. if p.usable then Some p.uid else None) (processor_of e)
 
--- the APIC ID of a processor that has one, and of a usable one
-abbrev pub apic_id_of : madt.MadtEntry → Option ℕ
-apic_id_of e = option_and_then (λ p. p.apic_id) (processor_of e)
-
-abbrev pub usable_apic_id : madt.MadtEntry → Option ℕ
-usable_apic_id e = option_and_then (λ p. if p.usable then p.apic_id else None) (processor_of e)
-
--- the UID of a usable processor that has no APIC ID
-abbrev pub usable_uid_without_id : madt.MadtEntry → Option ℕ
-usable_uid_without_id e =
-    option_and_then (λ p. if p.usable && is_none p.apic_id then Some p.uid else None) (processor_of e)
-
 -- the entry describes a processor that is not of x86
 abbrev pub IsOpaqueProcessor : madt.MadtEntry → Type 0
 IsOpaqueProcessor (madt.Opaque e) = IsSome (opaque_processor e)
@@ -111,12 +99,6 @@ is_its_affinity e = (slice_index e 0 == 4) && (length e == 12)
 abbrev pub is_generic_affinity : List ℕ → Bool
 is_generic_affinity e =
     ((slice_index e 0 == 5) || (slice_index e 0 == 6)) && (length e == 32) && has_bit (field e 24 4) 0
-
--- the APIC ID or x2APIC ID that an enabled affinity places
-abbrev pub placed_apic_id : srat.SratEntry → Option ℕ
-placed_apic_id (srat.ApicDomain v) = if srat.is_enabled v.flags then Some v.apic_id else None
-placed_apic_id (srat.X2apicDomain v) = if srat.is_enabled v.flags then Some v.x2apic_id else None
-placed_apic_id _ = None
 
 -- the UID that an enabled affinity places
 abbrev pub placed_uid : srat.SratEntry → Option ℕ

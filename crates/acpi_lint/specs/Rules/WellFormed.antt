@@ -4,7 +4,6 @@ use Rattle.std.specs.Prelude.{◌≡◌, ℕ, List, Option, None, slice_index}
 use Rattle.acpi_base.specs.Entries.{PlacedEntry, StandsWith, IsTypeOf}
 use Rattle.acpi_base.specs.Madt as madt
 use Rattle.acpi_base.specs.Pptt as pptt
-use Rattle.acpi_base.specs.Srat as srat
 
 -- there are no bytes after these entries, and none of them has another length than its type's
 abbrev pub IsWellFormed : {E : Type 0} → (E → Type 0) → List (PlacedEntry E) → Option ℕ → Type 0
@@ -18,15 +17,6 @@ HasOtherMadtLength _ = ⊥
 -- the MADT has no fault with the codes 33 and 34
 abbrev pub IsWellFormedMadt : madt.MadtContents → Type 0
 IsWellFormedMadt c = IsWellFormed HasOtherMadtLength c.entries c.cut
-
--- the same of an SRAT: code 43 (5.2.16)
-abbrev pub HasOtherSratLength : srat.SratEntry → Type 0
-HasOtherSratLength (srat.Opaque e) = IsTypeOf srat.srat_kinds (slice_index e 0)
-HasOtherSratLength _ = ⊥
-
--- the SRAT has no fault with the codes 42 and 43
-abbrev pub IsWellFormedSrat : srat.SratContents → Type 0
-IsWellFormedSrat c = IsWellFormed HasOtherSratLength c.entries c.cut
 
 -- the PPTT has no fault with the codes 50 and 51 (5.2.30)
 abbrev pub IsWellFormedPptt : pptt.PpttContents → Type 0

@@ -2,7 +2,7 @@ use Rattle.std.proofs.Common.{◌≡◌, false, rules}
 use Rattle.std.specs.Option.{is_some}
 use Rattle.acpi_base.specs.Fadt.{is_reduced}
 use Rattle.acpi_lint.proofs.EitherPlace.{second_alone}
-use Rattle.acpi_lint.proofs.LeastPlaces.{least_as}
+use Rattle.acpi_rules.proofs.LeastPlaces.{least_as}
 use Rattle.acpi_lint.proofs.fadt_blocks.fixed_past_end.Goals as goal
 
 pub returns : goal.returns

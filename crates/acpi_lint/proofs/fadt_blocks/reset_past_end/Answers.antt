@@ -1,6 +1,6 @@
 use Rattle.std.proofs.Common.{rules}
 use Rattle.acpi_lint.specs.Rules.FadtBlocks.{IsResetPort}
-use Rattle.acpi_lint.proofs.LeastPlaces.{least_as}
+use Rattle.acpi_rules.proofs.LeastPlaces.{least_as}
 use Rattle.acpi_lint.proofs.fadt_blocks.reset_past_end.Goals as goal
 
 pub returns : goal.returns

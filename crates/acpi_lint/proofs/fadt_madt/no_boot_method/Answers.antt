@@ -2,7 +2,7 @@ use Rattle.std.proofs.Common.{◌≡◌, ◌∙◌, refl, sym, rules}
 use Rattle.acpi_base.specs.Madt.{madt_contents}
 use Rattle.acpi_base.specs.Number.{field}
 use Rattle.acpi_lint.specs.Rules.FadtWithMadt.{AreUnstarted, HasNoPsci}
-use Rattle.acpi_lint.proofs.LeastPlaces.{not_after_itself}
+use Rattle.acpi_rules.proofs.LeastPlaces.{not_after_itself}
 use Rattle.acpi_lint.proofs.fadt_madt.no_boot_method.Goals as goal
 
 pub returns : goal.returns

@@ -1,7 +1,7 @@
 use Rattle.std.proofs.Common.{rules, ◌≡◌, ◌≢◌}
 use Rattle.acpi_base.specs.Facs.{IsFacs}
 use Rattle.acpi_base.specs.Fadt.{facs_address}
-use Rattle.acpi_lint.specs.Places.{FindsLeast}
+use Rattle.acpi_rules.specs.Places.{FindsLeast}
 use Rattle.acpi_lint.specs.Rules.NamedAdvice.{IsOddFacs}
 use Rattle.acpi_lint.proofs.OddFields.{of_named_facs}
 use Rattle.acpi_lint.proofs.fadt_memory.facs_reserved.Goals as goal

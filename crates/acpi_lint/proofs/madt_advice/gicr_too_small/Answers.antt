@@ -4,7 +4,7 @@ use Rattle.acpi_base.proofs.Madt.Faults.{ones}
 use Rattle.acpi_lint.specs.Rules.Gic.{gicr_length}
 use Rattle.acpi_lint.specs.Rules.GicAdvice.{redistributor_count, interface_count}
 use Rattle.acpi_lint.proofs.FirstNumbers.{first_named, none_named, one_first_named}
-use Rattle.acpi_lint.proofs.LeastPlaces.{not_after_itself}
+use Rattle.acpi_rules.proofs.LeastPlaces.{not_after_itself}
 use Rattle.acpi_lint.proofs.madt_advice.gicr_too_small.Goals as goal
 
 pub returns-in_default : goal.returns-in_default

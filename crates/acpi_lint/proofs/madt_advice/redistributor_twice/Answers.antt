@@ -3,7 +3,7 @@ use Rattle.acpi_base.specs.Madt.{madt_contents}
 use Rattle.acpi_base.proofs.Madt.Faults.{ones}
 use Rattle.acpi_lint.specs.Rules.Gic.{gicr_base}
 use Rattle.acpi_lint.proofs.FirstNumbers.{first_named, none_named, one_first_named}
-use Rattle.acpi_lint.proofs.LeastPlaces.{least_as}
+use Rattle.acpi_rules.proofs.LeastPlaces.{least_as}
 use Rattle.acpi_lint.proofs.madt_advice.redistributor_twice.Goals as goal
 
 pub returns-in_err-first : goal.returns-in_err-first

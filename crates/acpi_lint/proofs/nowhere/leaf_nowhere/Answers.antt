@@ -3,7 +3,7 @@ use Rattle.acpi_lint.specs.Rules.Numbered.{IsNamed}
 use Rattle.acpi_lint.specs.Rules.Processors.{uid_of, IsLeafAt, AreProcessorsKnown}
 use Rattle.acpi_base.specs.Madt.{MadtContents, madt_contents}
 use Rattle.acpi_base.specs.Pptt.{PpttContents, pptt_contents}
-use Rattle.acpi_lint.proofs.LeastPlaces.{least_as}
+use Rattle.acpi_rules.proofs.LeastPlaces.{least_as}
 use Rattle.acpi_lint.proofs.UnknownOnes.{unknown_placed, where_holds}
 use Rattle.acpi_lint.proofs.nowhere.leaf_nowhere.Goals as goal
 

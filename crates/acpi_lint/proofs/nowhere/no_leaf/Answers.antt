@@ -6,7 +6,7 @@ use Rattle.acpi_read.specs.Madts.{madt_value}
 use Rattle.acpi_check.proofs.EntryPasses.Kept.{madt_rising}
 use Rattle.acpi_lint.specs.EntryNumbers.{IsUnknownOf}
 use Rattle.acpi_lint.proofs.FirstEntries.{least_of_entries}
-use Rattle.acpi_lint.proofs.LeastPlaces.{least_as}
+use Rattle.acpi_rules.proofs.LeastPlaces.{least_as}
 use Rattle.acpi_lint.proofs.UnknownOnes.{IsUnknownNamed, unknown_named, where_holds}
 use Rattle.acpi_lint.proofs.nowhere.no_leaf.Goals as goal
 

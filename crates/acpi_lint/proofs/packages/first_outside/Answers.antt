@@ -3,9 +3,9 @@ use borrow.Author.Count.{below_more}
 use Rattle.std.proofs.lemmas.List.Elements.{Contains-get_or}
 use Rattle.acpi_base.specs.Chains.{Ends}
 use Rattle.acpi_lint.specs.Numbered.{HasAt}
-use Rattle.acpi_lint.specs.declared.numbered.Numbered.{Numbered}
-use Rattle.acpi_lint.specs.declared.place.Place.{Place}
-use Rattle.acpi_lint.proofs.LeastPlaces.{not_after_itself}
+use Rattle.acpi_rules.specs.declared.numbered.Numbered.{Numbered}
+use Rattle.acpi_rules.specs.declared.place.Place.{Place}
+use Rattle.acpi_rules.proofs.LeastPlaces.{not_after_itself}
 use Rattle.acpi_lint.proofs.OuterNodes.{none}
 use Rattle.acpi_lint.proofs.RisingLists.{at_or_behind, none_such}
 use Rattle.acpi_lint.proofs.packages.first_outside.Goals as goal

@@ -1,7 +1,7 @@
 use Rattle.std.proofs.Common.{rules, ◌≡◌, false}
 use Rattle.acpi_base.specs.Fadt.{is_reduced}
 use Rattle.acpi_lint.proofs.CollectedNumbers.{each_ok}
-use Rattle.acpi_lint.proofs.LeastPlaces.{least_as}
+use Rattle.acpi_rules.proofs.LeastPlaces.{least_as}
 use Rattle.acpi_lint.proofs.RangeOverlaps.{of_ranges}
 use Rattle.acpi_lint.proofs.port_overlap.ports_overlap.Goals as goal
 

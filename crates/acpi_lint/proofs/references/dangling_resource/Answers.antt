@@ -2,7 +2,7 @@ use Rattle.std.proofs.Common.{rules}
 use Rattle.acpi_base.specs.Pptt.{pptt_contents}
 use Rattle.acpi_read.specs.Pptts.{pptt_value}
 use Rattle.acpi_check.proofs.EntryPasses.Kept.{pptt_rising}
-use Rattle.acpi_lint.specs.Places.{FindsLeast}
+use Rattle.acpi_rules.specs.Places.{FindsLeast}
 use Rattle.acpi_lint.specs.References.{NamesNoResource}
 use Rattle.acpi_lint.proofs.FirstEntries.{IsFaultAt, least_of_entries}
 use Rattle.acpi_lint.proofs.NamedPlaces.{resources_dangle}

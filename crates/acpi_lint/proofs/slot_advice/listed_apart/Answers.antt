@@ -1,7 +1,7 @@
 use Rattle.std.proofs.Common.{rules, Some, refl, inl, inr}
 use Rattle.acpi_lint.specs.Slots.{IsApart}
 use Rattle.acpi_lint.proofs.FirstSlots.{place_of, least_slot}
-use Rattle.acpi_lint.proofs.LeastPlaces.{least_as}
+use Rattle.acpi_rules.proofs.LeastPlaces.{least_as}
 use Rattle.acpi_lint.proofs.slot_advice.listed_apart.Goals as goal
 
 pub returns-in_err-slot : goal.returns-in_err-slot

@@ -3,10 +3,10 @@ use Rattle.std.proofs.lemmas.List.Elements.{Contains-get_or}
 use Rattle.std.proofs.lemmas.Option.{none-some, same_Some}
 use Rattle.acpi_lint.specs.Slots.{second_place}
 use Rattle.acpi_lint.specs.declared.listed_slots.Slot.{Slot}
-use Rattle.acpi_lint.specs.declared.place.Place.{Place}
+use Rattle.acpi_rules.specs.declared.place.Place.{Place}
 use Rattle.acpi_lint.proofs.ListedSlots.{no_slot}
 use Rattle.acpi_lint.proofs.RisingLists.{at_or_behind, none_such}
-use Rattle.acpi_lint.proofs.LeastPlaces.{not_after_itself}
+use Rattle.acpi_rules.proofs.LeastPlaces.{not_after_itself}
 use Rattle.acpi_lint.proofs.SecondTables.{second_from, second_to}
 use Rattle.acpi_lint.proofs.slot_advice.second_table.Goals as goal
 

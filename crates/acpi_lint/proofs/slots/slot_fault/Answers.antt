@@ -1,7 +1,7 @@
 use Rattle.std.proofs.Common.{Some, refl}
 use Rattle.acpi_base.specs.Tables.{TableFault}
 use Rattle.acpi_lint.proofs.FirstSlots.{place_of, least_slot}
-use Rattle.acpi_lint.proofs.LeastPlaces.{least_as}
+use Rattle.acpi_rules.proofs.LeastPlaces.{least_as}
 use Rattle.acpi_lint.proofs.slots.slot_fault.Goals as goal
 
 pub returns-in_err-slot : goal.returns-in_err-slot

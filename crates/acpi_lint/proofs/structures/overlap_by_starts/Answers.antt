@@ -1,8 +1,8 @@
 use Rattle.std.proofs.Common.{◌≡◌, get_or, sym, arith}
 use Rattle.std.proofs.lemmas.List.{get_or_default}
-use Rattle.acpi_lint.specs.declared.numbered.Numbered.{Numbered}
+use Rattle.acpi_rules.specs.declared.numbered.Numbered.{Numbered}
 use Rattle.acpi_lint.proofs.StartOverlaps.{none_passed, next_after, next_apart, none_at_end, one_at}
-use Rattle.acpi_lint.proofs.UnlikeNumbers.{standing_first, next_number, same_number, stands_next}
+use Rattle.acpi_rules.proofs.RepeatedNumbers.{standing_first, next_number, same_number, stands_next}
 use Rattle.acpi_lint.proofs.structures.overlap_by_starts.Goals as goal
 use Rattle.acpi_lint.proofs.structures.overlap_by_starts.Goals.{then-here-first+else-here-first-2, else-here-first}
 

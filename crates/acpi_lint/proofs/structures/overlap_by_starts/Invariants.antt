@@ -1,5 +1,5 @@
 use Rattle.acpi_lint.proofs.StartOverlaps.{AreApartUpTo}
-use Rattle.acpi_lint.proofs.UnlikeNumbers.{IsStanding}
+use Rattle.acpi_rules.proofs.RepeatedNumbers.{IsStanding}
 use Rattle.acpi_lint.proofs.structures.overlap_by_starts.Given as goal
 
 abbrev pub invariant-loop-here : goal.invariant-loop-here

@@ -6,5 +6,5 @@ returns-clause-tables c =
     let slots = c.in_ok-slots.ensures.found c.args.rsdp c.complete-root.ensures in
     let firsts = (rw c.deref.ensures.value at c.of-firsts.ensures) c.args.image.now c.args.rsdp slots in
     are_whole _ c.complete-root.ensures slots firsts (c.found.ensures c.args.rsdp firsts)
-    (c.found-madt.ensures c.args.rsdp firsts) (c.found-2.ensures c.args.rsdp firsts)
-    (c.found-3.ensures c.args.rsdp firsts) (c.found-4.ensures c.args.rsdp firsts) c.of.ensures
+    (c.found-2.ensures c.args.rsdp firsts) (c.found-3.ensures c.args.rsdp firsts)
+    (c.found-4.ensures c.args.rsdp firsts) (c.found-5.ensures c.args.rsdp firsts)

@@ -1,4 +1,0 @@
-use Rattle.acpi_lint.proofs.fadt_advice.facs_differs.Goals as goal
-
-pub returns : goal.returns
-returns c = rw c.bytes.ensures.bytes at c.two_fields.ensures

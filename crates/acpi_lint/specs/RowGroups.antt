@@ -1,0 +1,94 @@
+-- The rules that are rows: which tables they are about, and when a set breaks one.
+use Rattle.std.specs.Prelude.{◌≡◌, ℕ, ◌≤◌, List, [], ◌∷◌, length, map, Contains, Option, Some, None}
+use Rattle.acpi_base.specs.Listed.{HasListed}
+use Rattle.acpi_base.specs.Memory.{Memory}
+use Rattle.acpi_base.specs.Policy.{PolicyValue}
+use Rattle.acpi_base.specs.TableKinds.{signature_of}
+use Rattle.acpi_base.specs.declared.table_kind.TableKind.{TableKind}
+use Rattle.acpi_base.specs.declared.table_kind.TableKind.TheVariants as kind
+use Rattle.acpi_rules.specs.Rows.{Row, BorRow, IsBroken, row_value, rows_said}
+use Rattle.acpi_rules.specs.Terms.{TwoTables}
+use Rattle.acpi_lint.specs.TableLengths.{least_length}
+use Rattle.acpi_lint.specs.declared.rows.fadt.TheConstants.{FADT, FADT_WITH_MADT}
+use Rattle.acpi_lint.specs.declared.rows.madt.TheConstants.{MADT, MADT_WITH_FADT, MADT_WITH_SRAT}
+use Rattle.acpi_lint.specs.declared.rows.pptt.TheConstants.{PPTT}
+use Rattle.acpi_lint.specs.declared.rows.srat.TheConstants.{SRAT, SRAT_WITH_MADT}
+use denote.Ref.{Bor}
+
+-- rules on a table, or on a table with another one
+pub record RowGroup : Type 0 where
+  pub table : TableKind
+  pub other : Option TableKind
+  pub rows : List Row
+
+abbrev pub group_value : TableKind × Option TableKind × Bor (List BorRow) → RowGroup
+group_value g = record { table = g.0; other = g.1; rows = map row_value g.2.now }
+
+-- the rows on each table, and on one with another
+abbrev pub fadt_rows : List Row
+fadt_rows = rows_said FADT
+
+abbrev pub fadt_with_madt_rows : List Row
+fadt_with_madt_rows = rows_said FADT_WITH_MADT
+
+abbrev pub madt_rows : List Row
+madt_rows = rows_said MADT
+
+abbrev pub madt_with_fadt_rows : List Row
+madt_with_fadt_rows = rows_said MADT_WITH_FADT
+
+abbrev pub madt_with_srat_rows : List Row
+madt_with_srat_rows = rows_said MADT_WITH_SRAT
+
+abbrev pub srat_rows : List Row
+srat_rows = rows_said SRAT
+
+abbrev pub srat_with_madt_rows : List Row
+srat_with_madt_rows = rows_said SRAT_WITH_MADT
+
+abbrev pub pptt_rows : List Row
+pptt_rows = rows_said PPTT
+
+-- all of them
+abbrev pub row_groups : List RowGroup
+row_groups =
+    record { table = kind.Fadt; other = None; rows = fadt_rows } ∷
+    record { table = kind.Fadt; other = Some kind.Madt; rows = fadt_with_madt_rows } ∷
+    record { table = kind.Madt; other = None; rows = madt_rows } ∷
+    record { table = kind.Madt; other = Some kind.Fadt; rows = madt_with_fadt_rows } ∷
+    record { table = kind.Madt; other = Some kind.Srat; rows = madt_with_srat_rows } ∷
+    record { table = kind.Srat; other = None; rows = srat_rows } ∷
+    record { table = kind.Srat; other = Some kind.Madt; rows = srat_with_madt_rows } ∷
+    record { table = kind.Pptt; other = None; rows = pptt_rows } ∷
+    []
+
+-- ---- the tables: the first listed one of a kind, if it is complete, whatever its checksum, and long enough for its fields
+
+-- P of the bytes of the one of a kind
+abbrev pub OfKind : TableKind → Memory → PolicyValue → (List ℕ → Type 0) → Type 0
+OfKind kind m q P = HasListed m q.rsdp (signature_of kind) (λ whole. (least_length kind ≤ length whole) × P whole)
+
+-- P of the bytes of two, or of one alone
+abbrev pub OfKinds : TableKind → Option TableKind → Memory → PolicyValue → (TwoTables → Type 0) → Type 0
+OfKinds kind None m q P = OfKind kind m q (λ table. P (record { table = table; other = [] }))
+OfKinds kind (Some beside) m q P =
+    OfKind kind m q (λ table. OfKind beside m q (λ other. P (record { table = table; other = other })))
+
+-- ---- rules that are broken
+
+-- the tables break a row with this number
+abbrev pub BreaksRow : TwoTables → Row → ℕ → ℕ → ℕ → ℕ → Type 0
+BreaksRow t row number at other point = (row.number ≡ number) × IsBroken row t at other point
+
+-- `Is` holds of one of these
+abbrev pub OfAny : {X : Type 0} → (X → ℕ → ℕ → ℕ → ℕ → Type 0) → List X → ℕ → ℕ → ℕ → ℕ → Type 0
+OfAny {X} Is xs number at other point = (x : X) × Contains xs x × Is x number at other point
+
+-- the set breaks a row of a group with this number
+abbrev pub BreaksGroup : Memory → PolicyValue → RowGroup → ℕ → ℕ → ℕ → ℕ → Type 0
+BreaksGroup m q g number at other point =
+    OfKinds g.table g.other m q (λ t. OfAny (BreaksRow t) g.rows number at other point)
+
+-- the set breaks a row with this number
+abbrev pub IsRowBroken : ℕ → Memory → PolicyValue → ℕ → ℕ → ℕ → Type 0
+IsRowBroken number m q at other point = OfAny (BreaksGroup m q) row_groups number at other point

@@ -1,0 +1,288 @@
+//! Rules on the MADT (ACPI 6.5, 5.2.12), by itself and with another table.
+
+use crate::rows::fadt_fields::{MINOR_VERSION, SCI_INT};
+use crate::rows::madt_fields::*;
+use crate::rows::srat::{
+    OTHER_SRAT_LENGTHS, OTHER_SRAT_WHOLE, PLACED_APIC_IDS, PLACED_PROCESSORS, PLACED_UIDS,
+};
+use crate::rows::srat_fields::SRAT_ENTRIES;
+use crate::rows::table_fields::{REVISION, TABLE, TYPE, WHOLE};
+use acpi_rules::{
+    Case, Clause, Form, Guard, Kind, Need, Path, Repeat, Row, Source, Term, Test, Value, Within,
+};
+
+// ---- what entries give
+
+/// The UID of each processor.
+pub const UIDS: &[Case<'static>] = cases!({
+    LOCAL_APIC => at 0 shows 0, LOCAL_APIC_UID;
+    X2APIC => at 0 shows 0, X2APIC_UID;
+    GICC => at 0 shows 0, GICC_UID;
+    CORE_PIC => at 0 shows 0, CORE_PIC_UID;
+    RINTC => at 0 shows 0, RINTC_UID
+});
+
+/// The APIC ID, x2APIC ID or core ID of each processor that has one.
+pub const APIC_IDS: &[Case<'static>] = cases!({
+    LOCAL_APIC => at 0 shows 0, LOCAL_APIC_ID;
+    X2APIC => at 0 shows 0, X2APIC_ID;
+    CORE_PIC => at 0 shows 0, CORE_PIC_ID
+});
+
+/// The UID of each usable processor: one that is Enabled or Online Capable.
+const USABLE_UIDS: &[Case<'static>] = cases!({
+    LOCAL_APIC if (LOCAL_APIC_FLAGS & 0b11) != 0 => at 0 shows LOCAL_APIC_UID, LOCAL_APIC_UID;
+    X2APIC if (X2APIC_FLAGS & 0b11) != 0 => at 0 shows X2APIC_UID, X2APIC_UID;
+    GICC if (GICC_FLAGS & 0b1001) != 0 => at 0 shows GICC_UID, GICC_UID;
+    CORE_PIC if (CORE_PIC_FLAGS & 0b1) != 0 => at 0 shows CORE_PIC_UID, CORE_PIC_UID;
+    RINTC if (RINTC_FLAGS & 0b11) != 0 => at 0 shows RINTC_UID, RINTC_UID
+});
+
+/// The APIC ID, x2APIC ID or core ID of each usable processor that has one.
+const USABLE_APIC_IDS: &[Case<'static>] = cases!({
+    LOCAL_APIC if (LOCAL_APIC_FLAGS & 0b11) != 0 => at 0 shows LOCAL_APIC_ID, LOCAL_APIC_ID;
+    X2APIC if (X2APIC_FLAGS & 0b11) != 0 => at 0 shows X2APIC_ID, X2APIC_ID;
+    CORE_PIC if (CORE_PIC_FLAGS & 0b1) != 0 => at 0 shows CORE_PIC_ID, CORE_PIC_ID
+});
+
+// ---- conditions
+
+/// The entries fill the table, and those of a type that `check` reads have its length. Of such a table alone it is known
+/// what is not in it.
+const MADT_WHOLE: Guard<'static> = guard!((whole table MADT_ENTRIES));
+
+pub const OTHER_MADT_WHOLE: Guard<'static> = guard!((whole other MADT_ENTRIES));
+
+const MADT_LENGTHS: Guard<'static> = guard!((none table MADT_ENTRIES: OTHER_LENGTHS));
+
+pub const OTHER_MADT_LENGTHS: Guard<'static> = guard!((none other MADT_ENTRIES: OTHER_LENGTHS));
+
+const OTHER_LENGTHS: &[Case<'static>] = any!({
+    (any LOCAL_APIC) if (length own) != 8;
+    (any IO_APIC) if (length own) != 12;
+    (any OVERRIDE) if (length own) != 10;
+    (any NMI_SOURCE) if (length own) != 8;
+    (any LOCAL_NMI) if (length own) != 6;
+    (any ADDRESS_OVERRIDE) if (length own) != 12;
+    (any X2APIC) if (length own) != 16;
+    (any X2APIC_NMI) if (length own) != 12
+});
+
+/// No entry is a processor in a form that no rule reads.
+const PROCESSORS_READ: Guard<'static> = guard!((none table MADT_ENTRIES: UNREAD_PROCESSORS));
+
+pub const OTHER_PROCESSORS_READ: Guard<'static> =
+    guard!((none other MADT_ENTRIES: UNREAD_PROCESSORS));
+
+const UNREAD_PROCESSORS: &[Case<'static>] = any!({
+    LOCAL_SAPIC;
+    (any GICC) if (length own) < 40;
+    (any CORE_PIC) if (length own) != 15;
+    (any RINTC) if (length own) < 20
+});
+
+// ---- the rules
+
+/// Rules on the MADT.
+pub static MADT: [Row<'static>; 25] = [
+    // two usable processors have the same UID
+    rule!(109 SameUid, repeated in MADT_ENTRIES: USABLE_UIDS),
+    // two usable processors have the same APIC ID, x2APIC ID or core ID
+    rule!(110 SameApicId, repeated in MADT_ENTRIES: USABLE_APIC_IDS),
+    // an I/O APIC has the address 0 (5.2.12.3)
+    rule!(111 IoApicAtZero, given in MADT_ENTRIES: {
+        IO_APIC if IO_APIC_ADDRESS == 0 => at 0 shows 0, 0
+    }),
+    // two I/O APICs have the same ID
+    rule!(112 SameIoApicId, repeated in MADT_ENTRIES: {
+        IO_APIC => at 0 shows IO_APIC_ID, IO_APIC_ID
+    }),
+    // two I/O APICs have the same address, which is not 0
+    rule!(113 SameIoApicAddress, repeated in MADT_ENTRIES: {
+        IO_APIC if IO_APIC_ADDRESS != 0 => at 0 shows IO_APIC_ADDRESS, IO_APIC_ADDRESS
+    }),
+    // an NMI is for a UID that no processor has; all ones mean all processors (5.2.12.7, 5.2.12.13)
+    rule!(114 NmiNowhere, nowhere in MADT_ENTRIES where PROCESSORS_READ, MADT_WHOLE, MADT_LENGTHS: {
+        LOCAL_NMI if LOCAL_NMI_UID != 0xff => at 0 shows 0, LOCAL_NMI_UID;
+        X2APIC_NMI if X2APIC_NMI_UID != 0xffff_ffff => at 0 shows 0, X2APIC_NMI_UID
+    } among table MADT_ENTRIES UIDS),
+    // a second GIC distributor, of any length (5.2.12.15)
+    rule!(115 SecondGicd, repeated in MADT_ENTRIES: {
+        (any GICD) => at 0 shows 0, 0
+    }),
+    // no processor is usable, and all are known
+    rule!(116 NoProcessor, given in TABLE where
+        (none table MADT_ENTRIES: USABLE_UIDS), PROCESSORS_READ, MADT_WHOLE, MADT_LENGTHS:
+    {
+        WHOLE => at 0 shows 0, 0
+    }),
+    // an entry of a type or length that neither `check` nor these rules read
+    rule!(127 MadtUnread, given in MADT_ENTRIES: {
+        UNREAD_6_TO_8 => at 0 shows TYPE, 0;
+        (any GICC) if (length own) < 40 => at 0 shows TYPE, 0;
+        (any GICD) if (length own) != 24 => at 0 shows TYPE, 0;
+        (any MSI_FRAME) if (length own) != 24 => at 0 shows TYPE, 0;
+        (any GICR) if (length own) != 16 => at 0 shows TYPE, 0;
+        (any ITS) if (length own) != 20 => at 0 shows TYPE, 0;
+        UNREAD_16 => at 0 shows TYPE, 0;
+        (any CORE_PIC) if (length own) != 15 => at 0 shows TYPE, 0;
+        UNREAD_18_TO_23 => at 0 shows TYPE, 0;
+        (any RINTC) if (length own) < 20 => at 0 shows TYPE, 0;
+        UNREAD_FROM_25 => at 0 shows TYPE, 0
+    }),
+    // a usable local APIC has an ID, and a usable local x2APIC an ID that a local APIC could have (5.2.12.12)
+    rule!(150 X2ApicBelow255, given in MADT_ENTRIES where (some table MADT_ENTRIES: {
+        LOCAL_APIC if (LOCAL_APIC_FLAGS & 0b11) != 0 && LOCAL_APIC_ID != 255
+    }): {
+        X2APIC if (X2APIC_FLAGS & 0b11) != 0 && X2APIC_ID < 255 => at 0 shows 0, X2APIC_ID
+    }),
+    // a usable processor has the ID that means all (5.2.12.2, 5.2.12.12)
+    rule!(151 BroadcastId, given in MADT_ENTRIES: {
+        LOCAL_APIC if (LOCAL_APIC_FLAGS & 0b11) != 0 && LOCAL_APIC_ID == 255 => at 0 shows 0, LOCAL_APIC_ID;
+        X2APIC if (X2APIC_FLAGS & 0b11) != 0 && X2APIC_ID == 0xffff_ffff => at 0 shows 0, X2APIC_ID
+    }),
+    // Enabled and Online Capable exclude each other (5.2.12.2, 5.2.12.12, 5.2.12.14)
+    rule!(153 EnabledAndCapable, given in MADT_ENTRIES: {
+        LOCAL_APIC if (LOCAL_APIC_FLAGS & 0b11) == 0b11 => at 0 shows 0, LOCAL_APIC_FLAGS;
+        X2APIC if (X2APIC_FLAGS & 0b11) == 0b11 => at 0 shows 0, X2APIC_FLAGS;
+        GICC if (GICC_FLAGS & 0b1001) == 0b1001 => at 0 shows 0, GICC_FLAGS;
+        RINTC if (RINTC_FLAGS & 0b11) == 0b11 => at 0 shows 0, RINTC_FLAGS
+    }),
+    // the override of the timer's interrupt, 0, is level-triggered: bits 3:2 are 11b (5.2.12.5)
+    rule!(155 TimerLevel, given in MADT_ENTRIES: {
+        OVERRIDE if OVERRIDE_SOURCE == 0 && (OVERRIDE_FLAGS & 0b1100) == 0b1100
+            => at 0 shows 0, OVERRIDE_FLAGS
+    }),
+    // two ISA interrupts are given one interrupt number (5.2.12.5)
+    rule!(156 TwoSourcesOneGsi, unlike in MADT_ENTRIES: {
+        OVERRIDE => at 0 shows OVERRIDE_SOURCE, OVERRIDE_GSI
+    }),
+    // an NMI is connected to another input than LINT1 (5.2.12.7, 5.2.12.13)
+    rule!(157 LintNotOne, given in MADT_ENTRIES: {
+        LOCAL_NMI if LOCAL_NMI_LINT != 1 => at 0 shows 0, LOCAL_NMI_LINT;
+        X2APIC_NMI if X2APIC_NMI_LINT != 1 => at 0 shows 0, X2APIC_NMI_LINT
+    }),
+    // a usable local APIC and an override or NMI source, and neither an I/O APIC nor an I/O SAPIC (5.2.12.3)
+    rule!(158 NoIoApic, given in TABLE where
+        (none table MADT_ENTRIES: { (any IO_APIC); IO_SAPIC }),
+        (some table MADT_ENTRIES: { (any OVERRIDE); (any NMI_SOURCE) }),
+        (some table MADT_ENTRIES: {
+            LOCAL_APIC if (LOCAL_APIC_FLAGS & 0b11) != 0;
+            X2APIC if (X2APIC_FLAGS & 0b11) != 0
+        }),
+        MADT_WHOLE, MADT_LENGTHS:
+    {
+        WHOLE => at 0 shows 0, 0
+    }),
+    // a GIC CPU interface, and no distributor (5.2.12.15)
+    rule!(159 NoDistributor, given in TABLE where
+        (some table MADT_ENTRIES: { (any GICC) }),
+        (none table MADT_ENTRIES: { (any GICD) }),
+        MADT_WHOLE, MADT_LENGTHS:
+    {
+        WHOLE => at 0 shows 0, 0
+    }),
+    // two usable CPU interfaces have the same MPIDR (5.2.12.14)
+    rule!(163 SameMpidr, repeated in MADT_ENTRIES: {
+        GICC_OF_76 if (GICC_FLAGS & 0b1001) != 0 => at 0 shows GICC_MPIDR, GICC_MPIDR
+    }),
+    // a usable one's MPIDR has a bit that is none of an affinity: bits 23:0 and 39:32 are
+    rule!(164 MpidrReserved, given in MADT_ENTRIES: {
+        GICC_OF_76 if (GICC_FLAGS & 0b1001) != 0 && (GICC_MPIDR & 0xffff_ff00_ff00_0000) != 0
+            => at 0 shows 0, GICC_MPIDR
+    }),
+    // a range of redistributors has no bytes (5.2.12.17)
+    rule!(165 GicrEmpty, given in MADT_ENTRIES: {
+        GICR if GICR_LENGTH == 0 => at 0 shows 0, GICR_BASE
+    }),
+    // two ITS have the same ID (5.2.12.18)
+    rule!(166 SameIts, repeated in MADT_ENTRIES: {
+        ITS => at 0 shows ITS_ID, ITS_ID
+    }),
+    // two MSI frames have the same ID (5.2.12.16)
+    rule!(167 SameMsiFrame, repeated in MADT_ENTRIES: {
+        MSI_FRAME => at 0 shows MSI_FRAME_ID, MSI_FRAME_ID
+    }),
+    // two usable harts have the same ID
+    rule!(171 SameHart, repeated in MADT_ENTRIES: {
+        RINTC if (RINTC_FLAGS & 0b11) != 0 => at 0 shows RINTC_HART_ID, RINTC_HART_ID
+    }),
+    // a flag of the table above bit 0
+    rule!(172 MadtReserved, given in TABLE: {
+        WHOLE if MADT_FLAGS > 1 => at 40 shows 0, MADT_FLAGS
+    }),
+    // a flag of an entry that is not defined, or a reserved byte; `other` is its offset in the entry
+    rule!(172 MadtReserved, given in MADT_ENTRIES: {
+        LOCAL_APIC if LOCAL_APIC_FLAGS > 0b11 => at 0 shows 4, 0;
+        IO_APIC if IO_APIC_RESERVED != 0 => at 0 shows 3, 0;
+        OVERRIDE if OVERRIDE_FLAGS > 0b1111 => at 0 shows 8, 0;
+        NMI_SOURCE if NMI_SOURCE_FLAGS > 0b1111 => at 0 shows 2, 0;
+        LOCAL_NMI if LOCAL_NMI_FLAGS > 0b1111 => at 0 shows 3, 0;
+        ADDRESS_OVERRIDE if ADDRESS_OVERRIDE_RESERVED != 0 => at 0 shows 2, 0;
+        ADDRESS_OVERRIDE if ADDRESS_OVERRIDE_RESERVED_1 != 0 => at 0 shows 3, 0;
+        X2APIC if X2APIC_RESERVED != 0 => at 0 shows 2, 0;
+        X2APIC if X2APIC_RESERVED_1 != 0 => at 0 shows 3, 0;
+        X2APIC if X2APIC_FLAGS > 0b11 => at 0 shows 8, 0;
+        X2APIC_NMI if X2APIC_NMI_FLAGS > 0b1111 => at 0 shows 2, 0;
+        X2APIC_NMI if X2APIC_NMI_RESERVED != 0 => at 0 shows 9, 0;
+        X2APIC_NMI if X2APIC_NMI_RESERVED_1 != 0 => at 0 shows 10, 0;
+        X2APIC_NMI if X2APIC_NMI_RESERVED_2 != 0 => at 0 shows 11, 0;
+        GICD if GICD_RESERVED != 0 => at 0 shows 16, 0;
+        GICD if GICD_RESERVED_1 != 0 => at 0 shows 17, 0;
+        GICD if GICD_RESERVED_2 != 0 => at 0 shows 18, 0;
+        GICD if GICD_RESERVED_3 != 0 => at 0 shows 19, 0;
+        GICD if GICD_VERSION > 4 => at 0 shows 20, 0
+    }),
+];
+
+/// Rules on the MADT with the FADT.
+pub static MADT_WITH_FADT: [Row<'static>; 2] = [
+    // a processor is Online Capable and not Enabled, and the FADT is older than 6.3, or 6.5 for a GICC: its Revision is the
+    // major version, and the lower 4 bits of the byte at 131 are the minor one, 0 if it is not there
+    rule!(152 CapableTooEarly, given in MADT_ENTRIES: {
+        LOCAL_APIC if (LOCAL_APIC_FLAGS & 0b11) == 0b10
+            && (((other MINOR_VERSION) & 0xf) + 16 * (other REVISION)) < 0x63
+            => at 0 shows (other REVISION), ((other MINOR_VERSION) & 0xf);
+        LOCAL_APIC if (LOCAL_APIC_FLAGS & 0b11) == 0b10
+            && (length other) < 132 && (other REVISION) <= 6
+            => at 0 shows (other REVISION), 0;
+        X2APIC if (X2APIC_FLAGS & 0b11) == 0b10
+            && (((other MINOR_VERSION) & 0xf) + 16 * (other REVISION)) < 0x63
+            => at 0 shows (other REVISION), ((other MINOR_VERSION) & 0xf);
+        X2APIC if (X2APIC_FLAGS & 0b11) == 0b10
+            && (length other) < 132 && (other REVISION) <= 6
+            => at 0 shows (other REVISION), 0;
+        GICC if (GICC_FLAGS & 0b1001) == 0b1000
+            && (((other MINOR_VERSION) & 0xf) + 16 * (other REVISION)) < 0x65
+            => at 0 shows (other REVISION), ((other MINOR_VERSION) & 0xf);
+        GICC if (GICC_FLAGS & 0b1001) == 0b1000
+            && (length other) < 132 && (other REVISION) <= 6
+            => at 0 shows (other REVISION), 0
+    }),
+    // an override is for an interrupt above 15 that is not SCI_INT (5.2.12.5)
+    rule!(154 OverridePastIsa, given in MADT_ENTRIES: {
+        OVERRIDE if OVERRIDE_SOURCE > 15 && OVERRIDE_SOURCE != (other SCI_INT)
+            => at 0 shows OVERRIDE_SOURCE, OVERRIDE_GSI
+    }),
+];
+
+/// Rules on the MADT with the SRAT.
+pub static MADT_WITH_SRAT: [Row<'static>; 2] = [
+    // a usable processor with an APIC ID is not in the SRAT, which has others and is well-formed (5.2.16)
+    rule!(119 NoDomain, nowhere in MADT_ENTRIES where
+        PROCESSORS_READ, OTHER_SRAT_WHOLE, OTHER_SRAT_LENGTHS, PLACED_PROCESSORS:
+        {
+            LOCAL_APIC if (LOCAL_APIC_FLAGS & 0b11) != 0 => at 0 shows 0, LOCAL_APIC_ID;
+            X2APIC if (X2APIC_FLAGS & 0b11) != 0 => at 0 shows 0, X2APIC_ID;
+            CORE_PIC if (CORE_PIC_FLAGS & 0b1) != 0 => at 0 shows 0, CORE_PIC_ID
+        }
+        among other SRAT_ENTRIES PLACED_APIC_IDS),
+    // the same of one that has none, by its UID
+    rule!(119 NoDomain, nowhere in MADT_ENTRIES where
+        PROCESSORS_READ, OTHER_SRAT_WHOLE, OTHER_SRAT_LENGTHS, PLACED_PROCESSORS:
+        {
+            GICC if (GICC_FLAGS & 0b1001) != 0 => at 0 shows 0, GICC_UID;
+            RINTC if (RINTC_FLAGS & 0b11) != 0 => at 0 shows 0, RINTC_UID
+        }
+        among other SRAT_ENTRIES PLACED_UIDS),
+];

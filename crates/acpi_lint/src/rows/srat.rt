@@ -1,0 +1,156 @@
+//! Rules on the SRAT (ACPI 6.5, 5.2.16), by itself and with the MADT.
+
+use crate::rows::madt::{
+    APIC_IDS, OTHER_MADT_LENGTHS, OTHER_MADT_WHOLE, OTHER_PROCESSORS_READ, UIDS,
+};
+use crate::rows::madt_fields::{ITS, ITS_ID, MADT_ENTRIES};
+use crate::rows::srat_fields::*;
+use crate::rows::table_fields::{REVISION, TABLE, TYPE, WHOLE};
+use acpi_rules::{
+    Case, Clause, Form, Guard, Kind, Need, Path, Repeat, Row, Source, Term, Test, Value, Within,
+};
+
+// ---- what entries give
+
+/// The APIC ID or x2APIC ID of each enabled affinity of one.
+pub const PLACED_APIC_IDS: &[Case<'static>] = cases!({
+    APIC_AFFINITY if (APIC_AFFINITY_FLAGS & 0b1) != 0 => at 0 shows 0, APIC_AFFINITY_ID;
+    X2APIC_AFFINITY if (X2APIC_AFFINITY_FLAGS & 0b1) != 0 => at 0 shows 0, X2APIC_AFFINITY_ID
+});
+
+/// The UID of each enabled affinity of one.
+pub const PLACED_UIDS: &[Case<'static>] = cases!({
+    GICC_AFFINITY if (GICC_AFFINITY_FLAGS & 0b1) != 0 => at 0 shows 0, GICC_AFFINITY_UID;
+    RINTC_AFFINITY if (RINTC_AFFINITY_FLAGS & 0b1) != 0 => at 0 shows 0, RINTC_AFFINITY_UID
+});
+
+/// An enabled affinity of a processor.
+const PROCESSOR_AFFINITIES: &[Case<'static>] = any!({
+    APIC_AFFINITY if (APIC_AFFINITY_FLAGS & 0b1) != 0;
+    X2APIC_AFFINITY if (X2APIC_AFFINITY_FLAGS & 0b1) != 0;
+    GICC_AFFINITY if (GICC_AFFINITY_FLAGS & 0b1) != 0;
+    RINTC_AFFINITY if (RINTC_AFFINITY_FLAGS & 0b1) != 0
+});
+
+// ---- conditions
+
+/// The entries fill the table, and those of a type that `check` reads have its length.
+const SRAT_WHOLE: Guard<'static> = guard!((whole table SRAT_ENTRIES));
+
+pub const OTHER_SRAT_WHOLE: Guard<'static> = guard!((whole other SRAT_ENTRIES));
+
+const SRAT_LENGTHS: Guard<'static> = guard!((none table SRAT_ENTRIES: OTHER_LENGTHS));
+
+pub const OTHER_SRAT_LENGTHS: Guard<'static> = guard!((none other SRAT_ENTRIES: OTHER_LENGTHS));
+
+const OTHER_LENGTHS: &[Case<'static>] = any!({
+    (any APIC_AFFINITY) if (length own) != 16;
+    (any MEMORY) if (length own) != 40;
+    (any X2APIC_AFFINITY) if (length own) != 24
+});
+
+/// The other table, an SRAT, has an enabled affinity of a processor.
+pub const PLACED_PROCESSORS: Guard<'static> =
+    guard!((some other SRAT_ENTRIES: PROCESSOR_AFFINITIES));
+
+/// No entry of the other table, a MADT, has the type of an ITS and another length.
+const OTHER_ITS_READ: Guard<'static> = guard!((none other MADT_ENTRIES: {
+    (any ITS) if (length own) != 20
+}));
+
+// ---- the rules
+
+/// Rules on the SRAT.
+pub static SRAT: [Row<'static>; 8] = [
+    // two enabled affinities of one UID place it in two domains (5.2.16.4)
+    rule!(117 TwoUidDomains, unlike_first in SRAT_ENTRIES: {
+        GICC_AFFINITY if (GICC_AFFINITY_FLAGS & 0b1) != 0
+            => at 0 shows GICC_AFFINITY_DOMAIN, GICC_AFFINITY_UID;
+        RINTC_AFFINITY if (RINTC_AFFINITY_FLAGS & 0b1) != 0
+            => at 0 shows RINTC_AFFINITY_DOMAIN, RINTC_AFFINITY_UID
+    }),
+    // an entry of a type or length that neither `check` nor these rules read
+    rule!(128 SratUnread, given in SRAT_ENTRIES: {
+        (any GICC_AFFINITY) if (length own) != 18 => at 0 shows TYPE, 0;
+        (any ITS_AFFINITY) if (length own) != 12 => at 0 shows TYPE, 0;
+        (any INITIATOR) if (length own) != 32 => at 0 shows TYPE, 0;
+        (any PORT) if (length own) != 32 => at 0 shows TYPE, 0;
+        (any RINTC_AFFINITY) if (length own) != 20 => at 0 shows TYPE, 0;
+        SRAT_FROM_8 => at 0 shows TYPE, 0
+    }),
+    // an enabled affinity of a processor, and no enabled range of memory that has bytes (5.2.16.2)
+    rule!(173 NoMemoryRange, given in TABLE where
+        (none table SRAT_ENTRIES: { MEMORY if (MEMORY_FLAGS & 0b1) != 0 && MEMORY_LENGTH != 0 }),
+        (some table SRAT_ENTRIES: PROCESSOR_AFFINITIES),
+        SRAT_WHOLE, SRAT_LENGTHS:
+    {
+        WHOLE => at 0 shows 0, 0
+    }),
+    // an enabled range of memory has no bytes
+    rule!(174 EmptyRange, given in SRAT_ENTRIES: {
+        MEMORY if (MEMORY_FLAGS & 0b1) != 0 && MEMORY_LENGTH == 0 => at 0 shows 0, MEMORY_BASE
+    }),
+    // the affinity of a generic initiator is not enabled (5.2.16.6)
+    rule!(175 InitiatorOff, given in SRAT_ENTRIES: {
+        INITIATOR if (INITIATOR_FLAGS & 0b1) == 0 => at 0 shows 0, INITIATOR_DOMAIN
+    }),
+    // a domain above 255 in an SRAT of a Revision below 2, in which domains of local APICs and of memory had one byte
+    rule!(176 DomainPastRevision, given in SRAT_ENTRIES: {
+        APIC_AFFINITY if (table REVISION) < 2 && (APIC_AFFINITY_FLAGS & 0b1) != 0
+            && APIC_AFFINITY_DOMAIN_HIGH != 0
+            => at 0 shows (table REVISION), (APIC_AFFINITY_DOMAIN + 256 * APIC_AFFINITY_DOMAIN_HIGH);
+        MEMORY if (table REVISION) < 2 && (MEMORY_FLAGS & 0b1) != 0 && MEMORY_DOMAIN > 255
+            => at 0 shows (table REVISION), MEMORY_DOMAIN
+    }),
+    // the reserved number of the table is not 1
+    rule!(178 SratReserved, given in TABLE: {
+        WHOLE if SRAT_RESERVED != 1 => at 36 shows 0, SRAT_RESERVED
+    }),
+    // a flag of an entry that is not defined, or a reserved byte; `other` is its offset in the entry
+    rule!(178 SratReserved, given in SRAT_ENTRIES: {
+        APIC_AFFINITY if APIC_AFFINITY_FLAGS > 0b1 => at 0 shows 4, 0;
+        MEMORY if MEMORY_RESERVED != 0 => at 0 shows 6, 0;
+        MEMORY if MEMORY_RESERVED_1 != 0 => at 0 shows 7, 0;
+        MEMORY if MEMORY_RESERVED_2 != 0 => at 0 shows 24, 0;
+        MEMORY if MEMORY_RESERVED_3 != 0 => at 0 shows 25, 0;
+        MEMORY if MEMORY_RESERVED_4 != 0 => at 0 shows 26, 0;
+        MEMORY if MEMORY_RESERVED_5 != 0 => at 0 shows 27, 0;
+        MEMORY if MEMORY_FLAGS > 0b111 => at 0 shows 28, 0;
+        MEMORY if MEMORY_RESERVED_6 != 0 => at 0 shows 32, 0;
+        MEMORY if MEMORY_RESERVED_7 != 0 => at 0 shows 33, 0;
+        MEMORY if MEMORY_RESERVED_8 != 0 => at 0 shows 34, 0;
+        MEMORY if MEMORY_RESERVED_9 != 0 => at 0 shows 35, 0;
+        MEMORY if MEMORY_RESERVED_10 != 0 => at 0 shows 36, 0;
+        MEMORY if MEMORY_RESERVED_11 != 0 => at 0 shows 37, 0;
+        MEMORY if MEMORY_RESERVED_12 != 0 => at 0 shows 38, 0;
+        MEMORY if MEMORY_RESERVED_13 != 0 => at 0 shows 39, 0;
+        X2APIC_AFFINITY if X2APIC_AFFINITY_RESERVED != 0 => at 0 shows 2, 0;
+        X2APIC_AFFINITY if X2APIC_AFFINITY_RESERVED_1 != 0 => at 0 shows 3, 0;
+        X2APIC_AFFINITY if X2APIC_AFFINITY_FLAGS > 0b1 => at 0 shows 12, 0;
+        X2APIC_AFFINITY if X2APIC_AFFINITY_RESERVED_2 != 0 => at 0 shows 20, 0;
+        X2APIC_AFFINITY if X2APIC_AFFINITY_RESERVED_3 != 0 => at 0 shows 21, 0;
+        X2APIC_AFFINITY if X2APIC_AFFINITY_RESERVED_4 != 0 => at 0 shows 22, 0;
+        X2APIC_AFFINITY if X2APIC_AFFINITY_RESERVED_5 != 0 => at 0 shows 23, 0
+    }),
+];
+
+/// Rules on the SRAT with the MADT.
+pub static SRAT_WITH_MADT: [Row<'static>; 3] = [
+    // an enabled affinity is for an APIC ID that no processor has, and all are known
+    rule!(118 AffinityNowhere, nowhere in SRAT_ENTRIES where
+        OTHER_PROCESSORS_READ, OTHER_MADT_WHOLE, OTHER_MADT_LENGTHS: PLACED_APIC_IDS
+        among other MADT_ENTRIES APIC_IDS),
+    // the same of one for a UID
+    rule!(118 AffinityNowhere, nowhere in SRAT_ENTRIES where
+        OTHER_PROCESSORS_READ, OTHER_MADT_WHOLE, OTHER_MADT_LENGTHS: PLACED_UIDS
+        among other MADT_ENTRIES UIDS),
+    // an affinity is for an ITS that the MADT does not have (5.2.16.5)
+    rule!(177 ItsNowhere, nowhere in SRAT_ENTRIES where
+        OTHER_ITS_READ, OTHER_MADT_WHOLE, OTHER_MADT_LENGTHS:
+        {
+            ITS_AFFINITY => at 0 shows 0, ITS_AFFINITY_ID
+        }
+        among other MADT_ENTRIES {
+            ITS => at 0 shows 0, ITS_ID
+        }),
+];

@@ -1,0 +1,437 @@
+-- The first finding of rows, by computing, for examples.
+use Rattle.std.proofs.Common.{◌≡◌, ℕ, List, [], ◌∷◌, ◌++◌, Option, Some, None, Bool, true, false, ap, arith, inl, inr, refl, sym, subst}
+use Rattle.std.specs.Prelude.{◌⊎◌, ◌==◌, ◌&&◌, ◌||◌, Contains, not, nat_lt, nat_le, if◌then◌else◌}
+use Rattle.std.specs.Bool.{Decides}
+use Rattle.std.specs.List.{filter_map, list_all, list_any}
+use Rattle.std.proofs.lemmas.Bool.{leb-true, le-leb}
+use Rattle.std.proofs.lemmas.Bool.Decides.{Decides-and, Decides-eqb, Decides-ltb, Decides-not, Decides-or, eqb_tells, not_from_Decides}
+use Rattle.std.proofs.lemmas.List.Elements.{Contains-append_left, Contains-append_right, Contains-append_cases}
+use Rattle.std.proofs.lemmas.Option.{same_Some}
+use Rattle.acpi_base.proofs.Elements.{first_element, first_or_later, later_element, no_element}
+use Rattle.acpi_rules.specs.Cases.{Case, gives}
+use Rattle.acpi_rules.specs.Numbered.{IsNoLater, IsRepeated, IsTold, repeat_place}
+use Rattle.acpi_rules.specs.Places.{FindsLeast, IsNotAfter}
+use Rattle.acpi_rules.specs.Rows.{GivenIn, InForm, IsBroken, IsKnown, Row, guard_holds, of_source, reported}
+use Rattle.acpi_rules.specs.Sites.{first_cut, sites_of}
+use Rattle.acpi_rules.specs.Terms.{TwoTables}
+use Rattle.acpi_rules.specs.declared.numbered.Numbered.{Numbered}
+use Rattle.acpi_rules.specs.declared.numbered.Repeat.{Repeat}
+use Rattle.acpi_rules.specs.declared.numbered.Repeat.TheVariants as repeat
+use Rattle.acpi_rules.specs.declared.place.Place.{Place}
+use Rattle.acpi_rules.specs.declared.row.Form.{Form}
+use Rattle.acpi_rules.specs.declared.row.Form.TheVariants as form
+use Rattle.acpi_rules.specs.declared.series.Path.{Path}
+use Rattle.acpi_rules.specs.declared.structures.Cut.{Cut}
+use Rattle.acpi_rules.proofs.Elements.{kept_from, kept_has}
+use Rattle.acpi_rules.proofs.LeastPlaces.{least_as, not_after_itself, not_after_trans}
+
+-- ---- tests of all elements
+
+decides_all : {X : Type 0} (p : X → Bool) (P : X → Type 0) → ((x : X) → Decides (p x) (P x)) → (xs : List X)
+    → Decides (list_all p xs) ((x : X) → Contains xs x → P x)
+decides_all p P each [] = (λ passes x listed. absurd (no_element x listed), λ all. refl)
+decides_all {X} p P each (u ∷ xs) =
+    let rest = decides_all p P each xs in
+    let both = Decides-and (p u) (list_all p xs) (each u) rest in (
+      λ passes x listed.
+          let parts = both.0 passes in
+          elim (first_or_later u x xs listed) [
+            | inl same ↦ subst P same parts.0
+            | inr later ↦ parts.1 x later
+          ],
+      λ all. both.1 (all u (first_element u xs), λ x later. all x (later_element u x xs later)),
+    )
+
+decides_any : {X : Type 0} (p : X → Bool) (P : X → Type 0) → ((x : X) → Decides (p x) (P x)) → (xs : List X)
+    → Decides (list_any p xs) ((x : X) × Contains xs x × P x)
+decides_any p P each [] = (λ passes. absurd cc, λ (x, listed, is). absurd (no_element x listed))
+decides_any {X} p P each (u ∷ xs) =
+    let rest = decides_any p P each xs in
+    let either = Decides-or (p u) (list_any p xs) (each u) rest in (
+      λ passes. elim (either.0 passes) [
+        | inl here ↦ (u, first_element u xs, here)
+        | inr (x, listed, is) ↦ (x, later_element u x xs listed, is)
+      ],
+      λ (x, listed, is). either.1
+          (elim (first_or_later u x xs listed) [
+            | inl same ↦ inl (subst P (sym same) is)
+            | inr later ↦ inr (x, later, is)
+          ]),
+    )
+
+-- ---- the lowest of some places
+
+abbrev not_after : Place → Place → Bool
+not_after p q =
+    nat_lt p.at q.at
+    || ((p.at == q.at) && (nat_lt p.other q.other || ((p.other == q.other) && nat_le p.point q.point)))
+
+decides_not_after : (p q : Place) → Decides (not_after p q) (IsNotAfter p q.at q.other q.point)
+decides_not_after p q =
+    Decides-or (nat_lt p.at q.at) _ (Decides-ltb p.at q.at)
+    (Decides-and (p.at == q.at) _ (Decides-eqb p.at q.at)
+    (Decides-or (nat_lt p.other q.other) _ (Decides-ltb p.other q.other)
+    (Decides-and (p.other == q.other) _ (Decides-eqb p.other q.other)
+    (leb-true p.point q.point, le-leb p.point q.point))))
+
+abbrev lower : Place → Option Place → Place
+lower p None = p
+lower p (Some q) = if not_after p q then p else q
+
+abbrev pub lowest : List Place → Option Place
+lowest [] = None
+lowest (p ∷ ps) = Some (lower p (lowest ps))
+
+-- this place is among these
+abbrev IsAmong : List Place → ℕ → ℕ → ℕ → Type 0
+IsAmong ps at other point = Contains ps (record { at = at; other = other; point = point })
+
+finds_lowest : (ps : List Place) → FindsLeast (IsAmong ps) (lowest ps)
+finds_lowest [] = λ at other point listed. no_element _ listed
+finds_lowest (p ∷ ps) = by (lowest ps) (finds_lowest ps)
+  where
+    itself : (r : Place) → IsNotAfter r r.at r.other r.point
+    itself r = not_after_itself r r.at r.other r.point (refl, refl, refl)
+
+    of_first : (r : Place) → IsNotAfter r p.at p.other p.point
+        → ((at other point : ℕ) → IsAmong ps at other point → IsNotAfter r at other point)
+        → (at other point : ℕ) → IsAmong (p ∷ ps) at other point → IsNotAfter r at other point
+    of_first r first rest at other point listed =
+        elim (first_or_later p _ ps listed) [
+          | inl same ↦ subst (λ (q : Place). IsNotAfter r q.at q.other q.point) same first
+          | inr later ↦ rest at other point later
+        ]
+
+    before : (q : Place) → ¬ IsNotAfter p q.at q.other q.point → IsNotAfter q p.at p.other p.point
+    before q differ = grind (arith, differ)
+
+    either : (q : Place) (b : Bool) → Decides b (IsNotAfter p q.at q.other q.point) → FindsLeast (IsAmong ps) (Some q)
+        → FindsLeast (IsAmong (p ∷ ps)) (Some (if b then p else q))
+    either q true decides found =
+        record {
+          here = first_element p ps;
+          least = of_first p (itself p) (λ at other point listed.
+              not_after_trans p q at other point (decides.0 refl) (found.least at other point listed));
+        }
+    either q false decides found =
+        record {
+          here = later_element p q ps found.here;
+          least = of_first q (before q (not_from_Decides false decides refl)) found.least;
+        }
+
+    by : (o : Option Place) → FindsLeast (IsAmong ps) o → FindsLeast (IsAmong (p ∷ ps)) (Some (lower p o))
+    by None none =
+        record {
+          here = first_element p ps;
+          least = of_first p (itself p) (λ at other point listed. absurd (none at other point listed));
+        }
+    by (Some q) found = either q (not_after p q) (decides_not_after p q) found
+
+-- ---- lists for each element
+
+abbrev over : {X Y : Type 0} → (X → List Y) → List X → List Y
+over f [] = []
+over f (x ∷ xs) = f x ++ over f xs
+
+over_has : {X Y : Type 0} (f : X → List Y) (xs : List X) (x : X) (y : Y) → Contains xs x → Contains (f x) y
+    → Contains (over f xs) y
+over_has f [] x y listed within = absurd (no_element x listed)
+over_has {X} f (u ∷ xs) x y listed within =
+    elim (first_or_later u x xs listed) [
+      | inl same ↦
+          Contains-append_left (f u) (over f xs) y (subst (λ (z : X). Contains (f z) y) (sym same) within)
+      | inr later ↦ Contains-append_right (f u) (over f xs) y (over_has f xs x y later within)
+    ]
+
+over_from : {X Y : Type 0} (f : X → List Y) (xs : List X) (y : Y) → Contains (over f xs) y
+    → (x : X) × Contains xs x × Contains (f x) y
+over_from f [] y listed = absurd (no_element y listed)
+over_from f (u ∷ xs) y listed =
+    elim (Contains-append_cases (f u) (over f xs) y listed) [
+      | inl here ↦ (u, first_element u xs, here)
+      | inr later ↦
+          let (x, rest, within) = over_from f xs y later in (x, later_element u x xs rest, within)
+    ]
+
+-- ---- what each form finds
+
+-- the numbers that structures give
+abbrev numbers : TwoTables → Path → List Case → List Numbered
+numbers t path cases = filter_map (gives t cases) (sites_of path t.table)
+
+numbers_has : (t : TwoTables) (path : Path) (cases : List Case) (g : Numbered) → GivenIn t path cases g
+    → Contains (numbers t path cases) g
+numbers_has t path cases g (s, listed, is) = kept_has (gives t cases) (sites_of path t.table) s g listed is
+
+numbers_from : (t : TwoTables) (path : Path) (cases : List Case) (g : Numbered) → Contains (numbers t path cases) g
+    → GivenIn t path cases g
+numbers_from t path cases g listed = kept_from (gives t cases) (sites_of path t.table) g listed
+
+abbrev given_place : Numbered → Place
+given_place g = record { at = g.at; other = g.value; point = g.number }
+
+-- the places of numbers that a test passes
+abbrev passed : (Numbered → Bool) → Numbered → Option Place
+passed test g = if test g then Some (given_place g) else None
+
+same_number : (g : Numbered) (at other point : ℕ)
+    → given_place g ≡ record { at = at; other = other; point = point } → g ≡ reported at other point
+same_number g at other point same =
+    λ i. record { number = (same i).point; at = (same i).at; value = (same i).other }
+
+passed_has : (test : Numbered → Bool) (P : Numbered → Type 0) → ((g : Numbered) → Decides (test g) (P g))
+    → (all : List Numbered) (at other point : ℕ) → Contains all (reported at other point) → P (reported at other point)
+    → IsAmong (filter_map (passed test) all) at other point
+passed_has test P each all at other point listed holds =
+    let g = reported at other point in
+    kept_has (passed test) all g (given_place g) listed (of (test g) ((each g).1 holds))
+  where
+    of : (b : Bool) → b ≡ true
+        → (if b then Some (given_place (reported at other point)) else None)
+        ≡ Some (given_place (reported at other point))
+    of b is = rw is refl
+
+passed_from : (test : Numbered → Bool) (P : Numbered → Type 0) → ((g : Numbered) → Decides (test g) (P g))
+    → (all : List Numbered) (at other point : ℕ) → IsAmong (filter_map (passed test) all) at other point
+    → Contains all (reported at other point) × P (reported at other point)
+passed_from test P each all at other point among =
+    let (g, listed, is) = kept_from (passed test) all _ among in
+    of g listed (test g) (each g) is
+  where
+    of : (g : Numbered) → Contains all g → (b : Bool) → Decides b (P g)
+        → (if b then Some (given_place g) else None) ≡ Some (record { at = at; other = other; point = point })
+        → Contains all (reported at other point) × P (reported at other point)
+    of g listed true decides is =
+        let same = same_number g at other point (same_Some _ _ is) in
+        (subst (Contains all) same listed, subst P same (decides.0 refl))
+    of g listed false decides is = cc
+
+-- ---- numbers that occur again
+
+abbrev no_later : Numbered → Numbered → Bool
+no_later f h = nat_lt f.at h.at || ((f.at == h.at) && nat_le f.value h.value)
+
+decides_no_later : (f h : Numbered) → Decides (no_later f h) (IsNoLater f h)
+decides_no_later f h =
+    Decides-or (nat_lt f.at h.at) _ (Decides-ltb f.at h.at)
+    (Decides-and (f.at == h.at) _ (Decides-eqb f.at h.at) (leb-true f.value h.value, le-leb f.value h.value))
+
+abbrev is_first : List Numbered → Numbered → Bool
+is_first all f = list_all (λ h. not (h.number == f.number) || no_later f h) all
+
+decides_first : (all : List Numbered) (f : Numbered)
+    → Decides (is_first all f) ((h : Numbered) → Contains all h → (¬ (h.number ≡ f.number)) ⊎ IsNoLater f h)
+decides_first all f =
+    decides_all (λ h. not (h.number == f.number) || no_later f h)
+    (λ h. (¬ (h.number ≡ f.number)) ⊎ IsNoLater f h)
+    (λ h. Decides-or (not (h.number == f.number)) (no_later f h)
+    (Decides-not (h.number == f.number) (Decides-eqb h.number f.number)) (decides_no_later f h)) all
+
+abbrev is_told : Repeat → Numbered → Numbered → Bool
+is_told repeat.Twice g f = not (g.at == f.at)
+is_told repeat.Unlike g f = not (g.value == f.value)
+is_told repeat.UnlikeFirst g f = not (g.value == f.value)
+
+decides_told : (r : Repeat) (g f : Numbered) → Decides (is_told r g f) (IsTold r g f)
+decides_told repeat.Twice g f = Decides-not (g.at == f.at) (Decides-eqb g.at f.at)
+decides_told repeat.Unlike g f = Decides-not (g.value == f.value) (Decides-eqb g.value f.value)
+decides_told repeat.UnlikeFirst g f = Decides-not (g.value == f.value) (Decides-eqb g.value f.value)
+
+-- f is the first one of g's number, and this is told of g
+abbrev is_repeat : Repeat → List Numbered → Numbered → Numbered → Bool
+is_repeat r all g f = (g.number == f.number) && (is_first all f && is_told r g f)
+
+abbrev IsRepeat : Repeat → List Numbered → Numbered → Numbered → Type 0
+IsRepeat r all g f =
+    (g.number ≡ f.number)
+    × (((h : Numbered) → Contains all h → (¬ (h.number ≡ f.number)) ⊎ IsNoLater f h) × IsTold r g f)
+
+decides_repeat : (r : Repeat) (all : List Numbered) (g f : Numbered)
+    → Decides (is_repeat r all g f) (IsRepeat r all g f)
+decides_repeat r all g f =
+    Decides-and (g.number == f.number) _ (Decides-eqb g.number f.number)
+    (Decides-and (is_first all f) _ (decides_first all f) (decides_told r g f))
+
+abbrev repeat_here : Repeat → List Numbered → Numbered → Numbered → Option Place
+repeat_here r all g f = if is_repeat r all g f then Some (repeat_place r g f) else None
+
+abbrev repeats : Repeat → List Numbered → List Place
+repeats r all = over (λ g. filter_map (repeat_here r all g) all) all
+
+repeats_has : (r : Repeat) (all : List Numbered) (Has : Numbered → Type 0)
+    → ((g : Numbered) → Has g → Contains all g) → ((g : Numbered) → Contains all g → Has g)
+    → (at other point : ℕ) → IsRepeated r Has at other point → IsAmong (repeats r all) at other point
+repeats_has r all Has there back at other point (g, f, it, is) =
+    over_has (λ g. filter_map (repeat_here r all g) all) all g _ (there g it.here)
+    (kept_has (repeat_here r all g) all f _ (there f it.first.here)
+    (of (is_repeat r all g f) ((decides_repeat r all g f).1 (it.same, (firsts, it.told)))))
+  where
+    firsts : (h : Numbered) → Contains all h → (¬ (h.number ≡ f.number)) ⊎ IsNoLater f h
+    firsts h listed =
+        elim (eqb_tells h.number f.number) [
+          | inl (_, same) ↦ inr (it.first.least h (back h listed) same)
+          | inr (_, differ) ↦ inl differ
+        ]
+
+    of : (b : Bool) → b ≡ true
+        → (if b then Some (repeat_place r g f) else None) ≡ Some (record { at = at; other = other; point = point })
+    of b passes = rw passes (ap Some is)
+
+repeats_from : (r : Repeat) (all : List Numbered) (Has : Numbered → Type 0)
+    → ((g : Numbered) → Has g → Contains all g) → ((g : Numbered) → Contains all g → Has g)
+    → (at other point : ℕ) → IsAmong (repeats r all) at other point → IsRepeated r Has at other point
+repeats_from r all Has there back at other point among =
+    let (g, in_all, within) = over_from (λ g. filter_map (repeat_here r all g) all) all _ among in
+    let (f, listed, is) = kept_from (repeat_here r all g) all _ within in
+    of g in_all f listed (is_repeat r all g f) (decides_repeat r all g f) is
+  where
+    of : (g : Numbered) → Contains all g → (f : Numbered) → Contains all f → (b : Bool) → Decides b (IsRepeat r all g f)
+        → (if b then Some (repeat_place r g f) else None) ≡ Some (record { at = at; other = other; point = point })
+        → IsRepeated r Has at other point
+    of g in_all f listed false decides is = cc
+    of g in_all f listed true decides is =
+        let (same, (firsts, told)) = decides.0 refl in (
+          g,
+          f,
+          record {
+            first =
+                record {
+                  here = back f listed;
+                  least = λ h has equal. elim (firsts h (there h has)) [
+                    | inl differ ↦ absurd (differ equal)
+                    | inr before ↦ before
+                  ];
+                };
+            here = back g in_all;
+            same = same;
+            told = told;
+          },
+          same_Some _ _ is,
+        )
+
+-- ---- the forms
+
+abbrev knows : List Numbered → ℕ → Bool
+knows known n = list_any (λ k. k.number == n) known
+
+abbrev unknown : List Numbered → Numbered → Bool
+unknown known g = not (knows known g.number)
+
+decides_unknown : (row : Row) (t : TwoTables) (g : Numbered)
+    → Decides (unknown (numbers (of_source row.source t) row.known_path row.known_cases) g) (¬ IsKnown row t g.number)
+decides_unknown row t g =
+    let known = numbers (of_source row.source t) row.known_path row.known_cases in
+    let any = decides_any (λ k. k.number == g.number) (λ k. k.number ≡ g.number)
+    (λ k. Decides-eqb k.number g.number) known in
+    Decides-not (knows known g.number) (
+      λ passes.
+          let (k, listed, is) = any.0 passes in
+          (k, numbers_from (of_source row.source t) row.known_path row.known_cases k listed, is),
+      λ (k, given, is). any.1
+          (k, numbers_has (of_source row.source t) row.known_path row.known_cases k given, is),
+    )
+
+abbrev cut_place : Option Cut → List Place
+cut_place None = []
+cut_place (Some cut) = record { at = cut.at; other = cut.said; point = cut.end } ∷ []
+
+abbrev places : Form → Row → TwoTables → List Place
+places form.Given row t = filter_map (passed (λ g. true)) (numbers t row.path row.cases)
+places (form.Repeated r) row t = repeats r (numbers t row.path row.cases)
+places form.Nowhere row t =
+    filter_map (passed (unknown (numbers (of_source row.source t) row.known_path row.known_cases)))
+    (numbers t row.path row.cases)
+places form.Cut row t = cut_place (first_cut row.path t.table)
+
+always : (g : Numbered) → Decides true (Unit {0})
+always g = (λ passes. tt, λ holds. refl)
+
+in_form_has : (f : Form) (row : Row) (t : TwoTables) (at other point : ℕ) → InForm f row t at other point
+    → IsAmong (places f row t) at other point
+in_form_has form.Given row t at other point given =
+    passed_has (λ g. true) (λ g. Unit {0}) always (numbers t row.path row.cases) at other point
+    (numbers_has t row.path row.cases _ given) tt
+in_form_has (form.Repeated r) row t at other point is =
+    repeats_has r (numbers t row.path row.cases) (GivenIn t row.path row.cases) (numbers_has t row.path row.cases)
+    (numbers_from t row.path row.cases) at other point is
+in_form_has form.Nowhere row t at other point (given, none) =
+    passed_has (unknown (numbers (of_source row.source t) row.known_path row.known_cases))
+    (λ g. ¬ IsKnown row t g.number) (decides_unknown row t) (numbers t row.path row.cases) at other point
+    (numbers_has t row.path row.cases _ given) none
+in_form_has form.Cut row t at other point is = rw is (first_element _ [])
+
+in_form_from : (f : Form) (row : Row) (t : TwoTables) (at other point : ℕ) → IsAmong (places f row t) at other point
+    → InForm f row t at other point
+in_form_from form.Given row t at other point among =
+    numbers_from t row.path row.cases _
+    (passed_from (λ g. true) (λ g. Unit {0}) always (numbers t row.path row.cases) at other point among).0
+in_form_from (form.Repeated r) row t at other point among =
+    repeats_from r (numbers t row.path row.cases) (GivenIn t row.path row.cases) (numbers_has t row.path row.cases)
+    (numbers_from t row.path row.cases) at other point among
+in_form_from form.Nowhere row t at other point among =
+    let (listed, none) = passed_from (unknown (numbers (of_source row.source t) row.known_path row.known_cases))
+    (λ g. ¬ IsKnown row t g.number) (decides_unknown row t) (numbers t row.path row.cases) at other point among in
+    (numbers_from t row.path row.cases _ listed, none)
+in_form_from form.Cut row t at other point among = of (first_cut row.path t.table) among
+  where
+    of : (o : Option Cut) → IsAmong (cut_place o) at other point
+        → o ≡ Some (record { at = at; said = other; end = point })
+    of None listed = absurd (no_element _ listed)
+    of (Some cut) listed =
+        elim (first_or_later _ _ [] listed) [
+          | inl same ↦ ap Some (λ i. record { at = (same i).at; said = (same i).other; end = (same i).point })
+          | inr none ↦ absurd (no_element _ none)
+        ]
+
+-- ---- rows
+
+-- where tables break a row
+abbrev places_of : TwoTables → Row → List Place
+places_of t row = if list_all (guard_holds t) row.guards then places row.form row t else []
+
+broken_has : (t : TwoTables) (row : Row) (at other point : ℕ) → IsBroken row t at other point
+    → IsAmong (places_of t row) at other point
+broken_has t row at other point broken = of (list_all (guard_holds t) row.guards) broken.about
+  where
+    of : (b : Bool) → b ≡ true → IsAmong (if b then places row.form row t else []) at other point
+    of b hold = rw hold (in_form_has row.form row t at other point broken.broken)
+
+broken_from : (t : TwoTables) (row : Row) (at other point : ℕ) → IsAmong (places_of t row) at other point
+    → IsBroken row t at other point
+broken_from t row at other point among = of (list_all (guard_holds t) row.guards) refl among
+  where
+    of : (b : Bool) → list_all (guard_holds t) row.guards ≡ b
+        → IsAmong (if b then places row.form row t else []) at other point → IsBroken row t at other point
+    of false is listed = absurd (no_element _ listed)
+    of true is listed = record { about = is; broken = in_form_from row.form row t at other point listed }
+
+-- where they break rows with a number
+abbrev numbered_places : ℕ → TwoTables → Row → List Place
+numbered_places n t row = if row.number == n then places_of t row else []
+
+abbrev pub first_broken : ℕ → List Row → TwoTables → Option Place
+first_broken n rows t = lowest (over (numbered_places n t) rows)
+
+-- the first place at which tables break rows with a number
+pub finds_broken : (n : ℕ) (rows : List Row) (t : TwoTables)
+    → FindsLeast (λ at other point.
+    (row : Row) × Contains rows row × ((row.number ≡ n) × IsBroken row t at other point))
+    (first_broken n rows t)
+finds_broken n rows t =
+    least_as (first_broken n rows t)
+    (λ at other point among.
+    let (row, listed, within) = over_from (numbered_places n t) rows _ among in
+    (row, listed, back row at other point (row.number == n) (Decides-eqb row.number n) within))
+    (λ at other point (row, listed, (same, broken)).
+    over_has (numbered_places n t) rows row _ listed
+    (there row at other point (row.number == n) ((Decides-eqb row.number n).1 same) broken))
+    (finds_lowest (over (numbered_places n t) rows))
+  where
+    back : (row : Row) (at other point : ℕ) (b : Bool) → Decides b (row.number ≡ n)
+        → IsAmong (if b then places_of t row else []) at other point → (row.number ≡ n) × IsBroken row t at other point
+    back row at other point false decides listed = absurd (no_element _ listed)
+    back row at other point true decides listed = (decides.0 refl, broken_from t row at other point listed)
+
+    there : (row : Row) (at other point : ℕ) (b : Bool) → b ≡ true → IsBroken row t at other point
+        → IsAmong (if b then places_of t row else []) at other point
+    there row at other point b same broken = rw same (broken_has t row at other point broken)

@@ -1,0 +1,53 @@
+-- What a structure gives: a number, with a value, at a place.
+use Rattle.std.specs.Prelude.{ℕ, ◌+◌, Bool, List, [], ◌∷◌, length, Option, Some, None, nat_le, nat_lt, ◌&&◌, if◌then◌else◌}
+use Rattle.std.specs.Option.{option_or}
+use denote.Ref.{Bor}
+use Rattle.acpi_rules.specs.Clauses.{all_hold}
+use Rattle.acpi_rules.specs.Sites.{SiteValue}
+use Rattle.acpi_rules.specs.Terms.{TwoTables, shown, value_number}
+use Rattle.acpi_rules.specs.declared.case.Kind.{Kind}
+use Rattle.acpi_rules.specs.declared.clause.Clause.{Clause}
+use Rattle.acpi_rules.specs.declared.numbered.Numbered.{Numbered}
+use Rattle.acpi_rules.specs.declared.term.Value.{Value}
+
+-- a case in which a structure gives a number: its kind, what holds of it, the offset in it that is the place, the value and the
+-- number
+pub record Case : Type 0 where
+  pub kind : Kind
+  pub all : List Clause
+  pub at : ℕ
+  pub value : Value
+  pub number : Value
+
+-- whether a structure is of this kind: its type and its length
+unfoldable pub is_kind : Kind → SiteValue → Bool
+is_kind k s =
+    nat_le k.first s.kind && nat_le s.kind k.last && nat_le k.least (length s.own.entry) && nat_le (length s.own.entry) k.most
+
+-- a number and a value at a place, if both are there
+abbrev pub numbered_at : ℕ → Option ℕ → Option ℕ → Option Numbered
+numbered_at at (Some value) (Some number) = Some (record { number = shown number; at = at; value = shown value })
+numbered_at at _ _ = None
+
+-- what a structure gives in a case: it is of that kind, has the byte that is the place, and all clauses hold
+unfoldable pub in_case : TwoTables → SiteValue → Case → Option Numbered
+in_case t s case =
+    if is_kind case.kind s && nat_lt case.at (length s.own.entry) && all_hold t s case.all
+    then numbered_at (s.own.offset + case.at) (value_number t s case.value) (value_number t s case.number)
+    else None
+
+-- the first that a function gives of these
+abbrev pub first_some : {S T : Type 0} → (S → Option T) → List S → Option T
+first_some f [] = None
+first_some f (s ∷ left) = option_or (f s) (first_some f left)
+
+-- what a structure gives: in the first case that holds
+unfoldable pub gives : TwoTables → List Case → SiteValue → Option Numbered
+gives t cases s = first_some (in_case t s) cases
+
+-- a case as the code has it
+abbrev pub BorCase : Type 0
+BorCase = Kind × Bor (List Clause) × ℕ × Value × Value
+
+abbrev pub case_value : BorCase → Case
+case_value c = record { kind = c.0; all = c.1.now; at = c.2; value = c.3; number = c.4 }

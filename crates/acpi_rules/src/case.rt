@@ -1,0 +1,83 @@
+//! What a structure gives: a number, with a value, at a place.
+
+ghost use Rattle.std.specs.Prelude.{◌≡◌, map};
+ghost use Rattle.acpi_rules.specs.Cases.{case_value, first_some, gives, in_case, is_kind};
+ghost use Rattle.acpi_rules.specs.Sites.{site_value};
+ghost use Rattle.acpi_rules.specs.Terms.{tables_value};
+
+use crate::clause::{Clause, all_hold};
+use crate::numbered::Numbered;
+use crate::sites::Site;
+use crate::term::{Tables, Value, shown};
+
+/// Structures by their type and their length. The table itself, and a structure without a type, have the type 0.
+#[derive(Clone, Copy, Debug, PartialEq, Eq)]
+pub struct Kind {
+    /// The lowest type.
+    pub first: u32,
+    /// The highest type.
+    pub last: u32,
+    /// The least length, in bytes.
+    pub least: u32,
+    /// The greatest length, in bytes.
+    pub most: u32,
+}
+
+/// A case in which a structure gives a number: its kind, clauses that all hold, the offset in it that is the place, the
+/// value and the number. The structure has the byte at that offset, and the fields of both numbers are there.
+///
+/// It is a tuple since a clause cannot name a constant of a struct that has references.
+pub type Case<'a> = (Kind, &'a [Clause], u16, Value, Value);
+
+impl Kind {
+    /// Whether a structure is of this kind.
+    #[inline(always)]
+    #[tactic(auto, unfolding(crate::specs::Cases::is_kind))]
+    pub(crate) fn has(&self, site: &Site<'_>) -> bool
+        ensures { result ≡ is_kind self.now (site_value site.now) }
+    {
+        let length = site.own.bytes.len() as u64;
+        u64::from(self.first) <= site.kind
+            && site.kind <= u64::from(self.last)
+            && u64::from(self.least) <= length
+            && length <= u64::from(self.most)
+    }
+}
+
+/// What a structure gives in a case.
+#[inline(always)]
+#[tactic(auto, unfolding(crate::specs::Cases::in_case))]
+fn in_case(case: &Case<'_>, tables: &Tables<'_>, site: &Site<'_>) -> Option<Numbered>
+    ensures { result
+        ≡ in_case (tables_value tables.now) (site_value site.now) (case_value case.now) }
+{
+    // Most structures are of another kind: nothing else of the case is read before that.
+    if !case.0.has(site)
+        || usize::from(case.2) >= site.own.bytes.len()
+        || !all_hold(case.1, tables, site)
+    {
+        return None;
+    }
+    let value = case.3.number(tables, site)?;
+    let number = case.4.number(tables, site)?;
+    Some(Numbered {
+        number: shown(number),
+        at: site.own.at + u64::from(case.2),
+        value: shown(value),
+    })
+}
+
+/// What a structure gives: in the first case that holds.
+#[tactic(auto, unfolding(crate::specs::Cases::gives))]
+pub(crate) fn given(cases: &[Case<'_>], tables: &Tables<'_>, site: &Site<'_>) -> Option<Numbered>
+    ensures { result ≡ gives (tables_value tables.now) (map case_value cases.now)
+        (site_value site.now) }
+{
+    for case in cases {
+        let found = in_case(case, tables, site);
+        if found.is_some() {
+            return found;
+        }
+    }
+    None
+}

@@ -1,0 +1,95 @@
+//! A table's bytes, with an index of its structures.
+
+ghost use Rattle.std.specs.Prelude.{◌≡◌, IfSome, IsTrue};
+ghost use Rattle.std.specs.Option.{ForSome};
+ghost use Rattle.acpi_rules.specs.Indexes.{IsIndexOf};
+
+use crate::field::Field;
+use crate::index::Index;
+use crate::series::{Extent, Head, Series, Shape, Start};
+
+/// The bytes of a table, and the index of a series of it, if it has one. What rules find does not depend on the index:
+/// it saves time where many rules go over the same structures.
+#[derive(Clone, Copy, Debug)]
+pub struct IndexedTable<'a> {
+    /// The bytes.
+    pub bytes: &'a [u8],
+    /// The index.
+    pub index: Option<&'a Index<'a>>,
+    pub ghost right: { ForSome index (λ i. IsIndexOf i.now bytes.now) },
+}
+
+/// Whether two fields are known to be the same.
+fn is_same_field(one: Field, other: Field) -> bool
+    ensures { IsTrue result → one ≡ other }
+{
+    one.at == other.at && one.width == other.width
+}
+
+/// Whether two heads are known to be the same.
+fn is_same_head(one: Head, other: Head) -> bool
+    ensures { IsTrue result → one ≡ other }
+{
+    is_same_field(one.kind, other.kind)
+        && is_same_field(one.length, other.length)
+        && one.least == other.least
+}
+
+/// Whether two series are known to be the same: of structures that say their lengths, from an offset to the end, as those
+/// of the MADT, the SRAT and the PPTT are.
+fn is_same(one: &Series, other: &Series) -> bool
+    ensures { IsTrue result → one.now ≡ other.now }
+{
+    match (
+        one.start,
+        one.extent,
+        one.shape,
+        other.start,
+        other.extent,
+        other.shape,
+    ) {
+        (
+            Start::At(first),
+            Extent::ToEnd,
+            Shape::Headed(head),
+            Start::At(second),
+            Extent::ToEnd,
+            Shape::Headed(likewise),
+        ) => first == second && is_same_head(head, likewise),
+        _ => false,
+    }
+}
+
+impl<'a> IndexedTable<'a> {
+    /// A table without an index.
+    pub fn new(bytes: &'a [u8]) -> IndexedTable<'a>
+        ensures { result.bytes.now ≡ bytes.entry.now }
+    {
+        IndexedTable { bytes, index: None }
+    }
+
+    /// A table with an index of it.
+    pub fn with(bytes: &'a [u8], index: &'a Index<'a>) -> IndexedTable<'a>
+        requires { IsIndexOf index.now bytes.now }
+        ensures { result.bytes.now ≡ bytes.entry.now }
+    {
+        IndexedTable {
+            bytes,
+            index: Some(index),
+        }
+    }
+
+    /// The index, if it is that of the series.
+    #[inline(always)]
+    pub(crate) fn index_of(&self, series: &Series) -> Option<&'a Index<'a>>
+        ensures of { IfSome result (λ i. i.now.series ≡ series.now) }
+        ensures right { IfSome result (λ i. IsIndexOf i.now self.now.bytes.now) }
+    {
+        let index = self.index?;
+        if is_same(&index.series, series) {
+            Some(index)
+        } else {
+            None
+        }
+    }
+}

@@ -1,0 +1,66 @@
+//! Rules on the bytes of tables as rows of data: a row says what a rule is, one definition says what a row means, and
+//! one evaluator is proved equal to it for every row.
+//!
+//! Which structures of a table a rule is about is said by a path; one walk finds them, by a description of the table's
+//! layout. Where many rules go over the same structures, an index of them saves time.
+//!
+//! An example, from `crates/acpi_rules/src/tests.rt`. `MADT` has two I/O APICs, at 44 and at 56, both with the ID 7. The
+//! row of a rule on them has one case: of the kind `IO_APIC`, without further clauses; the number, which is also what is
+//! reported, is the `ID`, and the place that of the I/O APIC.
+//!
+//! ```rust
+//! let tables = Tables {
+//!     table: IndexedTable::new(MADT),
+//!     other: IndexedTable::new(&[]),
+//! };
+//! let cases: [Case<'_>; 1] = [(IO_APIC, &[], 0, ID, ID)];
+//! let row: Row<'_> = (
+//!     112,
+//!     Form::Repeated(Repeat::Twice),
+//!     Path::Entries(ENTRIES),
+//!     &[],
+//!     &cases,
+//!     Source::Table,
+//!     Path::Table,
+//!     &[],
+//! );
+//! let found = first_finding(alloc, &row, &tables)?;
+//! assert_eq!(rt; found, Some(SECOND));
+//! ```
+#![tactic(auto)]
+
+mod along;
+mod case;
+mod clause;
+mod field;
+mod index;
+mod indexed_table;
+mod known;
+pub mod laws;
+mod numbered;
+mod passes;
+mod place;
+mod row;
+mod series;
+mod sites;
+mod structures;
+mod term;
+#[cfg(test)]
+mod tests;
+mod window;
+
+pub use case::{Case, Kind};
+pub use clause::{Clause, Test};
+pub use field::Field;
+pub use index::{Index, Listed};
+pub use indexed_table::IndexedTable;
+pub use numbered::{Numbered, Repeat, first_repeated, lesser, sort_numbers};
+pub use place::Place;
+pub use row::{Form, Guard, Need, Row, Source, first_finding};
+pub use series::{
+    Extent, Head, Inner, LengthRows, Multiple, Path, Series, Shape, Start, Sum, Types,
+};
+pub use sites::Site;
+pub use structures::Cut;
+pub use term::{Tables, Term, Value, Within};
+pub use window::Window;

@@ -1,0 +1,100 @@
+//! The example at the head of the crate, and the same with an index.
+
+ghost use Rattle.acpi_rules.specs.Indexes.{IsIndexOf};
+
+use crate::{
+    Case, Extent, Field, Form, Head, Index, IndexedTable, Kind, Path, Place, Repeat, Row, Series,
+    Shape, Source, Start, Tables, Term, Value, Within, first_finding,
+};
+use std::alloc::{AllocError, Global};
+use std::test::*;
+
+/// The entries of a MADT: a type of a byte and a length of a byte each, from offset 44 to the end.
+const ENTRIES: Series = Series {
+    start: Start::At(44),
+    extent: Extent::ToEnd,
+    shape: Shape::Headed(Head {
+        kind: Field { at: 0, width: 1 },
+        length: Field { at: 1, width: 1 },
+        least: 2,
+    }),
+};
+
+/// An I/O APIC: of type 1, with 12 bytes.
+const IO_APIC: Kind = Kind {
+    first: 1,
+    last: 1,
+    least: 12,
+    most: 12,
+};
+
+/// Its ID.
+const ID: Value = Value::Only(Term::Of(Within::Own, Field { at: 2, width: 1 }));
+
+/// A MADT with two I/O APICs, at 44 and at 56, which both have the ID 7.
+const MADT: &[u8] = b"APIC\x44\0\0\0\x05\0AAAAAABBBBBBBBCCCCDDDDEEEE\0\0\xe0\xfe\0\0\0\0\
+    \x01\x0c\x07\0\0\0\xc0\xfe\0\0\0\0\x01\x0c\x07\0\0\0\xc1\xfe\x18\0\0\0";
+
+/// Where the second one is found.
+const SECOND: Place = Place {
+    at: 56,
+    other: 44,
+    point: 7,
+};
+
+#[test]
+fn example_finds_the_same_id_twice(rt: HostRuntime) -> Result<(), Fail> {
+    let alloc = rt.alloc();
+    let tables = Tables {
+        table: IndexedTable::new(MADT),
+        other: IndexedTable::new(&[]),
+    };
+    let cases: [Case<'_>; 1] = [(IO_APIC, &[], 0, ID, ID)];
+    let row: Row<'_> = (
+        112,
+        Form::Repeated(Repeat::Twice),
+        Path::Entries(ENTRIES),
+        &[],
+        &cases,
+        Source::Table,
+        Path::Table,
+        &[],
+    );
+    let found = first_finding(alloc, &row, &tables)?;
+    assert_eq!(rt; found, Some(SECOND));
+    Ok(())
+}
+
+/// The same row, in the MADT with an index.
+fn found_by_index(alloc: Global, index: &Index<'_>) -> Result<Option<Place>, AllocError>
+    requires { IsIndexOf index.now MADT.now }
+{
+    let tables = Tables {
+        table: IndexedTable::with(MADT, index),
+        other: IndexedTable::new(&[]),
+    };
+    let cases: [Case<'_>; 1] = [(IO_APIC, &[], 0, ID, ID)];
+    let row: Row<'_> = (
+        112,
+        Form::Repeated(Repeat::Twice),
+        Path::Entries(ENTRIES),
+        &[],
+        &cases,
+        Source::Table,
+        Path::Table,
+        &[],
+    );
+    first_finding(alloc, &row, &tables)
+}
+
+#[test]
+fn an_index_changes_nothing(rt: HostRuntime) -> Result<(), Fail> {
+    let alloc = rt.alloc();
+    let index = Index::of(alloc, &ENTRIES, MADT)?;
+    let found = match &index {
+        Some(index) => found_by_index(alloc, index)?,
+        None => None,
+    };
+    assert_eq!(rt; found, Some(SECOND));
+    Ok(())
+}
