@@ -25,7 +25,7 @@ MANY_ARGUMENTS = ("io-apics-with-counts",)
 def stated():
     """The limits in README: times and memory by command, beside the plain program and the text, and KiB of stack."""
     limits = re.sub(r"\s+", " ", (TOP / "README.md").read_text().partition("\n## Limits\n")[2].partition("\n## ")[0])
-    times = re.search(r"`check`, `confirm` and `find` at most (\d+) times.*`lint` is to take (\d+) and", limits)
+    times = re.search(r"`check`, `confirm` and `find` at most (\d+) times and `lint` at most (\d+) times", limits)
     stack, memory, of_lint = re.search(r"(\d+) KiB of stack, and (\d+) times the memory of the text, `lint` (\d+) times", limits).groups()
     return by_command(times[1], times[2]), by_command(memory, of_lint), int(stack)
 

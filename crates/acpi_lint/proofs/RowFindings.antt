@@ -1,9 +1,10 @@
 -- What rows find, one after another, and the first findings of all.
-use Rattle.std.proofs.Common.{◌≡◌, ◌≢◌, ℕ, ◌≤◌, ◌<◌, ◌+◌, ◌∙◌, ◌++◌, List, [], ◌∷◌, length, map, drop, get_or, Option, Some, None, Result, Vec, Global, ap, inl, inr, refl, sym, subst}
-use Rattle.std.specs.Prelude.{◌⊎◌, ◌↔◌, Contains, IfOk, IfSome, option_map}
+use Rattle.std.proofs.Common.{◌≡◌, ◌≢◌, ℕ, ◌≤◌, ◌<◌, ◌+◌, ◌∙◌, ◌++◌, List, [], ◌∷◌, length, map, drop, get_or, Option, Some, None, Result, Ok, Err, Vec, Global, ap, arith, false, inl, inr, refl, sym, subst, true, true≢false}
+use Rattle.std.specs.Prelude.{◌⊎◌, ◌↔◌, ◌==◌, Contains, IfOk, IfSome, OnErr, option_map}
 use denote.Ref.{Bor}
 use Rattle.std.proofs.lemmas.List.Elements.{Contains-get_or, Contains-append_left, Contains-append_right, Contains-append_cases}
 use Rattle.std.proofs.lemmas.List.{append-nil}
+use Rattle.std.proofs.lemmas.Bool.{eqb-true}
 use Rattle.std.proofs.lemmas.Option.{same_Some}
 use Rattle.std.proofs.Math.ListN.{drop_of_length-le}
 use Rattle.std.proofs.Math.Numerals.{suc-eq-add-one}
@@ -23,7 +24,7 @@ use Rattle.acpi_rules.specs.Rows as rows
 use Rattle.acpi_rules.specs.Terms.{TwoTables}
 use Rattle.acpi_rules.specs.declared.place.Place.{Place}
 use Rattle.acpi_lint.specs.CompleteTables.{AreCompleteTables, IsFound, IsLong, table_of}
-use Rattle.acpi_lint.specs.RowFindings.{AreBroken, AreFirsts, AreIndexes, AreTablesOf, FindsIndex, HasFound, IsLongTable, IsLowestOf, IsUpTo, index_of_kind}
+use Rattle.acpi_lint.specs.RowFindings.{AreBroken, AreFirsts, AreIndexes, AreTablesOf, FindsIndex, HasFound, HasTable, IsLongTable, IsLowestOf, IsUpTo, index_of_kind}
 use Rattle.acpi_lint.specs.RowGroups.{BreaksRow, IsRowBroken, OfAny, OfKind, OfKinds, RowGroup, row_groups}
 use Rattle.acpi_lint.specs.TableLengths.{least_length}
 use Rattle.acpi_lint.specs.Rules.Broken.{IsBroken, IsBrokenByHand}
@@ -456,3 +457,24 @@ some_advice m q rule p least = (
     least = λ b same broken. least.least b.at b.other b.point (rw same at broken);
   },
 )
+
+-- ---- a finding is on tables that are there
+
+has_table : (tables : CompleteTables) (g : RowGroup) (t : TwoTables) (other : Option TableKind)
+    → AreTablesOf tables g.table other t → HasTable tables
+has_table tables g t None are = (g.table, rw are.0.0 refl)
+has_table tables g t (Some k) are = (g.table, rw are.0.0 refl)
+
+pub found_has_table : (tables : CompleteTables) (g : RowGroup) (more : List Found)
+    → AreFirsts (AreBroken tables g) more → false ≡ (length more == 0) → HasTable tables
+found_has_table tables g [] firsts some = absurd (true≢false (sym some))
+found_has_table tables g (f ∷ more) firsts some =
+    let (t, are, breaks) = firsts.here f (first_element f more) in has_table tables g t g.other are
+
+pub none_more : (found more : List Found) → true ≡ (length more == 0) → found ++ more ≡ found
+none_more found [] none = append-nil found
+none_more found (f ∷ more) none = absurd (omega (arith, eqb-true (length (f ∷ more)) 0 (sym none)))
+
+pub on_err : {A E : Type 0} {P : Type 0} (r : Result A E) → P → OnErr r P
+on_err (Ok a) holds = tt
+on_err (Err e) holds = holds

@@ -1,5 +1,5 @@
 -- What the rules that are rows find in a set.
-use Rattle.std.specs.Prelude.{◌≡◌, ℕ, ◌≤◌, ◌⊎◌, List, [], length, Contains, Option, Some, None, IfSome, MatchOption}
+use Rattle.std.specs.Prelude.{◌≡◌, ℕ, ◌≤◌, ◌⊎◌, List, [], length, Contains, Option, Some, None, IfSome, IsSome, MatchOption}
 use Rattle.acpi_base.specs.declared.table_kind.TableKind.{TableKind}
 use Rattle.acpi_base.specs.declared.table_kind.TableKind.TheVariants as kind
 use Rattle.acpi_rules.specs.Indexes.{IsIndexOf}
@@ -15,6 +15,10 @@ use Rattle.acpi_lint.specs.declared.row_findings.Found.{Found}
 use Rattle.acpi_lint.specs.declared.row_findings.Indexes.{Indexes}
 
 -- ---- the tables that were found
+
+-- there is one of a kind
+abbrev pub HasTable : CompleteTables → Type 0
+HasTable tables = (kind : TableKind) × IsSome (table_of tables kind)
 
 -- these are the bytes of the table of a kind, which has all its fields
 abbrev pub IsLongTable : CompleteTables → TableKind → List ℕ → Type 0

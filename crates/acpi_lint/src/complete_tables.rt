@@ -46,7 +46,8 @@ fn found<'a>(image: &'a LentImage<'_>, firsts: &FirstSlots, kind: TableKind) -> 
     Table::complete(image, slot.table.address)
 }
 
-/// How many bytes a table of a kind has at least that has all its fields.
+/// How many bytes a table of a kind has at least that has all the fields which every such table has (ACPI 6.5, 5.2.9,
+/// 5.2.12, 5.2.16, 5.2.17, 5.2.30).
 fn least_length(kind: TableKind) -> usize
     ensures { result ≡ least_length kind }
 {

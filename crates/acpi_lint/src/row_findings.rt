@@ -1,8 +1,8 @@
 //! What the rules that are rows find in a set.
 
-ghost use Rattle.std.specs.Prelude.{◌≡◌, IfOk, map, option_map};
+ghost use Rattle.std.specs.Prelude.{◌≡◌, IfOk, IsSome, OnErr, map, option_map};
 ghost use Rattle.acpi_lint.specs.CompleteTables.{IsLong, table_of};
-ghost use Rattle.acpi_lint.specs.RowFindings.{AreBroken, AreFirsts, AreIndexes, FindsIndex, FindsTables, IsLowestOf, index_of_kind};
+ghost use Rattle.acpi_lint.specs.RowFindings.{AreBroken, AreFirsts, AreIndexes, FindsIndex, FindsTables, HasTable, IsLowestOf, index_of_kind};
 ghost use Rattle.acpi_lint.specs.RowGroups.{BreaksRow, OfAny, group_value, row_groups};
 ghost use Rattle.acpi_lint.specs.TableLengths.{least_length};
 ghost use Rattle.acpi_rules.specs.Rows.{row_value};
@@ -25,23 +25,25 @@ pub struct Found {
 
 /// The entries of the tables that have some, found once for all rules.
 #[derive(Drop)]
-struct Indexes<'a> {
+struct Indexes {
     /// Those of the MADT.
-    madt: Option<Index<'a>>,
+    madt: Option<Index>,
     /// Those of the SRAT.
-    srat: Option<Index<'a>>,
+    srat: Option<Index>,
     /// Those of the PPTT.
-    pptt: Option<Index<'a>>,
+    pptt: Option<Index>,
 }
 
-/// The entries of a table of a set, if it has it. Allocates for each.
-fn index_of<'a>(
+/// The index of a table of a set, if it has the table. Allocates for each entry: refuses if out of memory, but not where
+/// there is no table.
+fn index_of(
     alloc: Global,
-    tables: &CompleteTables<'a>,
+    tables: &CompleteTables<'_>,
     kind: TableKind,
     series: &Series,
-) -> Result<Option<Index<'a>>, AllocError>
-    ensures { IfOk result (FindsIndex (table_of tables.now kind)) }
+) -> Result<Option<Index>, AllocError>
+    ensures index { IfOk result (FindsIndex (table_of tables.now kind)) }
+    ensures memory { OnErr result (IsSome (table_of tables.now kind)) }
 {
     match tables.long(kind) {
         Some(table) => Index::of(alloc, series, table.bytes()),
@@ -49,10 +51,11 @@ fn index_of<'a>(
     }
 }
 
-impl<'a> Indexes<'a> {
-    /// Those of a set's tables. Allocates for each entry.
-    fn of(alloc: Global, tables: &CompleteTables<'a>) -> Result<Indexes<'a>, AllocError>
-        ensures { IfOk result (AreIndexes tables.now) }
+impl Indexes {
+    /// Those of a set's tables. Allocates for each entry: refuses if out of memory, but not where there is no table.
+    fn of(alloc: Global, tables: &CompleteTables<'_>) -> Result<Indexes, AllocError>
+        ensures indexes { IfOk result (AreIndexes tables.now) }
+        ensures memory { OnErr result (HasTable tables.now) }
     {
         Ok(Indexes {
             madt: index_of(alloc, tables, TableKind::Madt, &MADT_SERIES)?,
@@ -62,7 +65,7 @@ impl<'a> Indexes<'a> {
     }
 
     /// The entries of a table of a kind.
-    fn of_kind(&self, kind: TableKind) -> Option<&Index<'a>>
+    fn of_kind(&self, kind: TableKind) -> Option<&Index>
         ensures { option_map (λ i. i.now) result ≡ index_of_kind self.now kind }
     {
         match kind {
@@ -77,7 +80,7 @@ impl<'a> Indexes<'a> {
 /// The table of a kind, if the set has a complete one with all its fields.
 fn indexed<'a>(
     tables: &'a CompleteTables<'_>,
-    indexes: &'a Indexes<'_>,
+    indexes: &'a Indexes,
     kind: TableKind,
 ) -> Option<IndexedTable<'a>>
     requires { AreIndexes tables.now indexes.now }
@@ -95,7 +98,7 @@ fn indexed<'a>(
 fn tables_of<'a>(
     group: &RowGroup<'_>,
     tables: &'a CompleteTables<'_>,
-    indexes: &'a Indexes<'_>,
+    indexes: &'a Indexes,
 ) -> Option<Tables<'a>>
     requires { AreIndexes tables.now indexes.now }
     ensures { FindsTables tables.now group.now.0 group.now.1 (option_map tables_value result) }
@@ -108,7 +111,8 @@ fn tables_of<'a>(
     Some(Tables { table, other })
 }
 
-/// The first finding of each of these rows that two tables break. Allocates for each.
+/// The first finding of each of these rows that two tables break. Allocates for each, and for the numbers of rows on
+/// such as occur again or are looked up.
 fn found_in(alloc: Global, rows: &[Row<'_>], tables: &Tables<'_>) -> Result<Vec<Found>, AllocError>
     ensures { IfOk result (λ found.
         AreFirsts (OfAny (BreaksRow (tables_value tables.now)) (map row_value rows.now)) found.items) }
@@ -125,16 +129,18 @@ fn found_in(alloc: Global, rows: &[Row<'_>], tables: &Tables<'_>) -> Result<Vec<
     Ok(found)
 }
 
-/// The first finding of each row of a group that a set's tables break. Allocates for each.
+/// The first finding of each row of a group that a set's tables break. Allocates as `found_in` does: refuses if out of
+/// memory, but not where there is no table.
 fn found_by(
     alloc: Global,
     group: &RowGroup<'_>,
     tables: &CompleteTables<'_>,
-    indexes: &Indexes<'_>,
+    indexes: &Indexes,
 ) -> Result<Vec<Found>, AllocError>
     requires { AreIndexes tables.now indexes.now }
-    ensures { IfOk result (λ found.
+    ensures found { IfOk result (λ found.
         AreFirsts (AreBroken tables.now (group_value group.now)) found.items) }
+    ensures memory { OnErr result (HasTable tables.now) }
 {
     match tables_of(group, tables, indexes) {
         Some(both) => found_in(alloc, group.2, &both),
@@ -142,30 +148,37 @@ fn found_by(
     }
 }
 
-/// The first finding of each row of some groups that a set's tables break. Allocates for each.
+/// The first finding of each row of some groups that a set's tables break. Allocates as `found_in` does: refuses if out of
+/// memory, but not where there is no table.
 fn found_by_all(
     alloc: Global,
     groups: &[RowGroup<'_>],
     tables: &CompleteTables<'_>,
-    indexes: &Indexes<'_>,
+    indexes: &Indexes,
 ) -> Result<Vec<Found>, AllocError>
     requires { AreIndexes tables.now indexes.now }
-    ensures { IfOk result (λ found.
+    ensures found { IfOk result (λ found.
         AreFirsts (OfAny (AreBroken tables.now) (map group_value groups.now)) found.items) }
+    ensures memory { OnErr result (HasTable tables.now) }
 {
     let mut found = Vec::new(alloc);
     for group in groups {
         let more = found_by(alloc, group, tables, indexes)?;
-        found.extend_from_slice(&more)?;
+        let more = more.as_slice();
+        if !more.is_empty() {
+            found.extend_from_slice(more)?;
+        }
     }
     Ok(found)
 }
 
-/// The first finding of each row that a set's tables break. Allocates for each, and for each entry of the MADT, the SRAT
-/// and the PPTT.
+/// The first finding of each row that a set's tables break. Allocates for each, for each entry of the MADT, the SRAT and
+/// the PPTT, and for the numbers of rows on such as occur again or are looked up: refuses if out of memory, but not where
+/// there is no table.
 pub fn row_findings(alloc: Global, tables: &CompleteTables<'_>) -> Result<Vec<Found>, AllocError>
-    ensures { IfOk result (λ found.
+    ensures found { IfOk result (λ found.
         AreFirsts (OfAny (AreBroken tables.now) row_groups) found.items) }
+    ensures memory { OnErr result (HasTable tables.now) }
 {
     let indexes = Indexes::of(alloc, tables)?;
     let groups = row_groups();

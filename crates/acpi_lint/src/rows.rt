@@ -151,7 +151,8 @@ macro_rules! clause {
 }
 
 /// What structures give, by cases: `{KIND if CLAUSE && CLAUSE => at OFFSET shows VALUE, NUMBER; ..}`, or a list of
-/// cases with a name.
+/// cases with a name. A finding has the offset in the table as `at`, VALUE as `other` and NUMBER as `point`, but that of
+/// a number that occurs again: its `other` is the place of the first one.
 macro_rules! cases {
     ({$(
         $kind:tt $(if $($left:tt $test:tt $right:tt)&&+)?
@@ -228,7 +229,7 @@ macro_rules! form {
     };
 }
 
-/// A rule: `rule!(NUMBER NAME, FORM in PATH where GUARD, ..: CASES)`, and `among SOURCE PATH CASES` behind it for numbers
+/// A rule: `rule!(NUMBER NAME, FORM in PATH where GUARD, ..: CASES)`, and `among SOURCE PATH CASES` after it for numbers
 /// that are looked up.
 macro_rules! rule {
     (

@@ -1,16 +1,15 @@
 -- What is found in each form of a rule.
 use Rattle.std.proofs.Common.{◌≡◌, ◌∙◌, ℕ, List, [], ◌∷◌, Option, Result, Ok, Err, Bool, true, false, refl, sym, ap, inl, inr, subst, Some, None}
 use Rattle.std.specs.Prelude.{◌↔◌, ◌||◌, ◌==◌, Contains, IfOk, option_map}
-use Rattle.std.specs.List.{filter_map}
 use Rattle.std.specs.List.Sorted.{IsPermutation}
 use Rattle.std.proofs.lemmas.Bool.{eq-eqb, eqb-true}
 use Rattle.std.proofs.lemmas.List.Sorted.{Contains-permutation, IsPermutation-sym}
-use Rattle.acpi_rules.specs.Cases.{Case, gives}
+use Rattle.acpi_rules.specs.Cases.{Case}
 use Rattle.acpi_rules.specs.Known.{lists}
 use Rattle.acpi_rules.specs.Numbered.{IsRepeated, Repeats}
 use Rattle.acpi_rules.specs.Places.{FindsLeast}
 use Rattle.acpi_rules.specs.Rows.{GivenIn, IsCut, IsKnown, IsNowhere, IsUnknown, Row, of_source, reported}
-use Rattle.acpi_rules.specs.Sites.{first_cut, sites_of}
+use Rattle.acpi_rules.specs.Sites.{first_cut}
 use Rattle.acpi_rules.specs.Terms.{TwoTables}
 use Rattle.acpi_rules.specs.declared.numbered.Numbered.{Numbered}
 use Rattle.acpi_rules.specs.declared.numbered.Repeat.{Repeat}
@@ -19,7 +18,6 @@ use Rattle.acpi_rules.specs.declared.series.Path.{Path}
 use Rattle.acpi_rules.specs.declared.structures.Cut.{Cut}
 use Rattle.std.proofs.lemmas.Option.{same_Some}
 use Rattle.acpi_base.proofs.Elements.{first_element, first_or_later, later_element, no_element}
-use Rattle.acpi_rules.proofs.GivenNumbers.{given_listed}
 use Rattle.acpi_rules.proofs.LeastPlaces.{least_as, not_after_itself}
 
 pub each_ok : {A X : Type 0} {P Q : A → Type 0} (r : Result A X) → ((a : A) → P a → Q a) → IfOk r P → IfOk r Q
@@ -125,19 +123,13 @@ repeated_as r {P} {Q} found same least =
 
 -- ---- the numbers of a path
 
-pub all_given : (t : TwoTables) (path : Path) (cases : List Case) (items : List Numbered)
-    → items ≡ filter_map (gives t cases) (sites_of path t.table) → (g : Numbered)
-    → Contains items g ↔ GivenIn t path cases g
-all_given t path cases items is g = rw is (given_listed t path cases g)
-
 pub sorted_given : (t : TwoTables) (path : Path) (cases : List Case) (items sorted : List Numbered)
-    → items ≡ filter_map (gives t cases) (sites_of path t.table) → IsPermutation items sorted → (g : Numbered)
+    → ((g : Numbered) → Contains items g ↔ GivenIn t path cases g) → IsPermutation items sorted → (g : Numbered)
     → Contains sorted g ↔ GivenIn t path cases g
-sorted_given t path cases items sorted is moved g =
-    let given = all_given t path cases items is g in (
-      λ listed. given.0 (Contains-permutation sorted items g (IsPermutation-sym items sorted moved) listed),
-      λ holds. Contains-permutation items sorted g moved (given.1 holds),
-    )
+sorted_given t path cases items sorted given moved g = (
+  λ listed. (given g).0 (Contains-permutation sorted items g (IsPermutation-sym items sorted moved) listed),
+  λ holds. Contains-permutation items sorted g moved ((given g).1 holds),
+)
 
 -- ---- the first cut
 

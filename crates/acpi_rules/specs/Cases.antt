@@ -1,5 +1,5 @@
 -- What a structure gives: a number, with a value, at a place.
-use Rattle.std.specs.Prelude.{ℕ, ◌+◌, Bool, List, [], ◌∷◌, length, Option, Some, None, nat_le, nat_lt, ◌&&◌, if◌then◌else◌}
+use Rattle.std.specs.Prelude.{◌≡◌, ℕ, ◌+◌, Bool, List, [], ◌∷◌, length, Option, Some, None, nat_le, nat_lt, ◌&&◌, if◌then◌else◌}
 use Rattle.std.specs.Option.{option_or}
 use denote.Ref.{Bor}
 use Rattle.acpi_rules.specs.Clauses.{all_hold}
@@ -18,6 +18,10 @@ pub record Case : Type 0 where
   pub at : ℕ
   pub value : Value
   pub number : Value
+
+-- whether structures of this type may be of this kind
+unfoldable pub has_type : Kind → ℕ → Bool
+has_type k kind = nat_le k.first kind && nat_le kind k.last
 
 -- whether a structure is of this kind: its type and its length
 unfoldable pub is_kind : Kind → SiteValue → Bool
@@ -51,3 +55,7 @@ BorCase = Kind × Bor (List Clause) × ℕ × Value × Value
 
 abbrev pub case_value : BorCase → Case
 case_value c = record { kind = c.0; all = c.1.now; at = c.2; value = c.3; number = c.4 }
+
+-- for structures of a type these cases give the same
+abbrev pub GiveSame : ℕ → List Case → List Case → Type 0
+GiveSame kind some all = (t : TwoTables) (s : SiteValue) → s.kind ≡ kind → gives t some s ≡ gives t all s

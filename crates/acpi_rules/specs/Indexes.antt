@@ -1,26 +1,29 @@
--- The structures of a series of a table, found once.
-use Rattle.std.specs.Prelude.{◌≡◌, ℕ, ◌==◌, ◌&&◌, Bool, true, List, map, nat_le, Contains}
-use Rattle.std.specs.List.{list_any}
+-- The structures of a series of a table by their types, found once.
+use Rattle.std.specs.Prelude.{◌≡◌, ℕ, ◌↔◌, List, map, drop, take, Contains}
+use Rattle.std.specs.Option.{is_none}
 use Rattle.acpi_rules.specs.Sites.{SiteValue, entry_sites, whole_table}
-use Rattle.acpi_rules.specs.Walks.{Placed, placed}
-use Rattle.acpi_rules.specs.declared.case.Kind.{Kind}
+use Rattle.acpi_rules.specs.Walks.{Placed, walk_of}
 use Rattle.acpi_rules.specs.declared.index.Index.{Index}
 use Rattle.acpi_rules.specs.declared.index.Listed.{Listed}
+use Rattle.acpi_rules.specs.declared.index.OfType.{OfType}
 
--- a structure of the table
-abbrev pub listed_site : Placed → Listed → SiteValue
-listed_site whole l = record { own = placed l.own; around = whole; outer = whole; kind = l.kind }
+-- a structure of a table, by where it is
+abbrev pub listed_window : List ℕ → Listed → Placed
+listed_window table l = record { offset = l.at; entry = take l.size (drop l.at table) }
 
--- whether this is one of the types
-unfoldable pub has_kind : List ℕ → ℕ → Bool
-has_kind kinds kind = list_any (λ k. k == kind) kinds
+-- the same as a structure that a rule is about, of a type
+abbrev pub typed_site : Placed → ℕ → Listed → SiteValue
+typed_site whole kind l = record { own = listed_window whole.entry l; around = whole; outer = whole; kind = kind }
 
--- the index has the structures of its series in the table, and their types
-abbrev pub IsIndexOf : Index → List ℕ → Type 0
-IsIndexOf i table =
-    (map (listed_site (whole_table table)) i.listed.items ≡ entry_sites i.series table)
-    × ((s : SiteValue) → Contains (entry_sites i.series table) s → has_kind i.kinds.items s.kind ≡ true)
+-- those of a type
+abbrev pub typed_sites : Placed → OfType → List SiteValue
+typed_sites whole o = map (typed_site whole o.kind) o.listed.items
 
--- whether one of these types is one of the kind's
-unfoldable pub may_have : List ℕ → Kind → Bool
-may_have kinds kind = list_any (λ k. nat_le kind.first k && nat_le k kind.last) kinds
+-- a structure is among those of one of the types
+abbrev pub IsAmong : Placed → List OfType → SiteValue → Type 0
+IsAmong whole types s = (o : OfType) × Contains types o × Contains (typed_sites whole o) s
+
+-- the index has the structures of its series in the table, and says whether the walk over them is not cut
+pub record IsIndexOf (i : Index) (table : List ℕ) : Type 0 where
+  pub sites : (s : SiteValue) → IsAmong (whole_table table) i.types.items s ↔ Contains (entry_sites i.series table) s
+  pub whole : i.is_whole ≡ is_none (walk_of i.series (whole_table table)).cut

@@ -2,6 +2,7 @@
 pub mod Cases
 pub mod Clauses
 pub mod Fields
+pub mod Given
 pub mod Indexes
 pub mod Known
 pub mod Laws

@@ -90,6 +90,13 @@ pub record IsBroken (row : Row) (t : TwoTables) (at other point : ℕ) : Type 0 
   pub about : list_all (guard_holds t) row.guards ≡ true
   pub broken : InForm row.form row t at other point
 
+-- whether a rule of this form keeps numbers: those that may occur again, or those among which numbers are looked up
+abbrev pub needs_memory : Form → Bool
+needs_memory form.Given = false
+needs_memory (form.Repeated r) = true
+needs_memory form.Nowhere = true
+needs_memory form.Cut = false
+
 -- ---- the code's
 
 -- a structure gives the number `point`, which is not among these

@@ -1,14 +1,14 @@
 //! What a structure gives: a number, with a value, at a place.
 
 ghost use Rattle.std.specs.Prelude.{◌≡◌, map};
-ghost use Rattle.acpi_rules.specs.Cases.{case_value, first_some, gives, in_case, is_kind};
+ghost use Rattle.acpi_rules.specs.Cases.{GiveSame, case_value, gives, has_type, in_case, is_kind};
 ghost use Rattle.acpi_rules.specs.Sites.{site_value};
 ghost use Rattle.acpi_rules.specs.Terms.{tables_value};
 
 use crate::clause::{Clause, all_hold};
 use crate::numbered::Numbered;
 use crate::sites::Site;
-use crate::term::{Tables, Value, shown};
+use crate::term::{Tables, Value};
 
 /// Structures by their type and their length. The table itself, and a structure without a type, have the type 0.
 #[derive(Clone, Copy, Debug, PartialEq, Eq)]
@@ -30,6 +30,15 @@ pub struct Kind {
 pub type Case<'a> = (Kind, &'a [Clause], u16, Value, Value);
 
 impl Kind {
+    /// Whether structures of this type may be of this kind.
+    #[inline(always)]
+    #[tactic(auto, unfolding(crate::specs::Cases::has_type))]
+    fn has_type(&self, kind: u64) -> bool
+        ensures { result ≡ has_type self.now kind }
+    {
+        u64::from(self.first) <= kind && kind <= u64::from(self.last)
+    }
+
     /// Whether a structure is of this kind.
     #[inline(always)]
     #[tactic(auto, unfolding(crate::specs::Cases::is_kind))]
@@ -58,12 +67,12 @@ fn in_case(case: &Case<'_>, tables: &Tables<'_>, site: &Site<'_>) -> Option<Numb
     {
         return None;
     }
-    let value = case.3.number(tables, site)?;
-    let number = case.4.number(tables, site)?;
+    let value = case.3.shown_number(tables, site)?;
+    let number = case.4.shown_number(tables, site)?;
     Some(Numbered {
-        number: shown(number),
+        number,
         at: site.own.at + u64::from(case.2),
-        value: shown(value),
+        value,
     })
 }
 
@@ -80,4 +89,20 @@ pub(crate) fn given(cases: &[Case<'_>], tables: &Tables<'_>, site: &Site<'_>) ->
         }
     }
     None
+}
+
+/// Those of these cases in which a structure of a type may give a number, and what is between them.
+pub(crate) fn cases_of_type<'a>(cases: &'a [Case<'a>], kind: u64) -> &'a [Case<'a>]
+    ensures { GiveSame kind (map case_value result.now) (map case_value cases.entry.now) }
+{
+    let mut first = 0;
+    while first < cases.len() && !cases[first].0.has_type(kind) {
+        first += 1;
+    }
+    let own = &cases[first..];
+    let mut count = own.len();
+    while count > 0 && !own[count - 1].0.has_type(kind) {
+        count -= 1;
+    }
+    &own[..count]
 }

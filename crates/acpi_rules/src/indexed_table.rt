@@ -1,12 +1,13 @@
 //! A table's bytes, with an index of its structures.
 
 ghost use Rattle.std.specs.Prelude.{◌≡◌, IfSome, IsTrue};
+ghost use Rattle.acpi_rules.specs.declared.series.Path.TheVariants.{Entries};
 ghost use Rattle.std.specs.Option.{ForSome};
 ghost use Rattle.acpi_rules.specs.Indexes.{IsIndexOf};
 
 use crate::field::Field;
 use crate::index::Index;
-use crate::series::{Extent, Head, Series, Shape, Start};
+use crate::series::{Extent, Head, Path, Series, Shape, Start};
 
 /// The bytes of a table, and the index of a series of it, if it has one. What rules find does not depend on the index:
 /// it saves time where many rules go over the same structures.
@@ -15,8 +16,8 @@ pub struct IndexedTable<'a> {
     /// The bytes.
     pub bytes: &'a [u8],
     /// The index.
-    pub index: Option<&'a Index<'a>>,
-    pub ghost right: { ForSome index (λ i. IsIndexOf i.now bytes.now) },
+    pub index: Option<&'a Index>,
+    pub ghost right: { ForSome index (λ i. ∥ IsIndexOf i.now bytes.now ∥₁) },
 }
 
 /// Whether two fields are known to be the same.
@@ -69,7 +70,7 @@ impl<'a> IndexedTable<'a> {
     }
 
     /// A table with an index of it.
-    pub fn with(bytes: &'a [u8], index: &'a Index<'a>) -> IndexedTable<'a>
+    pub fn with(bytes: &'a [u8], index: &'a Index) -> IndexedTable<'a>
         requires { IsIndexOf index.now bytes.now }
         ensures { result.bytes.now ≡ bytes.entry.now }
     {
@@ -79,17 +80,16 @@ impl<'a> IndexedTable<'a> {
         }
     }
 
-    /// The index, if it is that of the series.
+    /// The index, if the path leads to its structures.
     #[inline(always)]
-    pub(crate) fn index_of(&self, series: &Series) -> Option<&'a Index<'a>>
-        ensures of { IfSome result (λ i. i.now.series ≡ series.now) }
-        ensures right { IfSome result (λ i. IsIndexOf i.now self.now.bytes.now) }
+    pub(crate) fn index_of(&self, path: &Path) -> Option<&'a Index>
+        ensures of { IfSome result (λ i. path.now ≡ Entries i.now.series) }
+        ensures right { IfSome result (λ i. ∥ IsIndexOf i.now self.now.bytes.now ∥₁) }
     {
         let index = self.index?;
-        if is_same(&index.series, series) {
-            Some(index)
-        } else {
-            None
+        match path {
+            Path::Entries(series) if is_same(&index.series, series) => Some(index),
+            _ => None,
         }
     }
 }

@@ -29,10 +29,10 @@
 //! ```
 #![tactic(auto)]
 
-mod along;
 mod case;
 mod clause;
 mod field;
+mod given;
 mod index;
 mod indexed_table;
 mod known;
@@ -52,7 +52,7 @@ mod window;
 pub use case::{Case, Kind};
 pub use clause::{Clause, Test};
 pub use field::Field;
-pub use index::{Index, Listed};
+pub use index::{Index, Listed, OfType};
 pub use indexed_table::IndexedTable;
 pub use numbered::{Numbered, Repeat, first_repeated, lesser, sort_numbers};
 pub use place::Place;

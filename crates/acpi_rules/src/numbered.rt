@@ -1,6 +1,6 @@
 //! Numbers with values at places, and those that occur again.
 
-ghost use Rattle.std.specs.Prelude.{◌≡◌, ◌⊎◌, ◌↔◌, AllPairs, Contains, IfOk, IfSome, IsTrue, OnOk};
+ghost use Rattle.std.specs.Prelude.{◌≡◌, ◌≤◌, ◌⊎◌, ◌↔◌, AllPairs, Contains, IfOk, IfSome, IsOk, IsTrue, OnOk, vec_len};
 ghost use Rattle.std.specs.List.Sorted.{IsPermutation};
 ghost use Rattle.acpi_rules.specs.Numbered.{IsNotAbove, IsRepeated, IsTold, repeat_place};
 ghost use Rattle.acpi_rules.specs.Places.{FindsLeast, IsNotAfter};
@@ -93,6 +93,7 @@ fn least_repeated(sorted: &[Numbered], repeat: Repeat) -> Option<Place>
 pub fn sort_numbers(given: &mut Vec<Numbered>) -> Result<(), AllocError>
     ensures permutation { IsPermutation given.old.items given.new.items }
     ensures sorted { OnOk result (AllPairs IsNotAbove given.new.items) }
+    ensures few { vec_len given.old ≤ 20 → IsOk result }
 {
     sort_unless_sorted(given)
 }
@@ -100,7 +101,8 @@ pub fn sort_numbers(given: &mut Vec<Numbered>) -> Result<(), AllocError>
 /// The lowest place of what is told of these numbers. Refuses if out of memory: it allocates while it sorts more than
 /// 20 that are not in order.
 pub fn first_repeated(mut given: Vec<Numbered>, repeat: Repeat) -> Result<Option<Place>, AllocError>
-    ensures { IfOk result (FindsLeast (IsRepeated repeat (λ g. Contains given.items g))) }
+    ensures found { IfOk result (FindsLeast (IsRepeated repeat (λ g. Contains given.items g))) }
+    ensures few { vec_len given ≤ 20 → IsOk result }
 {
     sort_numbers(&mut given)?;
     Ok(least_repeated(&given, repeat))

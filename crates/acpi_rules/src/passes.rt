@@ -1,117 +1,67 @@
-//! Passes over the structures of a path.
+//! Passes over the numbers that the structures of a path give.
 
-ghost use Rattle.std.specs.Prelude.{◌≡◌, AllPairs, Contains, IfOk, None, false, map};
-ghost use Rattle.std.specs.List.{filter_map, list_any};
-ghost use Rattle.std.specs.Option.{is_some};
-ghost use Rattle.acpi_rules.specs.Cases.{case_value, first_some, gives};
-ghost use Rattle.acpi_rules.specs.Known.{unless_known};
+ghost use Rattle.std.specs.Prelude.{◌≡◌, ◌↔◌, AllPairs, Contains, IfOk, map};
+ghost use Rattle.acpi_rules.specs.Cases.{case_value};
 ghost use Rattle.acpi_rules.specs.Numbered.{IsNotAbove};
-ghost use Rattle.acpi_rules.specs.Sites.{site_value, sites_of, SiteValue};
-ghost use Rattle.acpi_rules.specs.Terms.{tables_value, TwoTables};
+ghost use Rattle.acpi_rules.specs.Places.{FindsLeast};
+ghost use Rattle.acpi_rules.specs.Rows.{GivenIn, IsUnknown, gives_any};
+ghost use Rattle.acpi_rules.specs.Terms.{tables_value};
+ghost use Rattle.acpi_rules.specs.declared.numbered.Numbered.{Numbered};
 
-use crate::along::Sites;
-use crate::case::{Case, given};
-use crate::indexed_table::IndexedTable;
+use crate::case::Case;
+use crate::given::Given;
 use crate::known::has;
-use crate::numbered::Numbered;
+use crate::numbered::{Numbered, lesser};
+use crate::place::Place;
 use crate::series::Path;
-use crate::sites::Site;
 use crate::term::Tables;
 use std::alloc::{AllocError, Global};
 
-/// Whether a structure of a path may give a number. None does if the table's index has other types alone.
-fn may_give(path: &Path, cases: &[Case<'_>], table: &IndexedTable<'_>) -> bool
-    ensures { result ≡ false → (t : TwoTables) (s : SiteValue)
-        → Contains (sites_of path.now table.now.bytes.now) s
-        → gives t (map case_value cases.now) s ≡ None }
-{
-    let Path::Entries(series) = path else {
-        return true;
-    };
-    match table.index_of(series) {
-        Some(index) => index.has_any(cases),
-        None => true,
-    }
-}
-
-/// What a structure gives, if its number is not among these, which are in order.
-fn unknown(
-    cases: &[Case<'_>],
-    tables: &Tables<'_>,
-    site: &Site<'_>,
-    known: &[Numbered],
-) -> Option<Numbered>
-    requires { AllPairs IsNotAbove known.now }
-    ensures { result ≡ unless_known known.now
-        (gives (tables_value tables.now) (map case_value cases.now) (site_value site.now)) }
-{
-    let numbered = given(cases, tables, site)?;
-    if has(known, numbered.number) {
-        return None;
-    }
-    Some(numbered)
-}
-
-/// The first number that a structure gives and that is not among these, which are in order.
+/// The lowest place of a number that a structure gives and that is not among these, which are in order.
 pub(crate) fn first_unknown(
     path: &Path,
     cases: &[Case<'_>],
     tables: &Tables<'_>,
     known: &[Numbered],
-) -> Option<Numbered>
+) -> Option<Place>
     requires { AllPairs IsNotAbove known.now }
-    ensures { result ≡ first_some
-        (λ s. unless_known known.now (gives (tables_value tables.now) (map case_value cases.now) s))
-        (sites_of path.now tables.now.table.bytes.now) }
+    ensures { FindsLeast (IsUnknown (tables_value tables.now) path.now
+        (map case_value cases.now) known.now) result }
 {
-    if !may_give(path, cases, &tables.table) {
-        return None;
-    }
-    for site in Sites::along(path, &tables.table) {
-        let found = unknown(cases, tables, &site, known);
-        if found.is_some() {
-            return found;
+    let mut least = None;
+    for given in Given::along(path, cases, tables) {
+        if !has(known, given.number) {
+            let place = Place {
+                at: given.at,
+                other: given.value,
+                point: given.number,
+            };
+            least = Some(lesser(least, place));
         }
     }
-    None
+    least
 }
 
-/// All numbers that structures give, in their order. Refuses if out of memory.
+/// All numbers that structures give. Refuses if out of memory.
 pub(crate) fn all_given(
     alloc: Global,
     path: &Path,
     cases: &[Case<'_>],
     tables: &Tables<'_>,
 ) -> Result<Vec<Numbered>, AllocError>
-    ensures { IfOk result (λ all. all.items ≡ filter_map
-        (gives (tables_value tables.now) (map case_value cases.now))
-        (sites_of path.now tables.now.table.bytes.now)) }
+    ensures { IfOk result (λ all. (g : Numbered) → Contains all.items g
+        ↔ GivenIn (tables_value tables.now) path.now (map case_value cases.now) g) }
 {
     let mut all = Vec::new(alloc);
-    if !may_give(path, cases, &tables.table) {
-        return Ok(all);
-    }
-    for site in Sites::along(path, &tables.table) {
-        if let Some(numbered) = given(cases, tables, &site) {
-            all.push(numbered)?;
-        }
+    for given in Given::along(path, cases, tables) {
+        all.push(given)?;
     }
     Ok(all)
 }
 
 /// Whether a structure gives a number.
 pub(crate) fn gives_any(path: &Path, cases: &[Case<'_>], tables: &Tables<'_>) -> bool
-    ensures { result ≡ list_any
-        (λ s. is_some (gives (tables_value tables.now) (map case_value cases.now) s))
-        (sites_of path.now tables.now.table.bytes.now) }
+    ensures { result ≡ gives_any (tables_value tables.now) path.now (map case_value cases.now) }
 {
-    if !may_give(path, cases, &tables.table) {
-        return false;
-    }
-    for site in Sites::along(path, &tables.table) {
-        if given(cases, tables, &site).is_some() {
-            return true;
-        }
-    }
-    false
+    Given::along(path, cases, tables).next().is_some()
 }

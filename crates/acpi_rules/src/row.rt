@@ -1,14 +1,17 @@
 //! Rules as rows, and the finding of each.
 
-ghost use Rattle.std.specs.Prelude.{◌≡◌, ◌↔◌, AllPairs, Contains, IfOk, map};
+ghost use Rattle.std.specs.Prelude.{◌≡◌, ◌↔◌, AllPairs, Contains, IfOk, IsTrue, OnErr, map};
 ghost use Rattle.std.specs.List.{list_all};
+ghost use Rattle.std.specs.Option.{is_none};
 ghost use Rattle.acpi_rules.specs.Cases.{case_value};
 ghost use Rattle.acpi_rules.specs.Places.{FindsLeast};
-ghost use Rattle.acpi_rules.specs.Rows.{GivenIn, InForm, IsBroken, IsCut, IsNowhere, IsUnknown, guard_holds, guard_value, of_source, row_value};
+ghost use Rattle.acpi_rules.specs.Rows.{GivenIn, InForm, IsBroken, IsCut, IsNowhere, guard_holds, guard_value, needs_memory, of_source, row_value};
 ghost use Rattle.acpi_rules.specs.Numbered.{IsNotAbove};
+ghost use Rattle.acpi_rules.specs.Sites.{first_cut};
 ghost use Rattle.acpi_rules.specs.Terms.{tables_value};
 
 use crate::case::Case;
+use crate::indexed_table::IndexedTable;
 use crate::numbered::{Numbered, Repeat, first_repeated, sort_numbers};
 use crate::passes::{all_given, first_unknown, gives_any};
 use crate::place::Place;
@@ -85,17 +88,27 @@ impl Source {
     }
 }
 
+/// Whether none of the walks that find the structures of a path is cut.
+fn is_whole(path: &Path, table: &IndexedTable<'_>) -> bool
+    ensures { result ≡ is_none (first_cut path.now table.now.bytes.now) }
+{
+    match table.index_of(path) {
+        Some(index) => index.is_whole,
+        None => first_cut(path, table.bytes).is_none(),
+    }
+}
+
 /// Whether a condition holds.
 #[tactic(auto, unfolding(crate::specs::Rows::guard_holds))]
 fn guard_holds(guard: &Guard<'_>, tables: &Tables<'_>) -> bool
     ensures { result ≡ guard_holds (tables_value tables.now) (guard_value guard.now) }
 {
-    let (need, source, path, cases) = *guard;
+    let (need, source, path, cases) = guard;
     let seen = source.of(tables);
     match need {
-        Need::Some => gives_any(&path, cases, &seen),
-        Need::None => !gives_any(&path, cases, &seen),
-        Need::Whole => first_cut(&path, seen.table.bytes).is_none(),
+        Need::Some => gives_any(path, cases, &seen),
+        Need::None => !gives_any(path, cases, &seen),
+        Need::Whole => is_whole(path, &seen.table),
     }
 }
 
@@ -110,25 +123,6 @@ fn all_guards_hold(guards: &[Guard<'_>], tables: &Tables<'_>) -> bool
         }
     }
     true
-}
-
-/// The first number that a structure gives and that is not among these, which are in order, as it is reported.
-fn first_place(
-    path: &Path,
-    cases: &[Case<'_>],
-    tables: &Tables<'_>,
-    known: &[Numbered],
-) -> Option<Place>
-    requires { AllPairs IsNotAbove known.now }
-    ensures { FindsLeast (IsUnknown (tables_value tables.now) path.now
-        (map case_value cases.now) known.now) result }
-{
-    let first = first_unknown(path, cases, tables, known)?;
-    Some(Place {
-        at: first.at,
-        other: first.value,
-        point: first.number,
-    })
 }
 
 /// The numbers that structures give, in order. Refuses if out of memory.
@@ -156,13 +150,13 @@ fn first_nowhere(
 ) -> Result<Option<Place>, AllocError>
     ensures { IfOk result (FindsLeast (IsNowhere (row_value row.now) (tables_value tables.now))) }
 {
-    let &(_, _, path, _, cases, source, known_path, known_cases) = row;
+    let (_, _, path, _, cases, source, known_path, known_cases) = row;
     // Mostly nothing is looked up.
-    if !gives_any(&path, cases, tables) {
+    if !gives_any(path, cases, tables) {
         return Ok(None);
     }
-    let known = sorted_given(alloc, &known_path, known_cases, &source.of(tables))?;
-    Ok(first_place(&path, cases, tables, &known))
+    let known = sorted_given(alloc, known_path, known_cases, &source.of(tables))?;
+    Ok(first_unknown(path, cases, tables, &known))
 }
 
 /// The first cut of the walks that find the structures of a path, as it is reported.
@@ -183,28 +177,31 @@ fn first_in_form(
     row: &Row<'_>,
     tables: &Tables<'_>,
 ) -> Result<Option<Place>, AllocError>
-    ensures { IfOk result
+    ensures found { IfOk result
         (FindsLeast (InForm row.now.1 (row_value row.now) (tables_value tables.now))) }
+    ensures refuses { OnErr result (IsTrue (needs_memory row.now.1)) }
 {
-    let &(_, form, path, _, cases, ..) = row;
-    match form {
-        Form::Given => Ok(first_place(&path, cases, tables, &[])),
-        Form::Repeated(repeat) => first_repeated(all_given(alloc, &path, cases, tables)?, repeat),
+    let (_, form, path, _, cases, ..) = row;
+    match *form {
+        Form::Given => Ok(first_unknown(path, cases, tables, &[])),
+        Form::Repeated(repeat) => first_repeated(all_given(alloc, path, cases, tables)?, repeat),
         Form::Nowhere => first_nowhere(alloc, row, tables),
-        Form::Cut => Ok(cut_place(&path, tables.table.bytes)),
+        Form::Cut => Ok(cut_place(path, tables.table.bytes)),
     }
 }
 
 /// The lowest place at which tables break a rule.
 ///
 /// Refuses with `AllocError` if out of memory: it allocates for the numbers of a rule on such as occur again, and for
-/// those among which numbers are looked up.
+/// those among which numbers are looked up; other rules are not refused.
 pub fn first_finding(
     alloc: Global,
     row: &Row<'_>,
     tables: &Tables<'_>,
 ) -> Result<Option<Place>, AllocError>
-    ensures { IfOk result (FindsLeast (IsBroken (row_value row.now) (tables_value tables.now))) }
+    ensures found { IfOk result
+        (FindsLeast (IsBroken (row_value row.now) (tables_value tables.now))) }
+    ensures refuses { OnErr result (IsTrue (needs_memory row.now.1)) }
 {
     // The conditions come last, since there is mostly nothing to report.
     let found = first_in_form(alloc, row, tables)?;

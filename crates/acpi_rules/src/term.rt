@@ -1,6 +1,6 @@
 //! The numbers that rules compare and findings show.
 
-ghost use Rattle.std.specs.Prelude.{◌≡◌};
+ghost use Rattle.std.specs.Prelude.{◌≡◌, option_map};
 ghost use Rattle.acpi_rules.specs.Walks.{placed};
 ghost use Rattle.acpi_rules.specs.Sites.{site_value};
 ghost use Rattle.acpi_rules.specs.Terms.{shown, tables_value, term_number, value_number, window_of};
@@ -125,6 +125,23 @@ impl Value {
                 Some(u128::from(one) * u128::from(other))
             }
         }
+    }
+}
+
+impl Value {
+    /// The number as a finding shows it, if each field is within its structure.
+    #[inline(always)]
+    #[tactic(auto, unfolding(crate::specs::Terms::value_number, crate::specs::Terms::shown))]
+    pub(crate) fn shown_number(&self, tables: &Tables<'_>, site: &Site<'_>) -> Option<u64>
+        ensures { result ≡ option_map shown
+            (value_number (tables_value tables.now) (site_value site.now) self.now) }
+    {
+        // Most values are a term, which takes no numbers of 128 bits.
+        if let Value::Only(term) = self {
+            return term.number(tables, site);
+        }
+        let number = self.number(tables, site)?;
+        Some(shown(number))
     }
 }
 

@@ -66,7 +66,7 @@ fn example_finds_the_same_id_twice(rt: HostRuntime) -> Result<(), Fail> {
 }
 
 /// The same row, in the MADT with an index.
-fn found_by_index(alloc: Global, index: &Index<'_>) -> Result<Option<Place>, AllocError>
+fn found_by_index(alloc: Global, index: &Index) -> Result<Option<Place>, AllocError>
     requires { IsIndexOf index.now MADT.now }
 {
     let tables = Tables {

@@ -60,8 +60,6 @@ pub const FLAGS: Field = field!(112, 4);
 
 pub const RESET_REG_ADDRESS: Field = field!(120, 8);
 
-pub const RESET_VALUE: Field = field!(128, 1);
-
 pub const MINOR_VERSION: Field = field!(131, 1);
 
 pub const X_FIRMWARE_CTRL: Field = field!(132, 8);

@@ -53,11 +53,11 @@ const MADT_WHOLE: Guard<'static> = guard!((whole table MADT_ENTRIES));
 
 pub const OTHER_MADT_WHOLE: Guard<'static> = guard!((whole other MADT_ENTRIES));
 
-const MADT_LENGTHS: Guard<'static> = guard!((none table MADT_ENTRIES: OTHER_LENGTHS));
+const MADT_LENGTHS: Guard<'static> = guard!((none table MADT_ENTRIES: WRONG_LENGTHS));
 
-pub const OTHER_MADT_LENGTHS: Guard<'static> = guard!((none other MADT_ENTRIES: OTHER_LENGTHS));
+pub const OTHER_MADT_LENGTHS: Guard<'static> = guard!((none other MADT_ENTRIES: WRONG_LENGTHS));
 
-const OTHER_LENGTHS: &[Case<'static>] = any!({
+const WRONG_LENGTHS: &[Case<'static>] = any!({
     (any LOCAL_APIC) if (length own) != 8;
     (any IO_APIC) if (length own) != 12;
     (any OVERRIDE) if (length own) != 10;
@@ -93,11 +93,11 @@ pub static MADT: [Row<'static>; 25] = [
     rule!(111 IoApicAtZero, given in MADT_ENTRIES: {
         IO_APIC if IO_APIC_ADDRESS == 0 => at 0 shows 0, 0
     }),
-    // two I/O APICs have the same ID
+    // two I/O APICs have the same ID (5.2.12.3)
     rule!(112 SameIoApicId, repeated in MADT_ENTRIES: {
         IO_APIC => at 0 shows IO_APIC_ID, IO_APIC_ID
     }),
-    // two I/O APICs have the same address, which is not 0
+    // two I/O APICs have the same address, which is not 0 (5.2.12.3)
     rule!(113 SameIoApicAddress, repeated in MADT_ENTRIES: {
         IO_APIC if IO_APIC_ADDRESS != 0 => at 0 shows IO_APIC_ADDRESS, IO_APIC_ADDRESS
     }),
@@ -184,11 +184,11 @@ pub static MADT: [Row<'static>; 25] = [
     }),
     // two usable CPU interfaces have the same MPIDR (5.2.12.14)
     rule!(163 SameMpidr, repeated in MADT_ENTRIES: {
-        GICC_OF_76 if (GICC_FLAGS & 0b1001) != 0 => at 0 shows GICC_MPIDR, GICC_MPIDR
+        GICC_WITH_MPIDR if (GICC_FLAGS & 0b1001) != 0 => at 0 shows GICC_MPIDR, GICC_MPIDR
     }),
-    // a usable one's MPIDR has a bit that is none of an affinity: bits 23:0 and 39:32 are
+    // a usable one's MPIDR has a bit that is none of an affinity: bits 23:0 and 39:32 are (5.2.12.14)
     rule!(164 MpidrReserved, given in MADT_ENTRIES: {
-        GICC_OF_76 if (GICC_FLAGS & 0b1001) != 0 && (GICC_MPIDR & 0xffff_ff00_ff00_0000) != 0
+        GICC_WITH_MPIDR if (GICC_FLAGS & 0b1001) != 0 && (GICC_MPIDR & 0xffff_ff00_ff00_0000) != 0
             => at 0 shows 0, GICC_MPIDR
     }),
     // a range of redistributors has no bytes (5.2.12.17)

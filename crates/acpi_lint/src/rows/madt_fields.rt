@@ -99,7 +99,7 @@ pub const GICC_UID: Field = field!(8, 4);
 pub const GICC_FLAGS: Field = field!(12, 4);
 
 /// One that is long enough for an MPIDR, which ACPI 5.1 added.
-pub const GICC_OF_76: Kind = kind!(11, 76..);
+pub const GICC_WITH_MPIDR: Kind = kind!(11, 76..);
 
 pub const GICC_MPIDR: Field = field!(68, 8);
 

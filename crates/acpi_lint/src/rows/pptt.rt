@@ -51,7 +51,7 @@ const CACHE_ID: Field = field!(24, 4);
 
 /// Rules on the PPTT.
 pub static PPTT: [Row<'static>; 3] = [
-    // a valid Number of Sets is 0, or a valid Line Size is no power of two
+    // a valid Number of Sets is 0, or a valid Line Size is no power of two (5.2.30.2)
     rule!(123 CacheShape, given in PPTT_ENTRIES: {
         CACHE_24 if (CACHE_FLAGS & 0b10) != 0 && CACHE_SETS == 0 => at 0 shows 0, 0;
         CACHE_24 if (CACHE_FLAGS & 0b100_0000) != 0

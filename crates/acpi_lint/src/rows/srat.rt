@@ -39,11 +39,11 @@ const SRAT_WHOLE: Guard<'static> = guard!((whole table SRAT_ENTRIES));
 
 pub const OTHER_SRAT_WHOLE: Guard<'static> = guard!((whole other SRAT_ENTRIES));
 
-const SRAT_LENGTHS: Guard<'static> = guard!((none table SRAT_ENTRIES: OTHER_LENGTHS));
+const SRAT_LENGTHS: Guard<'static> = guard!((none table SRAT_ENTRIES: WRONG_LENGTHS));
 
-pub const OTHER_SRAT_LENGTHS: Guard<'static> = guard!((none other SRAT_ENTRIES: OTHER_LENGTHS));
+pub const OTHER_SRAT_LENGTHS: Guard<'static> = guard!((none other SRAT_ENTRIES: WRONG_LENGTHS));
 
-const OTHER_LENGTHS: &[Case<'static>] = any!({
+const WRONG_LENGTHS: &[Case<'static>] = any!({
     (any APIC_AFFINITY) if (length own) != 16;
     (any MEMORY) if (length own) != 40;
     (any X2APIC_AFFINITY) if (length own) != 24

@@ -68,8 +68,6 @@ pub const MEMORY_RESERVED_13: Field = field!(39, 1);
 /// Processor Local x2APIC Affinity (5.2.16.3).
 pub const X2APIC_AFFINITY: Kind = kind!(2, 24);
 
-pub const X2APIC_AFFINITY_DOMAIN: Field = field!(4, 4);
-
 pub const X2APIC_AFFINITY_ID: Field = field!(8, 4);
 
 pub const X2APIC_AFFINITY_FLAGS: Field = field!(12, 4);

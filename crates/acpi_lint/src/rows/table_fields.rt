@@ -8,9 +8,7 @@ pub const TABLE: Path = Path::Table;
 /// The table, whatever its length.
 pub const WHOLE: Kind = kind!(0, 0..);
 
-/// Its Length and its Revision.
-pub const LENGTH: Field = field!(4, 4);
-
+/// Its Revision.
 pub const REVISION: Field = field!(8, 1);
 
 /// An entry's type, of a byte, and its length, of a byte.

@@ -3,7 +3,7 @@ use Rattle.acpi_lint.specs.RowGroups.{group_value}
 use Rattle.acpi_lint.proofs.RowFindings.{group_broken}
 use Rattle.acpi_lint.proofs.row_findings.found_by.Goals as goal
 
-pub returns-in-Some : goal.returns-in-Some
-returns-in-Some c =
+pub returns-in-Some-clause-found : goal.returns-in-Some-clause-found
+returns-in-Some-clause-found c =
     group_broken c.args.tables.now (group_value c.args.group.now) c.found_in.result (tables_value c.in-Some.both)
     (rw c.in-Some.is at c.tables_of.ensures) c.found_in.ensures

@@ -1,13 +1,11 @@
-use Rattle.std.proofs.Common.{◌∙◌, map}
-use Rattle.acpi_rules.specs.Cases.{case_value, gives}
-use Rattle.acpi_rules.specs.Sites.{sites_of}
-use Rattle.acpi_rules.specs.Terms.{tables_value}
-use Rattle.acpi_rules.proofs.SeenKinds.{none_listed}
+use Rattle.std.proofs.Common.{◌∙◌, sym}
+use Rattle.acpi_rules.proofs.UnknownNumbers.{all_of, given_as}
 use Rattle.acpi_rules.proofs.passes.all_given.Goals as goal
 
-pub returns-then-not-may_give : goal.returns-then-not-may_give
-returns-then-not-may_give c =
-    let t = tables_value c.args.tables.now in
-    c.new-all.ensures.items
-    ∙ none_listed (gives t (map case_value c.args.cases.now)) (sites_of c.args.path.now t.table)
-    (λ s there. c.may_give.ensures c.if-not-may_give.true t s there)
+pub returns : goal.returns
+returns c =
+    let all = c.loop-given.all.items in
+    given_as c.along-given-items.result all
+    (sym c.into_iter-given-iterator.ensures.into_iter_gives
+    ∙ sym (all_of all c.loop-given.given-iterator _ c.in-None.ensures.steps.0 c.loop-given.invariant))
+    c.along-given-items.ensures

@@ -1,12 +1,11 @@
-use Rattle.std.proofs.Common.{map}
-use Rattle.acpi_rules.specs.Cases.{case_value, gives}
-use Rattle.acpi_rules.specs.Sites.{sites_of}
+use Rattle.std.proofs.Common.{◌∙◌, map}
+use Rattle.acpi_rules.specs.Cases.{case_value}
 use Rattle.acpi_rules.specs.Terms.{tables_value}
-use Rattle.acpi_rules.proofs.SeenKinds.{none_any}
+use Rattle.acpi_rules.proofs.UnknownNumbers.{any_given, first_of}
 use Rattle.acpi_rules.proofs.passes.gives_any.Goals as goal
 
-pub returns-then-not-may_give : goal.returns-then-not-may_give
-returns-then-not-may_give c =
-    let t = tables_value c.args.tables.now in
-    none_any (gives t (map case_value c.args.cases.now)) (sites_of c.args.path.now t.table)
-    (λ s there. c.may_give.ensures c.if-not-may_give.true t s there)
+pub returns : goal.returns
+returns c =
+    c.is_some.ensures
+    ∙ any_given (tables_value c.args.tables.now) c.args.path.now (map case_value c.args.cases.now) c.along.result
+    c.along.ensures c.next.result (first_of c.along.result c.next.new.self c.next.result c.next.ensures.steps)
