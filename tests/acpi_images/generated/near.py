@@ -1,0 +1,178 @@
+"""Sets near the edges of the rules of advice on the FADT, the MADT, the SRAT and the PPTT: each entry of a table with each of its bytes
+changed, beside entries with which a rule may be broken; entries of each type with lengths around that of the type; a FADT with each field,
+and each two of them, changed. Most sets have one table or two. None is random, so a set is the same each time."""
+
+from __future__ import annotations
+
+from itertools import product
+
+from ..tables import number, table
+
+# The lengths of entries, by their types.
+MADT_LENGTHS = {
+    **dict.fromkeys(range(26), 16), 0: 8, 1: 12, 2: 10, 3: 8, 4: 6, 5: 12, 10: 12, 11: 82, 12: 24, 13: 24, 15: 20, 17: 15, 24: 36, 128: 4, 255: 4
+}  # fmt: skip
+SRAT_LENGTHS = {0: 16, 1: 40, 2: 24, 3: 18, 4: 12, 5: 32, 6: 32, 7: 20, 8: 8, 255: 8}
+# Of each register block of the FADT the places of its 4-byte field, its length byte and its X_ structure (5.2.9).
+BLOCKS = ((56, 88, 148), (60, 88, 160), (64, 89, 172), (68, 89, 184), (72, 90, 196), (76, 91, 208), (80, 92, 220), (84, 93, 232))
+# The offset and the size of other fields that rules read.
+FADT_FIELDS = (
+    (8, 1), (36, 4), (40, 4), (44, 1), (45, 1), (46, 2), (48, 4), (52, 1), (53, 1), (54, 1), (55, 1), (94, 1), (95, 1), (109, 2), (111, 1),
+    (112, 4), (117, 1), (120, 8), (129, 2), (131, 1), (132, 8), (140, 8), (245, 1), (246, 1), (248, 8), (257, 1), (258, 1), (260, 8),
+)  # fmt: skip
+BYTES = (0, 1, 2, 3, 4, 8, 9, 15, 16, 128, 254, 255)
+
+
+def put(data, at, size, value):
+    data[at : at + size] = number(value % 256**size, size)
+
+
+def entry(kind, size, *fields):
+    """An entry of this type and length; each field is its place, its size and its number."""
+    data = bytearray([kind, size, *bytes(size - 2)])
+    for at, width, value in fields:
+        put(data, at, width, value)
+    return bytes(data)
+
+
+def with_byte(data):
+    """An entry, and all that differ from it in one byte after its length."""
+    yield data
+    for at, byte in product(range(2, len(data)), BYTES):
+        yield data[:at] + bytes([byte]) + data[at + 1 :]
+
+
+def of_lengths(lengths):
+    """Entries of each type and of lengths around its own, of zeros, of ones or of all bits."""
+    for kind, right in lengths.items():
+        for size, fill in product(sorted({right - 2, right - 1, right, right + 1, 20, 39, 40, 75, 76}), (0, 1, 255)):
+            yield bytes([kind, size]) + bytes([fill]) * (size - 2)
+
+
+LAPIC, IO_APIC, OVERRIDE = entry(0, 8, (2, 1, 7), (3, 1, 7), (4, 4, 1)), entry(1, 12, (4, 4, 0xFEC00000)), entry(2, 10, (3, 1, 9), (4, 4, 9))
+NMI_SOURCE, LOCAL_NMI = entry(3, 8, (4, 4, 2)), entry(4, 6, (2, 1, 0xEE), (5, 1, 1))
+X2APIC, X2APIC_NMI = entry(9, 16, (4, 4, 0x300), (8, 4, 1), (12, 4, 0x301)), entry(10, 12, (4, 4, 0xEE), (8, 1, 1))
+GICC, GICD, ITS = entry(11, 82, (4, 4, 5), (8, 4, 5), (12, 4, 1), (68, 8, 5)), entry(12, 24, (20, 1, 3)), entry(15, 20, (4, 4, 3))
+CORE_PIC, RINTC = entry(17, 15, (3, 4, 6), (7, 4, 6), (11, 4, 1)), entry(24, 36, (4, 4, 1), (8, 8, 9), (16, 4, 9))
+MADT_ENTRIES = (
+    LAPIC, IO_APIC, OVERRIDE, entry(2, 10, (8, 2, 0xF)), NMI_SOURCE, LOCAL_NMI, entry(5, 12), X2APIC, X2APIC_NMI, GICC, entry(11, 76, (12, 4, 8)), GICD, entry(13, 24),
+    entry(14, 16), ITS, CORE_PIC, RINTC, entry(0, 8), entry(9, 16), entry(0, 8, (3, 1, 255), (4, 4, 1)), entry(9, 16, (4, 4, 254), (8, 4, 1)),
+)  # fmt: skip
+BESIDE_IN_MADT = (
+    (), (LAPIC, OVERRIDE), (X2APIC,), (GICC, GICC), (CORE_PIC,), (RINTC,), (LAPIC, NMI_SOURCE), (LAPIC, LOCAL_NMI), (X2APIC, X2APIC_NMI),
+    (LAPIC, IO_APIC), (GICC, GICD), (OVERRIDE, entry(2, 10, (3, 1, 8), (4, 4, 9))),
+)  # fmt: skip
+APIC_AFFINITY, X2APIC_AFFINITY = entry(0, 16, (3, 1, 7), (4, 4, 1)), entry(2, 24, (8, 4, 0x300), (12, 4, 1))
+GICC_AFFINITY, RINTC_AFFINITY = entry(3, 18, (6, 4, 5), (10, 4, 1)), entry(7, 20, (8, 4, 9), (12, 4, 1))
+MEMORY, ITS_AFFINITY = entry(1, 40, (16, 4, 0x1000), (28, 4, 1)), entry(4, 12, (8, 4, 3))
+SRAT_ENTRIES = (
+    APIC_AFFINITY, X2APIC_AFFINITY, GICC_AFFINITY, RINTC_AFFINITY, MEMORY, ITS_AFFINITY, entry(5, 32), entry(6, 32),
+    entry(1, 40, (8, 8, 5), (28, 4, 1)), entry(0, 16, (4, 4, 1), (9, 1, 1)),
+)  # fmt: skip
+BESIDE_IN_SRAT = ((), (APIC_AFFINITY,), (X2APIC_AFFINITY,), (GICC_AFFINITY,), (RINTC_AFFINITY,), (MEMORY,), (APIC_AFFINITY, MEMORY))
+NODE = entry(0, 20, (4, 4, 2))
+CACHES = tuple(entry(1, size, (4, 4, 0xFF), (12, 4, 64), (16, 4, 1), (20, 1, 1), (22, 2, 64), *more) for size, *more in ((24,), (28, (24, 4, 1))))
+# A processor of the MADT, or an ITS, and the affinity that names it, or one of another type.
+PAIRS = (
+    (LAPIC, APIC_AFFINITY), (X2APIC, X2APIC_AFFINITY), (GICC, GICC_AFFINITY), (RINTC, RINTC_AFFINITY), (CORE_PIC, APIC_AFFINITY),
+    (ITS, ITS_AFFINITY), (LAPIC, X2APIC_AFFINITY), (GICC, RINTC_AFFINITY),
+)  # fmt: skip
+
+
+def madt(*entries, flags=0):
+    return table(b"APIC", bytes(4) + number(flags, 4) + b"".join(entries), 5)
+
+
+def srat(*entries, revision=3, first=1):
+    return table(b"SRAT", number(first, 4) + bytes(8) + b"".join(entries), revision)
+
+
+def blocks_fadt(flags=0):
+    """A FADT of Revision 6 in which each register block has both addresses, which agree, as its sleep registers do."""
+    data = bytearray(table(b"FACP", bytes(240), 6))
+    for index, (old, size, new) in enumerate(BLOCKS):
+        data[size], data[new : new + 2] = 4, (1, 32)
+        put(data, old, 4, 0x400 + 0x20 * index)
+        put(data, new + 4, 8, 0x400 + 0x20 * index)
+    for at, size, value in ((36, 4, 0x1000), (132, 8, 0x1000), (40, 4, 0x2000), (140, 8, 0x2000), (46, 2, 9), (48, 4, 0xB2), (112, 4, flags)):
+        put(data, at, size, value)
+    data[52:54], data[94], data[131], data[245], data[257] = (0xA0, 0xA1), 16, 5, 8, 8
+    put(data, 248, 8, 0x600), put(data, 260, 8, 0x700)
+    return data
+
+
+def fadts():
+    """FADTs with a field, or two, changed, and such of other lengths and Revisions."""
+    of_blocks = ((place, size) for old, length, new in BLOCKS for place, size in ((old, 4), (length, 1), (new, 1), (new + 1, 1), (new + 4, 8)))
+    fields = sorted({*FADT_FIELDS, *of_blocks})
+    for base in (blocks_fadt(), blocks_fadt(1 << 20), bytearray(table(b"FACP", bytes(240), 6))):
+        for index, (at, size) in enumerate(fields):
+            value = int.from_bytes(base[at : at + size], "little")
+            for first in (0, 1, 8, 31, 32, 33, value + 1, value ^ 1 << 10, value ^ 1 << 20, 1 << 23, 1 << 24):
+                one = bytearray(base)
+                put(one, at, size, first)
+                yield bytes(one)
+                for (other, width), second in product(fields[index + 1 :], (0, 1, 32)):
+                    two = bytearray(one)
+                    put(two, other, width, second)
+                    yield bytes(two)
+    for revision, length in product(range(1, 8), range(116, 277)):
+        yield of_length(blocks_fadt(), length, revision)
+
+
+def of_length(data, length, revision):
+    """A FADT cut to this length."""
+    data = data[:length]
+    data[8] = revision
+    put(data, 4, 4, length)
+    return bytes(data)
+
+
+def madts():
+    for beside in BESIDE_IN_MADT:
+        for other in (*of_lengths(MADT_LENGTHS), *(it for one in MADT_ENTRIES for it in with_byte(one))):
+            yield madt(*beside, other)
+    for one, other in product(MADT_ENTRIES, repeat=2):
+        yield madt(one, other, one)
+    yield from (madt(LAPIC, flags=flags) for flags in (0, 1, 2, 3, 1 << 31))
+
+
+def srats():
+    for beside, revision in product(BESIDE_IN_SRAT, (1, 2, 3)):
+        for other in (*of_lengths(SRAT_LENGTHS), *(it for one in SRAT_ENTRIES for it in with_byte(one))):
+            yield srat(*beside, other, revision=revision)
+    yield from (srat(APIC_AFFINITY, first=first) for first in (0, 1, 2, 257))
+
+
+def pptts():
+    for revision, one in product((1, 2, 3), (NODE, *CACHES, entry(1, 28))):
+        for beside, other in product(((), (one,), (NODE,)), (*with_byte(one), *(entry(one[0], size) for size in range(18, 34)))):
+            yield table(b"PPTT", b"".join((*beside, other)), revision)
+    for power, difference in product(range(16), (-1, 0, 1)):
+        yield table(b"PPTT", entry(1, 28, (4, 4, 0x40), (22, 2, (1 << power) + difference)), 3)
+
+
+def pairs():
+    """A MADT with a FADT or with an SRAT."""
+    for major, minor, length in product(range(1, 8), (0, 1, 3, 4, 5, 0x50, 255), (276, 132, 131, 120)):
+        data = blocks_fadt()
+        data[131] = minor
+        for one in (entry(0, 8, (4, 4, 2)), entry(9, 16, (8, 4, 2)), entry(11, 82, (12, 4, 8)), GICC, RINTC, entry(11, 30)):
+            yield of_length(data, length, major), madt(one)
+    for flags, other in product((0, 1 << 20), of_lengths(MADT_LENGTHS)):
+        yield bytes(blocks_fadt(flags)), madt(other)
+    for sci, source in product((9, 16, 17, 200), range(256)):
+        data = blocks_fadt()
+        put(data, 46, 2, sci)
+        yield bytes(data), madt(OVERRIDE, entry(2, 10, (3, 1, source), (4, 4, 7)))
+    for (one, affinity), beside in product(PAIRS, ((), (APIC_AFFINITY,), (GICC_AFFINITY,), (MEMORY,))):
+        yield from ((madt(other), srat(*beside, affinity)) for other in (*with_byte(one), *of_lengths(MADT_LENGTHS)))
+        yield from ((madt(one), srat(*beside, other)) for other in (*with_byte(affinity), *of_lengths(SRAT_LENGTHS)))
+        yield from ((madt(one, other), srat(affinity, *beside)) for other in of_lengths(MADT_LENGTHS))
+        yield from ((madt(one), srat(other, affinity, *beside)) for other in of_lengths(SRAT_LENGTHS))
+
+
+def near_sets():
+    """The tables of each set, each set once."""
+    single = ((it,) for tables in (fadts, madts, srats, pptts) for it in tables())
+    return list(dict.fromkeys((*single, *pairs())))
