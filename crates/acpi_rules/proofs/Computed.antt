@@ -9,11 +9,14 @@ use Rattle.std.proofs.lemmas.List.Elements.{Contains-append_left, Contains-appen
 use Rattle.std.proofs.lemmas.Option.{same_Some}
 use Rattle.acpi_base.proofs.Elements.{first_element, first_or_later, later_element, no_element}
 use Rattle.acpi_rules.specs.Cases.{Case, gives}
-use Rattle.acpi_rules.specs.Numbered.{IsNoLater, IsRepeated, IsTold, repeat_place}
+use Rattle.acpi_rules.specs.Numbered.{IsFirst, IsNoLater, IsRepeated, IsTold, repeat_place}
 use Rattle.acpi_rules.specs.Places.{FindsLeast, IsNotAfter}
-use Rattle.acpi_rules.specs.Rows.{GivenIn, InForm, IsBroken, IsKnown, Row, guard_holds, of_source, reported}
+use Rattle.acpi_rules.specs.Numbers.{Counts, GivenIn, IsGiven, Numbers}
+use Rattle.acpi_rules.specs.Rows.{InForm, IsBroken, IsLookedUp, Knows, Row, guard_holds, of_source, reported}
 use Rattle.acpi_rules.specs.Sites.{first_cut, sites_of}
 use Rattle.acpi_rules.specs.Terms.{TwoTables}
+use Rattle.acpi_rules.specs.declared.known.LookUp.{LookUp}
+use Rattle.acpi_rules.specs.declared.known.LookUp.TheVariants as lookup
 use Rattle.acpi_rules.specs.declared.numbered.Numbered.{Numbered}
 use Rattle.acpi_rules.specs.declared.numbered.Repeat.{Repeat}
 use Rattle.acpi_rules.specs.declared.numbered.Repeat.TheVariants as repeat
@@ -156,16 +159,67 @@ over_from f (u ∷ xs) y listed =
 -- ---- what each form finds
 
 -- the numbers that structures give
-abbrev numbers : TwoTables → Path → List Case → List Numbered
-numbers t path cases = filter_map (gives t cases) (sites_of path t.table)
+abbrev given : TwoTables → Path → List Case → List Numbered
+given t path cases = filter_map (gives t cases) (sites_of path t.table)
 
-numbers_has : (t : TwoTables) (path : Path) (cases : List Case) (g : Numbered) → GivenIn t path cases g
-    → Contains (numbers t path cases) g
-numbers_has t path cases g (s, listed, is) = kept_has (gives t cases) (sites_of path t.table) s g listed is
+given_has : (t : TwoTables) (path : Path) (cases : List Case) (g : Numbered) → GivenIn t path cases g
+    → Contains (given t path cases) g
+given_has t path cases g (s, listed, is) = kept_has (gives t cases) (sites_of path t.table) s g listed is
 
-numbers_from : (t : TwoTables) (path : Path) (cases : List Case) (g : Numbered) → Contains (numbers t path cases) g
+given_from : (t : TwoTables) (path : Path) (cases : List Case) (g : Numbered) → Contains (given t path cases) g
     → GivenIn t path cases g
-numbers_from t path cases g listed = kept_from (gives t cases) (sites_of path t.table) g listed
+given_from t path cases g listed = kept_from (gives t cases) (sites_of path t.table) g listed
+
+-- whether one of them is n
+abbrev has_number : List Numbered → ℕ → Bool
+has_number all n = list_any (λ k. k.number == n) all
+
+decides_number : (all : List Numbered) (n : ℕ)
+    → Decides (has_number all n) ((k : Numbered) × Contains all k × (k.number ≡ n))
+decides_number all n =
+    decides_any (λ k. k.number == n) (λ k. k.number ≡ n) (λ k. Decides-eqb k.number n) all
+
+-- the number, if there is none of some at its place
+abbrev beside : List Numbered → Numbered → Option Numbered
+beside except g = if has_number except g.at then None else Some g
+
+-- the numbers that count
+abbrev counted : TwoTables → Numbers → List Numbered
+counted t n = filter_map (beside (given t n.except_path n.except_cases)) (given t n.path n.cases)
+
+counted_has : (t : TwoTables) (n : Numbers) (g : Numbered) → Counts t n g → Contains (counted t n) g
+counted_has t n g (is_given, counts) =
+    kept_has (beside except) (given t n.path n.cases) g g (given_has t n.path n.cases g is_given)
+    (of (has_number except g.at) (decides_number except g.at))
+  where
+    except : List Numbered
+    except = given t n.except_path n.except_cases
+
+    of : (b : Bool) → Decides b ((k : Numbered) × Contains except k × (k.number ≡ g.at))
+        → (if b then None else Some g) ≡ Some g
+    of true decides =
+        let (k, listed, same) = decides.0 refl in
+        absurd (counts (k, given_from t n.except_path n.except_cases k listed, same))
+    of false decides = refl
+
+counted_from : (t : TwoTables) (n : Numbers) (g : Numbered) → Contains (counted t n) g → Counts t n g
+counted_from t n g listed =
+    let (h, there, is) = kept_from (beside except) (given t n.path n.cases) g listed in
+    of h (given_from t n.path n.cases h there) (has_number except h.at) (decides_number except h.at) is
+  where
+    except : List Numbered
+    except = given t n.except_path n.except_cases
+
+    of : (h : Numbered) → GivenIn t n.path n.cases h → (b : Bool)
+        → Decides b ((k : Numbered) × Contains except k × (k.number ≡ h.at)) → (if b then None else Some h) ≡ Some g
+        → Counts t n g
+    of h is_given true decides is = absurd cc
+    of h is_given false decides is =
+        subst (Counts t n) (same_Some h g is) (
+          is_given,
+          λ (k, k_given, same). not_from_Decides false decides refl
+              (k, given_has t n.except_path n.except_cases k k_given, same),
+        )
 
 abbrev given_place : Numbered → Place
 given_place g = record { at = g.at; other = g.value; point = g.number }
@@ -231,11 +285,13 @@ abbrev is_told : Repeat → Numbered → Numbered → Bool
 is_told repeat.Twice g f = not (g.at == f.at)
 is_told repeat.Unlike g f = not (g.value == f.value)
 is_told repeat.UnlikeFirst g f = not (g.value == f.value)
+is_told repeat.UnlikeValue g f = not (g.value == f.value)
 
 decides_told : (r : Repeat) (g f : Numbered) → Decides (is_told r g f) (IsTold r g f)
 decides_told repeat.Twice g f = Decides-not (g.at == f.at) (Decides-eqb g.at f.at)
 decides_told repeat.Unlike g f = Decides-not (g.value == f.value) (Decides-eqb g.value f.value)
 decides_told repeat.UnlikeFirst g f = Decides-not (g.value == f.value) (Decides-eqb g.value f.value)
+decides_told repeat.UnlikeValue g f = Decides-not (g.value == f.value) (Decides-eqb g.value f.value)
 
 -- f is the first one of g's number, and this is told of g
 abbrev is_repeat : Repeat → List Numbered → Numbered → Numbered → Bool
@@ -311,68 +367,159 @@ repeats_from r all Has there back at other point among =
 
 -- ---- the forms
 
-abbrev knows : List Numbered → ℕ → Bool
-knows known n = list_any (λ k. k.number == n) known
-
 abbrev unknown : List Numbered → Numbered → Bool
-unknown known g = not (knows known g.number)
+unknown known g = not (has_number known g.number)
 
 decides_unknown : (row : Row) (t : TwoTables) (g : Numbered)
-    → Decides (unknown (numbers (of_source row.source t) row.known_path row.known_cases) g) (¬ IsKnown row t g.number)
+    → Decides (unknown (counted (of_source row.source t) row.known) g)
+    ((x : Numbered) → Knows row t x → ¬ (x.number ≡ g.number))
 decides_unknown row t g =
-    let known = numbers (of_source row.source t) row.known_path row.known_cases in
-    let any = decides_any (λ k. k.number == g.number) (λ k. k.number ≡ g.number)
-    (λ k. Decides-eqb k.number g.number) known in
-    Decides-not (knows known g.number) (
-      λ passes.
-          let (k, listed, is) = any.0 passes in
-          (k, numbers_from (of_source row.source t) row.known_path row.known_cases k listed, is),
-      λ (k, given, is). any.1
-          (k, numbers_has (of_source row.source t) row.known_path row.known_cases k given, is),
+    let not_one = Decides-not (has_number known g.number) (decides_number known g.number) in (
+      λ passes x knows same. not_one.0 passes (x, counted_has (of_source row.source t) row.known x knows, same),
+      λ none. not_one.1
+          (λ (k, listed, same). none k (counted_from (of_source row.source t) row.known k listed) same),
     )
+  where
+    known : List Numbered
+    known = counted (of_source row.source t) row.known
+
+-- the place of g, that of f, and the value of g
+abbrev found_place : Numbered → Numbered → Place
+found_place g f = record { at = g.at; other = f.at; point = g.value }
+
+-- f is the first one of g's number
+abbrev is_found : List Numbered → Numbered → Numbered → Bool
+is_found known g f = (g.number == f.number) && is_first known f
+
+abbrev found_here : List Numbered → Numbered → Numbered → Option Place
+found_here known g f =
+    if is_found known g f then Some (found_place g f) else None
+
+abbrev somewhere : List Numbered → List Numbered → List Place
+somewhere known all = over (λ g. filter_map (found_here known g) known) all
+
+somewhere_has : (row : Row) (t : TwoTables) (at other point : ℕ) → IsLookedUp lookup.Somewhere row t at other point
+    → IsAmong (somewhere (counted (of_source row.source t) row.known) (counted t row.numbers)) at other point
+somewhere_has row t at other point (g, f, (counts, first, same), p, q, r) =
+    over_has (λ h. filter_map (found_here known h) known) (counted t row.numbers) g _
+    (counted_has t row.numbers g counts)
+    (kept_has (found_here known g) known f _ (counted_has (of_source row.source t) row.known f first.here)
+    (of (is_found known g f)
+    ((Decides-and (g.number == f.number) _ (Decides-eqb g.number f.number) (decides_first known f)).1 (same, firsts))))
+  where
+    known : List Numbered
+    known = counted (of_source row.source t) row.known
+
+    firsts : (h : Numbered) → Contains known h → (¬ (h.number ≡ f.number)) ⊎ IsNoLater f h
+    firsts h listed =
+        elim (eqb_tells h.number f.number) [
+          | inl (_, equal) ↦ inr (first.least h (counted_from (of_source row.source t) row.known h listed) equal)
+          | inr (_, differ) ↦ inl differ
+        ]
+
+    of : (b : Bool) → b ≡ true
+        → (if b then Some (found_place g f) else None)
+        ≡ Some (record { at = at; other = other; point = point })
+    of b passes = rw passes (ap Some (λ i. record { at = sym p i; other = sym q i; point = sym r i }))
+
+somewhere_from : (row : Row) (t : TwoTables) (at other point : ℕ)
+    → IsAmong (somewhere (counted (of_source row.source t) row.known) (counted t row.numbers)) at other point
+    → IsLookedUp lookup.Somewhere row t at other point
+somewhere_from row t at other point among =
+    let (g, in_all, within) = over_from (λ h. filter_map (found_here known h) known) (counted t row.numbers) _ among in
+    let (f, listed, is) = kept_from (found_here known g) known _ within in
+    of g in_all f listed (is_found known g f)
+    (Decides-and (g.number == f.number) _ (Decides-eqb g.number f.number) (decides_first known f)) is
+  where
+    known : List Numbered
+    known = counted (of_source row.source t) row.known
+
+    of : (g : Numbered) → Contains (counted t row.numbers) g → (f : Numbered) → Contains known f → (b : Bool)
+        → Decides b ((g.number ≡ f.number)
+        × ((h : Numbered) → Contains known h → (¬ (h.number ≡ f.number)) ⊎ IsNoLater f h))
+        → (if b then Some (found_place g f) else None)
+        ≡ Some (record { at = at; other = other; point = point })
+        → IsLookedUp lookup.Somewhere row t at other point
+    of g in_all f listed false decides is = absurd cc
+    of g in_all f listed true decides is =
+        let (same, firsts) = decides.0 refl in
+        let here = same_Some _ _ is in (
+          g,
+          f,
+          (
+            counted_from t row.numbers g in_all,
+            record {
+              here = counted_from (of_source row.source t) row.known f listed;
+              least = λ h knows equal.
+                  elim (firsts h (counted_has (of_source row.source t) row.known h knows)) [
+                    | inl differ ↦ absurd (differ equal)
+                    | inr before ↦ before
+                  ];
+            },
+            same,
+          ),
+          sym (ap (λ (x : Place). x.at) here),
+          sym (ap (λ (x : Place). x.other) here),
+          sym (ap (λ (x : Place). x.point) here),
+        )
 
 abbrev cut_place : Option Cut → List Place
 cut_place None = []
 cut_place (Some cut) = record { at = cut.at; other = cut.said; point = cut.end } ∷ []
 
+abbrev looked_up : LookUp → Row → TwoTables → List Place
+looked_up lookup.Nowhere row t =
+    filter_map (passed (unknown (counted (of_source row.source t) row.known))) (counted t row.numbers)
+looked_up lookup.Somewhere row t = somewhere (counted (of_source row.source t) row.known) (counted t row.numbers)
+
 abbrev places : Form → Row → TwoTables → List Place
-places form.Given row t = filter_map (passed (λ g. true)) (numbers t row.path row.cases)
-places (form.Repeated r) row t = repeats r (numbers t row.path row.cases)
-places form.Nowhere row t =
-    filter_map (passed (unknown (numbers (of_source row.source t) row.known_path row.known_cases)))
-    (numbers t row.path row.cases)
-places form.Cut row t = cut_place (first_cut row.path t.table)
+places form.Given row t = filter_map (passed (λ g. true)) (counted t row.numbers)
+places (form.Repeated r) row t = repeats r (counted t row.numbers)
+places (form.LookedUp l) row t = looked_up l row t
+places form.Cut row t = cut_place (first_cut row.numbers.path t.table)
 
 always : (g : Numbered) → Decides true (Unit {0})
 always g = (λ passes. tt, λ holds. refl)
 
+looked_up_has : (l : LookUp) (row : Row) (t : TwoTables) (at other point : ℕ) → IsLookedUp l row t at other point
+    → IsAmong (looked_up l row t) at other point
+looked_up_has lookup.Nowhere row t at other point (counts, none) =
+    passed_has (unknown (counted (of_source row.source t) row.known))
+    (λ g. (x : Numbered) → Knows row t x → ¬ (x.number ≡ g.number)) (decides_unknown row t) (counted t row.numbers)
+    at other point
+    (counted_has t row.numbers _ counts) none
+looked_up_has lookup.Somewhere row t at other point is = somewhere_has row t at other point is
+
+looked_up_from : (l : LookUp) (row : Row) (t : TwoTables) (at other point : ℕ)
+    → IsAmong (looked_up l row t) at other point → IsLookedUp l row t at other point
+looked_up_from lookup.Nowhere row t at other point among =
+    let (listed, none) = passed_from (unknown (counted (of_source row.source t) row.known))
+    (λ g. (x : Numbered) → Knows row t x → ¬ (x.number ≡ g.number)) (decides_unknown row t) (counted t row.numbers)
+    at other point among in
+    (counted_from t row.numbers _ listed, none)
+looked_up_from lookup.Somewhere row t at other point among = somewhere_from row t at other point among
+
 in_form_has : (f : Form) (row : Row) (t : TwoTables) (at other point : ℕ) → InForm f row t at other point
     → IsAmong (places f row t) at other point
-in_form_has form.Given row t at other point given =
-    passed_has (λ g. true) (λ g. Unit {0}) always (numbers t row.path row.cases) at other point
-    (numbers_has t row.path row.cases _ given) tt
+in_form_has form.Given row t at other point counts =
+    passed_has (λ g. true) (λ g. Unit {0}) always (counted t row.numbers) at other point
+    (counted_has t row.numbers _ counts) tt
 in_form_has (form.Repeated r) row t at other point is =
-    repeats_has r (numbers t row.path row.cases) (GivenIn t row.path row.cases) (numbers_has t row.path row.cases)
-    (numbers_from t row.path row.cases) at other point is
-in_form_has form.Nowhere row t at other point (given, none) =
-    passed_has (unknown (numbers (of_source row.source t) row.known_path row.known_cases))
-    (λ g. ¬ IsKnown row t g.number) (decides_unknown row t) (numbers t row.path row.cases) at other point
-    (numbers_has t row.path row.cases _ given) none
+    repeats_has r (counted t row.numbers) (Counts t row.numbers) (counted_has t row.numbers)
+    (counted_from t row.numbers) at other point is
+in_form_has (form.LookedUp l) row t at other point is = looked_up_has l row t at other point is
 in_form_has form.Cut row t at other point is = rw is (first_element _ [])
 
 in_form_from : (f : Form) (row : Row) (t : TwoTables) (at other point : ℕ) → IsAmong (places f row t) at other point
     → InForm f row t at other point
 in_form_from form.Given row t at other point among =
-    numbers_from t row.path row.cases _
-    (passed_from (λ g. true) (λ g. Unit {0}) always (numbers t row.path row.cases) at other point among).0
+    counted_from t row.numbers _
+    (passed_from (λ g. true) (λ g. Unit {0}) always (counted t row.numbers) at other point among).0
 in_form_from (form.Repeated r) row t at other point among =
-    repeats_from r (numbers t row.path row.cases) (GivenIn t row.path row.cases) (numbers_has t row.path row.cases)
-    (numbers_from t row.path row.cases) at other point among
-in_form_from form.Nowhere row t at other point among =
-    let (listed, none) = passed_from (unknown (numbers (of_source row.source t) row.known_path row.known_cases))
-    (λ g. ¬ IsKnown row t g.number) (decides_unknown row t) (numbers t row.path row.cases) at other point among in
-    (numbers_from t row.path row.cases _ listed, none)
-in_form_from form.Cut row t at other point among = of (first_cut row.path t.table) among
+    repeats_from r (counted t row.numbers) (Counts t row.numbers) (counted_has t row.numbers)
+    (counted_from t row.numbers) at other point among
+in_form_from (form.LookedUp l) row t at other point among = looked_up_from l row t at other point among
+in_form_from form.Cut row t at other point among = of (first_cut row.numbers.path t.table) among
   where
     of : (o : Option Cut) → IsAmong (cut_place o) at other point
         → o ≡ Some (record { at = at; said = other; end = point })

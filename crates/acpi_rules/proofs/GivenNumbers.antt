@@ -2,7 +2,7 @@
 use Rattle.std.specs.Prelude.{◌↔◌, List, Contains}
 use Rattle.acpi_rules.specs.Cases.{Case, gives}
 use Rattle.acpi_rules.specs.Given.{all_given}
-use Rattle.acpi_rules.specs.Rows.{GivenIn}
+use Rattle.acpi_rules.specs.Numbers.{GivenIn}
 use Rattle.acpi_rules.specs.Sites.{sites_of}
 use Rattle.acpi_rules.specs.Terms.{TwoTables}
 use Rattle.acpi_rules.specs.declared.numbered.Numbered.{Numbered}

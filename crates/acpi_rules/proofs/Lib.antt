@@ -12,5 +12,5 @@ pub mod RepeatedNumbers
 mod SortedNumbers
 pub mod Steps
 pub mod Today
+pub mod ToldNumbers
 pub mod TypedSites
-pub mod UnknownNumbers

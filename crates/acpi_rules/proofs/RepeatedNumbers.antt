@@ -66,7 +66,7 @@ first_from sorted order i j d least within same =
       | inr (inr more) ↦ absurd (omega arith)
     ]
 
-first_at : (sorted : List Numbered) → AllPairs IsNotAbove sorted → (i : ℕ) (h : Numbered) → i < length sorted
+pub first_at : (sorted : List Numbered) → AllPairs IsNotAbove sorted → (i : ℕ) (h : Numbered) → i < length sorted
     → get_or sorted i h ≡ h → ((k : ℕ) (d : Numbered) → k < i → (get_or sorted k d).number < h.number)
     → IsFirst (λ x. Contains sorted x) h
 first_at sorted order i h within is lesser =

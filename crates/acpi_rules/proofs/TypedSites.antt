@@ -12,7 +12,7 @@ use Rattle.acpi_rules.specs.Cases.{Case, gives}
 use Rattle.acpi_rules.specs.Given.{all_given, given_by_type, given_in_types}
 use Rattle.acpi_rules.specs.Indexes.{IsAmong, IsIndexOf, listed_window, typed_site, typed_sites}
 use Rattle.acpi_rules.specs.Laws.{Follow, IsPart}
-use Rattle.acpi_rules.specs.Rows.{GivenIn}
+use Rattle.acpi_rules.specs.Numbers.{GivenIn}
 use Rattle.acpi_rules.specs.Series.{start_of}
 use Rattle.acpi_rules.specs.Sites.{SiteValue, sites_of, whole_table}
 use Rattle.acpi_rules.specs.Terms.{TwoTables}

@@ -56,6 +56,16 @@ BorCase = Kind × Bor (List Clause) × ℕ × Value × Value
 abbrev pub case_value : BorCase → Case
 case_value c = record { kind = c.0; all = c.1.now; at = c.2; value = c.3; number = c.4 }
 
+-- a case as a constant has it
+abbrev pub Said : Type 0 → Type 0
+Said A = record { now : List A }
+
+abbrev pub SaidCase : Type 0
+SaidCase = Kind × Said Clause × ℕ × Value × Value
+
+abbrev pub case_said : SaidCase → Case
+case_said c = record { kind = c.0; all = c.1.now; at = c.2; value = c.3; number = c.4 }
+
 -- for structures of a type these cases give the same
 abbrev pub GiveSame : ℕ → List Case → List Case → Type 0
 GiveSame kind some all = (t : TwoTables) (s : SiteValue) → s.kind ≡ kind → gives t some s ≡ gives t all s

@@ -7,6 +7,7 @@ pub mod Indexes
 pub mod Known
 pub mod Laws
 pub mod Numbered
+pub mod Numbers
 pub mod Places
 pub mod Rows
 pub mod Series

@@ -23,12 +23,14 @@ abbrev pub IsTold : Repeat → Numbered → Numbered → Type 0
 IsTold repeat.Twice g f = g.at ≢ f.at
 IsTold repeat.Unlike g f = g.value ≢ f.value
 IsTold repeat.UnlikeFirst g f = g.value ≢ f.value
+IsTold repeat.UnlikeValue g f = g.value ≢ f.value
 
 -- the place at which it is reported
 abbrev pub repeat_place : Repeat → Numbered → Numbered → Place
 repeat_place repeat.Twice g f = record { at = g.at; other = f.at; point = g.value }
 repeat_place repeat.Unlike g f = record { at = g.at; other = f.at; point = g.number }
 repeat_place repeat.UnlikeFirst g f = record { at = f.at; other = g.at; point = g.number }
+repeat_place repeat.UnlikeValue g f = record { at = g.at; other = f.at; point = g.value }
 
 -- of the numbers that there are f is the first one that is the same as g's, and this is told of g
 pub record Repeats (r : Repeat) (Has : Numbered → Type 0) (g f : Numbered) : Type 0 where

@@ -35,16 +35,19 @@ term_number t s (term.Bits w f mask) = option_map (λ n. bit_and n mask) (readin
 term_number t s (term.Length w) = Some (length (window_of t s w).entry)
 term_number t s (term.Offset w) = Some (window_of t s w).offset
 
--- an operation on two numbers, if both are there
-abbrev pub of_both : (ℕ → ℕ → ℕ) → Option ℕ → Option ℕ → Option ℕ
-of_both f (Some m) (Some n) = Some (f m n)
-of_both f _ _ = None
+-- an operation on three numbers, if all are there
+abbrev pub of_three : (ℕ → ℕ → ℕ → ℕ) → Option ℕ → Option ℕ → Option ℕ → Option ℕ
+of_three f (Some l) (Some m) (Some n) = Some (f l m n)
+of_three f _ _ _ = None
 
 -- the number of a value; it does not wrap
 unfoldable pub value_number : TwoTables → SiteValue → Value → Option ℕ
 value_number t s (value.Only one) = term_number t s one
-value_number t s (value.Sum one times other) = of_both (λ m n. m + times * n) (term_number t s one) (term_number t s other)
-value_number t s (value.Product one other) = of_both (λ m n. m * n) (term_number t s one) (term_number t s other)
+value_number t s (value.Sum one times other) =
+    of_three (λ l m n. l + m * n) (term_number t s one) (term_number t s times) (term_number t s other)
+value_number t s (value.Product one other third) =
+    of_three (λ l m n. min (l * m * n) (2 ^ 128 - 1))
+    (term_number t s one) (term_number t s other) (term_number t s third)
 
 -- a number as a finding shows it
 unfoldable pub shown : ℕ → ℕ

@@ -4,7 +4,7 @@ ghost use Rattle.std.specs.Prelude.{◌≡◌, ◌∷◌, [], ◌↔◌, Contain
 ghost use Rattle.acpi_rules.specs.Cases.{case_value};
 ghost use Rattle.acpi_rules.specs.Given.{all_given, given_by_type};
 ghost use Rattle.acpi_rules.specs.Indexes.{typed_sites};
-ghost use Rattle.acpi_rules.specs.Rows.{GivenIn};
+ghost use Rattle.acpi_rules.specs.Numbers.{GivenIn};
 ghost use Rattle.acpi_rules.specs.Sites.{whole_table};
 ghost use Rattle.acpi_rules.specs.Terms.{tables_value};
 ghost use Rattle.acpi_rules.specs.declared.numbered.Numbered.{Numbered};
@@ -133,7 +133,7 @@ impl<'a> Iterator for GivenByType<'a> {
 }
 
 /// The first number that structures give that are walked. Those before it give none.
-fn first_walked(
+pub(crate) fn first_walked(
     cases: &[Case<'_>],
     tables: &Tables<'_>,
     walked: &mut WalkedSites<'_>,

@@ -17,12 +17,10 @@
 //! let row: Row<'_> = (
 //!     112,
 //!     Form::Repeated(Repeat::Twice),
-//!     Path::Entries(ENTRIES),
 //!     &[],
-//!     &cases,
+//!     (Path::Entries(ENTRIES), &cases, Path::Table, &[]),
 //!     Source::Table,
-//!     Path::Table,
-//!     &[],
+//!     (Path::Table, &[], Path::Table, &[]),
 //! );
 //! let found = first_finding(alloc, &row, &tables)?;
 //! assert_eq!(rt; found, Some(SECOND));
@@ -38,6 +36,7 @@ mod indexed_table;
 mod known;
 pub mod laws;
 mod numbered;
+mod numbers;
 mod passes;
 mod place;
 mod row;
@@ -54,7 +53,9 @@ pub use clause::{Clause, Test};
 pub use field::Field;
 pub use index::{Index, Listed, OfType};
 pub use indexed_table::IndexedTable;
+pub use known::LookUp;
 pub use numbered::{Numbered, Repeat, first_repeated, lesser, sort_numbers};
+pub use numbers::Numbers;
 pub use place::Place;
 pub use row::{Form, Guard, Need, Row, Source, first_finding};
 pub use series::{

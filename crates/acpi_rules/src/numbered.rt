@@ -29,6 +29,8 @@ pub enum Repeat {
     Unlike,
     /// The same, reported at the first one, with the place of the later one.
     UnlikeFirst,
+    /// The same, reported at the later one, with the place of the first, and with the later one's value.
+    UnlikeValue,
 }
 
 impl Repeat {
@@ -51,7 +53,7 @@ impl Repeat {
             _ => (here.at, first.at),
         };
         let point = match self {
-            Repeat::Twice => here.value,
+            Repeat::Twice | Repeat::UnlikeValue => here.value,
             _ => here.number,
         };
         Place { at, other, point }

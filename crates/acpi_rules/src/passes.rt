@@ -4,57 +4,59 @@ ghost use Rattle.std.specs.Prelude.{◌≡◌, ◌↔◌, AllPairs, Contains, If
 ghost use Rattle.acpi_rules.specs.Cases.{case_value};
 ghost use Rattle.acpi_rules.specs.Numbered.{IsNotAbove};
 ghost use Rattle.acpi_rules.specs.Places.{FindsLeast};
-ghost use Rattle.acpi_rules.specs.Rows.{GivenIn, IsUnknown, gives_any};
+ghost use Rattle.acpi_rules.specs.Numbers.{GivenBeside, IsToldOf, gives_any};
 ghost use Rattle.acpi_rules.specs.Terms.{tables_value};
 ghost use Rattle.acpi_rules.specs.declared.numbered.Numbered.{Numbered};
 
 use crate::case::Case;
 use crate::given::Given;
-use crate::known::has;
+use crate::known::{LookUp, first_of, told};
 use crate::numbered::{Numbered, lesser};
 use crate::place::Place;
 use crate::series::Path;
 use crate::term::Tables;
 use std::alloc::{AllocError, Global};
 
-/// The lowest place of a number that a structure gives and that is not among these, which are in order.
-pub(crate) fn first_unknown(
+/// The lowest place of what is told of the numbers that structures give, which are looked up among some.
+pub(crate) fn first_told(
+    look_up: LookUp,
     path: &Path,
     cases: &[Case<'_>],
     tables: &Tables<'_>,
+    except: &[Numbered],
     known: &[Numbered],
 ) -> Option<Place>
-    requires { AllPairs IsNotAbove known.now }
-    ensures { FindsLeast (IsUnknown (tables_value tables.now) path.now
-        (map case_value cases.now) known.now) result }
+    requires except { AllPairs IsNotAbove except.now }
+    requires known { AllPairs IsNotAbove known.now }
+    ensures { FindsLeast (IsToldOf look_up (tables_value tables.now) path.now
+        (map case_value cases.now) except.now known.now) result }
 {
     let mut least = None;
     for given in Given::along(path, cases, tables) {
-        if !has(known, given.number) {
-            let place = Place {
-                at: given.at,
-                other: given.value,
-                point: given.number,
-            };
+        if let Some(place) = told(look_up, except, known, &given) {
             least = Some(lesser(least, place));
         }
     }
     least
 }
 
-/// All numbers that structures give. Refuses if out of memory.
+/// All numbers that structures give at other places than some. Refuses if out of memory.
 pub(crate) fn all_given(
     alloc: Global,
     path: &Path,
     cases: &[Case<'_>],
     tables: &Tables<'_>,
+    except: &[Numbered],
 ) -> Result<Vec<Numbered>, AllocError>
+    requires { AllPairs IsNotAbove except.now }
     ensures { IfOk result (λ all. (g : Numbered) → Contains all.items g
-        ↔ GivenIn (tables_value tables.now) path.now (map case_value cases.now) g) }
+        ↔ GivenBeside (tables_value tables.now) path.now (map case_value cases.now) except.now g) }
 {
     let mut all = Vec::new(alloc);
     for given in Given::along(path, cases, tables) {
-        all.push(given)?;
+        if first_of(except, given.at).is_none() {
+            all.push(given)?;
+        }
     }
     Ok(all)
 }

@@ -1,22 +1,25 @@
 //! Rules as rows, and the finding of each.
 
-ghost use Rattle.std.specs.Prelude.{◌≡◌, ◌↔◌, AllPairs, Contains, IfOk, IsTrue, OnErr, map};
+ghost use Rattle.std.specs.Prelude.{◌≡◌, IfOk, IsTrue, OnErr, map};
 ghost use Rattle.std.specs.List.{list_all};
 ghost use Rattle.std.specs.Option.{is_none};
 ghost use Rattle.acpi_rules.specs.Cases.{case_value};
+ghost use Rattle.acpi_rules.specs.Numbers.{Counts, has_except, numbers_value};
 ghost use Rattle.acpi_rules.specs.Places.{FindsLeast};
-ghost use Rattle.acpi_rules.specs.Rows.{GivenIn, InForm, IsBroken, IsCut, IsNowhere, guard_holds, guard_value, needs_memory, of_source, row_value};
-ghost use Rattle.acpi_rules.specs.Numbered.{IsNotAbove};
+ghost use Rattle.acpi_rules.specs.Rows.{InForm, IsBroken, IsCut, IsLookedUp, first_is_some, gives_two, guard_holds, guard_value, needs_memory, of_source, reported, row_value};
 ghost use Rattle.acpi_rules.specs.Sites.{first_cut};
 ghost use Rattle.acpi_rules.specs.Terms.{tables_value};
 
 use crate::case::Case;
+use crate::given::first_walked;
 use crate::indexed_table::IndexedTable;
-use crate::numbered::{Numbered, Repeat, first_repeated, sort_numbers};
-use crate::passes::{all_given, first_unknown, gives_any};
+use crate::known::LookUp;
+use crate::numbered::{Repeat, first_repeated, sort_numbers};
+use crate::numbers::{Numbers, counted, excepted};
+use crate::passes::{first_told, gives_any};
 use crate::place::Place;
 use crate::series::Path;
-use crate::sites::first_cut;
+use crate::sites::{WalkedSites, first_cut};
 use crate::term::Tables;
 use std::alloc::{AllocError, Global};
 
@@ -36,6 +39,10 @@ pub enum Need {
     Some,
     /// That none of them does.
     None,
+    /// That more than one of them does.
+    Two,
+    /// That the first of them that gives one gives another than 0.
+    First,
     /// That none of the walks that find them is cut, whatever they give.
     Whole,
 }
@@ -50,28 +57,18 @@ pub enum Form {
     Given,
     /// Those that occur again.
     Repeated(Repeat),
-    /// Those that are looked up and not found: place, value and number.
-    Nowhere,
+    /// Those that are looked up, by whether they are found.
+    LookedUp(LookUp),
     /// None. The first cut of the walks that find the structures is: where it is, the length that is said there, and the
     /// end of what encloses it.
     Cut,
 }
 
-/// A rule: its number, what is reported, the path to the structures that it is about, conditions that all hold, the
-/// cases in which such a structure gives a number; and where numbers are looked up: of which table and path, and the
-/// cases in which a structure there gives one.
+/// A rule: its number, what is reported, conditions that all hold, the numbers that it is about; and those among which
+/// they are looked up, with the table that these are in.
 ///
 /// It is a tuple since a clause cannot name a constant of a struct that has references.
-pub type Row<'a> = (
-    u16,
-    Form,
-    Path,
-    &'a [Guard<'a>],
-    &'a [Case<'a>],
-    Source,
-    Path,
-    &'a [Case<'a>],
-);
+pub type Row<'a> = (u16, Form, &'a [Guard<'a>], Numbers<'a>, Source, Numbers<'a>);
 
 impl Source {
     /// The tables as a path through this one sees them.
@@ -98,6 +95,29 @@ fn is_whole(path: &Path, table: &IndexedTable<'_>) -> bool
     }
 }
 
+/// Whether more than one structure gives a number.
+fn gives_two(path: &Path, cases: &[Case<'_>], tables: &Tables<'_>) -> bool
+    ensures { result ≡ gives_two (tables_value tables.now) path.now (map case_value cases.now) }
+{
+    let mut walked = WalkedSites::along(path, tables.table.bytes);
+    if first_walked(cases, tables, &mut walked).is_none() {
+        return false;
+    }
+    first_walked(cases, tables, &mut walked).is_some()
+}
+
+/// Whether the first structure that gives a number gives another than 0.
+fn is_first_some(path: &Path, cases: &[Case<'_>], tables: &Tables<'_>) -> bool
+    ensures { result
+        ≡ first_is_some (tables_value tables.now) path.now (map case_value cases.now) }
+{
+    let mut walked = WalkedSites::along(path, tables.table.bytes);
+    match first_walked(cases, tables, &mut walked) {
+        Some(first) => first.number != 0,
+        None => false,
+    }
+}
+
 /// Whether a condition holds.
 #[tactic(auto, unfolding(crate::specs::Rows::guard_holds))]
 fn guard_holds(guard: &Guard<'_>, tables: &Tables<'_>) -> bool
@@ -108,6 +128,8 @@ fn guard_holds(guard: &Guard<'_>, tables: &Tables<'_>) -> bool
     match need {
         Need::Some => gives_any(path, cases, &seen),
         Need::None => !gives_any(path, cases, &seen),
+        Need::Two => gives_two(path, cases, &seen),
+        Need::First => is_first_some(path, cases, &seen),
         Need::Whole => is_whole(path, &seen.table),
     }
 }
@@ -125,38 +147,42 @@ fn all_guards_hold(guards: &[Guard<'_>], tables: &Tables<'_>) -> bool
     true
 }
 
-/// The numbers that structures give, in order. Refuses if out of memory.
-fn sorted_given(
+/// The lowest place of what is told of numbers that are looked up. Refuses if out of memory: it allocates for those
+/// among which they are.
+fn first_looked_up(
     alloc: Global,
-    path: &Path,
-    cases: &[Case<'_>],
-    tables: &Tables<'_>,
-) -> Result<Vec<Numbered>, AllocError>
-    ensures order { IfOk result (λ all. AllPairs IsNotAbove all.items) }
-    ensures all { IfOk result (λ all. (g : Numbered) → Contains all.items g
-        ↔ GivenIn (tables_value tables.now) path.now (map case_value cases.now) g) }
-{
-    let mut given = all_given(alloc, path, cases, tables)?;
-    sort_numbers(&mut given)?;
-    Ok(given)
-}
-
-/// The first number that is looked up and not found. Refuses if out of memory: it allocates for those that are looked
-/// up in.
-fn first_nowhere(
-    alloc: Global,
+    look_up: LookUp,
     row: &Row<'_>,
     tables: &Tables<'_>,
 ) -> Result<Option<Place>, AllocError>
-    ensures { IfOk result (FindsLeast (IsNowhere (row_value row.now) (tables_value tables.now))) }
+    ensures { IfOk result
+        (FindsLeast (IsLookedUp look_up (row_value row.now) (tables_value tables.now))) }
 {
-    let (_, _, path, _, cases, source, known_path, known_cases) = row;
+    let (_, _, _, numbers, source, known) = row;
+    let (path, cases, ..) = numbers;
     // Mostly nothing is looked up.
     if !gives_any(path, cases, tables) {
         return Ok(None);
     }
-    let known = sorted_given(alloc, known_path, known_cases, &source.of(tables))?;
-    Ok(first_unknown(path, cases, tables, &known))
+    let except = excepted(alloc, numbers, tables)?;
+    let mut known = counted(alloc, known, &source.of(tables))?;
+    sort_numbers(&mut known)?;
+    Ok(first_told(look_up, path, cases, tables, &except, &known))
+}
+
+/// The lowest place of a number that counts. Refuses if out of memory, where places are excepted.
+fn first_given(
+    alloc: Global,
+    numbers: &Numbers<'_>,
+    tables: &Tables<'_>,
+) -> Result<Option<Place>, AllocError>
+    ensures found { IfOk result (FindsLeast (λ at other point.
+        Counts (tables_value tables.now) (numbers_value numbers.now) (reported at other point))) }
+    ensures refuses { OnErr result (IsTrue (has_except (numbers_value numbers.now))) }
+{
+    let except = excepted(alloc, numbers, tables)?;
+    let (path, cases, ..) = numbers;
+    Ok(first_told(LookUp::Nowhere, path, cases, tables, &except, &[]))
 }
 
 /// The first cut of the walks that find the structures of a path, as it is reported.
@@ -179,21 +205,21 @@ fn first_in_form(
 ) -> Result<Option<Place>, AllocError>
     ensures found { IfOk result
         (FindsLeast (InForm row.now.1 (row_value row.now) (tables_value tables.now))) }
-    ensures refuses { OnErr result (IsTrue (needs_memory row.now.1)) }
+    ensures refuses { OnErr result (IsTrue (needs_memory (row_value row.now))) }
 {
-    let (_, form, path, _, cases, ..) = row;
+    let (_, form, _, numbers, ..) = row;
     match *form {
-        Form::Given => Ok(first_unknown(path, cases, tables, &[])),
-        Form::Repeated(repeat) => first_repeated(all_given(alloc, path, cases, tables)?, repeat),
-        Form::Nowhere => first_nowhere(alloc, row, tables),
-        Form::Cut => Ok(cut_place(path, tables.table.bytes)),
+        Form::Given => first_given(alloc, numbers, tables),
+        Form::Repeated(repeat) => first_repeated(counted(alloc, numbers, tables)?, repeat),
+        Form::LookedUp(look_up) => first_looked_up(alloc, look_up, row, tables),
+        Form::Cut => Ok(cut_place(&numbers.0, tables.table.bytes)),
     }
 }
 
 /// The lowest place at which tables break a rule.
 ///
-/// Refuses with `AllocError` if out of memory: it allocates for the numbers of a rule on such as occur again, and for
-/// those among which numbers are looked up; other rules are not refused.
+/// Refuses with `AllocError` if out of memory: it allocates for the numbers of a rule on such as occur again, for those
+/// among which numbers are looked up, and for places that are excepted; other rules are not refused.
 pub fn first_finding(
     alloc: Global,
     row: &Row<'_>,
@@ -201,11 +227,11 @@ pub fn first_finding(
 ) -> Result<Option<Place>, AllocError>
     ensures found { IfOk result
         (FindsLeast (IsBroken (row_value row.now) (tables_value tables.now))) }
-    ensures refuses { OnErr result (IsTrue (needs_memory row.now.1)) }
+    ensures refuses { OnErr result (IsTrue (needs_memory (row_value row.now))) }
 {
     // The conditions come last, since there is mostly nothing to report.
     let found = first_in_form(alloc, row, tables)?;
-    if found.is_none() || !all_guards_hold(row.3, tables) {
+    if found.is_none() || !all_guards_hold(row.2, tables) {
         return Ok(None);
     }
     Ok(found)

@@ -49,15 +49,15 @@ pub enum Term {
     Offset(Within),
 }
 
-/// One term, or two with an operation. Neither a sum nor a product wraps.
+/// One term, or three with operations.
 #[derive(Clone, Copy, Debug, PartialEq, Eq)]
 pub enum Value {
     /// The term.
     Only(Term),
-    /// The first one and a multiple of the second one.
-    Sum(Term, u32, Term),
-    /// The product of two.
-    Product(Term, Term),
+    /// The first one and the product of the others. It does not wrap.
+    Sum(Term, Term, Term),
+    /// The product of three, at most 2^128 - 1.
+    Product(Term, Term, Term),
 }
 
 impl Within {
@@ -116,13 +116,16 @@ impl Value {
             }
             Value::Sum(one, times, other) => {
                 let one = one.number(tables, site)?;
+                let times = times.number(tables, site)?;
                 let other = other.number(tables, site)?;
                 Some(u128::from(one) + u128::from(times) * u128::from(other))
             }
-            Value::Product(one, other) => {
+            Value::Product(one, other, third) => {
                 let one = one.number(tables, site)?;
                 let other = other.number(tables, site)?;
-                Some(u128::from(one) * u128::from(other))
+                let third = third.number(tables, site)?;
+                let two = u128::from(one) * u128::from(other);
+                Some(two.saturating_mul(u128::from(third)))
             }
         }
     }

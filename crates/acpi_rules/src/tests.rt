@@ -53,12 +53,10 @@ fn example_finds_the_same_id_twice(rt: HostRuntime) -> Result<(), Fail> {
     let row: Row<'_> = (
         112,
         Form::Repeated(Repeat::Twice),
-        Path::Entries(ENTRIES),
         &[],
-        &cases,
+        (Path::Entries(ENTRIES), &cases, Path::Table, &[]),
         Source::Table,
-        Path::Table,
-        &[],
+        (Path::Table, &[], Path::Table, &[]),
     );
     let found = first_finding(alloc, &row, &tables)?;
     assert_eq!(rt; found, Some(SECOND));
@@ -77,12 +75,10 @@ fn found_by_index(alloc: Global, index: &Index) -> Result<Option<Place>, AllocEr
     let row: Row<'_> = (
         112,
         Form::Repeated(Repeat::Twice),
-        Path::Entries(ENTRIES),
         &[],
-        &cases,
+        (Path::Entries(ENTRIES), &cases, Path::Table, &[]),
         Source::Table,
-        Path::Table,
-        &[],
+        (Path::Table, &[], Path::Table, &[]),
     );
     first_finding(alloc, &row, &tables)
 }

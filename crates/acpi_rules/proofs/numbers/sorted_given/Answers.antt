@@ -2,7 +2,7 @@ use Rattle.std.proofs.Common.{map}
 use Rattle.acpi_rules.specs.Cases.{case_value}
 use Rattle.acpi_rules.specs.Terms.{tables_value}
 use Rattle.acpi_rules.proofs.FormFindings.{sorted_given}
-use Rattle.acpi_rules.proofs.row.sorted_given.Goals as goal
+use Rattle.acpi_rules.proofs.numbers.sorted_given.Goals as goal
 
 pub returns-clause-all : goal.returns-clause-all
 returns-clause-all c =
