@@ -1,78 +1,15 @@
--- The examples of advice on the hierarchy of a PPTT, and on the numbers of its caches, by computing.
-use Rattle.std.proofs.Common.{◌≡◌, ◌≢◌, ℕ, ◌≤◌, List, [], ◌∷◌, refl, sym, subst, inl, inr, arith}
+-- The examples of advice on the packages of a PPTT, by computing.
+use Rattle.std.proofs.Common.{◌≡◌, ◌≢◌, ℕ, List, [], ◌∷◌, refl, sym, subst, arith}
 use Rattle.std.specs.Prelude.{Some, true, false}
 use Rattle.std.proofs.lemmas.Bool.{both_ways}
 use Rattle.std.proofs.lemmas.Option.{none-some, same_Some}
 use Rattle.acpi_base.specs.Chains.{IsChain}
 use Rattle.acpi_base.specs.Number.{has_bit}
-use Rattle.acpi_base.specs.Pptt.{Node, PpttContents, Says, NamesParent, parent_of, HasOtherPpttLength}
-use Rattle.acpi_lint.specs.Rules.Hierarchy.{unmarked_id, IsMarked, outer_parent, EndsOutside, IsCacheNumbers}
+use Rattle.acpi_base.specs.Pptt.{Node, PpttContents, Says}
+use Rattle.acpi_lint.specs.Rules.Hierarchy.{outer_parent, EndsOutside}
 use Rattle.acpi_lint.specs.Rules.Processors.{IsLeafAt}
-use Rattle.acpi_lint.specs.Rules.WellFormed.{IsWellFormedPptt}
-use Rattle.acpi_examples.specs.AdviceHierarchy.{nodes, one_cache, AreLeavesUnflagged, AreLeavesParents, AreNoPackages, AreCacheNumbers, IsHierarchyAdvised}
-use Rattle.acpi_examples.proofs.NamedEntries.{each_entry, none_stands, never}
-
--- ---- leaves
-
-well_formed : (revision flags parent other_flags other_parent : ℕ)
-    → IsWellFormedPptt (nodes revision flags parent other_flags other_parent)
-well_formed revision flags parent other_flags other_parent = (
-  refl,
-  λ o. none_stands (nodes revision flags parent other_flags other_parent).entries o (λ o e. HasOtherPpttLength e)
-      (never, (never, tt)),
-)
-
-leaves_unflagged : AreLeavesUnflagged
-unfolding has_bit
-leaves_unflagged = record {
-  unflagged = (
-    omega arith,
-    well_formed 2 2 0 8 0,
-    (_, (0, omega arith, refl), refl),
-    (λ (p, names). none_stands (nodes 2 2 0 8 0).entries p (λ p e. parent_of e ≡ Some 36)
-        ((λ is. omega (arith, same_Some 0 36 is)), ((λ is. omega (arith, same_Some 0 36 is)), tt)) names),
-    refl,
-  );
-  marked = λ at other point (_, _, names, _, _).
-      none_stands (nodes 2 10 0 8 0).entries at (λ o e. unmarked_id e ≡ Some point)
-      (none-some point, (none-some point, tt)) names;
-  not_valid = λ at other point (_, _, names, _, _).
-      none_stands (nodes 2 0 0 8 0).entries at (λ o e. unmarked_id e ≡ Some point)
-      (none-some point, (none-some point, tt)) names;
-  parent = λ at other point (_, _, (e, stands, is), none, _).
-      (let first : at ≡ 36 =
-      each_entry (nodes 2 2 0 8 36).entries (λ o e. unmarked_id e ≡ Some point → o ≡ 36)
-      ((λ _. refl), ((λ is. absurd (none-some point is)), tt)) at e stands is in
-      none (56, subst (NamesParent (nodes 2 2 0 8 36) 56) (sym first) (_, (1, omega arith, refl), refl)));
-  old = λ at other point it. omega (arith, it.0);
-  cut = λ at other point it. none-some 76 (sym it.1.0);
-}
-
-leaves_parents : AreLeavesParents
-unfolding has_bit
-leaves_parents = record {
-  parent = record {
-    recent = omega arith;
-    marked = (_, (0, omega arith, refl), refl);
-    named = (_, (1, omega arith, refl), refl);
-    first = λ o (e, stands, is). each_entry (nodes 2 8 0 0 36).entries (λ o e. parent_of e ≡ Some 36 → 56 ≤ o)
-        ((λ is. absurd (omega (arith, same_Some 0 36 is))), ((λ is. omega arith), tt)) o e stands is;
-    unused = refl;
-  };
-  not_marked = λ at other point it. none_stands (nodes 2 7 0 0 36).entries at (λ o e. IsMarked e)
-      ((λ on. both_ways _ refl on), ((λ on. both_ways _ refl on), tt)) it.marked;
-  other = λ at other point it.
-      (let (e, stands, on) = it.marked in
-      let first : at ≡ 36 =
-      each_entry (nodes 2 8 0 0 35).entries (λ o e. IsMarked e → o ≡ 36)
-      ((λ _. refl), ((λ on. absurd (both_ways _ refl on)), tt)) at e stands on in
-      none_stands (nodes 2 8 0 0 35).entries other (λ o e. parent_of e ≡ Some at)
-      ((λ is. omega (arith, first, same_Some 0 at is)), ((λ is. omega (arith, first, same_Some 35 at is)), tt))
-      it.named);
-  old = λ at other point it. omega (arith, it.recent);
-}
-
--- ---- packages
+use Rattle.acpi_examples.specs.AdviceHierarchy.{nodes, AreNoPackages, IsHierarchyAdvised}
+use Rattle.acpi_examples.proofs.NamedEntries.{each_entry, none_stands}
 
 -- only the second node is a leaf
 second_leaf : (flags parent other_flags other_parent o id : ℕ) → has_bit flags 3 ≡ false
@@ -149,38 +86,7 @@ no_packages = record {
   cycle = λ at other point (_, (rest, chain), _). in_cycle rest at chain;
 }
 
--- ---- caches
-
-cache_numbers : AreCacheNumbers
-unfolding has_bit
-cache_numbers = record {
-  no_ways = (_, (0, omega arith, refl), (inl (inl (refl, refl)), refl, refl));
-  no_size = (_, (0, omega arith, refl), (inl (inr (refl, refl)), refl, refl));
-  more = (_, (0, omega arith, refl), (inr ((refl, refl, refl, refl), (λ same. omega (arith, same))), refl, refl));
-  same =
-      λ at other point it. none_stands (one_cache 0x47 24 2 3 4).entries at (λ o e. IsCacheNumbers e other point) (
-        (λ (odd, _, _). elim odd [
-          | inl (inl (_, is)) ↦ omega (arith, is)
-          | inl (inr (_, is)) ↦ omega (arith, is)
-          | inr (_, differ) ↦ differ refl
-        ]),
-        tt,
-      ) it;
-  not_valid =
-      λ at other point it. none_stands (one_cache 0x45 25 2 3 4).entries at (λ o e. IsCacheNumbers e other point) (
-        (λ (odd, _, _). elim odd [
-          | inl (inl (_, is)) ↦ omega (arith, is)
-          | inl (inr (_, is)) ↦ omega (arith, is)
-          | inr ((_, sets, _, _), _) ↦ both_ways _ refl sets
-        ]),
-        tt,
-      ) it;
-}
-
 pub hierarchy_advised : IsHierarchyAdvised
 hierarchy_advised = record {
-  unflagged = leaves_unflagged;
-  parents = leaves_parents;
   packages = no_packages;
-  numbers = cache_numbers;
 }

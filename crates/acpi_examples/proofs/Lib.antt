@@ -1,16 +1,12 @@
 -- Proofs of the examples.
-pub mod Advice
-pub mod AdviceDomains
 pub mod AdviceFadt
 pub mod AdviceFadtFields
-pub mod AdviceFadtMadt
 pub mod AdviceGic
 pub mod AdviceHierarchy
-pub mod AdvicePptt
 pub mod AdviceRanges
 pub mod AdviceSet
+pub mod AdviceSlit
 pub mod AdviceSlots
-pub mod AdviceSrat
 pub mod AlteredSets
 pub mod CleanSet
 pub mod ExampleSet

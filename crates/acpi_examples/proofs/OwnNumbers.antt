@@ -3,7 +3,6 @@ use Rattle.std.proofs.Common.{◌≡◌, ℕ, ◌≤◌, List, Option, Some, Non
 use Rattle.std.specs.List.{AllByRecursion}
 use Rattle.acpi_base.specs.Entries.{PlacedEntry}
 use Rattle.acpi_base.specs.Madt.{MadtEntry, MadtContents}
-use Rattle.acpi_lint.specs.Rules.EntryTypes.{type_of, HasType}
 use Rattle.acpi_lint.specs.Rules.Numbered.{NamesAt, IsFirstNamed}
 use Rattle.acpi_lint.specs.Rules.WellFormed.{HasOtherMadtLength, IsWellFormedMadt}
 use Rattle.acpi_examples.proofs.NamedEntries.{each_entry, none_stands}
@@ -17,10 +16,6 @@ is_first read entries o n here least = (
   here,
   λ p m named. each_entry entries (λ q e. read e ≡ Some m → o ≤ q) (least m) p named.0 named.1 named.2,
 )
-
-pub has_none : (c : MadtContents) (type : ℕ) → AllByRecursion (λ s. ¬ (type_of s.entry ≡ type)) c.entries
-    → ¬ HasType c type
-has_none c type none (o, has) = none_stands c.entries o (λ o e. type_of e ≡ type) none has
 
 pub is_well_formed : (c : MadtContents) → c.cut ≡ None → AllByRecursion (λ s. ¬ HasOtherMadtLength s.entry) c.entries
     → IsWellFormedMadt c

@@ -11,9 +11,10 @@ use Rattle.acpi_rules.specs.Walks.{cut_from, structures_from}
 use Rattle.acpi_rules.proofs.Computed.{finds_broken, first_broken}
 use Rattle.acpi_rules.specs.Rows.{Row}
 use Rattle.acpi_rules.specs.declared.place.Place.{Place}
+use Rattle.acpi_lint.specs.RowGroups.{fadt_group, fadt_with_madt_group, gic_group, madt_group, madt_with_fadt_group, madt_with_pptt_group, madt_with_srat_group, pptt_group, pptt_with_madt_group, srat_group, srat_with_madt_group, srat_with_slit_group}
 use Rattle.acpi_lint.specs.Rules.Rows.{rule_number}
 use Rattle.acpi_lint.specs.declared.rule.Rule.{Rule}
-use Rattle.acpi_examples.specs.Rows.{Finds, AreMadtRows, AreMadtFadtRows, AreSratRows, ArePpttRows, AreFadtRows, AreRowsFound}
+use Rattle.acpi_examples.specs.Rows.{Finds, AreMadtRows, AreMadtFadtRows, AreSratRows, AreSratSlitRows, AreMadtPpttRows, ArePpttRows, AreFadtRows, AreFadtMadtRows, AreRowsFound}
 
 computed : {rows : List Row} {r : Rule} {table other : List ℕ} {found : Option Place}
     → first_broken (rule_number r) rows (record { table = table; other = other }) ≡ found
@@ -25,6 +26,7 @@ madt_rows_found : AreMadtRows
 unfolding field number_bytes gives in_case is_kind all_hold holds passes reading
     guard_holds first_bytes head_said kind_in most_of said_in size_in start_of
     shown term_number value_number cut_from structures_from
+    madt_group gic_group
 madt_rows_found = record {
   same_uid = computed refl;
   same_uid_kept = computed refl;
@@ -66,6 +68,14 @@ madt_rows_found = record {
   reserved_mpidr_kept = computed refl;
   empty_gicr = computed refl;
   empty_gicr_kept = computed refl;
+  no_gicr = computed refl;
+  no_gicr_kept = computed refl;
+  own_gicr = computed refl;
+  base_differs = computed refl;
+  base_differs_kept = computed refl;
+  base_of_version_3 = computed refl;
+  gicr_twice = computed refl;
+  gicr_twice_kept = computed refl;
   same_its = computed refl;
   same_its_kept = computed refl;
   same_frame = computed refl;
@@ -82,6 +92,7 @@ madt_fadt_rows_found : AreMadtFadtRows
 unfolding field number_bytes gives in_case is_kind all_hold holds passes reading
     guard_holds first_bytes head_said kind_in most_of said_in size_in start_of
     shown term_number value_number cut_from structures_from
+    madt_with_fadt_group fadt_with_madt_group
 madt_fadt_rows_found = record {
   early = computed refl;
   early_kept = computed refl;
@@ -97,6 +108,7 @@ srat_rows_found : AreSratRows
 unfolding field number_bytes gives in_case is_kind all_hold holds passes reading
     guard_holds first_bytes head_said kind_in most_of said_in size_in start_of
     shown term_number value_number cut_from structures_from
+    srat_group srat_with_madt_group madt_with_srat_group
 srat_rows_found = record {
   no_domain = computed refl;
   no_domain_kept = computed refl;
@@ -128,11 +140,70 @@ srat_rows_found = record {
   affinity_flags_kept = computed refl;
 }
 
+srat_slit_rows_found : AreSratSlitRows
+unfolding field number_bytes gives in_case is_kind all_hold holds passes reading
+    guard_holds first_bytes head_said kind_in most_of said_in size_in start_of
+    shown term_number value_number cut_from structures_from
+    srat_with_slit_group
+srat_slit_rows_found = record {
+  past_slit = computed refl;
+  past_slit_kept = computed refl;
+  past_slit_high = computed refl;
+  past_short_slit = computed refl;
+}
+
+madt_pptt_rows_found : AreMadtPpttRows
+unfolding field number_bytes gives in_case is_kind all_hold holds passes reading
+    guard_holds first_bytes head_said kind_in most_of said_in size_in start_of
+    shown term_number value_number cut_from structures_from
+    madt_with_pptt_group pptt_with_madt_group
+madt_pptt_rows_found = record {
+  no_leaf = computed refl;
+  no_leaf_kept = computed refl;
+  no_old_leaf = computed refl;
+  no_old_leaf_kept = computed refl;
+  leaf_nowhere = computed refl;
+  leaf_nowhere_kept = computed refl;
+  leaf_of_x86 = computed refl;
+  old_leaf_nowhere = computed refl;
+  old_leaf_nowhere_kept = computed refl;
+}
+
+fadt_madt_rows_found : AreFadtMadtRows
+unfolding field number_bytes gives in_case is_kind all_hold holds passes reading
+    guard_holds first_bytes head_said kind_in most_of said_in size_in start_of
+    shown term_number value_number cut_from structures_from
+    fadt_with_madt_group
+fadt_madt_rows_found = record {
+  no_boot = computed refl;
+  no_boot_kept = computed refl;
+  one_interface = computed refl;
+  psci = computed refl;
+  no_psci_field = computed refl;
+}
+
 pptt_rows_found : ArePpttRows
 unfolding field number_bytes gives in_case is_kind all_hold holds passes reading
     guard_holds first_bytes head_said kind_in most_of said_in size_in start_of
     shown term_number value_number cut_from structures_from
+    pptt_group
 pptt_rows_found = record {
+  same_leaf = computed refl;
+  same_leaf_kept = computed refl;
+  same_old_leaf = computed refl;
+  same_old_leaf_kept = computed refl;
+  same_old_leaf_cut = computed refl;
+  unflagged = computed refl;
+  unflagged_kept = computed refl;
+  unflagged_old = computed refl;
+  parent = computed refl;
+  parent_kept = computed refl;
+  parent_elsewhere = computed refl;
+  no_ways = computed refl;
+  no_size = computed refl;
+  size_differs = computed refl;
+  size_differs_kept = computed refl;
+  size_not_valid = computed refl;
   shape = computed refl;
   shape_kept = computed refl;
   same_cache = computed refl;
@@ -145,6 +216,7 @@ fadt_rows_found : AreFadtRows
 unfolding field number_bytes gives in_case is_kind all_hold holds passes reading
     guard_holds first_bytes head_said kind_in most_of said_in size_in start_of
     shown term_number value_number cut_from structures_from
+    fadt_group
 fadt_rows_found = record {
   short = computed refl;
   short_kept = computed refl;
@@ -189,6 +261,9 @@ rows_found = record {
   madt = madt_rows_found;
   madt_fadt = madt_fadt_rows_found;
   srat = srat_rows_found;
+  srat_slit = srat_slit_rows_found;
+  madt_pptt = madt_pptt_rows_found;
   pptt = pptt_rows_found;
   fadt = fadt_rows_found;
+  fadt_madt = fadt_madt_rows_found;
 }

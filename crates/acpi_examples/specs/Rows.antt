@@ -1,11 +1,11 @@
 -- Examples of the rules that are rows: of each tables that break it, with the three numbers of the first finding, and tables that
 -- just keep it.
-use Rattle.std.specs.Prelude.{ℕ, ◌+◌, List, [], ◌∷◌, ◌++◌, length, replicate, take, drop, Option, Some, None}
+use Rattle.std.specs.Prelude.{ℕ, ◌+◌, ◌*◌, List, [], ◌∷◌, ◌++◌, length, replicate, take, drop, Option, Some, None}
 use Rattle.acpi_base.specs.Number.{number_bytes}
 use Rattle.acpi_rules.specs.Places.{FindsLeast}
 use Rattle.acpi_rules.specs.Rows.{Row}
 use Rattle.acpi_rules.specs.declared.place.Place.{Place}
-use Rattle.acpi_lint.specs.RowGroups.{BreaksRow, OfAny, fadt_rows, fadt_with_madt_rows, madt_rows, madt_with_fadt_rows, madt_with_srat_rows, pptt_rows, srat_rows, srat_with_madt_rows}
+use Rattle.acpi_lint.specs.RowGroups.{BreaksRow, OfAny, fadt_group, fadt_with_madt_group, gic_group, madt_group, madt_with_fadt_group, madt_with_pptt_group, madt_with_srat_group, pptt_group, pptt_with_madt_group, srat_group, srat_with_madt_group, srat_with_slit_group}
 use Rattle.acpi_lint.specs.Rules.Rows.{rule_number}
 use Rattle.acpi_lint.specs.declared.rule.Rule.{Rule}
 use Rattle.acpi_lint.specs.declared.rule.Rule.TheVariants as rule
@@ -18,6 +18,43 @@ place at other point = Some (record { at = at; other = other; point = point })
 -- this is the first place at which a table, with another one, breaks the rows of a rule, or it keeps them
 pub record Finds (rows : List Row) (r : Rule) (table other : List ℕ) (found : Option Place) : Type 0 where
   pub first : FindsLeast (OfAny (BreaksRow (record { table = table; other = other })) rows (rule_number r)) found
+
+-- the rows of each group
+abbrev pub fadt_rows : List Row
+fadt_rows = fadt_group.rows
+
+abbrev pub fadt_with_madt_rows : List Row
+fadt_with_madt_rows = fadt_with_madt_group.rows
+
+abbrev pub madt_rows : List Row
+madt_rows = madt_group.rows
+
+abbrev pub gic_rows : List Row
+gic_rows = gic_group.rows
+
+abbrev pub madt_with_fadt_rows : List Row
+madt_with_fadt_rows = madt_with_fadt_group.rows
+
+abbrev pub madt_with_srat_rows : List Row
+madt_with_srat_rows = madt_with_srat_group.rows
+
+abbrev pub madt_with_pptt_rows : List Row
+madt_with_pptt_rows = madt_with_pptt_group.rows
+
+abbrev pub srat_rows : List Row
+srat_rows = srat_group.rows
+
+abbrev pub srat_with_madt_rows : List Row
+srat_with_madt_rows = srat_with_madt_group.rows
+
+abbrev pub srat_with_slit_rows : List Row
+srat_with_slit_rows = srat_with_slit_group.rows
+
+abbrev pub pptt_rows : List Row
+pptt_rows = pptt_group.rows
+
+abbrev pub pptt_with_madt_rows : List Row
+pptt_with_madt_rows = pptt_with_madt_group.rows
 
 -- ---- tables
 
@@ -50,6 +87,10 @@ madt entries = replicate 44 0 ++ joined entries
 abbrev pub srat : ℕ → List (List ℕ) → List ℕ
 srat revision entries = patched 8 (revision ∷ []) (patched 36 (1 ∷ []) (replicate 48 0)) ++ joined entries
 
+-- a SLIT of this many localities
+abbrev pub slit : ℕ → List ℕ
+slit count = replicate 36 0 ++ count ∷ replicate 7 0 ++ replicate (count * count) 10
+
 abbrev pub pptt : ℕ → List (List ℕ) → List ℕ
 pptt revision entries = patched 8 (revision ∷ []) (replicate 36 0) ++ joined entries
 
@@ -73,6 +114,11 @@ x2apic id flags uid = 9 ∷ 16 ∷ 0 ∷ 0 ∷ id ∷ 0 ∷ 0 ∷ 0 ∷ flags �
 -- a GIC CPU interface with an MPIDR
 abbrev pub gicc : ℕ → ℕ → List ℕ → List ℕ
 gicc uid flags mpidr = 11 ∷ 76 ∷ replicate 6 0 ++ uid ∷ 0 ∷ 0 ∷ 0 ∷ flags ∷ replicate 55 0 ++ mpidr
+
+-- one that is enabled, with a version of the parking protocol, its address, and that of a redistributor of its own
+abbrev pub interface : ℕ → ℕ → ℕ → List ℕ
+interface parking base redistributor =
+    11 ∷ 76 ∷ replicate 10 0 ++ 1 ∷ 0 ∷ 0 ∷ 0 ∷ parking ∷ replicate 15 0 ++ base ∷ replicate 27 0 ++ redistributor ∷ replicate 15 0
 
 abbrev pub gicd : ℕ → List ℕ
 gicd version = 12 ∷ 24 ∷ replicate 18 0 ++ version ∷ replicate 3 0
@@ -110,8 +156,17 @@ initiator domain flags = 5 ∷ 32 ∷ 0 ∷ 0 ∷ domain ∷ replicate 19 0 ++ f
 abbrev pub node : ℕ → List ℕ
 node flags = 0 ∷ 20 ∷ 0 ∷ 0 ∷ flags ∷ replicate 15 0
 
+-- one with a Parent and an ID
+abbrev pub child : ℕ → ℕ → ℕ → List ℕ
+child flags parent id = 0 ∷ 20 ∷ 0 ∷ 0 ∷ flags ∷ 0 ∷ 0 ∷ 0 ∷ parent ∷ 0 ∷ 0 ∷ 0 ∷ id ∷ replicate 7 0
+
 abbrev pub cache : ℕ → ℕ → ℕ → List ℕ
 cache flags id line = 1 ∷ 28 ∷ 0 ∷ 0 ∷ flags ∷ replicate 17 0 ++ line ∷ 0 ∷ id ∷ replicate 3 0
+
+-- one of 24 bytes with a Size, a Number of Sets, an Associativity and a Line Size
+abbrev pub sized_cache : ℕ → ℕ → ℕ → ℕ → ℕ → List ℕ
+sized_cache flags size sets ways line =
+    1 ∷ 24 ∷ 0 ∷ 0 ∷ flags ∷ replicate 7 0 ++ size ∷ 0 ∷ 0 ∷ 0 ∷ sets ∷ 0 ∷ 0 ∷ 0 ∷ ways ∷ 0 ∷ line ∷ 0 ∷ []
 
 -- ---- the rules
 
@@ -129,8 +184,8 @@ pub record AreMadtRows : Type 0 where
   pub same_address_kept : Finds madt_rows rule.SameIoApicAddress (madt (io_apic 7 0 ∷ io_apic 8 0 ∷ [])) [] None
   pub nmi_nowhere : Finds madt_rows rule.NmiNowhere (madt (local_apic 3 5 0 ∷ nmi 4 1 ∷ [])) [] (place 52 0 4)
   pub nmi_nowhere_kept : Finds madt_rows rule.NmiNowhere (madt (local_apic 3 5 0 ∷ nmi 255 1 ∷ [])) [] None
-  pub second_gicd : Finds madt_rows rule.SecondGicd (madt (gicd 3 ∷ gicd 3 ∷ [])) [] (place 68 44 0)
-  pub second_gicd_kept : Finds madt_rows rule.SecondGicd (madt (gicd 3 ∷ [])) [] None
+  pub second_gicd : Finds gic_rows rule.SecondGicd (madt (gicd 3 ∷ gicd 3 ∷ [])) [] (place 68 44 0)
+  pub second_gicd_kept : Finds gic_rows rule.SecondGicd (madt (gicd 3 ∷ [])) [] None
   pub no_processor : Finds madt_rows rule.NoProcessor (madt (local_apic 3 5 0 ∷ [])) [] (place 0 0 0)
   pub no_processor_kept : Finds madt_rows rule.NoProcessor (madt (local_apic 3 5 2 ∷ [])) [] None
   pub unread : Finds madt_rows rule.MadtUnread (madt ((16 ∷ 4 ∷ 0 ∷ 0 ∷ []) ∷ [])) [] (place 44 16 0)
@@ -149,18 +204,26 @@ pub record AreMadtRows : Type 0 where
   pub lint_kept : Finds madt_rows rule.LintNotOne (madt (nmi 255 1 ∷ [])) [] None
   pub no_io_apic : Finds madt_rows rule.NoIoApic (madt (local_apic 3 5 1 ∷ override 0 2 0 ∷ [])) [] (place 0 0 0)
   pub no_io_apic_kept : Finds madt_rows rule.NoIoApic (madt (local_apic 3 5 1 ∷ override 0 2 0 ∷ io_apic 7 1 ∷ [])) [] None
-  pub no_gicd : Finds madt_rows rule.NoDistributor (madt (gicc 0 1 zeros ∷ [])) [] (place 0 0 0)
-  pub no_gicd_kept : Finds madt_rows rule.NoDistributor (madt (gicc 0 1 zeros ∷ gicd 3 ∷ [])) [] None
-  pub same_mpidr : Finds madt_rows rule.SameMpidr (madt (gicc 0 1 (byte 0 5) ∷ gicc 1 1 (byte 0 5) ∷ [])) [] (place 120 44 5)
-  pub same_mpidr_kept : Finds madt_rows rule.SameMpidr (madt (gicc 0 1 (byte 0 5) ∷ gicc 1 1 (byte 0 6) ∷ [])) [] None
-  pub reserved_mpidr : Finds madt_rows rule.MpidrReserved (madt (gicc 0 1 (byte 3 1) ∷ [])) [] (place 44 0 16777216)
-  pub reserved_mpidr_kept : Finds madt_rows rule.MpidrReserved (madt (gicc 0 1 (byte 4 1) ∷ [])) [] None
-  pub empty_gicr : Finds madt_rows rule.GicrEmpty (madt (gicr 5 0 ∷ [])) [] (place 44 0 5)
-  pub empty_gicr_kept : Finds madt_rows rule.GicrEmpty (madt (gicr 5 1 ∷ [])) [] None
-  pub same_its : Finds madt_rows rule.SameIts (madt (its 5 ∷ its 5 ∷ [])) [] (place 64 44 5)
-  pub same_its_kept : Finds madt_rows rule.SameIts (madt (its 5 ∷ its 6 ∷ [])) [] None
-  pub same_frame : Finds madt_rows rule.SameMsiFrame (madt (msi_frame 5 ∷ msi_frame 5 ∷ [])) [] (place 68 44 5)
-  pub same_frame_kept : Finds madt_rows rule.SameMsiFrame (madt (msi_frame 5 ∷ msi_frame 6 ∷ [])) [] None
+  pub no_gicd : Finds gic_rows rule.NoDistributor (madt (gicc 0 1 zeros ∷ [])) [] (place 0 0 0)
+  pub no_gicd_kept : Finds gic_rows rule.NoDistributor (madt (gicc 0 1 zeros ∷ gicd 3 ∷ [])) [] None
+  pub same_mpidr : Finds gic_rows rule.SameMpidr (madt (gicc 0 1 (byte 0 5) ∷ gicc 1 1 (byte 0 5) ∷ [])) [] (place 120 44 5)
+  pub same_mpidr_kept : Finds gic_rows rule.SameMpidr (madt (gicc 0 1 (byte 0 5) ∷ gicc 1 1 (byte 0 6) ∷ [])) [] None
+  pub reserved_mpidr : Finds gic_rows rule.MpidrReserved (madt (gicc 0 1 (byte 3 1) ∷ [])) [] (place 44 0 16777216)
+  pub reserved_mpidr_kept : Finds gic_rows rule.MpidrReserved (madt (gicc 0 1 (byte 4 1) ∷ [])) [] None
+  pub empty_gicr : Finds gic_rows rule.GicrEmpty (madt (gicr 5 0 ∷ [])) [] (place 44 0 5)
+  pub empty_gicr_kept : Finds gic_rows rule.GicrEmpty (madt (gicr 5 1 ∷ [])) [] None
+  pub no_gicr : Finds gic_rows rule.NoRedistributor (madt (gicd 3 ∷ interface 0 0 0 ∷ [])) [] (place 44 3 0)
+  pub no_gicr_kept : Finds gic_rows rule.NoRedistributor (madt (gicd 2 ∷ gicd 3 ∷ interface 0 0 0 ∷ [])) [] None
+  pub own_gicr : Finds gic_rows rule.NoRedistributor (madt (gicd 4 ∷ interface 0 0 1 ∷ [])) [] None
+  pub base_differs : Finds gic_rows rule.GiccBaseDiffers (madt (gicd 2 ∷ interface 0 1 0 ∷ interface 0 2 0 ∷ [])) [] (place 144 68 2)
+  pub base_differs_kept : Finds gic_rows rule.GiccBaseDiffers (madt (gicd 2 ∷ interface 0 1 0 ∷ interface 0 1 0 ∷ [])) [] None
+  pub base_of_version_3 : Finds gic_rows rule.GiccBaseDiffers (madt (gicd 3 ∷ interface 0 1 0 ∷ interface 0 2 0 ∷ [])) [] None
+  pub gicr_twice : Finds gic_rows rule.RedistributorTwice (madt (interface 0 0 5 ∷ gicr 1 1 ∷ [])) [] (place 44 120 5)
+  pub gicr_twice_kept : Finds gic_rows rule.RedistributorTwice (madt (interface 0 0 0 ∷ gicr 1 1 ∷ [])) [] None
+  pub same_its : Finds gic_rows rule.SameIts (madt (its 5 ∷ its 5 ∷ [])) [] (place 64 44 5)
+  pub same_its_kept : Finds gic_rows rule.SameIts (madt (its 5 ∷ its 6 ∷ [])) [] None
+  pub same_frame : Finds gic_rows rule.SameMsiFrame (madt (msi_frame 5 ∷ msi_frame 5 ∷ [])) [] (place 68 44 5)
+  pub same_frame_kept : Finds gic_rows rule.SameMsiFrame (madt (msi_frame 5 ∷ msi_frame 6 ∷ [])) [] None
   pub same_hart : Finds madt_rows rule.SameHart (madt (rintc 1 5 1 ∷ rintc 2 5 2 ∷ [])) [] (place 64 44 5)
   pub same_hart_kept : Finds madt_rows rule.SameHart (madt (rintc 1 5 1 ∷ rintc 0 5 2 ∷ [])) [] None
   pub table_flags : Finds madt_rows rule.MadtReserved (patched 40 (2 ∷ []) (madt [])) [] (place 40 0 2)
@@ -223,8 +286,52 @@ pub record AreSratRows : Type 0 where
   pub affinity_flags : Finds srat_rows rule.SratReserved (srat 2 (apic_affinity 0 4 2 ∷ [])) [] (place 48 4 0)
   pub affinity_flags_kept : Finds srat_rows rule.SratReserved (srat 2 (apic_affinity 0 4 1 ∷ [])) [] None
 
+-- the SRAT with the SLIT (5.2.17)
+pub record AreSratSlitRows : Type 0 where
+  pub past_slit : Finds srat_with_slit_rows rule.DomainPastSlit (srat 2 (initiator 2 1 ∷ [])) (slit 2) (place 48 2 2)
+  pub past_slit_kept : Finds srat_with_slit_rows rule.DomainPastSlit (srat 2 (initiator 1 1 ∷ [])) (slit 2) None
+  pub past_slit_high : Finds srat_with_slit_rows rule.DomainPastSlit (srat 2 (apic_affinity 1 4 1 ∷ [])) (slit 1) (place 48 1 256)
+  pub past_short_slit : Finds srat_with_slit_rows rule.DomainPastSlit (srat 2 (initiator 2 1 ∷ [])) (take 47 (slit 2)) None
+
+-- the MADT with the PPTT, and the other way round (5.2.30.1)
+pub record AreMadtPpttRows : Type 0 where
+  pub no_leaf : Finds madt_with_pptt_rows rule.NoLeaf
+      (madt (local_apic 3 5 2 ∷ [])) (pptt 2 (child 10 0 7 ∷ [])) (place 44 0 3)
+  pub no_leaf_kept : Finds madt_with_pptt_rows rule.NoLeaf
+      (madt (local_apic 3 5 2 ∷ [])) (pptt 2 (child 10 0 3 ∷ [])) None
+  pub no_old_leaf : Finds madt_with_pptt_rows rule.NoLeaf
+      (madt (local_apic 3 5 2 ∷ [])) (pptt 1 (child 2 0 3 ∷ child 2 36 4 ∷ [])) (place 44 0 3)
+  pub no_old_leaf_kept : Finds madt_with_pptt_rows rule.NoLeaf
+      (madt (local_apic 4 5 2 ∷ [])) (pptt 1 (child 2 0 3 ∷ child 2 36 4 ∷ [])) None
+  pub leaf_nowhere : Finds pptt_with_madt_rows rule.LeafNowhere
+      (pptt 2 (child 10 0 7 ∷ [])) (madt (gicc 3 0 zeros ∷ [])) (place 36 0 7)
+  pub leaf_nowhere_kept : Finds pptt_with_madt_rows rule.LeafNowhere
+      (pptt 2 (child 10 0 3 ∷ [])) (madt (gicc 3 0 zeros ∷ [])) None
+  pub leaf_of_x86 : Finds pptt_with_madt_rows rule.LeafNowhere
+      (pptt 2 (child 10 0 7 ∷ [])) (madt (local_apic 3 5 1 ∷ [])) None
+  pub old_leaf_nowhere : Finds pptt_with_madt_rows rule.LeafNowhere
+      (pptt 1 (child 2 0 7 ∷ [])) (madt (gicc 3 0 zeros ∷ [])) (place 36 0 7)
+  pub old_leaf_nowhere_kept : Finds pptt_with_madt_rows rule.LeafNowhere
+      (pptt 1 (child 2 0 7 ∷ child 0 36 0 ∷ [])) (madt (gicc 3 0 zeros ∷ [])) None
+
 -- the PPTT (5.2.30)
 pub record ArePpttRows : Type 0 where
+  pub same_leaf : Finds pptt_rows rule.SameLeaf (pptt 2 (child 10 0 7 ∷ child 10 36 7 ∷ [])) [] (place 56 36 7)
+  pub same_leaf_kept : Finds pptt_rows rule.SameLeaf (pptt 2 (child 10 0 7 ∷ child 2 36 7 ∷ [])) [] None
+  pub same_old_leaf : Finds pptt_rows rule.SameLeaf (pptt 1 (child 2 0 7 ∷ child 2 0 7 ∷ [])) [] (place 56 36 7)
+  pub same_old_leaf_kept : Finds pptt_rows rule.SameLeaf (pptt 1 (child 2 0 7 ∷ child 2 36 7 ∷ [])) [] None
+  pub same_old_leaf_cut : Finds pptt_rows rule.SameLeaf (pptt 1 (child 2 0 7 ∷ child 2 0 7 ∷ (0 ∷ []) ∷ [])) [] None
+  pub unflagged : Finds pptt_rows rule.LeafUnflagged (pptt 2 (child 2 0 7 ∷ child 8 0 8 ∷ [])) [] (place 36 0 7)
+  pub unflagged_kept : Finds pptt_rows rule.LeafUnflagged (pptt 2 (child 2 0 7 ∷ child 8 36 8 ∷ [])) [] None
+  pub unflagged_old : Finds pptt_rows rule.LeafUnflagged (pptt 1 (child 2 0 7 ∷ child 8 0 8 ∷ [])) [] None
+  pub parent : Finds pptt_rows rule.LeafAsParent (pptt 2 (child 8 0 0 ∷ child 0 36 0 ∷ [])) [] (place 36 56 0)
+  pub parent_kept : Finds pptt_rows rule.LeafAsParent (pptt 2 (child 7 0 0 ∷ child 0 36 0 ∷ [])) [] None
+  pub parent_elsewhere : Finds pptt_rows rule.LeafAsParent (pptt 2 (child 8 0 0 ∷ child 0 35 0 ∷ [])) [] None
+  pub no_ways : Finds pptt_rows rule.CacheNumbers (pptt 2 (sized_cache 4 5 6 0 7 ∷ [])) [] (place 36 5 0)
+  pub no_size : Finds pptt_rows rule.CacheNumbers (pptt 2 (sized_cache 1 0 2 3 4 ∷ [])) [] (place 36 0 24)
+  pub size_differs : Finds pptt_rows rule.CacheNumbers (pptt 2 (sized_cache 71 25 2 3 4 ∷ [])) [] (place 36 25 24)
+  pub size_differs_kept : Finds pptt_rows rule.CacheNumbers (pptt 2 (sized_cache 71 24 2 3 4 ∷ [])) [] None
+  pub size_not_valid : Finds pptt_rows rule.CacheNumbers (pptt 2 (sized_cache 69 25 2 3 4 ∷ [])) [] None
   pub shape : Finds pptt_rows rule.CacheShape (pptt 3 (cache 64 0 3 ∷ [])) [] (place 36 0 0)
   pub shape_kept : Finds pptt_rows rule.CacheShape (pptt 3 (cache 64 0 4 ∷ [])) [] None
   pub same_cache : Finds pptt_rows rule.SameCacheId (pptt 3 (cache 128 5 4 ∷ cache 128 5 4 ∷ [])) [] (place 64 36 5)
@@ -280,9 +387,24 @@ pub record AreFadtRows : Type 0 where
   pub caches : Finds fadt_rows rule.FadtReserved (patched 114 (192 ∷ []) (fadt 6 276)) [] (place 112 0 12582912)
   pub caches_kept : Finds fadt_rows rule.FadtReserved (patched 114 (64 ∷ []) (fadt 6 276)) [] None
 
+-- the FADT with the MADT (5.2.12.14)
+pub record AreFadtMadtRows : Type 0 where
+  pub no_boot : Finds fadt_with_madt_rows rule.NoBootMethod
+      (fadt 6 131) (madt (interface 0 0 0 ∷ interface 0 0 0 ∷ [])) (place 129 0 0)
+  pub no_boot_kept : Finds fadt_with_madt_rows rule.NoBootMethod
+      (fadt 6 131) (madt (interface 0 0 0 ∷ interface 1 0 0 ∷ [])) None
+  pub one_interface : Finds fadt_with_madt_rows rule.NoBootMethod (fadt 6 131) (madt (interface 0 0 0 ∷ [])) None
+  pub psci : Finds fadt_with_madt_rows rule.NoBootMethod
+      (patched 129 (1 ∷ []) (fadt 6 131)) (madt (interface 0 0 0 ∷ interface 0 0 0 ∷ [])) None
+  pub no_psci_field : Finds fadt_with_madt_rows rule.NoBootMethod
+      (fadt 6 130) (madt (interface 0 0 0 ∷ interface 0 0 0 ∷ [])) None
+
 pub record AreRowsFound : Type 0 where
   pub madt : AreMadtRows
   pub madt_fadt : AreMadtFadtRows
   pub srat : AreSratRows
+  pub srat_slit : AreSratSlitRows
+  pub madt_pptt : AreMadtPpttRows
   pub pptt : ArePpttRows
   pub fadt : AreFadtRows
+  pub fadt_madt : AreFadtMadtRows

@@ -6,17 +6,14 @@ ghost use Rattle.acpi_base.specs.Policy.{PolicyValue, IsPolicy};
 ghost use Rattle.acpi_base.specs.Statements.{IsClean};
 ghost use Rattle.acpi_write.specs.Rebuilding.{IsRebuilt};
 ghost use Rattle.acpi_write.specs.SetValues.{IsSetValue};
-ghost use Rattle.acpi_examples.specs.AdviceDomains.{AreDomainsAdvised};
 ghost use Rattle.acpi_examples.specs.AdviceFadt.{IsFadtAdvised};
 ghost use Rattle.acpi_examples.specs.AdviceFadtFields.{AreFadtFieldsAdvised};
-ghost use Rattle.acpi_examples.specs.AdviceFadtMadt.{AreFadtMadtsAdvised};
 ghost use Rattle.acpi_examples.specs.AdviceGic.{IsGicAdvised};
 ghost use Rattle.acpi_examples.specs.AdviceHierarchy.{IsHierarchyAdvised};
-ghost use Rattle.acpi_examples.specs.AdvicePptt.{IsPpttAdvised};
 ghost use Rattle.acpi_examples.specs.AdviceRanges.{AreRangesAdvised};
 ghost use Rattle.acpi_examples.specs.AdviceSet.{AreSetsAdvised};
+ghost use Rattle.acpi_examples.specs.AdviceSlit.{IsSlitAdvised};
 ghost use Rattle.acpi_examples.specs.AdviceSlots.{AreSlotsAdvised};
-ghost use Rattle.acpi_examples.specs.AdviceSrat.{IsSratAdvised};
 ghost use Rattle.acpi_examples.specs.AlteredSets.{AreRsdpFaults, AreRootFaults, AreTableFaults, AreFadtFaults, AreFacsFaults};
 ghost use Rattle.acpi_examples.specs.Madts.{AreMadtContents, AreMadtFaults, IsFirstInterrupt, HasNoMadtFault};
 ghost use Rattle.acpi_examples.specs.Pptts.{ArePpttContents, ArePpttFaults, AreCycleFaults, HasNoPpttFault};
@@ -82,10 +79,7 @@ pub fn advice_examples()
     ensures sets { AreSetsAdvised }
     ensures fadt { (q : PolicyValue) → IsFadtAdvised q }
     ensures fadt_fields { AreFadtFieldsAdvised }
-    ensures fadt_and_madt { AreFadtMadtsAdvised }
-    ensures srat_and_slit { IsSratAdvised }
-    ensures pptt { IsPpttAdvised }
-    ensures domains { AreDomainsAdvised }
+    ensures slit { IsSlitAdvised }
     ensures hierarchy { IsHierarchyAdvised }
     ensures gic { IsGicAdvised }
     ensures ranges { AreRangesAdvised }

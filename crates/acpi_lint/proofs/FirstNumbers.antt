@@ -6,7 +6,7 @@ use Rattle.acpi_base.specs.Entries.{PlacedEntry, Stands}
 use Rattle.acpi_base.specs.Madt.{MadtEntry}
 use Rattle.acpi_base.proofs.EntryOffsets.{AreOnes}
 use Rattle.acpi_check.proofs.EntryPasses.Kept.{AreRising}
-use Rattle.acpi_lint.specs.EntryNumbers.{IsAnyNamed}
+use Rattle.acpi_lint.specs.MadtNumbers.{IsAnyNamed}
 use Rattle.acpi_lint.specs.MadtNumbers.{HasNumberWith, NamesWith}
 use Rattle.acpi_rules.specs.Places.{IsLeast, FindsLeast}
 use Rattle.acpi_lint.specs.Places.{PicksFirst, FindsOwn}

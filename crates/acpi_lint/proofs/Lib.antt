@@ -15,8 +15,6 @@ mod FirstPlaces
 mod FirstSlots
 mod HeaderTexts
 mod HeldStages
-mod HierarchyPlaces
-mod KnownOnes
 mod LeafNumbers
 mod LeastPlaces
 mod ListedSlots
@@ -26,7 +24,6 @@ mod OfTables
 mod OnceTables
 mod OneAdvice
 mod OneCodes
-mod OtherBases
 mod OuterChains
 mod OuterNodes
 mod RangeLists
@@ -49,6 +46,4 @@ mod StageVerdicts
 mod StartOverlaps
 mod StructureRanges
 mod TablesAt
-mod TwoGiccs
-mod UnknownOnes
 mod WellFormedTables

@@ -1,32 +1,20 @@
 -- From what is found in a table to what is found in the set that lists it, and for the rules that look at it.
-use Rattle.std.proofs.Common.{◌≡◌, ℕ, ◌≤◌, List, length, Option, Some, None, Result, Ok, Err, refl, ap, arith, ◌<◌, sym, ◌∙◌, subst}
-use Rattle.std.specs.Prelude.{◌↔◌, IfOk, MatchOption, option_map}
+use Rattle.std.proofs.Common.{◌≡◌, ℕ, ◌≤◌, List, length, Option, Some, None, Result, Ok, Err, refl, arith, ◌<◌, sym, ◌∙◌, subst}
+use Rattle.std.specs.Prelude.{◌↔◌, IfOk, MatchOption}
 use Rattle.std.proofs.lemmas.Option.{same_Some}
-use denote.Ref.{Bor}
 use Rattle.acpi_base.specs.Contents.{HasPptt}
-use Rattle.acpi_base.specs.Entries.{PlacedEntry}
-use Rattle.acpi_lint.specs.Rules.Numbered.{OnEntry}
-use Rattle.acpi_lint.specs.Rules.Broken.{OfFadt, OfMadt, OfSrat, OfSlit, Condition, HoldsAt, Rows, Slots, Set, Fadt, FadtMemory, FadtMadt, Madt, MadtPptt, SratSlit, Slit, Pptt, PpttEntries}
+use Rattle.acpi_lint.specs.Rules.Broken.{OfFadt, OfMadt, Condition, HoldsAt, Rows, Slots, Set, Fadt, FadtMemory, FadtMadt, Madt, Slit, Pptt}
 use Rattle.acpi_base.specs.Listed.{fadt_signature, madt_signature, srat_signature, slit_signature, pptt_signature, HasListed, IsListedTable}
 use Rattle.acpi_base.specs.Madt.{madt_contents}
 use Rattle.acpi_base.specs.Memory.{Memory}
 use Rattle.acpi_base.specs.Policy.{PolicyValue}
-use Rattle.acpi_base.specs.Pptt.{PpttEntry, pptt_contents}
-use Rattle.acpi_base.specs.Slit.{SlitContents, slit_contents, HasSlitSize}
-use Rattle.acpi_base.specs.Srat.{SratEntry, srat_contents}
+use Rattle.acpi_base.specs.Pptt.{pptt_contents}
 use Rattle.acpi_base.proofs.Faults.ListedTables.{of_listed}
-use Rattle.acpi_read.specs.Slits.{HasRows}
-use Rattle.acpi_read.specs.Entries.{entry_at_value}
-use Rattle.acpi_read.specs.declared.typed_entries.EntryAt.{EntryAt}
-use Rattle.acpi_check.specs.CollectedValues.{Picks}
-use Rattle.acpi_check.proofs.EntryPasses.Kept.{AreRising, srat_rising, pptt_rising}
 use Rattle.acpi_rules.specs.Places.{FindsLeast}
-use Rattle.acpi_lint.specs.Places.{PicksFirst, FindsOwn}
-use Rattle.acpi_lint.specs.CompleteTables.{IsFound, IsLong, AreEntries, AreCompleteTables, table_of}
+use Rattle.acpi_lint.specs.CompleteTables.{IsFound, IsLong, AreCompleteTables, table_of}
 use Rattle.acpi_rules.specs.declared.place.Place.{Place}
 use Rattle.acpi_lint.specs.declared.complete_tables.CompleteTables.{CompleteTables}
 use Rattle.acpi_lint.proofs.CollectedNumbers.{each_ok}
-use Rattle.acpi_lint.proofs.FirstEntries.{least_of_entries}
 use Rattle.acpi_rules.proofs.LeastPlaces.{least_as}
 use Rattle.acpi_base.specs.Root.{IsSlot}
 use Rattle.acpi_base.specs.TableKinds.{signature_of}
@@ -139,14 +127,6 @@ madt_lifts m q {tables = tables} view are long =
     (long_lifts (HasListed m q.rsdp madt_signature) 44 tables.madt view
     (listed_lifts m q.rsdp madt_signature tables.madt (are.listed kind.Madt)) long)
 
-pub srat_lifts : (m : Memory) (q : PolicyValue) {tables : CompleteTables} (view : Option (List ℕ))
-    → AreCompleteTables m q.rsdp tables → IsLong 48 tables.srat view → Lifts (OfSrat m q) srat_contents view
-unfolding srat_contents
-srat_lifts m q {tables = tables} view are long =
-    read_lifts (λ P. HasListed m q.rsdp srat_signature (λ whole. (48 ≤ length whole) × P whole)) srat_contents view
-    (long_lifts (HasListed m q.rsdp srat_signature) 48 tables.srat view
-    (listed_lifts m q.rsdp srat_signature tables.srat (are.listed kind.Srat)) long)
-
 pub pptt_lifts : (m : Memory) (q : PolicyValue) {tables : CompleteTables} (view : Option (List ℕ))
     → AreCompleteTables m q.rsdp tables → view ≡ tables.pptt → Lifts (HasPptt m q) pptt_contents view
 pptt_lifts m q {tables = tables} view are is =
@@ -205,62 +185,6 @@ of_one Of read P r (Some whole) lifts is none some =
 
 -- ---- what is found in entries
 
--- entries are those of the table that is viewed
-viewed : {T E : Type 0} (A : Type 0) (B : T → Type 0) (said : T → E) (read : List ℕ → E) (entries : Option T)
-    (view : Option (List ℕ)) → option_map said entries ≡ option_map read view → MatchOption entries A B
-    → MatchOption view A (λ whole. (e : T) × (said e ≡ read whole) × B e)
-viewed A B said read None None same is = is
-viewed A B said read None (Some whole) same is = cc
-viewed A B said read (Some e) None same is = cc
-viewed A B said read (Some e) (Some whole) same is = (e, same_Some (said e) (read whole) same, is)
-
--- a rule on an entry by itself
-own_of : {C E Said T : Type 0} (Of : (C → Type 0) → Type 0) (read : List ℕ → C) (list : C → List (PlacedEntry Said))
-    (low : ℕ) → ((whole : List ℕ) → AreRising low (list (read whole))) → (value : E → Said)
-    {Answers : Bor (EntryAt E) → Option Place → Type 0} (Is : Said → ℕ → ℕ → Type 0) (found : Option Place)
-    (said : T → List (PlacedEntry Said)) (entries : Option T) (view : Option (List ℕ)) → Lifts Of read view
-    → option_map said entries ≡ option_map (λ whole. list (read whole)) view
-    → MatchOption entries (found ≡ None) (λ e. PicksFirst (Picks value Answers) (said e) found)
-    → ((at : Bor (EntryAt E)) (picked : Option Place) → Answers at picked
-    → FindsOwn (λ at. Is) (entry_at_value value at.now) picked)
-    → FindsLeast (λ at other point. Of (λ c. OnEntry Is (list c) at other point)) found
-own_of {Said = Said} Of read list low rises value {Answers = Answers} Is found said entries view lifts same is each =
-    of_one Of read (λ c at other point. OnEntry Is (list c) at other point) {X = Said} (Ok found) view lifts
-    (viewed (found ≡ None) (λ e. PicksFirst (Picks value Answers) (said e) found) said (λ whole. list (read whole))
-    entries
-    view same is)
-    (λ none. ap Ok none)
-    (λ whole (e, one, picks). least_of_entries value (λ at. Is) low found picks one (rises whole)
-    (λ at picked here answers. each at picked answers))
-
-pub own_srat : (m : Memory) (q : PolicyValue) {E T : Type 0} (value : E → SratEntry)
-    {Answers : Bor (EntryAt E) → Option Place → Type 0} (Is : SratEntry → ℕ → ℕ → Type 0) (found : Option Place)
-    (said : T → List (PlacedEntry SratEntry)) (entries : Option T) {tables : CompleteTables}
-    → AreCompleteTables m q.rsdp
-    tables
-    → AreEntries 48 (λ whole. (srat_contents whole).entries) tables.srat (option_map said entries)
-    → MatchOption entries (found ≡ None) (λ e. PicksFirst (Picks value Answers) (said e) found)
-    → ((at : Bor (EntryAt E)) (picked : Option Place) → Answers at picked
-    → FindsOwn (λ at. Is) (entry_at_value value at.now) picked)
-    → FindsLeast (λ at other point. OfSrat m q (λ srat. OnEntry Is srat.entries at other point)) found
-own_srat m q value Is found said entries are (view, long, same) is each =
-    own_of (OfSrat m q) srat_contents (λ c. c.entries) 48 srat_rising value Is found said entries view
-    (srat_lifts m q view are long) same is each
-
-pub own_pptt : (m : Memory) (q : PolicyValue) {E T : Type 0} (value : E → PpttEntry)
-    {Answers : Bor (EntryAt E) → Option Place → Type 0} (Is : PpttEntry → ℕ → ℕ → Type 0) (found : Option Place)
-    (said : T → List (PlacedEntry PpttEntry)) (entries : Option T) {tables : CompleteTables}
-    → AreCompleteTables m q.rsdp
-    tables
-    → option_map said entries ≡ option_map (λ whole. (pptt_contents whole).entries) tables.pptt
-    → MatchOption entries (found ≡ None) (λ e. PicksFirst (Picks value Answers) (said e) found)
-    → ((at : Bor (EntryAt E)) (picked : Option Place) → Answers at picked
-    → FindsOwn (λ at. Is) (entry_at_value value at.now) picked)
-    → FindsLeast (λ at other point. HasPptt m q (λ pptt. OnEntry Is pptt.entries at other point)) found
-own_pptt m q value Is found said entries {tables = tables} are same is each =
-    own_of (HasPptt m q) pptt_contents (λ c. c.entries) 36 pptt_rising value Is found said entries tables.pptt
-    (pptt_lifts m q tables.pptt are refl) same is each
-
 -- ---- the SRAT and the SLIT
 
 pub slit_found : (m : Memory) (q : PolicyValue) {tables : CompleteTables} (view : Option (List ℕ))
@@ -268,53 +192,6 @@ pub slit_found : (m : Memory) (q : PolicyValue) {tables : CompleteTables} (view 
     → Lifts (HasListed m q.rsdp slit_signature) (λ whole. whole) view
 slit_found m q {tables = tables} view are is =
     rw is (listed_lifts m q.rsdp slit_signature tables.slit (are.listed kind.Slit))
-
--- if no SLIT of the set has its size
-pub no_slit : (m : Memory) (q : PolicyValue) {tables : CompleteTables} (view : Option (List ℕ))
-    → AreCompleteTables m q.rsdp tables → view ≡ tables.slit
-    → MatchOption view (Unit {0}) (λ slit. ¬ HasSlitSize (slit_contents slit)) → (P : SlitContents → Type 0)
-    → ¬ OfSlit m q P
-no_slit m q None are is not P (slit, listed, (size, has)) =
-    slit_found m q None are is (λ whole. Unit {0}) (slit, listed, tt)
-no_slit m q (Some whole) are is not P (slit, listed, (size, has)) =
-    not ((slit_found m q (Some whole) are is (λ other. HasSlitSize (slit_contents other))).0 (slit, listed, size))
-
-pub sized_slit : (m : Memory) (q : PolicyValue) {tables : CompleteTables} (slit : List ℕ) (n : ℕ)
-    → AreCompleteTables m q.rsdp tables → Some slit ≡ tables.slit → HasRows slit n
-    → Lifts (OfSlit m q) slit_contents (Some slit)
-unfolding slit_contents
-sized_slit m q slit n are is rows = λ P.
-    let both = slit_found m q (Some slit) are is (λ whole. HasSlitSize (slit_contents whole) × P (slit_contents whole))
-    in
-    (λ has. (both.0 has).1, λ holds. both.1 (rw rows.count rows.size, holds))
-
--- what is found in an SRAT with the number of a SLIT's localities
-pub with_localities : (m : Memory) (q : PolicyValue) (P : ℕ → SratEntry → ℕ → ℕ → Type 0) (slit : List ℕ) (n : ℕ)
-    (found : Option Place) → HasRows slit n → Lifts (OfSlit m q) slit_contents (Some slit)
-    → FindsLeast (λ at other point. OfSrat m q (λ srat. OnEntry (P n) srat.entries at other point)) found
-    → FindsLeast (λ at other point. OfSrat m q (λ srat.
-    OfSlit m q (λ s. OnEntry (P s.count) srat.entries at other point))) found
-with_localities m q P slit n found rows lifts least =
-    least_as found
-    (λ at other point (srat, listed, (size, has)). (
-      srat,
-      listed,
-      (
-        size,
-        (lifts (λ s. OnEntry (P s.count) (srat_contents srat).entries at other point)).1
-            (rw rows.count has),
-      ),
-    ))
-    (λ at other point (srat, listed, (size, has)). (
-      srat,
-      listed,
-      (
-        size,
-        rw rows.count at
-            ((lifts (λ s. OnEntry (P s.count) (srat_contents srat).entries at other point)).0 has),
-      ),
-    ))
-    least
 
 -- ---- the rules of a group: what is found for the relation of a condition is found for the condition
 
@@ -327,11 +204,8 @@ in_group (Fadt P) = refl
 in_group (FadtMemory P) = refl
 in_group (FadtMadt P) = refl
 in_group (Madt P) = refl
-in_group (MadtPptt P) = refl
-in_group (SratSlit P) = refl
 in_group (Slit P) = refl
 in_group (Pptt P) = refl
-in_group (PpttEntries P) = refl
 
 pub is_of_group : (c : Condition) {found g : RuleGroup} → found ≡ group_of c → found ≡ g → as_group g c ≡ c
 is_of_group c is same = subst (λ (h : RuleGroup). as_group h c ≡ c) (sym is ∙ same) (in_group c)

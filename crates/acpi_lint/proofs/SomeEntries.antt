@@ -40,20 +40,6 @@ any_picked Gives Is (s ∷ left) (Some value) (inr (none, more)) each = (
   λ any. refl,
 )
 
--- something is given for an entry exactly if this holds for what the entry says
-abbrev pub IsGivenWhere : {Said : Type 0} → (Said → Type 0) → PlacedEntry Said → Option (Unit {0}) → Type 0
-IsGivenWhere Is s picked = IsTrue (is_some picked) ↔ Is s.entry
-
--- whether this holds for any entry
-pub any_where : {Said : Type 0} (Is : Said → Type 0) (entries : List (PlacedEntry Said)) (found : Option (Unit {0}))
-    → PicksFirst (IsGivenWhere Is) entries found → IsTrue (is_some found) ↔ ((o : ℕ) × StandsWith entries o Is)
-any_where {Said} Is entries found picks =
-    let any = any_picked (IsGivenWhere Is) (λ (s : PlacedEntry Said). Is s.entry) entries found picks
-    (λ s picked given. given) in (
-      λ some. (let (s, here, holds) = any.0 some in (s.offset, (s.entry, here, holds))),
-      λ (o, (e, here, holds)). any.1 (record { offset = o; entry = e }, here, holds),
-    )
-
 -- whether anything is picked from the entries of a table, by what a call returns for each
 pub any_of_entries : {E Said T : Type 0} (value : E → Said) {Answers : Bor (EntryAt E) → Option T → Type 0}
     (Is : Said → Type 0) {said entries : List (PlacedEntry Said)} (found : Option T)

@@ -2,13 +2,11 @@
 pub mod AdviceText
 pub mod CompleteTables
 pub mod Differences
-pub mod EntryNumbers
 pub mod FadtPlaces
 pub mod Headers
 pub mod HeldStages
 pub mod Hierarchy
 pub mod Leaves
-pub mod MadtForms
 pub mod MadtNumbers
 pub mod Numbered
 pub mod Overrides

@@ -1,32 +1,22 @@
 -- Numbers that entries of a MADT may have, where they are looked for.
-use Rattle.std.specs.Prelude.{◌≡◌, ℕ, List, Option, Some, None, not, ◌==◌, if◌then◌else◌}
-use Rattle.std.specs.Option.{option_and_then, option_map}
+use Rattle.std.specs.Prelude.{◌≡◌, ℕ, List, Option, Some, None}
+use Rattle.std.specs.Option.{option_map}
 use Rattle.acpi_base.specs.Entries.{PlacedEntry}
 use Rattle.acpi_base.specs.Madt.{MadtEntry}
-use Rattle.acpi_lint.specs.Rules.Gic.{gicc_base, gicd_version, gicr_base, gicr_length, usable_gicc_uid, own_redistributor}
+use Rattle.acpi_lint.specs.Rules.Gic.{gicd_version, gicr_length, usable_gicc_uid}
 use Rattle.acpi_lint.specs.Rules.GicAdvice.{other_gicr}
-use Rattle.acpi_lint.specs.Rules.Processors.{uid_of}
 use Rattle.acpi_lint.specs.Numbered.{at_place}
-use Rattle.acpi_lint.specs.Rules.Numbered.{NamesAt}
+use Rattle.acpi_lint.specs.Rules.Numbered.{IsNamed, NamesAt}
 use Rattle.acpi_lint.specs.declared.madt_numbers.MadtNumber.{MadtNumber}
 use Rattle.acpi_lint.specs.declared.madt_numbers.MadtNumber.TheVariants as number
 use Rattle.acpi_rules.specs.declared.numbered.Numbered.{Numbered}
 
--- the address of a CPU interface, if it is not this one
-abbrev pub other_gicc_base : ℕ → MadtEntry → Option ℕ
-other_gicc_base base e = option_and_then (λ own. if not (own == base) then Some own else None) (gicc_base e)
-
 -- how the number is read of an entry
 abbrev pub number_of : MadtNumber → MadtEntry → Option ℕ
-number_of number.Uid e = uid_of e
 number_of number.GicdVersion e = gicd_version e
-number_of number.GicrBase e = gicr_base e
 number_of number.GicrLength e = gicr_length e
 number_of number.OtherGicr e = other_gicr e
 number_of number.GiccUid e = usable_gicc_uid e
-number_of number.GiccBase e = gicc_base e
-number_of (number.OtherGiccBase base) e = other_gicc_base base e
-number_of number.OwnRedistributor e = own_redistributor e
 
 -- the entry, which is at `at`, has the number `point`, as `read` gives it; `other` is k
 abbrev pub HasNumberWith : (MadtEntry → Option ℕ) → ℕ → ℕ → MadtEntry → ℕ → ℕ → Type 0
@@ -35,6 +25,10 @@ HasNumberWith read k at e other point = (read e ≡ Some point) × (other ≡ k)
 -- such an entry is at `at`
 abbrev pub NamesWith : (MadtEntry → Option ℕ) → ℕ → List (PlacedEntry MadtEntry) → ℕ → ℕ → ℕ → Type 0
 NamesWith read k entries at other point = NamesAt read entries at point × (other ≡ k)
+
+-- `read` gives a number for an entry
+abbrev pub IsAnyNamed : (MadtEntry → Option ℕ) → List (PlacedEntry MadtEntry) → Type 0
+IsAnyNamed read entries = (n : ℕ) × IsNamed read entries n
 
 -- what a call returns for the number of an entry at the entry's place; nothing for an entry that has none
 abbrev pub Makes : {T : Type 0} → (MadtEntry → Option ℕ) → (Numbered → T → Type 0) → PlacedEntry MadtEntry → Option T

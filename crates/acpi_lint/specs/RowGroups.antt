@@ -10,9 +10,9 @@ use Rattle.acpi_rules.specs.Rows.{Row, BorRow, IsBroken, row_value, rows_said}
 use Rattle.acpi_rules.specs.Terms.{TwoTables}
 use Rattle.acpi_lint.specs.TableLengths.{least_length}
 use Rattle.acpi_lint.specs.declared.rows.fadt.TheConstants.{FADT, FADT_WITH_MADT}
-use Rattle.acpi_lint.specs.declared.rows.madt.TheConstants.{MADT, MADT_WITH_FADT, MADT_WITH_SRAT}
-use Rattle.acpi_lint.specs.declared.rows.pptt.TheConstants.{PPTT}
-use Rattle.acpi_lint.specs.declared.rows.srat.TheConstants.{SRAT, SRAT_WITH_MADT}
+use Rattle.acpi_lint.specs.declared.rows.madt.TheConstants.{GIC, MADT, MADT_WITH_FADT, MADT_WITH_PPTT, MADT_WITH_SRAT}
+use Rattle.acpi_lint.specs.declared.rows.pptt.TheConstants.{PPTT, PPTT_WITH_MADT}
+use Rattle.acpi_lint.specs.declared.rows.srat.TheConstants.{SRAT, SRAT_WITH_MADT, SRAT_WITH_SLIT}
 use denote.Ref.{Bor}
 
 -- rules on a table, or on a table with another one
@@ -24,43 +24,49 @@ pub record RowGroup : Type 0 where
 abbrev pub group_value : TableKind × Option TableKind × Bor (List BorRow) → RowGroup
 group_value g = record { table = g.0; other = g.1; rows = map row_value g.2.now }
 
--- the rows on each table, and on one with another
-abbrev pub fadt_rows : List Row
-fadt_rows = rows_said FADT
+-- the rows on each table, on the parts of a GIC in the MADT, and on one table with another
+unfoldable pub fadt_group : RowGroup
+fadt_group = record { table = kind.Fadt; other = None; rows = rows_said FADT }
 
-abbrev pub fadt_with_madt_rows : List Row
-fadt_with_madt_rows = rows_said FADT_WITH_MADT
+unfoldable pub fadt_with_madt_group : RowGroup
+fadt_with_madt_group = record { table = kind.Fadt; other = Some kind.Madt; rows = rows_said FADT_WITH_MADT }
 
-abbrev pub madt_rows : List Row
-madt_rows = rows_said MADT
+unfoldable pub madt_group : RowGroup
+madt_group = record { table = kind.Madt; other = None; rows = rows_said MADT }
 
-abbrev pub madt_with_fadt_rows : List Row
-madt_with_fadt_rows = rows_said MADT_WITH_FADT
+unfoldable pub gic_group : RowGroup
+gic_group = record { table = kind.Madt; other = None; rows = rows_said GIC }
 
-abbrev pub madt_with_srat_rows : List Row
-madt_with_srat_rows = rows_said MADT_WITH_SRAT
+unfoldable pub madt_with_fadt_group : RowGroup
+madt_with_fadt_group = record { table = kind.Madt; other = Some kind.Fadt; rows = rows_said MADT_WITH_FADT }
 
-abbrev pub srat_rows : List Row
-srat_rows = rows_said SRAT
+unfoldable pub madt_with_srat_group : RowGroup
+madt_with_srat_group = record { table = kind.Madt; other = Some kind.Srat; rows = rows_said MADT_WITH_SRAT }
 
-abbrev pub srat_with_madt_rows : List Row
-srat_with_madt_rows = rows_said SRAT_WITH_MADT
+unfoldable pub madt_with_pptt_group : RowGroup
+madt_with_pptt_group = record { table = kind.Madt; other = Some kind.Pptt; rows = rows_said MADT_WITH_PPTT }
 
-abbrev pub pptt_rows : List Row
-pptt_rows = rows_said PPTT
+unfoldable pub srat_group : RowGroup
+srat_group = record { table = kind.Srat; other = None; rows = rows_said SRAT }
+
+unfoldable pub srat_with_madt_group : RowGroup
+srat_with_madt_group = record { table = kind.Srat; other = Some kind.Madt; rows = rows_said SRAT_WITH_MADT }
+
+unfoldable pub srat_with_slit_group : RowGroup
+srat_with_slit_group = record { table = kind.Srat; other = Some kind.Slit; rows = rows_said SRAT_WITH_SLIT }
+
+unfoldable pub pptt_group : RowGroup
+pptt_group = record { table = kind.Pptt; other = None; rows = rows_said PPTT }
+
+unfoldable pub pptt_with_madt_group : RowGroup
+pptt_with_madt_group = record { table = kind.Pptt; other = Some kind.Madt; rows = rows_said PPTT_WITH_MADT }
 
 -- all of them
 abbrev pub row_groups : List RowGroup
 row_groups =
-    record { table = kind.Fadt; other = None; rows = fadt_rows } ∷
-    record { table = kind.Fadt; other = Some kind.Madt; rows = fadt_with_madt_rows } ∷
-    record { table = kind.Madt; other = None; rows = madt_rows } ∷
-    record { table = kind.Madt; other = Some kind.Fadt; rows = madt_with_fadt_rows } ∷
-    record { table = kind.Madt; other = Some kind.Srat; rows = madt_with_srat_rows } ∷
-    record { table = kind.Srat; other = None; rows = srat_rows } ∷
-    record { table = kind.Srat; other = Some kind.Madt; rows = srat_with_madt_rows } ∷
-    record { table = kind.Pptt; other = None; rows = pptt_rows } ∷
-    []
+    fadt_group ∷ fadt_with_madt_group ∷ madt_group ∷ gic_group
+    ∷ madt_with_fadt_group ∷ madt_with_srat_group ∷ madt_with_pptt_group ∷ srat_group
+    ∷ srat_with_madt_group ∷ srat_with_slit_group ∷ pptt_group ∷ pptt_with_madt_group ∷ []
 
 -- ---- the tables: the first listed one of a kind, if it is complete, whatever its checksum, and long enough for its fields
 

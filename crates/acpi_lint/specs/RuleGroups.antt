@@ -3,12 +3,11 @@ use Rattle.std.specs.Prelude.{ℕ, List, Option}
 use Rattle.acpi_base.specs.Madt.{MadtContents}
 use Rattle.acpi_base.specs.Memory.{Memory}
 use Rattle.acpi_base.specs.Policy.{PolicyValue}
-use Rattle.acpi_base.specs.Pptt.{PpttEntry, PpttContents}
+use Rattle.acpi_base.specs.Pptt.{PpttContents}
 use Rattle.acpi_base.specs.Slit.{SlitContents, HasSlitSize}
-use Rattle.acpi_base.specs.Srat.{SratEntry}
 use Rattle.acpi_lint.specs.CompleteTables.{AreCompleteTables}
 use Rattle.acpi_rules.specs.Places.{FindsLeast}
-use Rattle.acpi_lint.specs.Rules.Broken.{Condition, HoldsAt, Rows, Slots, Set, Fadt, FadtMemory, FadtMadt, Madt, MadtPptt, SratSlit, Slit, Pptt, PpttEntries}
+use Rattle.acpi_lint.specs.Rules.Broken.{Condition, HoldsAt, Rows, Slots, Set, Fadt, FadtMemory, FadtMadt, Madt, Slit, Pptt}
 use Rattle.acpi_lint.specs.declared.complete_tables.CompleteTables.{CompleteTables}
 use Rattle.acpi_rules.specs.declared.place.Place.{Place}
 use Rattle.acpi_lint.specs.declared.rule_group.RuleGroup.{RuleGroup}
@@ -23,11 +22,8 @@ group_of (Fadt P) = group.Fadt
 group_of (FadtMemory P) = group.FadtMemory
 group_of (FadtMadt P) = group.FadtMadt
 group_of (Madt P) = group.Madt
-group_of (MadtPptt P) = group.MadtPptt
-group_of (SratSlit P) = group.SratSlit
 group_of (Slit P) = group.Slit
 group_of (Pptt P) = group.Pptt
-group_of (PpttEntries P) = group.PpttEntries
 
 -- ---- the relation of a condition if it is of the group, otherwise one that never holds
 
@@ -55,14 +51,6 @@ abbrev pub in_madt : Condition → MadtContents → ℕ → ℕ → ℕ → Type
 in_madt (Madt P) = P
 in_madt _ = λ madt at other point. ⊥
 
-abbrev pub in_madt_pptt : Condition → MadtContents → PpttContents → ℕ → ℕ → ℕ → Type 0
-in_madt_pptt (MadtPptt P) = P
-in_madt_pptt _ = λ madt pptt at other point. ⊥
-
-abbrev pub on_srat_slit_entry : Condition → ℕ → SratEntry → ℕ → ℕ → Type 0
-on_srat_slit_entry (SratSlit P) = P
-on_srat_slit_entry _ = λ localities e other point. ⊥
-
 abbrev pub in_slit : Condition → SlitContents → ℕ → ℕ → ℕ → Type 0
 in_slit (Slit P) = P
 in_slit _ = λ slit at other point. ⊥
@@ -75,10 +63,6 @@ abbrev pub in_pptt : Condition → PpttContents → ℕ → ℕ → ℕ → Type
 in_pptt (Pptt P) = P
 in_pptt _ = λ pptt at other point. ⊥
 
-abbrev pub on_pptt_entry : Condition → PpttEntry → ℕ → ℕ → Type 0
-on_pptt_entry (PpttEntries P) = P
-on_pptt_entry _ = λ e other point. ⊥
-
 -- the condition with that relation, of a group
 abbrev pub as_group : RuleGroup → Condition → Condition
 as_group group.Rows c = Rows
@@ -88,11 +72,8 @@ as_group group.Fadt c = Fadt (in_fadt c)
 as_group group.FadtMemory c = FadtMemory (in_fadt_memory c)
 as_group group.FadtMadt c = FadtMadt (in_fadt_madt c)
 as_group group.Madt c = Madt (in_madt c)
-as_group group.MadtPptt c = MadtPptt (in_madt_pptt c)
-as_group group.SratSlit c = SratSlit (on_srat_slit_entry c)
 as_group group.Slit c = Slit (in_slit c)
 as_group group.Pptt c = Pptt (in_pptt c)
-as_group group.PpttEntries c = PpttEntries (on_pptt_entry c)
 
 -- ---- what is found for a condition in the tables of a set
 

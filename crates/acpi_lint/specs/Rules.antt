@@ -1,10 +1,8 @@
 -- The rules of advice: when each is broken, its first finding, and what is reported.
 pub mod Advice
 pub mod Broken
-pub mod EntryTypes
 pub mod FadtAdvice
 pub mod FadtBlocks
-pub mod FadtWithMadt
 pub mod Findings
 pub mod FixedFields
 pub mod Gic
@@ -16,13 +14,11 @@ pub mod NamedAdvice
 pub mod Numbered
 pub mod Overlaps
 pub mod Ports
-pub mod PpttAdvice
 pub mod Processors
 pub mod RootAdvice
 pub mod Rows
 pub mod RsdpAdvice
 pub mod SlitAdvice
 pub mod Slots
-pub mod SratAdvice
 pub mod Structures
 pub mod WellFormed

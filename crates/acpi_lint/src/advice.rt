@@ -15,15 +15,14 @@ ghost use Rattle.acpi_lint.specs.declared.rule_group.RuleGroup.TheVariants as gr
 use crate::complete_tables::CompleteTables;
 use crate::fadt_advice::fadt_place;
 use crate::fadt_memory::fadt_memory_place;
-use crate::nowhere::{madt_place, madt_pptt_place};
-use crate::own::{first_own_place, pptt_entry_place, srat_slit_entry_place};
-use crate::repeated::pptt_place;
+use crate::madt_advice::madt_place;
+use crate::packages::pptt_place;
 use crate::row_findings::{Found, lowest_of, row_findings};
 use crate::rule::{Advice, Rule};
 use crate::rule_group::RuleGroup;
 use crate::sci::fadt_madt_place;
 use crate::set_advice::set_place;
-use crate::slit::{rows, slit_place};
+use crate::slit::slit_place;
 use crate::slot_advice::slot_place;
 use acpi_base::{LentImage, Policy, TableKind};
 use acpi_rules::Place;
@@ -85,37 +84,6 @@ fn listed_madt_place(
     madt_place(alloc, policy, rule, &madt)
 }
 
-/// The place of a rule on the MADT and the PPTT.
-fn listed_madt_pptt_place(
-    alloc: Global,
-    policy: &Policy,
-    tables: &CompleteTables<'_>,
-    rule: Rule,
-) -> Result<Option<Place>, AllocError>
-    ensures found { IfOk result (Finds (as_group group.MadtPptt (condition rule)) tables.now) }
-    ensures memory { OnErr result (IsSome tables.now.pptt) }
-{
-    let Some(madt) = tables.madt() else {
-        return Ok(None);
-    };
-    let Some(pptt) = tables.pptt() else {
-        return Ok(None);
-    };
-    madt_pptt_place(alloc, policy, rule, &madt, &pptt)
-}
-
-/// The place of a rule on each entry of the SRAT with the SLIT.
-fn listed_srat_slit_place(tables: &CompleteTables<'_>, rule: Rule) -> Option<Place>
-    ensures { Finds (as_group group.SratSlit (condition rule)) tables.now result }
-{
-    let slit = tables.table(TableKind::Slit)?;
-    let localities = rows(slit.bytes())? as u64;
-    first_own_place(
-        tables.srat_entries(),
-        |at| srat_slit_entry_place(rule, localities, at),
-    )
-}
-
 /// The place of a rule on the SLIT.
 fn listed_slit_place(tables: &CompleteTables<'_>, rule: Rule) -> Option<Place>
     ensures { Finds (as_group group.Slit (condition rule)) tables.now result }
@@ -140,13 +108,6 @@ fn listed_pptt_place(
     pptt_place(alloc, policy, rule, &pptt)
 }
 
-/// The place of a rule on each entry of the PPTT by itself.
-fn pptt_entries_place(tables: &CompleteTables<'_>, rule: Rule) -> Option<Place>
-    ensures { Finds (as_group group.PpttEntries (condition rule)) tables.now result }
-{
-    first_own_place(tables.pptt_entries(), |at| pptt_entry_place(rule, at))
-}
-
 // ---- all rules
 
 /// The place of the first finding of a rule that is not a row.
@@ -168,11 +129,8 @@ fn place_by_hand(
         RuleGroup::FadtMemory => Ok(listed_fadt_memory_place(image, tables, rule)),
         RuleGroup::FadtMadt => Ok(listed_fadt_madt_place(policy, tables, rule)),
         RuleGroup::Madt => listed_madt_place(alloc, policy, tables, rule),
-        RuleGroup::MadtPptt => listed_madt_pptt_place(alloc, policy, tables, rule),
-        RuleGroup::SratSlit => Ok(listed_srat_slit_place(tables, rule)),
         RuleGroup::Slit => Ok(listed_slit_place(tables, rule)),
         RuleGroup::Pptt => listed_pptt_place(alloc, policy, tables, rule),
-        RuleGroup::PpttEntries => Ok(pptt_entries_place(tables, rule)),
     }
 }
 

@@ -1,9 +1,8 @@
 //! The parts of a GIC, as entries of a MADT describe them, and their fields (ACPI 6.5, 5.2.12.14 to 5.2.12.18).
 
 ghost use Rattle.std.specs.Prelude.{◌≡◌, ◌≤◌, length, IsTrue};
-ghost use Rattle.acpi_lint.specs.Rules.Gic.{is_usable_gicc, names_redistributor, is_gicd, is_msi_frame, is_gicr, is_its, gicc_base, usable_gicc_uid, own_redistributor, gicd_base, gicd_version, msi_frame_base, gicr_base, gicr_length, its_base};
+ghost use Rattle.acpi_lint.specs.Rules.Gic.{is_usable_gicc, is_gicd, is_msi_frame, is_gicr, is_its, usable_gicc_uid, gicd_base, gicd_version, msi_frame_base, gicr_base, gicr_length, its_base};
 ghost use Rattle.acpi_lint.specs.Rules.GicAdvice.{other_gicr};
-ghost use Rattle.acpi_lint.specs.MadtNumbers.{other_gicc_base};
 ghost use Rattle.acpi_read.specs.Madts.{madt_value};
 
 use crate::processors::{GICD, is_gicc, is_usable};
@@ -37,15 +36,6 @@ pub fn is_usable_gicc(bytes: &[u8]) -> bool
     ensures size { IsTrue result → 40 ≤ length bytes.now }
 {
     is_gicc(bytes) && is_usable(u32_at(bytes, 12), 3)
-}
-
-/// Whether they are a usable one that names a redistributor of its own.
-#[inline(always)]
-fn names_redistributor(bytes: &[u8]) -> bool
-    ensures value { result ≡ names_redistributor bytes.now }
-    ensures size { IsTrue result → 68 ≤ length bytes.now }
-{
-    is_usable_gicc(bytes) && bytes.len() >= 68 && u64_at(bytes, 60) != 0
 }
 
 /// Whether they are a distributor.
@@ -86,17 +76,6 @@ fn is_its(bytes: &[u8]) -> bool
 
 // ---- their fields
 
-/// The address of a CPU interface.
-#[inline(always)]
-pub fn gicc_base(entry: &MadtEntry<'_>) -> Option<u64>
-    ensures { result ≡ gicc_base (madt_value entry.now) }
-{
-    match entry {
-        MadtEntry::Opaque(bytes) if is_gicc(bytes) => Some(u64_at(bytes, 32)),
-        _ => None,
-    }
-}
-
 /// The UID of a usable CPU interface.
 #[inline(always)]
 pub fn usable_gicc_uid(entry: &MadtEntry<'_>) -> Option<u64>
@@ -104,17 +83,6 @@ pub fn usable_gicc_uid(entry: &MadtEntry<'_>) -> Option<u64>
 {
     match entry {
         MadtEntry::Opaque(bytes) if is_usable_gicc(bytes) => Some(u64::from(u32_at(bytes, 8))),
-        _ => None,
-    }
-}
-
-/// The address of the redistributor that a usable CPU interface names as its own.
-#[inline(always)]
-pub fn own_redistributor(entry: &MadtEntry<'_>) -> Option<u64>
-    ensures { result ≡ own_redistributor (madt_value entry.now) }
-{
-    match entry {
-        MadtEntry::Opaque(bytes) if names_redistributor(bytes) => Some(u64_at(bytes, 60)),
         _ => None,
     }
 }
@@ -198,13 +166,4 @@ pub fn other_gicr(entry: &MadtEntry<'_>) -> Option<u64>
         }
         _ => None,
     }
-}
-
-/// The address of a CPU interface, if it is not this one.
-#[inline(always)]
-pub fn other_gicc_base(base: u64, entry: &MadtEntry<'_>) -> Option<u64>
-    ensures { result ≡ other_gicc_base base (madt_value entry.now) }
-{
-    let own = gicc_base(entry)?;
-    (own != base).then_some(own)
 }

@@ -19,7 +19,7 @@ use std::alloc::{AllocError, Global};
 
 /// A PPTT's Revision.
 #[tactic(auto, unfolding(acpi_base::specs::Header::header_of, acpi_base::specs::Pptt::pptt_contents))]
-pub fn revision(pptt: &Table<'_>) -> u8
+fn revision(pptt: &Table<'_>) -> u8
     ensures { result ≡ (pptt_contents pptt.now).revision }
 {
     pptt.header().revision
@@ -72,7 +72,7 @@ fn parent_of(at: &EntryAt<PpttEntry<'_>>) -> Option<u64>
 }
 
 /// The offsets of the nodes' Parents, in rising order.
-pub fn parents_of(alloc: Global, pptt: &Table<'_>) -> Result<Vec<u64>, AllocError>
+fn parents_of(alloc: Global, pptt: &Table<'_>) -> Result<Vec<u64>, AllocError>
     ensures rise { IfOk result (λ parents. AllPairs (λ o p. o < p) parents.items) }
     ensures all { IfOk result (λ parents. (o : ℕ) →
         Contains parents.items o ↔ IsParent (pptt_contents pptt.now) o) }

@@ -1,57 +1,26 @@
-//! Further rules on a MADT: IDs of local APICs, sources of interrupts, and what a GIC has and lacks (ACPI 6.5, 5.2.12).
+//! Rules by hand on a MADT: whether the redistributors of a GIC are enough (ACPI 6.5, 5.2.12.17).
 
 ghost use Rattle.std.specs.Prelude.{◌≡◌, ◌↔◌, ◌⊎◌, ◌/◌, IfOk, IsTrue, sum_by};
 ghost use Rattle.acpi_base.specs.Madt.{madt_contents};
 ghost use Rattle.acpi_rules.specs.Places.{FindsLeast};
-ghost use Rattle.acpi_lint.specs.Rules.GicAdvice.{LacksRedistributor, IsNoRedistributor, AreGicrsKnown, IsGicrTooSmall, IsGiccBaseDiffers, IsRedistributorTwice, HasVersion};
+ghost use Rattle.acpi_lint.specs.RuleGroups.{in_madt};
+ghost use Rattle.acpi_lint.specs.Rules.Broken.{condition};
+ghost use Rattle.acpi_lint.specs.Rules.GicAdvice.{AreGicrsKnown, IsGicrTooSmall, HasVersion};
 
-use crate::gic::GICR;
-use crate::madt_forms::has_type;
+use crate::gic_overlap::gic_overlap;
 use crate::madt_numbers::{MadtNumber, all_numbers, first_number, has_number};
+use crate::rule::Rule;
 use crate::well_formed::is_madt_well_formed;
 use acpi_base::Policy;
 use acpi_read::Table;
 use acpi_rules::Place;
 use std::alloc::{AllocError, Global};
 
-// ---- local APICs and interrupts
-
-// ---- a GIC
-
 /// Whether a number is one of these two.
 fn is_either(number: u64, low: u64, high: u64) -> bool
     ensures { IsTrue result ↔ ((number ≡ low) ⊎ (number ≡ high)) }
 {
     number == low || number == high
-}
-
-/// Whether a GIC of this version should have redistributors, and the MADT, which is well-formed, has none.
-fn lacks_redistributor(policy: &Policy, madt: &Table<'_>, version: u64) -> bool
-    ensures { IsTrue result ↔ LacksRedistributor (madt_contents madt.now) version }
-{
-    if !is_either(version, 3, 4) {
-        return false;
-    }
-    if has_type(madt, GICR) {
-        return false;
-    }
-    if has_number(madt, MadtNumber::OwnRedistributor) {
-        return false;
-    }
-    is_madt_well_formed(policy, madt)
-}
-
-/// The first distributor, with its version as `other`, if that is the version of a GIC with redistributors, and there
-/// are none.
-pub fn no_redistributor(policy: &Policy, madt: &Table<'_>) -> Option<Place>
-    ensures { FindsLeast (IsNoRedistributor (madt_contents madt.now)) result }
-{
-    let gicd = first_number(madt, MadtNumber::GicdVersion, 0)?;
-    lacks_redistributor(policy, madt, gicd.point).then_some(Place {
-        at: gicd.at,
-        other: gicd.point,
-        point: 0,
-    })
 }
 
 /// Whether a GIC's version, that of the first distributor, is one of these two.
@@ -93,7 +62,7 @@ fn redistributors(lengths: &[u64]) -> u128
 
 /// The first range of redistributors, with how many there are as `other`, and with how many CPU interfaces are usable
 /// as `point`, if these are more, and all ranges are known. Allocates for each of both.
-pub fn gicr_too_small(
+fn gicr_too_small(
     alloc: Global,
     policy: &Policy,
     madt: &Table<'_>,
@@ -120,23 +89,18 @@ pub fn gicr_too_small(
     }))
 }
 
-/// The first CPU interface whose address, `point`, is not that of the first one, at `other`, if the GIC has no
-/// redistributors by its version.
-pub fn gicc_base_differs(madt: &Table<'_>) -> Option<Place>
-    ensures { FindsLeast (IsGiccBaseDiffers (madt_contents madt.now)) result }
+/// The place where a rule on a MADT is broken. None for another rule.
+pub fn madt_place(
+    alloc: Global,
+    policy: &Policy,
+    rule: Rule,
+    madt: &Table<'_>,
+) -> Result<Option<Place>, AllocError>
+    ensures { IfOk result (FindsLeast (in_madt (condition rule) (madt_contents madt.now))) }
 {
-    if !has_version(madt, 1, 2) {
-        return None;
+    match rule {
+        Rule::GicOverlap => gic_overlap(alloc, madt),
+        Rule::GicrTooSmall => gicr_too_small(alloc, policy, madt),
+        _ => Ok(None),
     }
-    let first = first_number(madt, MadtNumber::GiccBase, 0)?;
-    first_number(madt, MadtNumber::OtherGiccBase(first.point), first.at)
-}
-
-/// The first usable CPU interface that names its own redistributor, at the address `point`, if there is a range of
-/// them, of which the first is at `other`.
-pub fn redistributor_twice(madt: &Table<'_>) -> Option<Place>
-    ensures { FindsLeast (IsRedistributorTwice (madt_contents madt.now)) result }
-{
-    let first = first_number(madt, MadtNumber::GicrBase, 0)?;
-    first_number(madt, MadtNumber::OwnRedistributor, first.at)
 }

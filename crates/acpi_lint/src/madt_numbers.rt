@@ -1,23 +1,17 @@
-//! Numbers that entries of a MADT may have: the first one, whether there is any, all of them, and one that repeats.
+//! Numbers that entries of a MADT may have: the first one, whether there is any, and all of them.
 
 ghost use Rattle.std.specs.Prelude.{◌≡◌, ◌↔◌, IfOk, IsTrue, option_map};
 ghost use Rattle.acpi_base.specs.Madt.{madt_contents};
 ghost use Rattle.acpi_read.specs.Madts.{madt_value};
 ghost use Rattle.acpi_read.specs.Entries.{entry_at_value};
-ghost use Rattle.acpi_lint.specs.EntryNumbers.{AreKnown, IsAnyNamed};
 ghost use Rattle.acpi_check.specs.CollectedValues.{Collects};
-ghost use Rattle.acpi_lint.specs.MadtNumbers.{number_of, HasNumberWith, Makes, NamesWith};
+ghost use Rattle.acpi_lint.specs.MadtNumbers.{number_of, HasNumberWith, IsAnyNamed, Makes, NamesWith};
 ghost use Rattle.acpi_lint.specs.Numbered.{at_place};
 ghost use Rattle.acpi_rules.specs.Places.{FindsLeast};
 ghost use Rattle.acpi_lint.specs.Places.{FindsOwn};
-ghost use Rattle.acpi_lint.specs.Rules.Numbered.{IsNamed, numbers_of};
+ghost use Rattle.acpi_lint.specs.Rules.Numbered.{numbers_of};
 
-use crate::gic::{
-    gicc_base, gicd_version, gicr_base, gicr_length, other_gicc_base, other_gicr,
-    own_redistributor, usable_gicc_uid,
-};
-use crate::processors::uid_of;
-use acpi_check::sorted_unique;
+use crate::gic::{gicd_version, gicr_length, other_gicr, usable_gicc_uid};
 use acpi_read::{EntryAt, MadtEntry, Table};
 use acpi_rules::{Numbered, Place};
 use std::alloc::{AllocError, Global};
@@ -25,24 +19,14 @@ use std::alloc::{AllocError, Global};
 /// A number that an entry of a MADT may have.
 #[derive(Clone, Copy)]
 pub enum MadtNumber {
-    /// The UID of a processor.
-    Uid,
     /// The version of a GIC distributor.
     GicdVersion,
-    /// The address of a range of redistributors.
-    GicrBase,
     /// The length of a range of redistributors.
     GicrLength,
     /// The length of an entry of the type of such a range that has another length.
     OtherGicr,
     /// The UID of a usable GIC CPU interface.
     GiccUid,
-    /// The address of a GIC CPU interface.
-    GiccBase,
-    /// The address of a GIC CPU interface, if it is not this one.
-    OtherGiccBase(u64),
-    /// The address of the redistributor that a usable GIC CPU interface names as its own.
-    OwnRedistributor,
 }
 
 impl MadtNumber {
@@ -56,15 +40,10 @@ impl MadtNumber {
         ensures { result ≡ number_of self (madt_value entry.now) }
     {
         match self {
-            MadtNumber::Uid => uid_of(entry).map(u64::from),
             MadtNumber::GicdVersion => gicd_version(entry),
-            MadtNumber::GicrBase => gicr_base(entry),
             MadtNumber::GicrLength => gicr_length(entry),
             MadtNumber::OtherGicr => other_gicr(entry),
             MadtNumber::GiccUid => usable_gicc_uid(entry),
-            MadtNumber::GiccBase => gicc_base(entry),
-            MadtNumber::OtherGiccBase(base) => other_gicc_base(base, entry),
-            MadtNumber::OwnRedistributor => own_redistributor(entry),
         }
     }
 }
@@ -152,18 +131,4 @@ pub fn all_numbers(
         ≡ numbers_of (number_of number) (madt_contents madt.now).entries) }
 {
     made_of_numbers(alloc, madt, number, |numbered| numbered.number)
-}
-
-/// The numbers of all entries of a MADT that have one, in rising order. Allocates for each.
-#[inline(always)]
-pub fn rising_numbers(
-    alloc: Global,
-    madt: &Table<'_>,
-    number: MadtNumber,
-) -> Result<Vec<u64>, AllocError>
-    ensures { IfOk result (λ known. AreKnown
-        (IsNamed (number_of number) (madt_contents madt.now).entries) known.items) }
-{
-    let numbers = all_numbers(alloc, madt, number)?;
-    sorted_unique(numbers)
 }

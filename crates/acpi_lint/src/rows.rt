@@ -1,7 +1,7 @@
 //! Rules as rows of data, table by table. What a row means is said by `acpi_rules`.
 
 ghost use Rattle.std.specs.Prelude.{◌≡◌, map};
-ghost use Rattle.acpi_lint.specs.RowGroups.{group_value, row_groups};
+ghost use Rattle.acpi_lint.specs.RowGroups.{group_value, row_groups, fadt_group, fadt_with_madt_group, gic_group, madt_group, madt_with_fadt_group, madt_with_pptt_group, madt_with_srat_group, pptt_group, pptt_with_madt_group, srat_group, srat_with_madt_group, srat_with_slit_group};
 
 // ---- how rows are written
 
@@ -71,10 +71,13 @@ macro_rules! within {
     };
 }
 
-/// A number, a field, bits of a field, or the length of a structure.
+/// A number, a field, bits of a field, or the length or the offset of a structure.
 macro_rules! term {
     ((length $within:ident)) => {
         Term::Length(within!($within))
+    };
+    ((offset $within:ident)) => {
+        Term::Offset(within!($within))
     };
     ((table $field:ident)) => {
         Term::Of(Within::Table, $field)
@@ -99,13 +102,16 @@ macro_rules! term {
     };
 }
 
-/// A term, a sum or a product.
+/// A term, a sum of a term and a product, or a product of two or three.
 macro_rules! value {
-    (($one:tt + $times:literal * $other:tt)) => {
-        Value::Sum(term!($one), $times, term!($other))
+    (($one:tt + $times:tt * $other:tt)) => {
+        Value::Sum(term!($one), term!($times), term!($other))
     };
     (($one:tt * $other:tt)) => {
-        Value::Product(term!($one), term!($other))
+        Value::Sum(term!(0), term!($one), term!($other))
+    };
+    (($one:tt * $other:tt * $third:tt)) => {
+        Value::Product(term!($one), term!($other), term!($third))
     };
     ($term:tt) => {
         Value::Only(term!($term))
@@ -151,8 +157,8 @@ macro_rules! clause {
 }
 
 /// What structures give, by cases: `{KIND if CLAUSE && CLAUSE => at OFFSET shows VALUE, NUMBER; ..}`, or a list of
-/// cases with a name. A finding has the offset in the table as `at`, VALUE as `other` and NUMBER as `point`, but that of
-/// a number that occurs again: its `other` is the place of the first one.
+/// cases with a name. A finding has the offset in the table as `at`, VALUE as `other` and NUMBER as `point`, but those of
+/// numbers that occur again or are found elsewhere: their `other` is the place of the first one.
 macro_rules! cases {
     ({$(
         $kind:tt $(if $($left:tt $test:tt $right:tt)&&+)?
@@ -197,13 +203,20 @@ macro_rules! source {
     };
 }
 
-/// A condition: `(some SOURCE PATH: CASES)`, `(none SOURCE PATH: CASES)` or `(whole SOURCE PATH)`, or one with a name.
+/// A condition: `(some SOURCE PATH: CASES)`, `(none SOURCE PATH: CASES)`, `(two SOURCE PATH: CASES)`, `(first SOURCE PATH:
+/// CASES)` or `(whole SOURCE PATH)`, or one with a name.
 macro_rules! guard {
     ((some $source:ident $path:ident: $cases:tt)) => {
         (Need::Some, source!($source), $path, any!($cases))
     };
     ((none $source:ident $path:ident: $cases:tt)) => {
         (Need::None, source!($source), $path, any!($cases))
+    };
+    ((two $source:ident $path:ident: $cases:tt)) => {
+        (Need::Two, source!($source), $path, any!($cases))
+    };
+    ((first $source:ident $path:ident: $cases:tt)) => {
+        (Need::First, source!($source), $path, cases!($cases))
     };
     ((whole $source:ident $path:ident)) => {
         (Need::Whole, source!($source), $path, &[])
@@ -227,36 +240,55 @@ macro_rules! form {
     (unlike_first) => {
         Form::Repeated(Repeat::UnlikeFirst)
     };
+    (unlike_value) => {
+        Form::Repeated(Repeat::UnlikeValue)
+    };
+    (nowhere) => {
+        Form::LookedUp(LookUp::Nowhere)
+    };
+    (somewhere) => {
+        Form::LookedUp(LookUp::Somewhere)
+    };
 }
 
-/// A rule: `rule!(NUMBER NAME, FORM in PATH where GUARD, ..: CASES)`, and `among SOURCE PATH CASES` after it for numbers
-/// that are looked up.
+/// The numbers that structures of a path give by cases, but those at places that they give by others.
+macro_rules! numbers {
+    ($path:ident, $cases:tt) => {
+        ($path, cases!($cases), Path::Table, &[])
+    };
+    ($path:ident, $cases:tt, $except:tt) => {
+        ($path, cases!($cases), $path, cases!($except))
+    };
+}
+
+/// A rule: `rule!(NUMBER NAME, FORM in PATH where GUARD, ..: CASES)`, with `except CASES` after it for places at which no
+/// number counts, and `among SOURCE PATH CASES` after that for numbers that are looked up.
 macro_rules! rule {
     (
-        $number:literal $name:ident, nowhere in $path:ident $(where $($guard:tt),+)?: $cases:tt
-        among $source:ident $known_path:ident $known:tt
+        $number:literal $name:ident, $form:ident in $path:ident $(where $($guard:tt),+)?:
+        $cases:tt $(except $except:tt)?
+        among $source:ident $known_path:ident $known:tt $(except $known_except:tt)?
     ) => {
         (
             $number,
-            Form::Nowhere,
-            $path,
+            form!($form),
             &[$($(guard!($guard)),+)?],
-            cases!($cases),
+            numbers!($path, $cases $(, $except)?),
             source!($source),
-            $known_path,
-            cases!($known),
+            numbers!($known_path, $known $(, $known_except)?),
         )
     };
-    ($number:literal $name:ident, $form:ident in $path:ident $(where $($guard:tt),+)?: $cases:tt) => {
+    (
+        $number:literal $name:ident, $form:ident in $path:ident $(where $($guard:tt),+)?:
+        $cases:tt $(except $except:tt)?
+    ) => {
         (
             $number,
             form!($form),
-            $path,
             &[$($(guard!($guard)),+)?],
-            cases!($cases),
+            numbers!($path, $cases $(, $except)?),
             Source::Table,
-            Path::Table,
-            &[],
+            (Path::Table, &[], Path::Table, &[]),
         )
     };
 }
@@ -266,6 +298,8 @@ mod fadt_fields;
 mod madt;
 mod madt_fields;
 mod pptt;
+mod pptt_fields;
+mod slit_fields;
 mod srat;
 mod srat_fields;
 mod table_fields;
@@ -273,44 +307,156 @@ mod table_fields;
 use acpi_base::TableKind;
 use acpi_rules::Row;
 use fadt::{FADT, FADT_WITH_MADT};
-use madt::{MADT, MADT_WITH_FADT, MADT_WITH_SRAT};
+use madt::{GIC, MADT, MADT_WITH_FADT, MADT_WITH_PPTT, MADT_WITH_SRAT};
 pub use madt_fields::MADT_SERIES;
-use pptt::PPTT;
-pub use pptt::PPTT_SERIES;
-use srat::{SRAT, SRAT_WITH_MADT};
+use pptt::{PPTT, PPTT_WITH_MADT};
+pub use pptt_fields::PPTT_SERIES;
+use srat::{SRAT, SRAT_WITH_MADT, SRAT_WITH_SLIT};
 pub use srat_fields::SRAT_SERIES;
 
 /// Rows on a table, or on a table with another one.
 pub type RowGroup<'a> = (TableKind, Option<TableKind>, &'a [Row<'a>]);
 
-/// All rows.
-pub fn row_groups() -> [RowGroup<'static>; 8]
+/// The rows on the FADT.
+#[tactic(auto, unfolding(crate::specs::RowGroups::fadt_group))]
+fn fadt_group() -> RowGroup<'static>
+    ensures { group_value result ≡ fadt_group }
+{
+    (TableKind::Fadt, None, FADT.as_slice())
+}
+
+/// Those on the FADT with the MADT.
+#[tactic(auto, unfolding(crate::specs::RowGroups::fadt_with_madt_group))]
+fn fadt_with_madt_group() -> RowGroup<'static>
+    ensures { group_value result ≡ fadt_with_madt_group }
+{
+    (
+        TableKind::Fadt,
+        Some(TableKind::Madt),
+        FADT_WITH_MADT.as_slice(),
+    )
+}
+
+/// Those on the MADT, but for the parts of a GIC.
+#[tactic(auto, unfolding(crate::specs::RowGroups::madt_group))]
+fn madt_group() -> RowGroup<'static>
+    ensures { group_value result ≡ madt_group }
+{
+    (TableKind::Madt, None, MADT.as_slice())
+}
+
+/// Those on the parts of a GIC in the MADT.
+#[tactic(auto, unfolding(crate::specs::RowGroups::gic_group))]
+fn gic_group() -> RowGroup<'static>
+    ensures { group_value result ≡ gic_group }
+{
+    (TableKind::Madt, None, GIC.as_slice())
+}
+
+/// Those on the MADT with the FADT.
+#[tactic(auto, unfolding(crate::specs::RowGroups::madt_with_fadt_group))]
+fn madt_with_fadt_group() -> RowGroup<'static>
+    ensures { group_value result ≡ madt_with_fadt_group }
+{
+    (
+        TableKind::Madt,
+        Some(TableKind::Fadt),
+        MADT_WITH_FADT.as_slice(),
+    )
+}
+
+/// Those on the MADT with the SRAT.
+#[tactic(auto, unfolding(crate::specs::RowGroups::madt_with_srat_group))]
+fn madt_with_srat_group() -> RowGroup<'static>
+    ensures { group_value result ≡ madt_with_srat_group }
+{
+    (
+        TableKind::Madt,
+        Some(TableKind::Srat),
+        MADT_WITH_SRAT.as_slice(),
+    )
+}
+
+/// Those on the MADT with the PPTT.
+#[tactic(auto, unfolding(crate::specs::RowGroups::madt_with_pptt_group))]
+fn madt_with_pptt_group() -> RowGroup<'static>
+    ensures { group_value result ≡ madt_with_pptt_group }
+{
+    (
+        TableKind::Madt,
+        Some(TableKind::Pptt),
+        MADT_WITH_PPTT.as_slice(),
+    )
+}
+
+/// Those on the SRAT.
+#[tactic(auto, unfolding(crate::specs::RowGroups::srat_group))]
+fn srat_group() -> RowGroup<'static>
+    ensures { group_value result ≡ srat_group }
+{
+    (TableKind::Srat, None, SRAT.as_slice())
+}
+
+/// Those on the SRAT with the MADT.
+#[tactic(auto, unfolding(crate::specs::RowGroups::srat_with_madt_group))]
+fn srat_with_madt_group() -> RowGroup<'static>
+    ensures { group_value result ≡ srat_with_madt_group }
+{
+    (
+        TableKind::Srat,
+        Some(TableKind::Madt),
+        SRAT_WITH_MADT.as_slice(),
+    )
+}
+
+/// Those on the SRAT with the SLIT.
+#[tactic(auto, unfolding(crate::specs::RowGroups::srat_with_slit_group))]
+fn srat_with_slit_group() -> RowGroup<'static>
+    ensures { group_value result ≡ srat_with_slit_group }
+{
+    (
+        TableKind::Srat,
+        Some(TableKind::Slit),
+        SRAT_WITH_SLIT.as_slice(),
+    )
+}
+
+/// Those on the PPTT.
+#[tactic(auto, unfolding(crate::specs::RowGroups::pptt_group))]
+fn pptt_group() -> RowGroup<'static>
+    ensures { group_value result ≡ pptt_group }
+{
+    (TableKind::Pptt, None, PPTT.as_slice())
+}
+
+/// Those on the PPTT with the MADT.
+#[tactic(auto, unfolding(crate::specs::RowGroups::pptt_with_madt_group))]
+fn pptt_with_madt_group() -> RowGroup<'static>
+    ensures { group_value result ≡ pptt_with_madt_group }
+{
+    (
+        TableKind::Pptt,
+        Some(TableKind::Madt),
+        PPTT_WITH_MADT.as_slice(),
+    )
+}
+
+/// All rows. Each group is told by a function, since the proof of one that names all constants takes too many steps.
+pub fn row_groups() -> [RowGroup<'static>; 12]
     ensures { map group_value result ≡ row_groups }
 {
     [
-        (TableKind::Fadt, None, FADT.as_slice()),
-        (
-            TableKind::Fadt,
-            Some(TableKind::Madt),
-            FADT_WITH_MADT.as_slice(),
-        ),
-        (TableKind::Madt, None, MADT.as_slice()),
-        (
-            TableKind::Madt,
-            Some(TableKind::Fadt),
-            MADT_WITH_FADT.as_slice(),
-        ),
-        (
-            TableKind::Madt,
-            Some(TableKind::Srat),
-            MADT_WITH_SRAT.as_slice(),
-        ),
-        (TableKind::Srat, None, SRAT.as_slice()),
-        (
-            TableKind::Srat,
-            Some(TableKind::Madt),
-            SRAT_WITH_MADT.as_slice(),
-        ),
-        (TableKind::Pptt, None, PPTT.as_slice()),
+        fadt_group(),
+        fadt_with_madt_group(),
+        madt_group(),
+        gic_group(),
+        madt_with_fadt_group(),
+        madt_with_srat_group(),
+        madt_with_pptt_group(),
+        srat_group(),
+        srat_with_madt_group(),
+        srat_with_slit_group(),
+        pptt_group(),
+        pptt_with_madt_group(),
     ]
 }

@@ -17,14 +17,8 @@ pub enum RuleGroup {
     FadtMadt,
     /// The MADT.
     Madt,
-    /// The MADT and the PPTT.
-    MadtPptt,
-    /// Each entry of the SRAT, with the SLIT.
-    SratSlit,
     /// The SLIT.
     Slit,
     /// The PPTT.
     Pptt,
-    /// Each entry of the PPTT by itself.
-    PpttEntries,
 }

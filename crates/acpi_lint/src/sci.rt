@@ -1,7 +1,7 @@
 //! Advice on the interrupt of a FADT, SCI_INT: whether an I/O APIC of a MADT serves it (ACPI 6.5, 5.2.9, 5.2.12).
 
-ghost use Rattle.std.specs.Prelude.{◌≡◌, ◌↔◌, ℕ, IsTrue};
-ghost use Rattle.acpi_base.specs.Across.{HasIoApic, IsServed};
+ghost use Rattle.std.specs.Prelude.{◌≡◌, ◌↔◌, ℕ, IsSome, IsTrue};
+ghost use Rattle.acpi_base.specs.Across.{HasIoApic, IsIoApic, IsServed};
 ghost use Rattle.acpi_lint.specs.Rules.FadtAdvice.{IsGsiOf, IsSciNowhere};
 ghost use Rattle.acpi_base.specs.Madt.{madt_contents};
 ghost use Rattle.acpi_read.specs.Madts.{madt_value};
@@ -12,8 +12,6 @@ ghost use Rattle.acpi_lint.specs.RuleGroups.{in_fadt_madt};
 ghost use Rattle.acpi_lint.specs.Rules.Broken.{condition};
 ghost use Rattle.acpi_lint.specs.Overrides.{IsOwnOverride, IsOverrideAt, ServesNumber, IsUnserved, IsNowhere};
 
-use crate::fadt_madt::no_boot_method;
-use crate::madt_forms::{MadtForm, has_form};
 use crate::passes::first_picked;
 use crate::rule::Rule;
 use crate::well_formed::is_madt_well_formed;
@@ -59,11 +57,18 @@ fn gsi_of(madt: &Table<'_>, source: u16) -> u64
     }
 }
 
+/// Some for an I/O APIC.
+fn io_apic_at(at: &EntryAt<MadtEntry<'_>>) -> Option<()>
+    ensures { IsSome result ↔ IsIoApic (madt_value at.now.entry) }
+{
+    matches!(at.entry, MadtEntry::IoApic(_)).then_some(())
+}
+
 /// Whether a MADT has an I/O APIC.
 fn has_io_apic(madt: &Table<'_>) -> bool
     ensures { IsTrue result ↔ HasIoApic (madt_contents madt.now) }
 {
-    has_form(madt, MadtForm::IoApic)
+    first_picked(madt.entries::<MadtEntry<'_>>(), io_apic_at).is_some()
 }
 
 /// Whether an entry is an I/O APIC that serves an interrupt number.
@@ -129,7 +134,6 @@ pub fn fadt_madt_place(
 {
     match rule {
         Rule::SciNowhere => sci_nowhere(policy, fadt, madt),
-        Rule::NoBootMethod => no_boot_method(policy, fadt, madt),
         _ => None,
     }
 }

@@ -9,9 +9,9 @@ use Rattle.std.proofs.lemmas.List.Elements.{Contains-append_left, Contains-appen
 use Rattle.std.proofs.lemmas.Option.{same_Some}
 use Rattle.acpi_base.proofs.Elements.{first_element, first_or_later, later_element, no_element}
 use Rattle.acpi_rules.specs.Cases.{Case, gives}
-use Rattle.acpi_rules.specs.Numbered.{IsFirst, IsNoLater, IsRepeated, IsTold, repeat_place}
+use Rattle.acpi_rules.specs.Numbered.{IsNoLater, IsRepeated, IsTold, repeat_place}
 use Rattle.acpi_rules.specs.Places.{FindsLeast, IsNotAfter}
-use Rattle.acpi_rules.specs.Numbers.{Counts, GivenIn, IsGiven, Numbers}
+use Rattle.acpi_rules.specs.Numbers.{Counts, GivenIn, Numbers}
 use Rattle.acpi_rules.specs.Rows.{InForm, IsBroken, IsLookedUp, Knows, Row, guard_holds, of_source, reported}
 use Rattle.acpi_rules.specs.Sites.{first_cut, sites_of}
 use Rattle.acpi_rules.specs.Terms.{TwoTables}

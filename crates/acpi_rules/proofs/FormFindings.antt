@@ -1,5 +1,5 @@
 -- What is found in each form of a rule.
-use Rattle.std.proofs.Common.{◌≡◌, ◌∙◌, ℕ, List, [], ◌∷◌, length, map, Option, Result, Ok, Err, Bool, true, false, refl, sym, ap, arith, subst, Some, None}
+use Rattle.std.proofs.Common.{◌≡◌, ◌∙◌, ℕ, List, [], ◌∷◌, length, map, Option, Result, Ok, Err, true, false, refl, sym, ap, arith, subst, Some, None}
 use Rattle.std.specs.Prelude.{◌↔◌, ◌==◌, AllPairs, Contains, IfOk, if◌then◌else◌, option_map}
 use Rattle.std.specs.List.Sorted.{IsPermutation}
 use Rattle.std.specs.Option.{is_some}

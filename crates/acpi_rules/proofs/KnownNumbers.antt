@@ -1,15 +1,15 @@
 -- Numbers that are looked up among others, which are in order.
 use Rattle.std.proofs.Common.{◌≡◌, ◌≢◌, ◌∙◌, ℕ, suc, ◌<◌, ◌≤◌, List, [], ◌∷◌, length, get_or, Option, Some, None, Bool, true, false, refl, sym, ap, inl, inr, arith, ltb, ltb-true}
 use Rattle.std.specs.Prelude.{AllPairs, Contains, ◌==◌, ◌⊎◌, if◌then◌else◌}
-use Rattle.std.specs.List.{find, slice_get}
+use Rattle.std.specs.List.{slice_get}
 use Rattle.std.specs.List.Sorted.{IsPartitionPoint, IsPartitionedBy}
-use Rattle.std.proofs.lemmas.Bool.{cases_lt, cases_order, eq-eqb, eqb-true, ltb-false}
+use Rattle.std.proofs.lemmas.Bool.{cases_lt, eq-eqb, eqb-true, ltb-false}
 use Rattle.std.proofs.lemmas.Bool.Decides.{nat_tests}
 use Rattle.std.proofs.lemmas.List.Folds.{find_at}
 use Rattle.std.proofs.lemmas.List.Sorted.{IsPartitionedBy-ltb}
 use Rattle.std.proofs.lemmas.List.Sums.{position_or_len_is}
 use Rattle.std.proofs.lemmas.Option.{same_Some, slice_get-get_or, slice_get_past}
-use Rattle.acpi_base.proofs.Elements.{first_element, first_or_later, later_element, no_element}
+use Rattle.acpi_base.proofs.Elements.{first_or_later, later_element, no_element}
 use Rattle.acpi_rules.specs.Known.{first_of}
 use Rattle.acpi_rules.specs.Numbered.{IsFirst, IsNotAbove}
 use Rattle.acpi_rules.specs.declared.numbered.Numbered.{Numbered}

@@ -9,7 +9,7 @@ use Rattle.acpi_base.proofs.Elements.{element_decided, first_element, first_or_l
 use Rattle.std.proofs.Math.Bool.{Bool-set}
 use Rattle.acpi_base.proofs.Faults.Deciding.{Decided, both, decided_as, same}
 use Rattle.acpi_rules.specs.Cases.{Case, gives}
-use Rattle.acpi_rules.specs.Given.{all_given, given_by_type, given_in_types}
+use Rattle.acpi_rules.specs.Given.{all_given, given_in_types}
 use Rattle.acpi_rules.specs.Indexes.{IsAmong, IsIndexOf, listed_window, typed_site, typed_sites}
 use Rattle.acpi_rules.specs.Laws.{Follow, IsPart}
 use Rattle.acpi_rules.specs.Numbers.{GivenIn}
@@ -322,16 +322,6 @@ indexed_given t path cases i is told g =
     )
 
 -- ---- what the next structure gives
-
-pub gives_next : (t : TwoTables) (cases : List Case) (kind : ℕ) (listed rest : List Listed) (first : Listed)
-    (n : Numbered) → listed ≡ first ∷ rest → gives t cases (typed_site (whole_table t.table) kind first) ≡ Some n
-    → given_by_type t cases kind listed ≡ n ∷ given_by_type t cases kind rest
-gives_next t cases kind listed rest first n is gives_it = rw (is, gives_it) refl
-
-pub gives_nothing : (t : TwoTables) (cases : List Case) (kind : ℕ) (listed rest : List Listed) (first : Listed)
-    → listed ≡ first ∷ rest → gives t cases (typed_site (whole_table t.table) kind first) ≡ None
-    → given_by_type t cases kind rest ≡ given_by_type t cases kind listed
-gives_nothing t cases kind listed rest first is none = rw (is, none) refl
 
 pub some_of : {X : Type 0} (o : Option X) → true ≡ is_some o → (x : X) × (o ≡ Some x)
 some_of (Some x) is = (x, refl)

@@ -1,5 +1,5 @@
 -- The numbers that a rule is about.
-use Rattle.std.specs.Prelude.{◌≡◌, ℕ, ◌↔◌, Bool, true, false, not, ◌==◌, List, length, map, Contains, Some, None}
+use Rattle.std.specs.Prelude.{◌≡◌, ℕ, ◌↔◌, Bool, not, ◌==◌, List, length, map, Contains, Some, None}
 use Rattle.std.specs.List.{list_any}
 use Rattle.std.specs.Option.{is_some}
 use denote.Ref.{Bor}

@@ -1,6 +1,6 @@
 //! The numbers that a rule is about.
 
-ghost use Rattle.std.specs.Prelude.{◌≡◌, ◌↔◌, AllPairs, Contains, IfOk, IsTrue, OnErr, map};
+ghost use Rattle.std.specs.Prelude.{◌↔◌, AllPairs, Contains, IfOk, IsTrue, OnErr, map};
 ghost use Rattle.acpi_rules.specs.Cases.{case_value};
 ghost use Rattle.acpi_rules.specs.Numbered.{IsNotAbove};
 ghost use Rattle.acpi_rules.specs.Numbers.{AreExcepted, Counts, GivenIn, has_except, numbers_value};

@@ -2,24 +2,19 @@
 use Rattle.std.specs.Prelude.{ℕ, ◌≤◌, ◌⊎◌, List}
 use Rattle.acpi_base.specs.Memory.{Memory}
 use Rattle.acpi_base.specs.Policy.{PolicyValue}
-use Rattle.acpi_base.specs.Contents.{HasMadt, HasSrat, HasSlit, HasPptt}
+use Rattle.acpi_base.specs.Contents.{HasMadt, HasSlit, HasPptt}
 use Rattle.acpi_base.specs.Madt.{MadtContents}
-use Rattle.acpi_base.specs.Srat.{SratEntry, SratContents}
 use Rattle.acpi_base.specs.Slit.{SlitContents, HasSlitSize}
-use Rattle.acpi_base.specs.Pptt.{PpttEntry, PpttContents}
-use Rattle.acpi_lint.specs.Rules.GicAdvice.{IsNoRedistributor, IsGicrTooSmall, IsGiccBaseDiffers, IsRedistributorTwice}
-use Rattle.acpi_lint.specs.Rules.Numbered.{OnEntry}
+use Rattle.acpi_base.specs.Pptt.{PpttContents}
+use Rattle.acpi_lint.specs.Rules.GicAdvice.{IsGicrTooSmall}
 use Rattle.acpi_lint.specs.Rules.Slots.{IsListedTwice, IsSecondTable, IsListedApart}
 use Rattle.acpi_lint.specs.Rules.FadtAdvice.{IsSciNowhere}
 use Rattle.acpi_lint.specs.Rules.FadtBlocks.{IsPortPastEnd}
-use Rattle.acpi_lint.specs.Rules.FadtWithMadt.{IsNoBootMethod}
-use Rattle.acpi_lint.specs.Rules.SratAdvice.{IsDomainPastSlit}
 use Rattle.acpi_lint.specs.Rules.SlitAdvice.{IsSlitDiffers, IsRemoteAsLocal}
-use Rattle.acpi_lint.specs.Rules.PpttAdvice.{IsSameLeaf, IsNoLeaf, IsLeafNowhere}
 use Rattle.acpi_lint.specs.Rules.GicRanges.{IsGicOverlap}
 use Rattle.acpi_lint.specs.Rules.Ports.{IsPortsOverlap}
 use Rattle.acpi_lint.specs.Rules.Structures.{OfNamingFadt, IsTablesOverlap}
-use Rattle.acpi_lint.specs.Rules.Hierarchy.{IsLeafUnflagged, IsLeafAsParent, IsNoPackage, IsCacheNumbers}
+use Rattle.acpi_lint.specs.Rules.Hierarchy.{IsNoPackage}
 use Rattle.acpi_lint.specs.Rules.RootAdvice.{IsNullSlot, IsRsdtDiffers}
 use Rattle.acpi_lint.specs.Rules.RsdpAdvice.{IsRsdpReserved}
 use Rattle.acpi_lint.specs.Rules.HeaderAdvice.{IsHeaderText, IsSecondOther}
@@ -40,10 +35,6 @@ OfFadt m q P = OfNamingFadt m q.rsdp P
 abbrev pub OfMadt : Memory → PolicyValue → (MadtContents → Type 0) → Type 0
 OfMadt m q P = HasMadt m q (λ madt. (44 ≤ madt.size) × P madt)
 
--- P of what the SRAT says, of at least 48 bytes (5.2.16)
-abbrev pub OfSrat : Memory → PolicyValue → (SratContents → Type 0) → Type 0
-OfSrat m q P = HasSrat m q (λ srat. (48 ≤ srat.size) × P srat)
-
 -- P of what the SLIT says, which has a cell for each pair of localities and nothing else (5.2.17)
 abbrev pub OfSlit : Memory → PolicyValue → (SlitContents → Type 0) → Type 0
 OfSlit m q P = HasSlit m q (λ slit. HasSlitSize slit × P slit)
@@ -59,11 +50,8 @@ pub data Condition : Type 1 where
   FadtMemory : (Memory → List ℕ → ℕ → ℕ → ℕ → Type 0) → Condition  -- what the FADT names in memory
   FadtMadt : (PolicyValue → List ℕ → MadtContents → ℕ → ℕ → ℕ → Type 0) → Condition
   Madt : (MadtContents → ℕ → ℕ → ℕ → Type 0) → Condition
-  MadtPptt : (MadtContents → PpttContents → ℕ → ℕ → ℕ → Type 0) → Condition
-  SratSlit : (ℕ → SratEntry → ℕ → ℕ → Type 0) → Condition  -- each entry, with the number of the SLIT's localities
   Slit : (SlitContents → ℕ → ℕ → ℕ → Type 0) → Condition
   Pptt : (PpttContents → ℕ → ℕ → ℕ → Type 0) → Condition
-  PpttEntries : (PpttEntry → ℕ → ℕ → Type 0) → Condition  -- each entry by itself
 
 -- the condition of each rule
 abbrev pub condition : Rule → Condition
@@ -71,11 +59,7 @@ condition rule.ListedTwice = Slots IsListedTwice
 condition rule.SecondTable = Slots IsSecondTable
 condition rule.ListedApart = Slots IsListedApart
 condition rule.SciNowhere = FadtMadt IsSciNowhere
-condition rule.DomainPastSlit = SratSlit IsDomainPastSlit
 condition rule.SlitDiffers = Slit IsSlitDiffers
-condition rule.SameLeaf = Pptt IsSameLeaf
-condition rule.NoLeaf = MadtPptt IsNoLeaf
-condition rule.LeafNowhere = MadtPptt IsLeafNowhere
 condition rule.NullSlot = Slots IsNullSlot
 condition rule.RsdtDiffers = Set IsRsdtDiffers
 condition rule.TablesOverlap = Set IsTablesOverlap
@@ -86,17 +70,10 @@ condition rule.FacsReserved = FadtMemory IsFacsReserved
 condition rule.RsdpReserved = Set IsRsdpReserved
 condition rule.HeaderText = Slots IsHeaderText
 condition rule.SecondOther = Slots IsSecondOther
-condition rule.NoRedistributor = Madt IsNoRedistributor
 condition rule.GicrTooSmall = Madt IsGicrTooSmall
-condition rule.GiccBaseDiffers = Madt IsGiccBaseDiffers
 condition rule.GicOverlap = Madt IsGicOverlap
-condition rule.RedistributorTwice = Madt IsRedistributorTwice
-condition rule.NoBootMethod = FadtMadt (λ q. IsNoBootMethod)
 condition rule.RemoteAsLocal = Slit IsRemoteAsLocal
-condition rule.LeafUnflagged = Pptt IsLeafUnflagged
-condition rule.LeafAsParent = Pptt IsLeafAsParent
 condition rule.NoPackage = Pptt IsNoPackage
-condition rule.CacheNumbers = PpttEntries IsCacheNumbers
 condition _ = Rows
 
 -- the condition holds in a set for these numbers
@@ -108,12 +85,8 @@ HoldsAt (Fadt P) m q at other point = OfFadt m q (λ fadt. P fadt at other point
 HoldsAt (FadtMemory P) m q at other point = OfFadt m q (λ fadt. P m fadt at other point)
 HoldsAt (FadtMadt P) m q at other point = OfFadt m q (λ fadt. OfMadt m q (λ madt. P q fadt madt at other point))
 HoldsAt (Madt P) m q at other point = OfMadt m q (λ madt. P madt at other point)
-HoldsAt (MadtPptt P) m q at other point = OfMadt m q (λ madt. HasPptt m q (λ pptt. P madt pptt at other point))
-HoldsAt (SratSlit P) m q at other point =
-    OfSrat m q (λ srat. OfSlit m q (λ slit. OnEntry (P slit.count) srat.entries at other point))
 HoldsAt (Slit P) m q at other point = OfSlit m q (λ slit. P slit at other point)
 HoldsAt (Pptt P) m q at other point = HasPptt m q (λ pptt. P pptt at other point)
-HoldsAt (PpttEntries P) m q at other point = HasPptt m q (λ pptt. OnEntry P pptt.entries at other point)
 
 -- the set breaks a rule that is not a row
 abbrev pub IsBrokenByHand : Rule → Memory → PolicyValue → ℕ → ℕ → ℕ → Type 0

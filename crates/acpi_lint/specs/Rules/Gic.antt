@@ -1,6 +1,6 @@
 -- The parts of a GIC, as entries of the MADT describe them: which bytes are one, and its fields (ACPI 6.5, 5.2.12.14
 -- to 5.2.12.18). Offsets of fields are from the entry's start.
-use Rattle.std.specs.Prelude.{ℕ, Bool, List, length, slice_index, Option, Some, None, nat_le, not, ◌==◌, ◌&&◌, if◌then◌else◌}
+use Rattle.std.specs.Prelude.{ℕ, Bool, List, length, slice_index, Option, Some, None, ◌==◌, ◌&&◌, if◌then◌else◌}
 use Rattle.acpi_base.specs.Number.{field}
 use Rattle.acpi_base.specs.Madt.{MadtEntry, Opaque}
 use Rattle.acpi_lint.specs.Rules.Processors.{is_usable, is_gicc}
@@ -10,10 +10,6 @@ use Rattle.acpi_lint.specs.Rules.Processors.{is_usable, is_gicc}
 -- the bytes are a usable CPU interface, GICC: Enabled, bit 0 of its flags, or Online Capable, bit 3 (5.2.12.14)
 abbrev pub is_usable_gicc : List ℕ → Bool
 is_usable_gicc e = is_gicc e && is_usable (field e 12 4) 3
-
--- a usable one that is long enough for the address of a redistributor of its own, and names one
-abbrev pub names_redistributor : List ℕ → Bool
-names_redistributor e = is_usable_gicc e && nat_le 68 (length e) && not (field e 60 8 == 0)
 
 -- a distributor, GICD (5.2.12.15)
 abbrev pub is_gicd : List ℕ → Bool
@@ -38,16 +34,9 @@ abbrev pub field_where : (List ℕ → Bool) → ℕ → ℕ → MadtEntry → O
 field_where is at width (Opaque e) = if is e then Some (field e at width) else None
 field_where is at width _ = None
 
--- the address of a CPU interface
-abbrev pub gicc_base : MadtEntry → Option ℕ
-gicc_base e = field_where is_gicc 32 8 e
-
 -- the UID of a usable one
 abbrev pub usable_gicc_uid : MadtEntry → Option ℕ
 usable_gicc_uid e = field_where is_usable_gicc 8 4 e
-
-abbrev pub own_redistributor : MadtEntry → Option ℕ
-own_redistributor e = field_where names_redistributor 60 8 e
 
 -- the address and the version of a distributor
 abbrev pub gicd_base : MadtEntry → Option ℕ

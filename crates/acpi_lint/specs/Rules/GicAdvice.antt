@@ -1,9 +1,8 @@
 -- Advice on the parts of a GIC in the MADT (ACPI 6.5, 5.2.12.14 to 5.2.12.18). `at` is an entry's offset in the table.
-use Rattle.std.specs.Prelude.{◌≡◌, ◌≢◌, ℕ, ◌/◌, ◌<◌, ◌⊎◌, length, slice_index, Option, Some, None, sum_by, not, ◌==◌, ◌&&◌, if◌then◌else◌}
+use Rattle.std.specs.Prelude.{◌≡◌, ℕ, ◌/◌, ◌<◌, ◌⊎◌, length, slice_index, Option, Some, None, sum_by, not, ◌==◌, ◌&&◌, if◌then◌else◌}
 use Rattle.acpi_base.specs.Madt.{MadtEntry, Opaque, MadtContents}
-use Rattle.acpi_lint.specs.Rules.EntryTypes.{HasType}
-use Rattle.acpi_lint.specs.Rules.Gic.{gicc_base, usable_gicc_uid, own_redistributor, gicd_version, gicr_base, gicr_length}
-use Rattle.acpi_lint.specs.Rules.Numbered.{NamesAt, IsNamed, IsFirstNamed, numbers_of}
+use Rattle.acpi_lint.specs.Rules.Gic.{usable_gicc_uid, gicd_version, gicr_length}
+use Rattle.acpi_lint.specs.Rules.Numbered.{IsNamed, IsFirstNamed, numbers_of}
 use Rattle.acpi_lint.specs.Rules.WellFormed.{IsWellFormedMadt}
 
 -- ---- the GIC's version
@@ -12,20 +11,7 @@ use Rattle.acpi_lint.specs.Rules.WellFormed.{IsWellFormedMadt}
 abbrev pub HasVersion : MadtContents → ℕ → ℕ → Type 0
 HasVersion c low high = (o v : ℕ) × IsFirstNamed gicd_version c.entries o v × ((v ≡ low) ⊎ (v ≡ high))
 
--- ---- what is not there, in a MADT that is well-formed
-
--- a GIC of this version has redistributors (3 and 4 do), and there is no entry of a range of them (14), nor does a
--- usable CPU interface name its own
-pub record LacksRedistributor (c : MadtContents) (v : ℕ) : Type 0 where
-  pub versioned : (v ≡ 3) ⊎ (v ≡ 4)
-  pub no_range : ¬ HasType c 14
-  pub none_named : (a : ℕ) → ¬ IsNamed own_redistributor c.entries a
-  pub well_formed : IsWellFormedMadt c
-
--- the first distributor is at `at`, and a GIC of its version, `other`, lacks redistributors (5.2.12.17)
-abbrev pub IsNoRedistributor : MadtContents → ℕ → ℕ → ℕ → Type 0
-IsNoRedistributor c at other point =
-    IsFirstNamed gicd_version c.entries at other × LacksRedistributor c other × (point ≡ 0)
+-- ---- redistributors
 
 -- an entry of the type of a range of redistributors that has another length
 abbrev pub other_gicr : MadtEntry → Option ℕ
@@ -53,20 +39,3 @@ pub record IsGicrTooSmall (c : MadtContents) (at other point : ℕ) : Type 0 whe
   pub count : other ≡ redistributor_count c
   pub due : point ≡ interface_count c
   pub fewer : other < point
-
--- ---- CPU interfaces
-
--- the GIC has no redistributors by its version (1 and 2 have none), and the address of the CPU interface at `at`,
--- `point`, is not that of the first, at `other` (5.2.12.14)
-pub record IsGiccBaseDiffers (c : MadtContents) (at other point : ℕ) : Type 0 where
-  pub versioned : HasVersion c 1 2
-  pub here : NamesAt gicc_base c.entries at point
-  pub base : ℕ
-  pub first : IsFirstNamed gicc_base c.entries other base
-  pub differ : point ≢ base
-
--- the CPU interface at `at` is usable and names its own redistributor, at the address `point`, though there are ranges
--- of them, of which the first is at `other` (5.2.12.17)
-abbrev pub IsRedistributorTwice : MadtContents → ℕ → ℕ → ℕ → Type 0
-IsRedistributorTwice c at other point =
-    NamesAt own_redistributor c.entries at point × ((base : ℕ) × IsFirstNamed gicr_base c.entries other base)

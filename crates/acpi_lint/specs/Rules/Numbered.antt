@@ -4,10 +4,6 @@ use Rattle.std.specs.Prelude.{◌≡◌, ℕ, ◌<◌, ◌≤◌, List, Option, 
 use Rattle.std.specs.List.{filter_map}
 use Rattle.acpi_base.specs.Entries.{PlacedEntry, StandsWith}
 
--- the entry at `at` breaks a rule by itself, with these two numbers
-abbrev pub OnEntry : {E : Type 0} → (E → ℕ → ℕ → Type 0) → List (PlacedEntry E) → ℕ → ℕ → ℕ → Type 0
-OnEntry Is entries at other point = StandsWith entries at (λ e. Is e other point)
-
 -- an entry is at o of which `read` gives the number n
 abbrev pub NamesAt : {E : Type 0} → (E → Option ℕ) → List (PlacedEntry E) → ℕ → ℕ → Type 0
 NamesAt read entries o n = StandsWith entries o (λ e. read e ≡ Some n)

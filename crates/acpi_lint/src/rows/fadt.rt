@@ -2,7 +2,8 @@
 //! the place of the one of 4 bytes.
 
 use crate::rows::fadt_fields::*;
-use crate::rows::madt_fields::{GICC, MADT_ENTRIES, RINTC};
+use crate::rows::madt::{OTHER_MADT_LENGTHS, OTHER_MADT_WHOLE};
+use crate::rows::madt_fields::{GICC, GICC_FLAGS, GICC_PARKING_VERSION, MADT_ENTRIES, RINTC};
 use crate::rows::table_fields::{REVISION, TABLE, WHOLE};
 use acpi_rules::{
     Case, Clause, Form, Guard, Kind, Need, Path, Row, Source, Term, Test, Value, Within,
@@ -187,7 +188,7 @@ pub static FADT: [Row<'static>; 14] = [
 ];
 
 /// Rules on the FADT with the MADT.
-pub static FADT_WITH_MADT: [Row<'static>; 2] = [
+pub static FADT_WITH_MADT: [Row<'static>; 3] = [
     // a GIC CPU interface, and the FADT is older than 5.1: its Revision is the major version, and the lower 4 bits of the byte
     // at 131 are the minor one, 0 if it is not there
     rule!(143 FadtForArch, given in TABLE where (some other MADT_ENTRIES: { (any GICC) }): {
@@ -200,5 +201,14 @@ pub static FADT_WITH_MADT: [Row<'static>; 2] = [
         (some other MADT_ENTRIES: { (any GICC); (any RINTC) }), NOT_REDUCED:
     {
         WHOLE => at 112 shows 0, 0
+    }),
+    // more than one usable GIC CPU interface, none of which has a version of the parking protocol, and bit 0 of ARM_BOOT_ARCH,
+    // PSCI, is clear (5.2.12.14)
+    rule!(170 NoBootMethod, given in TABLE where
+        (two other MADT_ENTRIES: { GICC if (GICC_FLAGS & 0b1001) != 0 }),
+        (none other MADT_ENTRIES: { GICC if (GICC_FLAGS & 0b1001) != 0 && GICC_PARKING_VERSION != 0 }),
+        OTHER_MADT_WHOLE, OTHER_MADT_LENGTHS:
+    {
+        WHOLE if (ARM_BOOT_ARCH & 0b1) == 0 => at 129 shows 0, ARM_BOOT_ARCH
     }),
 ];

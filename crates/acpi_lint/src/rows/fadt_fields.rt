@@ -60,6 +60,8 @@ pub const FLAGS: Field = field!(112, 4);
 
 pub const RESET_REG_ADDRESS: Field = field!(120, 8);
 
+pub const ARM_BOOT_ARCH: Field = field!(129, 2);
+
 pub const MINOR_VERSION: Field = field!(131, 1);
 
 pub const X_FIRMWARE_CTRL: Field = field!(132, 8);

@@ -2,13 +2,16 @@
 
 use crate::rows::fadt_fields::{MINOR_VERSION, SCI_INT};
 use crate::rows::madt_fields::*;
+use crate::rows::pptt::{LEAF_IDS, OTHER_PPTT_LENGTHS, OTHER_PPTT_WHOLE, PARENTS_BELOW_2};
+use crate::rows::pptt_fields::{NODE, NODE_RESOURCES, PPTT_ENTRIES};
 use crate::rows::srat::{
     OTHER_SRAT_LENGTHS, OTHER_SRAT_WHOLE, PLACED_APIC_IDS, PLACED_PROCESSORS, PLACED_UIDS,
 };
 use crate::rows::srat_fields::SRAT_ENTRIES;
 use crate::rows::table_fields::{REVISION, TABLE, TYPE, WHOLE};
 use acpi_rules::{
-    Case, Clause, Form, Guard, Kind, Need, Path, Repeat, Row, Source, Term, Test, Value, Within,
+    Case, Clause, Form, Guard, Kind, LookUp, Need, Path, Repeat, Row, Source, Term, Test, Value,
+    Within,
 };
 
 // ---- what entries give
@@ -45,7 +48,26 @@ const USABLE_APIC_IDS: &[Case<'static>] = cases!({
     CORE_PIC if (CORE_PIC_FLAGS & 0b1) != 0 => at 0 shows CORE_PIC_ID, CORE_PIC_ID
 });
 
+/// The redistributor that a usable GIC CPU interface names as its own.
+const OWN_REDISTRIBUTORS: &[Case<'static>] = cases!({
+    GICC if (GICC_FLAGS & 0b1001) != 0 && GICC_GICR_BASE != 0 => at 0 shows GICC_GICR_BASE, 0
+});
+
 // ---- conditions
+
+/// The GIC, by the version of its first distributor, has redistributors (5.2.12.15).
+const HAS_REDISTRIBUTORS: Guard<'static> = guard!((first table MADT_ENTRIES: {
+    GICD if GICD_VERSION == 3 => at 0 shows 0, 1;
+    GICD if GICD_VERSION == 4 => at 0 shows 0, 1;
+    GICD => at 0 shows 0, 0
+}));
+
+/// It has none.
+const HAS_NO_REDISTRIBUTORS: Guard<'static> = guard!((first table MADT_ENTRIES: {
+    GICD if GICD_VERSION == 1 => at 0 shows 0, 1;
+    GICD if GICD_VERSION == 2 => at 0 shows 0, 1;
+    GICD => at 0 shows 0, 0
+}));
 
 /// The entries fill the table, and those of a type that `check` reads have its length. Of such a table alone it is known
 /// what is not in it.
@@ -83,8 +105,8 @@ const UNREAD_PROCESSORS: &[Case<'static>] = any!({
 
 // ---- the rules
 
-/// Rules on the MADT.
-pub static MADT: [Row<'static>; 25] = [
+/// Rules on the MADT, but for those on the parts of a GIC.
+pub static MADT: [Row<'static>; 18] = [
     // two usable processors have the same UID
     rule!(109 SameUid, repeated in MADT_ENTRIES: USABLE_UIDS),
     // two usable processors have the same APIC ID, x2APIC ID or core ID
@@ -106,10 +128,6 @@ pub static MADT: [Row<'static>; 25] = [
         LOCAL_NMI if LOCAL_NMI_UID != 0xff => at 0 shows 0, LOCAL_NMI_UID;
         X2APIC_NMI if X2APIC_NMI_UID != 0xffff_ffff => at 0 shows 0, X2APIC_NMI_UID
     } among table MADT_ENTRIES UIDS),
-    // a second GIC distributor, of any length (5.2.12.15)
-    rule!(115 SecondGicd, repeated in MADT_ENTRIES: {
-        (any GICD) => at 0 shows 0, 0
-    }),
     // no processor is usable, and all are known
     rule!(116 NoProcessor, given in TABLE where
         (none table MADT_ENTRIES: USABLE_UIDS), PROCESSORS_READ, MADT_WHOLE, MADT_LENGTHS:
@@ -174,35 +192,6 @@ pub static MADT: [Row<'static>; 25] = [
     {
         WHOLE => at 0 shows 0, 0
     }),
-    // a GIC CPU interface, and no distributor (5.2.12.15)
-    rule!(159 NoDistributor, given in TABLE where
-        (some table MADT_ENTRIES: { (any GICC) }),
-        (none table MADT_ENTRIES: { (any GICD) }),
-        MADT_WHOLE, MADT_LENGTHS:
-    {
-        WHOLE => at 0 shows 0, 0
-    }),
-    // two usable CPU interfaces have the same MPIDR (5.2.12.14)
-    rule!(163 SameMpidr, repeated in MADT_ENTRIES: {
-        GICC_WITH_MPIDR if (GICC_FLAGS & 0b1001) != 0 => at 0 shows GICC_MPIDR, GICC_MPIDR
-    }),
-    // a usable one's MPIDR has a bit that is none of an affinity: bits 23:0 and 39:32 are (5.2.12.14)
-    rule!(164 MpidrReserved, given in MADT_ENTRIES: {
-        GICC_WITH_MPIDR if (GICC_FLAGS & 0b1001) != 0 && (GICC_MPIDR & 0xffff_ff00_ff00_0000) != 0
-            => at 0 shows 0, GICC_MPIDR
-    }),
-    // a range of redistributors has no bytes (5.2.12.17)
-    rule!(165 GicrEmpty, given in MADT_ENTRIES: {
-        GICR if GICR_LENGTH == 0 => at 0 shows 0, GICR_BASE
-    }),
-    // two ITS have the same ID (5.2.12.18)
-    rule!(166 SameIts, repeated in MADT_ENTRIES: {
-        ITS => at 0 shows ITS_ID, ITS_ID
-    }),
-    // two MSI frames have the same ID (5.2.12.16)
-    rule!(167 SameMsiFrame, repeated in MADT_ENTRIES: {
-        MSI_FRAME => at 0 shows MSI_FRAME_ID, MSI_FRAME_ID
-    }),
     // two usable harts have the same ID
     rule!(171 SameHart, repeated in MADT_ENTRIES: {
         RINTC if (RINTC_FLAGS & 0b11) != 0 => at 0 shows RINTC_HART_ID, RINTC_HART_ID
@@ -235,6 +224,61 @@ pub static MADT: [Row<'static>; 25] = [
     }),
 ];
 
+/// Rules on the parts of a GIC in it (5.2.12.14 to 5.2.12.18).
+pub static GIC: [Row<'static>; 10] = [
+    // a second GIC distributor, of any length (5.2.12.15)
+    rule!(115 SecondGicd, repeated in MADT_ENTRIES: {
+        (any GICD) => at 0 shows 0, 0
+    }),
+    // a GIC CPU interface, and no distributor (5.2.12.15)
+    rule!(159 NoDistributor, given in TABLE where
+        (some table MADT_ENTRIES: { (any GICC) }),
+        (none table MADT_ENTRIES: { (any GICD) }),
+        MADT_WHOLE, MADT_LENGTHS:
+    {
+        WHOLE => at 0 shows 0, 0
+    }),
+    // a GIC has redistributors by its version, and there is no range of them, nor does a CPU interface name its own; the
+    // first distributor is told, with its version (5.2.12.17)
+    rule!(160 NoRedistributor, given in MADT_ENTRIES where
+        HAS_REDISTRIBUTORS,
+        (none table MADT_ENTRIES: { (any GICR) }),
+        (none table MADT_ENTRIES: OWN_REDISTRIBUTORS),
+        MADT_WHOLE, MADT_LENGTHS:
+    {
+        GICD => at 0 shows GICD_VERSION, 0
+    }),
+    // a GIC has no redistributors by its version, and the address of a CPU interface is not that of the first (5.2.12.14)
+    rule!(162 GiccBaseDiffers, unlike_value in MADT_ENTRIES where HAS_NO_REDISTRIBUTORS: {
+        GICC => at 0 shows GICC_BASE, 0
+    }),
+    // two usable CPU interfaces have the same MPIDR (5.2.12.14)
+    rule!(163 SameMpidr, repeated in MADT_ENTRIES: {
+        GICC_WITH_MPIDR if (GICC_FLAGS & 0b1001) != 0 => at 0 shows GICC_MPIDR, GICC_MPIDR
+    }),
+    // a usable one's MPIDR has a bit that is none of an affinity: bits 23:0 and 39:32 are (5.2.12.14)
+    rule!(164 MpidrReserved, given in MADT_ENTRIES: {
+        GICC_WITH_MPIDR if (GICC_FLAGS & 0b1001) != 0 && (GICC_MPIDR & 0xffff_ff00_ff00_0000) != 0
+            => at 0 shows 0, GICC_MPIDR
+    }),
+    // a range of redistributors has no bytes (5.2.12.17)
+    rule!(165 GicrEmpty, given in MADT_ENTRIES: {
+        GICR if GICR_LENGTH == 0 => at 0 shows 0, GICR_BASE
+    }),
+    // two ITS have the same ID (5.2.12.18)
+    rule!(166 SameIts, repeated in MADT_ENTRIES: {
+        ITS => at 0 shows ITS_ID, ITS_ID
+    }),
+    // two MSI frames have the same ID (5.2.12.16)
+    rule!(167 SameMsiFrame, repeated in MADT_ENTRIES: {
+        MSI_FRAME => at 0 shows MSI_FRAME_ID, MSI_FRAME_ID
+    }),
+    // a usable CPU interface names its own redistributor, though there are ranges of them (5.2.12.17)
+    rule!(169 RedistributorTwice, somewhere in MADT_ENTRIES: OWN_REDISTRIBUTORS among table MADT_ENTRIES {
+        GICR => at 0 shows 0, 0
+    }),
+];
+
 /// Rules on the MADT with the FADT.
 pub static MADT_WITH_FADT: [Row<'static>; 2] = [
     // a processor is Online Capable and not Enabled, and the FADT is older than 6.3, or 6.5 for a GICC: its Revision is the
@@ -264,6 +308,23 @@ pub static MADT_WITH_FADT: [Row<'static>; 2] = [
         OVERRIDE if OVERRIDE_SOURCE > 15 && OVERRIDE_SOURCE != (other SCI_INT)
             => at 0 shows OVERRIDE_SOURCE, OVERRIDE_GSI
     }),
+];
+
+/// Rules on the MADT with the PPTT.
+pub static MADT_WITH_PPTT: [Row<'static>; 1] = [
+    // no leaf has the UID of a usable processor; applies if the PPTT has a node and is well-formed, and all processors are
+    // read (5.2.30.1)
+    rule!(125 NoLeaf, nowhere in MADT_ENTRIES where
+        PROCESSORS_READ, OTHER_PPTT_WHOLE, OTHER_PPTT_LENGTHS,
+        (some other PPTT_ENTRIES: { NODE if (length own) == (20 + 4 * NODE_RESOURCES) }):
+        {
+            LOCAL_APIC if (LOCAL_APIC_FLAGS & 0b11) != 0 => at 0 shows 0, LOCAL_APIC_UID;
+            X2APIC if (X2APIC_FLAGS & 0b11) != 0 => at 0 shows 0, X2APIC_UID;
+            GICC if (GICC_FLAGS & 0b1001) != 0 => at 0 shows 0, GICC_UID;
+            CORE_PIC if (CORE_PIC_FLAGS & 0b1) != 0 => at 0 shows 0, CORE_PIC_UID;
+            RINTC if (RINTC_FLAGS & 0b11) != 0 => at 0 shows 0, RINTC_UID
+        }
+        among other PPTT_ENTRIES LEAF_IDS except PARENTS_BELOW_2),
 ];
 
 /// Rules on the MADT with the SRAT.

@@ -98,6 +98,13 @@ pub const GICC_UID: Field = field!(8, 4);
 
 pub const GICC_FLAGS: Field = field!(12, 4);
 
+pub const GICC_PARKING_VERSION: Field = field!(16, 4);
+
+pub const GICC_BASE: Field = field!(32, 8);
+
+/// The address of a redistributor of its own, which ACPI 5.1 added.
+pub const GICC_GICR_BASE: Field = field!(60, 8);
+
 /// One that is long enough for an MPIDR, which ACPI 5.1 added.
 pub const GICC_WITH_MPIDR: Kind = kind!(11, 76..);
 

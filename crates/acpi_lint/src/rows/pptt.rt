@@ -1,56 +1,74 @@
-//! Rules on the PPTT (ACPI 6.5, 5.2.30), by itself.
+//! Rules on the PPTT (ACPI 6.5, 5.2.30), by itself and with the MADT.
 
-use crate::rows::table_fields::{REVISION, TYPED};
+use crate::rows::madt::{OTHER_MADT_LENGTHS, OTHER_MADT_WHOLE, OTHER_PROCESSORS_READ, UIDS};
+use crate::rows::madt_fields::{CORE_PIC, GICC, MADT_ENTRIES, RINTC};
+use crate::rows::pptt_fields::*;
+use crate::rows::table_fields::REVISION;
 use acpi_rules::{
-    Clause, Extent, Field, Form, Kind, Path, Repeat, Row, Series, Source, Start, Term, Test, Value,
+    Case, Clause, Form, Guard, Kind, LookUp, Need, Path, Repeat, Row, Source, Term, Test, Value,
     Within,
 };
 
-// ---- entries and their fields, by the standard's names
+// ---- what entries give
 
-/// The entries.
-pub const PPTT_SERIES: Series = Series {
-    start: Start::At(36),
-    extent: Extent::ToEnd,
-    shape: TYPED,
-};
+/// A node that another one has as its Parent.
+const PARENTS: &[Case<'static>] = cases!({
+    NODE if (length own) == (20 + 4 * NODE_RESOURCES) => at 0 shows 0, NODE_PARENT
+});
 
-const PPTT_ENTRIES: Path = Path::Entries(PPTT_SERIES);
+/// The same in a PPTT below Revision 2, in which a node is a leaf if no other one has it as its Parent.
+pub const PARENTS_BELOW_2: &[Case<'static>] = cases!({
+    NODE if (table REVISION) < 2 && (length own) == (20 + 4 * NODE_RESOURCES) => at 0 shows 0, NODE_PARENT
+});
 
-/// Processor Hierarchy Node (5.2.30.1), which has 20 bytes, and 4 for each private resource.
-const NODE: Kind = kind!(0, 20..);
+/// The valid IDs of leaves, which are marked from Revision 2 on; below it, those of all nodes.
+pub const LEAF_IDS: &[Case<'static>] = cases!({
+    NODE if (table REVISION) >= 2 && (NODE_FLAGS & 0b1010) == 0b1010
+        && (length own) == (20 + 4 * NODE_RESOURCES)
+        => at 0 shows 0, NODE_ID;
+    NODE if (table REVISION) < 2 && (NODE_FLAGS & 0b10) != 0
+        && (length own) == (20 + 4 * NODE_RESOURCES)
+        => at 0 shows 0, NODE_ID
+});
 
-const NODE_RESERVED: Field = field!(2, 1);
+// ---- conditions
 
-const NODE_RESERVED_1: Field = field!(3, 1);
+/// The entries fill the table, and nodes and caches have their lengths. Of such a table alone it is known what is not in
+/// it.
+const PPTT_WHOLE: Guard<'static> = guard!((whole table PPTT_ENTRIES));
 
-const NODE_FLAGS: Field = field!(4, 4);
+pub const OTHER_PPTT_WHOLE: Guard<'static> = guard!((whole other PPTT_ENTRIES));
 
-const NODE_RESOURCES: Field = field!(16, 4);
+const PPTT_LENGTHS: Guard<'static> = guard!((none table PPTT_ENTRIES: WRONG_LENGTHS));
 
-/// Cache Type Structure (5.2.30.2), before and since it has a Cache ID.
-const CACHE_24: Kind = kind!(1, 24);
+pub const OTHER_PPTT_LENGTHS: Guard<'static> = guard!((none other PPTT_ENTRIES: WRONG_LENGTHS));
 
-const CACHE_28: Kind = kind!(1, 28);
+const WRONG_LENGTHS: &[Case<'static>] = any!({
+    (any NODE) if (length own) < 20;
+    NODE if (length own) != (20 + 4 * NODE_RESOURCES);
+    (any CACHE_24) if (length own) != 24 && (length own) != 28
+});
 
-const CACHE_RESERVED: Field = field!(2, 1);
-
-const CACHE_RESERVED_1: Field = field!(3, 1);
-
-const CACHE_FLAGS: Field = field!(4, 4);
-
-const CACHE_SETS: Field = field!(16, 4);
-
-const CACHE_ATTRIBUTES: Field = field!(21, 1);
-
-const CACHE_LINE_SIZE: Field = field!(22, 2);
-
-const CACHE_ID: Field = field!(24, 4);
+/// The other table, a MADT, has a processor that is not of x86.
+const OTHER_BEYOND_X86: Guard<'static> =
+    guard!((some other MADT_ENTRIES: { GICC; CORE_PIC; RINTC }));
 
 // ---- the rules
 
 /// Rules on the PPTT.
-pub static PPTT: [Row<'static>; 3] = [
+pub static PPTT: [Row<'static>; 8] = [
+    // two leaves have the same ID; applies from Revision 2 on
+    rule!(122 SameLeaf, repeated in PPTT_ENTRIES: {
+        NODE if (table REVISION) >= 2 && (NODE_FLAGS & 0b1010) == 0b1010
+            && (length own) == (20 + 4 * NODE_RESOURCES)
+            => at 0 shows NODE_ID, NODE_ID
+    }),
+    // the same below Revision 2, if the table is well-formed
+    rule!(122 SameLeaf, repeated in PPTT_ENTRIES where PPTT_WHOLE, PPTT_LENGTHS: {
+        NODE if (table REVISION) < 2 && (NODE_FLAGS & 0b10) != 0
+            && (length own) == (20 + 4 * NODE_RESOURCES)
+            => at 0 shows NODE_ID, NODE_ID
+    } except PARENTS),
     // a valid Number of Sets is 0, or a valid Line Size is no power of two (5.2.30.2)
     rule!(123 CacheShape, given in PPTT_ENTRIES: {
         CACHE_24 if (CACHE_FLAGS & 0b10) != 0 && CACHE_SETS == 0 => at 0 shows 0, 0;
@@ -73,6 +91,36 @@ pub static PPTT: [Row<'static>; 3] = [
         CACHE_28 if (table REVISION) >= 3 && (CACHE_FLAGS & 0b1000_0000) != 0
             => at 0 shows CACHE_ID, CACHE_ID
     }),
+    // a node that is not marked as a leaf has a valid ID, and no node has it as its Parent; applies from Revision 2 on, if the
+    // table is well-formed (5.2.30.1)
+    rule!(180 LeafUnflagged, given in PPTT_ENTRIES where PPTT_WHOLE, PPTT_LENGTHS: {
+        NODE if (table REVISION) >= 2 && (NODE_FLAGS & 0b1010) == 0b10
+            && (length own) == (20 + 4 * NODE_RESOURCES)
+            => at 0 shows 0, NODE_ID
+    } except PARENTS),
+    // a node that is marked as a leaf is the Parent of another one; applies from Revision 2 on (5.2.30.1)
+    rule!(181 LeafAsParent, somewhere in PPTT_ENTRIES: {
+        NODE if (table REVISION) >= 2 && (NODE_FLAGS & 0b1000) != 0
+            && (length own) == (20 + 4 * NODE_RESOURCES)
+            => at 0 shows 0, (offset own)
+    } among table PPTT_ENTRIES PARENTS),
+    // a valid Associativity or Size is 0, or the Size is another than by the other numbers, all of which are valid (5.2.30.2)
+    rule!(183 CacheNumbers, given in PPTT_ENTRIES: {
+        CACHE_24 if (CACHE_FLAGS & 0b100) != 0 && CACHE_ASSOCIATIVITY == 0
+            => at 0 shows CACHE_SIZE, 0;
+        CACHE_24 if (CACHE_FLAGS & 0b1) != 0 && CACHE_SIZE == 0
+            => at 0 shows 0, (CACHE_SETS * CACHE_ASSOCIATIVITY * CACHE_LINE_SIZE);
+        CACHE_24 if (CACHE_FLAGS & 0b100_0111) == 0b100_0111
+            && CACHE_SIZE != (CACHE_SETS * CACHE_ASSOCIATIVITY * CACHE_LINE_SIZE)
+            => at 0 shows CACHE_SIZE, (CACHE_SETS * CACHE_ASSOCIATIVITY * CACHE_LINE_SIZE);
+        CACHE_28 if (CACHE_FLAGS & 0b100) != 0 && CACHE_ASSOCIATIVITY == 0
+            => at 0 shows CACHE_SIZE, 0;
+        CACHE_28 if (CACHE_FLAGS & 0b1) != 0 && CACHE_SIZE == 0
+            => at 0 shows 0, (CACHE_SETS * CACHE_ASSOCIATIVITY * CACHE_LINE_SIZE);
+        CACHE_28 if (CACHE_FLAGS & 0b100_0111) == 0b100_0111
+            && CACHE_SIZE != (CACHE_SETS * CACHE_ASSOCIATIVITY * CACHE_LINE_SIZE)
+            => at 0 shows CACHE_SIZE, (CACHE_SETS * CACHE_ASSOCIATIVITY * CACHE_LINE_SIZE)
+    }),
     // a flag or an attribute of an entry that is not defined, or a reserved byte; `other` is its offset in the entry
     rule!(184 PpttReserved, given in PPTT_ENTRIES: {
         NODE if NODE_RESERVED != 0 && (length own) == (20 + 4 * NODE_RESOURCES) => at 0 shows 2, 0;
@@ -87,4 +135,28 @@ pub static PPTT: [Row<'static>; 3] = [
         CACHE_28 if CACHE_FLAGS > 0b1111_1111 => at 0 shows 4, 0;
         CACHE_28 if CACHE_ATTRIBUTES > 0b1_1111 => at 0 shows 21, 0
     }),
+];
+
+/// Rules on the PPTT with the MADT.
+pub static PPTT_WITH_MADT: [Row<'static>; 2] = [
+    // a leaf's ID is no processor's UID, and all are known; applies if one is not of x86; from Revision 2 on
+    rule!(126 LeafNowhere, nowhere in PPTT_ENTRIES where
+        OTHER_BEYOND_X86, OTHER_PROCESSORS_READ, OTHER_MADT_WHOLE, OTHER_MADT_LENGTHS:
+        {
+            NODE if (table REVISION) >= 2 && (NODE_FLAGS & 0b1010) == 0b1010
+                && (length own) == (20 + 4 * NODE_RESOURCES)
+                => at 0 shows 0, NODE_ID
+        }
+        among other MADT_ENTRIES UIDS),
+    // the same below Revision 2, if the table is well-formed
+    rule!(126 LeafNowhere, nowhere in PPTT_ENTRIES where
+        OTHER_BEYOND_X86, OTHER_PROCESSORS_READ, OTHER_MADT_WHOLE, OTHER_MADT_LENGTHS,
+        PPTT_WHOLE, PPTT_LENGTHS:
+        {
+            NODE if (table REVISION) < 2 && (NODE_FLAGS & 0b10) != 0
+                && (length own) == (20 + 4 * NODE_RESOURCES)
+                => at 0 shows 0, NODE_ID
+        }
+        except PARENTS
+        among other MADT_ENTRIES UIDS),
 ];

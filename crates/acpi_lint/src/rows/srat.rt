@@ -1,13 +1,15 @@
-//! Rules on the SRAT (ACPI 6.5, 5.2.16), by itself and with the MADT.
+//! Rules on the SRAT (ACPI 6.5, 5.2.16), by itself, with the MADT and with the SLIT.
 
 use crate::rows::madt::{
     APIC_IDS, OTHER_MADT_LENGTHS, OTHER_MADT_WHOLE, OTHER_PROCESSORS_READ, UIDS,
 };
 use crate::rows::madt_fields::{ITS, ITS_ID, MADT_ENTRIES};
+use crate::rows::slit_fields::LOCALITIES;
 use crate::rows::srat_fields::*;
 use crate::rows::table_fields::{REVISION, TABLE, TYPE, WHOLE};
 use acpi_rules::{
-    Case, Clause, Form, Guard, Kind, Need, Path, Repeat, Row, Source, Term, Test, Value, Within,
+    Case, Clause, Form, Guard, Kind, LookUp, Need, Path, Repeat, Row, Source, Term, Test, Value,
+    Within,
 };
 
 // ---- what entries give
@@ -153,4 +155,30 @@ pub static SRAT_WITH_MADT: [Row<'static>; 3] = [
         among other MADT_ENTRIES {
             ITS => at 0 shows 0, ITS_ID
         }),
+];
+
+/// Rules on the SRAT with the SLIT, if that has a cell for each pair of localities and nothing else.
+pub static SRAT_WITH_SLIT: [Row<'static>; 1] = [
+    // an enabled affinity, or one of an ITS, is to a domain that is not one of the localities (5.2.17)
+    rule!(120 DomainPastSlit, given in SRAT_ENTRIES where
+        (some other TABLE: { WHOLE if (length own) == (44 + LOCALITIES * LOCALITIES) }):
+    {
+        APIC_AFFINITY if (APIC_AFFINITY_FLAGS & 0b1) != 0
+            && (APIC_AFFINITY_DOMAIN + 256 * APIC_AFFINITY_DOMAIN_HIGH) >= (other LOCALITIES)
+            => at 0 shows (other LOCALITIES), (APIC_AFFINITY_DOMAIN + 256 * APIC_AFFINITY_DOMAIN_HIGH);
+        MEMORY if (MEMORY_FLAGS & 0b1) != 0 && MEMORY_DOMAIN >= (other LOCALITIES)
+            => at 0 shows (other LOCALITIES), MEMORY_DOMAIN;
+        X2APIC_AFFINITY if (X2APIC_AFFINITY_FLAGS & 0b1) != 0 && X2APIC_AFFINITY_DOMAIN >= (other LOCALITIES)
+            => at 0 shows (other LOCALITIES), X2APIC_AFFINITY_DOMAIN;
+        GICC_AFFINITY if (GICC_AFFINITY_FLAGS & 0b1) != 0 && GICC_AFFINITY_DOMAIN >= (other LOCALITIES)
+            => at 0 shows (other LOCALITIES), GICC_AFFINITY_DOMAIN;
+        ITS_AFFINITY if ITS_AFFINITY_DOMAIN >= (other LOCALITIES)
+            => at 0 shows (other LOCALITIES), ITS_AFFINITY_DOMAIN;
+        INITIATOR if (INITIATOR_FLAGS & 0b1) != 0 && INITIATOR_DOMAIN >= (other LOCALITIES)
+            => at 0 shows (other LOCALITIES), INITIATOR_DOMAIN;
+        PORT if (PORT_FLAGS & 0b1) != 0 && PORT_DOMAIN >= (other LOCALITIES)
+            => at 0 shows (other LOCALITIES), PORT_DOMAIN;
+        RINTC_AFFINITY if (RINTC_AFFINITY_FLAGS & 0b1) != 0 && RINTC_AFFINITY_DOMAIN >= (other LOCALITIES)
+            => at 0 shows (other LOCALITIES), RINTC_AFFINITY_DOMAIN
+    }),
 ];

@@ -68,6 +68,8 @@ pub const MEMORY_RESERVED_13: Field = field!(39, 1);
 /// Processor Local x2APIC Affinity (5.2.16.3).
 pub const X2APIC_AFFINITY: Kind = kind!(2, 24);
 
+pub const X2APIC_AFFINITY_DOMAIN: Field = field!(4, 4);
+
 pub const X2APIC_AFFINITY_ID: Field = field!(8, 4);
 
 pub const X2APIC_AFFINITY_FLAGS: Field = field!(12, 4);
@@ -96,6 +98,8 @@ pub const GICC_AFFINITY_FLAGS: Field = field!(10, 4);
 /// GIC Interrupt Translation Service Affinity (5.2.16.5).
 pub const ITS_AFFINITY: Kind = kind!(4, 12);
 
+pub const ITS_AFFINITY_DOMAIN: Field = field!(2, 4);
+
 pub const ITS_AFFINITY_ID: Field = field!(8, 4);
 
 /// Generic Initiator Affinity (5.2.16.6).
@@ -107,6 +111,10 @@ pub const INITIATOR_FLAGS: Field = field!(24, 4);
 
 /// Generic Port Affinity (5.2.16.7).
 pub const PORT: Kind = kind!(6, 32);
+
+pub const PORT_DOMAIN: Field = field!(4, 4);
+
+pub const PORT_FLAGS: Field = field!(24, 4);
 
 /// RINTC Affinity (after ACPI 6.5).
 pub const RINTC_AFFINITY: Kind = kind!(7, 20);

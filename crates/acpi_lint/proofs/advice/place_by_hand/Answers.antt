@@ -15,12 +15,6 @@ returns-in-Madt c =
     (is_of_group (condition c.args.rule) c.group.ensures c.in-Madt.is) c.requires
     c.listed_madt_place.ensures.found
 
-pub returns-in-MadtPptt : goal.returns-in-MadtPptt
-returns-in-MadtPptt c =
-    each_set c.args.image.now c.args.policy.now c.listed_madt_pptt_place.result
-    (is_of_group (condition c.args.rule) c.group.ensures c.in-MadtPptt.is) c.requires
-    c.listed_madt_pptt_place.ensures.found
-
 pub returns-in-Pptt : goal.returns-in-Pptt
 returns-in-Pptt c =
     each_set c.args.image.now c.args.policy.now c.listed_pptt_place.result
@@ -33,12 +27,6 @@ returns-in-Fadt c =
     (is_of_group (condition c.args.rule) c.group.ensures c.in-Fadt.is) c.requires
     c.listed_fadt_place.ensures.found
 
-pub returns-in-SratSlit : goal.returns-in-SratSlit
-returns-in-SratSlit c =
-    as_rule c.args.image.now c.args.policy.now c.listed_srat_slit_place.result
-    (is_of_group (condition c.args.rule) c.group.ensures c.in-SratSlit.is)
-    (c.listed_srat_slit_place.ensures c.args.image.now c.args.policy.now c.requires)
-
 pub returns-in-Slit : goal.returns-in-Slit
 returns-in-Slit c =
     as_rule c.args.image.now c.args.policy.now c.listed_slit_place.result
@@ -50,12 +38,6 @@ returns-in-FadtMadt c =
     as_rule c.args.image.now c.args.policy.now c.listed_fadt_madt_place.result
     (is_of_group (condition c.args.rule) c.group.ensures c.in-FadtMadt.is)
     (c.listed_fadt_madt_place.ensures c.args.image.now c.requires)
-
-pub returns-in-PpttEntries : goal.returns-in-PpttEntries
-returns-in-PpttEntries c =
-    as_rule c.args.image.now c.args.policy.now c.pptt_entries_place.result
-    (is_of_group (condition c.args.rule) c.group.ensures c.in-PpttEntries.is)
-    (c.pptt_entries_place.ensures c.args.image.now c.args.policy.now c.requires)
 
 pub returns-in-Set : goal.returns-in-Set
 returns-in-Set c =

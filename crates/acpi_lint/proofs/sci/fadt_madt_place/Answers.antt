@@ -2,6 +2,3 @@ use Rattle.acpi_lint.proofs.sci.fadt_madt_place.Goals as goal
 
 pub returns-in-SciNowhere : goal.returns-in-SciNowhere
 returns-in-SciNowhere c = rw c.in-SciNowhere.is c.sci_nowhere.ensures
-
-pub returns-in-NoBootMethod : goal.returns-in-NoBootMethod
-returns-in-NoBootMethod c = rw c.in-NoBootMethod.is c.no_boot_method.ensures

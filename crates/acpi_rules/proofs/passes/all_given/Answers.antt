@@ -31,7 +31,8 @@ loop-given-preserved c =
           c.loop-given.invariant.all;
       beside = excepted_next c.args.except.now c.loop-given.yielded (c.loop-given.yielded ++ (g ∷ []))
           c.loop-given.all.items g refl
-          (in_except c.args.except.now g c.first_of.result c.first_of.ensures c.if-is_none.ensures) c.loop-given.invariant.beside;
+          (in_except c.args.except.now g c.first_of.result c.first_of.ensures c.if-is_none.ensures)
+          c.loop-given.invariant.beside;
     }
 
 pub returns : goal.returns

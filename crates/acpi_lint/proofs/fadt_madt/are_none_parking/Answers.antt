@@ -1,5 +1,0 @@
-use Rattle.acpi_lint.proofs.SomeEntries.{none_there}
-use Rattle.acpi_lint.proofs.fadt_madt.are_none_parking.Goals as goal
-
-pub returns : goal.returns
-returns c = none_there c.has_form.result c.has_form.ensures

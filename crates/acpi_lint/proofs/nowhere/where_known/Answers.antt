@@ -1,7 +1,0 @@
-use Rattle.acpi_lint.proofs.UnknownOnes.{place_where}
-use Rattle.acpi_lint.proofs.nowhere.where_known.Goals as goal
-
-pub returns : goal.returns
-returns c =
-    rw (c.in_ok-place.was, c.then_some.ensures)
-    (place_where c.in_ok-place.place c.are_processors_known.result c.are_processors_known.ensures)
