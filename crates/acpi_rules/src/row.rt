@@ -1,6 +1,6 @@
 //! Rules as rows, and the finding of each.
 
-ghost use Rattle.std.specs.Prelude.{◌≡◌, IfOk, IsTrue, OnErr, map};
+ghost use Rattle.std.specs.Prelude.{◌≡◌, false, IfOk, IsTrue, OnErr, map};
 ghost use Rattle.std.specs.List.{list_all};
 ghost use Rattle.std.specs.Option.{is_none};
 ghost use Rattle.acpi_rules.specs.Cases.{case_value};
@@ -69,6 +69,13 @@ pub enum Form {
 ///
 /// It is a tuple since a clause cannot name a constant of a struct that has references.
 pub type Row<'a> = (u16, Form, &'a [Guard<'a>], Numbers<'a>, Source, Numbers<'a>);
+
+impl Need {
+    /// Whether a condition ends with the first structure that decides it, mostly.
+    fn is_quick(self) -> bool {
+        matches!(self, Need::Some | Need::First | Need::Whole)
+    }
+}
 
 impl Source {
     /// The tables as a path through this one sees them.
@@ -141,6 +148,19 @@ fn all_guards_hold(guards: &[Guard<'_>], tables: &Tables<'_>) -> bool
 {
     for guard in guards {
         if !guard_holds(guard, tables) {
+            return false;
+        }
+    }
+    true
+}
+
+/// Whether those of these conditions hold that are quick to decide.
+fn quick_guards_hold(guards: &[Guard<'_>], tables: &Tables<'_>) -> bool
+    ensures { result ≡ false
+        → list_all (guard_holds (tables_value tables.now)) (map guard_value guards.now) ≡ false }
+{
+    for guard in guards {
+        if guard.0.is_quick() && !guard_holds(guard, tables) {
             return false;
         }
     }
@@ -229,7 +249,10 @@ pub fn first_finding(
         (FindsLeast (IsBroken (row_value row.now) (tables_value tables.now))) }
     ensures refuses { OnErr result (IsTrue (needs_memory (row_value row.now))) }
 {
-    // The conditions come last, since there is mostly nothing to report.
+    if !quick_guards_hold(row.2, tables) {
+        return Ok(None);
+    }
+    // The other conditions come last, since there is mostly nothing to report.
     let found = first_in_form(alloc, row, tables)?;
     if found.is_none() || !all_guards_hold(row.2, tables) {
         return Ok(None);

@@ -1,6 +1,6 @@
-"""Sets near the edges of the rules of advice on the FADT, the MADT, the SRAT and the PPTT: each entry of a table with each of its bytes
-changed, beside entries with which a rule may be broken; entries of each type with lengths around that of the type; a FADT with each field,
-and each two of them, changed. Most sets have one table or two. None is random, so a set is the same each time."""
+"""Sets near the edges of the rules of advice on the FADT, the MADT, the SRAT, the SLIT and the PPTT: each entry of a table with each of
+its bytes changed, beside entries with which a rule may be broken; entries of each type with lengths around that of the type; a FADT with
+each field, and each two of them, changed. A set has one table or two. None is random, so a set is the same each time."""
 
 from __future__ import annotations
 
@@ -60,7 +60,8 @@ MADT_ENTRIES = (
 )  # fmt: skip
 BESIDE_IN_MADT = (
     (), (LAPIC, OVERRIDE), (X2APIC,), (GICC, GICC), (CORE_PIC,), (RINTC,), (LAPIC, NMI_SOURCE), (LAPIC, LOCAL_NMI), (X2APIC, X2APIC_NMI),
-    (LAPIC, IO_APIC), (GICC, GICD), (OVERRIDE, entry(2, 10, (3, 1, 8), (4, 4, 9))),
+    (LAPIC, IO_APIC), (GICC, GICD), (OVERRIDE, entry(2, 10, (3, 1, 8), (4, 4, 9))), (entry(12, 24, (20, 1, 2)), GICC), (GICD, entry(14, 16)),
+    (ITS, entry(13, 24)),
 )  # fmt: skip
 APIC_AFFINITY, X2APIC_AFFINITY = entry(0, 16, (3, 1, 7), (4, 4, 1)), entry(2, 24, (8, 4, 0x300), (12, 4, 1))
 GICC_AFFINITY, RINTC_AFFINITY = entry(3, 18, (6, 4, 5), (10, 4, 1)), entry(7, 20, (8, 4, 9), (12, 4, 1))
@@ -71,6 +72,9 @@ SRAT_ENTRIES = (
 )  # fmt: skip
 BESIDE_IN_SRAT = ((), (APIC_AFFINITY,), (X2APIC_AFFINITY,), (GICC_AFFINITY,), (RINTC_AFFINITY,), (MEMORY,), (APIC_AFFINITY, MEMORY))
 NODE = entry(0, 20, (4, 4, 2))
+# Nodes with the ID of a processor: one that is marked as a leaf, one that is not, one whose Parent is the first node, and one that is both.
+LEAF, INNER, CHILD = (entry(0, 20, (4, 4, flags), (8, 4, parent), (12, 4, 5)) for flags, parent in ((10, 0), (2, 0), (0, 36)))
+NODES = (LEAF, INNER, CHILD, entry(0, 20, (4, 4, 10), (8, 4, 36), (12, 4, 5)), entry(0, 24, (4, 4, 10), (12, 4, 5), (16, 4, 1)))
 CACHES = tuple(entry(1, size, (4, 4, 0xFF), (12, 4, 64), (16, 4, 1), (20, 1, 1), (22, 2, 64), *more) for size, *more in ((24,), (28, (24, 4, 1))))
 # A processor of the MADT, or an ITS, and the affinity that names it, or one of another type.
 PAIRS = (
@@ -152,6 +156,45 @@ def pptts():
         yield table(b"PPTT", entry(1, 28, (4, 4, 0x40), (22, 2, (1 << power) + difference)), 3)
 
 
+def pptt(*entries, revision=2):
+    return table(b"PPTT", b"".join(entries), revision)
+
+
+def slit(count, length):
+    """A SLIT of so many localities, with so many cells."""
+    return table(b"SLIT", number(count, 8) + bytes([10]) * length, 1)
+
+
+def hierarchies():
+    """A PPTT of nodes, alone or with a MADT."""
+    for revision, one, beside in product((1, 2, 3), NODES, ((), (LEAF,), (INNER,), (CHILD,), (LEAF, CHILD), (NODE, entry(0, 19)))):
+        for other in with_byte(one):
+            yield (pptt(other, *beside, revision=revision),)
+            yield (pptt(*beside, other, revision=revision),)
+    processors = (entry(0, 8, (2, 1, 5), (4, 4, 1)), entry(9, 16, (8, 4, 1), (12, 4, 5)), GICC, entry(17, 15, (3, 4, 5), (11, 4, 1)), RINTC)
+    for revision, one, node in product((1, 2), (*processors, entry(7, 16)), NODES):
+        yield from ((madt(other), pptt(node, revision=revision)) for other in with_byte(one))
+        yield from ((madt(one), pptt(other, CHILD, revision=revision)) for other in with_byte(node))
+        yield from ((madt(GICC, one), pptt(LEAF, other, revision=revision)) for other in with_byte(node))
+
+
+def domains():
+    """An SRAT with a SLIT."""
+    for one, count in product((*SRAT_ENTRIES, entry(5, 32, (24, 4, 1)), entry(6, 32, (24, 4, 1))), (0, 1, 2, 3, 16)):
+        yield from ((srat(other), slit(count, count * count)) for other in with_byte(one))
+        yield from ((srat(one, one), slit(count, length)) for length in range(12))
+
+
+def starts():
+    """A FADT of a machine with a GIC, with its MADT."""
+    for flags, length in product((0, 1, 2, 3, 256), (129, 130, 131, 132, 276)):
+        data = blocks_fadt(1 << 20)
+        put(data, 129, 2, flags)
+        for other in (GICC, GICD, entry(11, 39), *with_byte(entry(11, 40, (12, 4, 1)))):
+            yield of_length(data, length, 6), madt(GICC, other)
+        yield of_length(data, length, 6), madt(GICC, GICC, entry(11, 39))
+
+
 def pairs():
     """A MADT with a FADT or with an SRAT."""
     for major, minor, length in product(range(1, 8), (0, 1, 3, 4, 5, 0x50, 255), (276, 132, 131, 120)):
@@ -175,4 +218,4 @@ def pairs():
 def near_sets():
     """The tables of each set, each set once."""
     single = ((it,) for tables in (fadts, madts, srats, pptts) for it in tables())
-    return list(dict.fromkeys((*single, *pairs())))
+    return list(dict.fromkeys((*single, *hierarchies(), *pairs(), *domains(), *starts())))

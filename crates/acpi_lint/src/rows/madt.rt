@@ -2,8 +2,11 @@
 
 use crate::rows::fadt_fields::{MINOR_VERSION, SCI_INT};
 use crate::rows::madt_fields::*;
-use crate::rows::pptt::{LEAF_IDS, OTHER_PPTT_LENGTHS, OTHER_PPTT_WHOLE, PARENTS_BELOW_2};
-use crate::rows::pptt_fields::{NODE, NODE_RESOURCES, PPTT_ENTRIES};
+use crate::rows::pptt::{
+    LEAF_IDS, NODE_IDS, OTHER_MARKED, OTHER_NODES, OTHER_PPTT_LENGTHS, OTHER_PPTT_WHOLE,
+    OTHER_UNMARKED, PARENTS,
+};
+use crate::rows::pptt_fields::PPTT_ENTRIES;
 use crate::rows::srat::{
     OTHER_SRAT_LENGTHS, OTHER_SRAT_WHOLE, PLACED_APIC_IDS, PLACED_PROCESSORS, PLACED_UIDS,
 };
@@ -39,6 +42,15 @@ const USABLE_UIDS: &[Case<'static>] = cases!({
     GICC if (GICC_FLAGS & 0b1001) != 0 => at 0 shows GICC_UID, GICC_UID;
     CORE_PIC if (CORE_PIC_FLAGS & 0b1) != 0 => at 0 shows CORE_PIC_UID, CORE_PIC_UID;
     RINTC if (RINTC_FLAGS & 0b11) != 0 => at 0 shows RINTC_UID, RINTC_UID
+});
+
+/// The same, of which nothing else is shown where no leaf has one.
+const LEAFLESS_UIDS: &[Case<'static>] = cases!({
+    LOCAL_APIC if (LOCAL_APIC_FLAGS & 0b11) != 0 => at 0 shows 0, LOCAL_APIC_UID;
+    X2APIC if (X2APIC_FLAGS & 0b11) != 0 => at 0 shows 0, X2APIC_UID;
+    GICC if (GICC_FLAGS & 0b1001) != 0 => at 0 shows 0, GICC_UID;
+    CORE_PIC if (CORE_PIC_FLAGS & 0b1) != 0 => at 0 shows 0, CORE_PIC_UID;
+    RINTC if (RINTC_FLAGS & 0b11) != 0 => at 0 shows 0, RINTC_UID
 });
 
 /// The APIC ID, x2APIC ID or core ID of each usable processor that has one.
@@ -311,20 +323,18 @@ pub static MADT_WITH_FADT: [Row<'static>; 2] = [
 ];
 
 /// Rules on the MADT with the PPTT.
-pub static MADT_WITH_PPTT: [Row<'static>; 1] = [
+pub static MADT_WITH_PPTT: [Row<'static>; 2] = [
     // no leaf has the UID of a usable processor; applies if the PPTT has a node and is well-formed, and all processors are
-    // read (5.2.30.1)
+    // read; from Revision 2 on (5.2.30.1)
     rule!(125 NoLeaf, nowhere in MADT_ENTRIES where
-        PROCESSORS_READ, OTHER_PPTT_WHOLE, OTHER_PPTT_LENGTHS,
-        (some other PPTT_ENTRIES: { NODE if (length own) == (20 + 4 * NODE_RESOURCES) }):
-        {
-            LOCAL_APIC if (LOCAL_APIC_FLAGS & 0b11) != 0 => at 0 shows 0, LOCAL_APIC_UID;
-            X2APIC if (X2APIC_FLAGS & 0b11) != 0 => at 0 shows 0, X2APIC_UID;
-            GICC if (GICC_FLAGS & 0b1001) != 0 => at 0 shows 0, GICC_UID;
-            CORE_PIC if (CORE_PIC_FLAGS & 0b1) != 0 => at 0 shows 0, CORE_PIC_UID;
-            RINTC if (RINTC_FLAGS & 0b11) != 0 => at 0 shows 0, RINTC_UID
-        }
-        among other PPTT_ENTRIES LEAF_IDS except PARENTS_BELOW_2),
+        OTHER_MARKED, OTHER_NODES, PROCESSORS_READ, OTHER_PPTT_WHOLE, OTHER_PPTT_LENGTHS:
+        LEAFLESS_UIDS
+        among other PPTT_ENTRIES LEAF_IDS),
+    // the same below Revision 2
+    rule!(125 NoLeaf, nowhere in MADT_ENTRIES where
+        OTHER_UNMARKED, OTHER_NODES, PROCESSORS_READ, OTHER_PPTT_WHOLE, OTHER_PPTT_LENGTHS:
+        LEAFLESS_UIDS
+        among other PPTT_ENTRIES NODE_IDS except PARENTS),
 ];
 
 /// Rules on the MADT with the SRAT.

@@ -3,7 +3,7 @@
 use crate::rows::madt::{OTHER_MADT_LENGTHS, OTHER_MADT_WHOLE, OTHER_PROCESSORS_READ, UIDS};
 use crate::rows::madt_fields::{CORE_PIC, GICC, MADT_ENTRIES, RINTC};
 use crate::rows::pptt_fields::*;
-use crate::rows::table_fields::REVISION;
+use crate::rows::table_fields::{REVISION, TABLE, WHOLE};
 use acpi_rules::{
     Case, Clause, Form, Guard, Kind, LookUp, Need, Path, Repeat, Row, Source, Term, Test, Value,
     Within,
@@ -12,26 +12,37 @@ use acpi_rules::{
 // ---- what entries give
 
 /// A node that another one has as its Parent.
-const PARENTS: &[Case<'static>] = cases!({
+pub const PARENTS: &[Case<'static>] = cases!({
     NODE if (length own) == (20 + 4 * NODE_RESOURCES) => at 0 shows 0, NODE_PARENT
 });
 
-/// The same in a PPTT below Revision 2, in which a node is a leaf if no other one has it as its Parent.
-pub const PARENTS_BELOW_2: &[Case<'static>] = cases!({
-    NODE if (table REVISION) < 2 && (length own) == (20 + 4 * NODE_RESOURCES) => at 0 shows 0, NODE_PARENT
+/// The valid ID of each leaf, which is marked from Revision 2 on.
+pub const LEAF_IDS: &[Case<'static>] = cases!({
+    NODE if (NODE_FLAGS & 0b1010) == 0b1010 && (length own) == (20 + 4 * NODE_RESOURCES)
+        => at 0 shows 0, NODE_ID
 });
 
-/// The valid IDs of leaves, which are marked from Revision 2 on; below it, those of all nodes.
-pub const LEAF_IDS: &[Case<'static>] = cases!({
-    NODE if (table REVISION) >= 2 && (NODE_FLAGS & 0b1010) == 0b1010
-        && (length own) == (20 + 4 * NODE_RESOURCES)
-        => at 0 shows 0, NODE_ID;
-    NODE if (table REVISION) < 2 && (NODE_FLAGS & 0b10) != 0
-        && (length own) == (20 + 4 * NODE_RESOURCES)
+/// The valid ID of each node. Below Revision 2 a node is a leaf if no other one has it as its Parent.
+pub const NODE_IDS: &[Case<'static>] = cases!({
+    NODE if (NODE_FLAGS & 0b10) != 0 && (length own) == (20 + 4 * NODE_RESOURCES)
         => at 0 shows 0, NODE_ID
 });
 
 // ---- conditions
+
+/// Leaves are marked, or are not.
+const MARKED: Guard<'static> = guard!((some table TABLE: { WHOLE if REVISION >= 2 }));
+
+const UNMARKED: Guard<'static> = guard!((some table TABLE: { WHOLE if REVISION < 2 }));
+
+pub const OTHER_MARKED: Guard<'static> = guard!((some other TABLE: { WHOLE if REVISION >= 2 }));
+
+pub const OTHER_UNMARKED: Guard<'static> = guard!((some other TABLE: { WHOLE if REVISION < 2 }));
+
+/// The other table, a PPTT, has a node.
+pub const OTHER_NODES: Guard<'static> = guard!((some other PPTT_ENTRIES: {
+    NODE if (length own) == (20 + 4 * NODE_RESOURCES)
+}));
 
 /// The entries fill the table, and nodes and caches have their lengths. Of such a table alone it is known what is not in
 /// it.
@@ -58,15 +69,13 @@ const OTHER_BEYOND_X86: Guard<'static> =
 /// Rules on the PPTT.
 pub static PPTT: [Row<'static>; 8] = [
     // two leaves have the same ID; applies from Revision 2 on
-    rule!(122 SameLeaf, repeated in PPTT_ENTRIES: {
-        NODE if (table REVISION) >= 2 && (NODE_FLAGS & 0b1010) == 0b1010
-            && (length own) == (20 + 4 * NODE_RESOURCES)
+    rule!(122 SameLeaf, repeated in PPTT_ENTRIES where MARKED: {
+        NODE if (NODE_FLAGS & 0b1010) == 0b1010 && (length own) == (20 + 4 * NODE_RESOURCES)
             => at 0 shows NODE_ID, NODE_ID
     }),
     // the same below Revision 2, if the table is well-formed
-    rule!(122 SameLeaf, repeated in PPTT_ENTRIES where PPTT_WHOLE, PPTT_LENGTHS: {
-        NODE if (table REVISION) < 2 && (NODE_FLAGS & 0b10) != 0
-            && (length own) == (20 + 4 * NODE_RESOURCES)
+    rule!(122 SameLeaf, repeated in PPTT_ENTRIES where UNMARKED, PPTT_WHOLE, PPTT_LENGTHS: {
+        NODE if (NODE_FLAGS & 0b10) != 0 && (length own) == (20 + 4 * NODE_RESOURCES)
             => at 0 shows NODE_ID, NODE_ID
     } except PARENTS),
     // a valid Number of Sets is 0, or a valid Line Size is no power of two (5.2.30.2)
@@ -93,15 +102,13 @@ pub static PPTT: [Row<'static>; 8] = [
     }),
     // a node that is not marked as a leaf has a valid ID, and no node has it as its Parent; applies from Revision 2 on, if the
     // table is well-formed (5.2.30.1)
-    rule!(180 LeafUnflagged, given in PPTT_ENTRIES where PPTT_WHOLE, PPTT_LENGTHS: {
-        NODE if (table REVISION) >= 2 && (NODE_FLAGS & 0b1010) == 0b10
-            && (length own) == (20 + 4 * NODE_RESOURCES)
+    rule!(180 LeafUnflagged, given in PPTT_ENTRIES where MARKED, PPTT_WHOLE, PPTT_LENGTHS: {
+        NODE if (NODE_FLAGS & 0b1010) == 0b10 && (length own) == (20 + 4 * NODE_RESOURCES)
             => at 0 shows 0, NODE_ID
     } except PARENTS),
     // a node that is marked as a leaf is the Parent of another one; applies from Revision 2 on (5.2.30.1)
-    rule!(181 LeafAsParent, somewhere in PPTT_ENTRIES: {
-        NODE if (table REVISION) >= 2 && (NODE_FLAGS & 0b1000) != 0
-            && (length own) == (20 + 4 * NODE_RESOURCES)
+    rule!(181 LeafAsParent, somewhere in PPTT_ENTRIES where MARKED: {
+        NODE if (NODE_FLAGS & 0b1000) != 0 && (length own) == (20 + 4 * NODE_RESOURCES)
             => at 0 shows 0, (offset own)
     } among table PPTT_ENTRIES PARENTS),
     // a valid Associativity or Size is 0, or the Size is another than by the other numbers, all of which are valid (5.2.30.2)
@@ -141,22 +148,13 @@ pub static PPTT: [Row<'static>; 8] = [
 pub static PPTT_WITH_MADT: [Row<'static>; 2] = [
     // a leaf's ID is no processor's UID, and all are known; applies if one is not of x86; from Revision 2 on
     rule!(126 LeafNowhere, nowhere in PPTT_ENTRIES where
-        OTHER_BEYOND_X86, OTHER_PROCESSORS_READ, OTHER_MADT_WHOLE, OTHER_MADT_LENGTHS:
-        {
-            NODE if (table REVISION) >= 2 && (NODE_FLAGS & 0b1010) == 0b1010
-                && (length own) == (20 + 4 * NODE_RESOURCES)
-                => at 0 shows 0, NODE_ID
-        }
+        OTHER_BEYOND_X86, OTHER_PROCESSORS_READ, OTHER_MADT_WHOLE, OTHER_MADT_LENGTHS, MARKED:
+        LEAF_IDS
         among other MADT_ENTRIES UIDS),
     // the same below Revision 2, if the table is well-formed
     rule!(126 LeafNowhere, nowhere in PPTT_ENTRIES where
-        OTHER_BEYOND_X86, OTHER_PROCESSORS_READ, OTHER_MADT_WHOLE, OTHER_MADT_LENGTHS,
+        OTHER_BEYOND_X86, OTHER_PROCESSORS_READ, OTHER_MADT_WHOLE, OTHER_MADT_LENGTHS, UNMARKED,
         PPTT_WHOLE, PPTT_LENGTHS:
-        {
-            NODE if (table REVISION) < 2 && (NODE_FLAGS & 0b10) != 0
-                && (length own) == (20 + 4 * NODE_RESOURCES)
-                => at 0 shows 0, NODE_ID
-        }
-        except PARENTS
+        NODE_IDS except PARENTS
         among other MADT_ENTRIES UIDS),
 ];
