@@ -71,10 +71,13 @@ macro_rules! within {
     };
 }
 
-/// A number, a field, bits of a field, or the length or the offset of a structure.
+/// A number, a field, bits of a field, the length of a structure or what of it is behind an offset, or its offset.
 macro_rules! term {
     ((length $within:ident)) => {
         Term::Length(within!($within))
+    };
+    ((length $within:ident - $offset:literal)) => {
+        Term::Behind(within!($within), $offset)
     };
     ((offset $within:ident)) => {
         Term::Offset(within!($within))
@@ -102,16 +105,22 @@ macro_rules! term {
     };
 }
 
-/// A term, a sum of a term and a product, or a product of two or three.
+/// A term, a multiple of a field with or without a term, or a product of two or three fields.
 macro_rules! value {
-    (($one:tt + $times:tt * $other:tt)) => {
-        Value::Sum(term!($one), term!($times), term!($other))
+    (($one:tt + $times:literal * ($within:ident $field:ident))) => {
+        Value::Sum(within!($within), $field, $times, term!($one))
     };
-    (($one:tt * $other:tt)) => {
-        Value::Sum(term!(0), term!($one), term!($other))
+    (($one:tt + $times:literal * $field:ident)) => {
+        Value::Sum(Within::Own, $field, $times, term!($one))
     };
-    (($one:tt * $other:tt * $third:tt)) => {
-        Value::Product(term!($one), term!($other), term!($third))
+    (($times:literal * $field:ident)) => {
+        Value::Sum(Within::Own, $field, $times, Term::Number(0))
+    };
+    (($one:ident * $other:ident * $third:ident)) => {
+        Value::Product($one, $other, Some($third))
+    };
+    (($one:ident * $other:ident)) => {
+        Value::Product($one, $other, None)
     };
     ($term:tt) => {
         Value::Only(term!($term))

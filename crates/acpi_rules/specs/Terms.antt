@@ -1,8 +1,9 @@
 -- The numbers that rules compare and findings show.
-use Rattle.std.specs.Prelude.{ℕ, ◌+◌, ◌*◌, ◌-◌, ◌^◌, List, length, Option, Some, None, option_map, bit_and, min}
+use Rattle.std.specs.Prelude.{ℕ, ◌+◌, ◌*◌, ◌-◌, ◌^◌, List, length, Option, Some, None, option_map, bit_and, min, nat_le, if◌then◌else◌}
 use Rattle.acpi_rules.specs.Fields.{reading}
 use Rattle.acpi_rules.specs.Sites.{SiteValue, whole_table}
 use Rattle.acpi_rules.specs.Walks.{Placed}
+use Rattle.acpi_rules.specs.declared.field.Field.{Field}
 use Rattle.acpi_rules.specs.declared.term.Tables.{Tables}
 use Rattle.acpi_rules.specs.declared.term.Within.{Within}
 use Rattle.acpi_rules.specs.declared.term.Within.TheVariants as within
@@ -33,21 +34,30 @@ term_number t s (term.Number n) = Some n
 term_number t s (term.Of w f) = reading f (window_of t s w).entry
 term_number t s (term.Bits w f mask) = option_map (λ n. bit_and n mask) (reading f (window_of t s w).entry)
 term_number t s (term.Length w) = Some (length (window_of t s w).entry)
+term_number t s (term.Behind w n) =
+    let size = length (window_of t s w).entry in if nat_le n size then Some (size - n) else None
 term_number t s (term.Offset w) = Some (window_of t s w).offset
 
--- an operation on three numbers, if all are there
-abbrev pub of_three : (ℕ → ℕ → ℕ → ℕ) → Option ℕ → Option ℕ → Option ℕ → Option ℕ
-of_three f (Some l) (Some m) (Some n) = Some (f l m n)
-of_three f _ _ _ = None
+-- an operation on two numbers, if both are there
+abbrev pub of_both : (ℕ → ℕ → ℕ) → Option ℕ → Option ℕ → Option ℕ
+of_both f (Some m) (Some n) = Some (f m n)
+of_both f _ _ = None
 
--- the number of a value; it does not wrap
+-- the product of two fields of a structure, and of three
+abbrev pub product_of_two : List ℕ → Field → Field → Option ℕ
+product_of_two bytes one other = of_both (λ m n. m * n) (reading one bytes) (reading other bytes)
+
+abbrev pub product_in : List ℕ → Field → Field → Option Field → Option ℕ
+product_in bytes one other None = product_of_two bytes one other
+product_in bytes one other (Some third) =
+    of_both (λ m n. min (m * n) (2 ^ 128 - 1)) (product_of_two bytes one other) (reading third bytes)
+
+-- the number of a value; a sum does not wrap
 unfoldable pub value_number : TwoTables → SiteValue → Value → Option ℕ
 value_number t s (value.Only one) = term_number t s one
-value_number t s (value.Sum one times other) =
-    of_three (λ l m n. l + m * n) (term_number t s one) (term_number t s times) (term_number t s other)
-value_number t s (value.Product one other third) =
-    of_three (λ l m n. min (l * m * n) (2 ^ 128 - 1))
-    (term_number t s one) (term_number t s other) (term_number t s third)
+value_number t s (value.Sum w f times one) =
+    of_both (λ m n. n + times * m) (reading f (window_of t s w).entry) (term_number t s one)
+value_number t s (value.Product one other third) = product_in s.own.entry one other third
 
 -- a number as a finding shows it
 unfoldable pub shown : ℕ → ℕ

@@ -45,19 +45,23 @@ pub enum Term {
     Bits(Within, Field, u64),
     /// How many bytes a structure has.
     Length(Within),
+    /// How many it has behind this offset; there is no such number if it ends before that.
+    Behind(Within, u64),
     /// The offset of a structure from its table's start, in bytes.
     Offset(Within),
 }
 
-/// One term, or three with operations.
+/// A term, or what is computed of fields.
+///
+/// The parts stand in an order in which they take 24 bytes, since the rows have thousands of values.
 #[derive(Clone, Copy, Debug, PartialEq, Eq)]
 pub enum Value {
     /// The term.
     Only(Term),
-    /// The first one and the product of the others. It does not wrap.
-    Sum(Term, Term, Term),
-    /// The product of three, at most 2^128 - 1.
-    Product(Term, Term, Term),
+    /// A multiple of a field's number, and a term. It does not wrap.
+    Sum(Within, Field, u16, Term),
+    /// The product of two fields of the structure that the rule is about, or of three; at most 2^128 - 1.
+    Product(Field, Field, Option<Field>),
 }
 
 impl Within {
@@ -98,6 +102,9 @@ impl Term {
                 Some(number & mask)
             }
             Term::Length(within) => Some(within.window(tables, site).bytes.len() as u64),
+            Term::Behind(within, offset) => {
+                (within.window(tables, site).bytes.len() as u64).checked_sub(offset)
+            }
             Term::Offset(within) => Some(within.window(tables, site).at),
         }
     }
@@ -114,16 +121,20 @@ impl Value {
                 let number = term.number(tables, site)?;
                 Some(u128::from(number))
             }
-            Value::Sum(one, times, other) => {
+            Value::Sum(within, field, times, one) => {
+                let number = field.read(within.window(tables, site).bytes)?;
                 let one = one.number(tables, site)?;
-                let times = times.number(tables, site)?;
-                let other = other.number(tables, site)?;
-                Some(u128::from(one) + u128::from(times) * u128::from(other))
+                Some(u128::from(one) + u128::from(times) * u128::from(number))
             }
-            Value::Product(one, other, third) => {
-                let one = one.number(tables, site)?;
-                let other = other.number(tables, site)?;
-                let third = third.number(tables, site)?;
+            Value::Product(one, other, None) => {
+                let one = one.read(site.own.bytes)?;
+                let other = other.read(site.own.bytes)?;
+                Some(u128::from(one) * u128::from(other))
+            }
+            Value::Product(one, other, Some(third)) => {
+                let one = one.read(site.own.bytes)?;
+                let other = other.read(site.own.bytes)?;
+                let third = third.read(site.own.bytes)?;
                 let two = u128::from(one) * u128::from(other);
                 Some(two.saturating_mul(u128::from(third)))
             }

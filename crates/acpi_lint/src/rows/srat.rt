@@ -161,7 +161,7 @@ pub static SRAT_WITH_MADT: [Row<'static>; 3] = [
 pub static SRAT_WITH_SLIT: [Row<'static>; 1] = [
     // an enabled affinity, or one of an ITS, is to a domain that is not one of the localities (5.2.17)
     rule!(120 DomainPastSlit, given in SRAT_ENTRIES where
-        (some other TABLE: { WHOLE if (length own) == (44 + LOCALITIES * LOCALITIES) }):
+        (some other TABLE: { WHOLE if (length own - 44) == (LOCALITIES * LOCALITIES) }):
     {
         APIC_AFFINITY if (APIC_AFFINITY_FLAGS & 0b1) != 0
             && (APIC_AFFINITY_DOMAIN + 256 * APIC_AFFINITY_DOMAIN_HIGH) >= (other LOCALITIES)
