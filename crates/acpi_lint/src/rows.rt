@@ -263,10 +263,10 @@ macro_rules! form {
 /// The numbers that structures of a path give by cases, but those at places that they give by others.
 macro_rules! numbers {
     ($path:ident, $cases:tt) => {
-        ($path, cases!($cases), Path::Table, &[])
+        ($path, cases!($cases), &[])
     };
     ($path:ident, $cases:tt, $except:tt) => {
-        ($path, cases!($cases), $path, cases!($except))
+        ($path, cases!($cases), cases!($except))
     };
 }
 
@@ -297,7 +297,7 @@ macro_rules! rule {
             &[$($(guard!($guard)),+)?],
             numbers!($path, $cases $(, $except)?),
             Source::Table,
-            (Path::Table, &[], Path::Table, &[]),
+            (Path::Table, &[], &[]),
         )
     };
 }

@@ -185,7 +185,7 @@ beside except g = if has_number except g.at then None else Some g
 
 -- the numbers that count
 abbrev counted : TwoTables → Numbers → List Numbered
-counted t n = filter_map (beside (given t n.except_path n.except_cases)) (given t n.path n.cases)
+counted t n = filter_map (beside (given t n.path n.except_cases)) (given t n.path n.cases)
 
 counted_has : (t : TwoTables) (n : Numbers) (g : Numbered) → Counts t n g → Contains (counted t n) g
 counted_has t n g (is_given, counts) =
@@ -193,13 +193,13 @@ counted_has t n g (is_given, counts) =
     (of (has_number except g.at) (decides_number except g.at))
   where
     except : List Numbered
-    except = given t n.except_path n.except_cases
+    except = given t n.path n.except_cases
 
     of : (b : Bool) → Decides b ((k : Numbered) × Contains except k × (k.number ≡ g.at))
         → (if b then None else Some g) ≡ Some g
     of true decides =
         let (k, listed, same) = decides.0 refl in
-        absurd (counts (k, given_from t n.except_path n.except_cases k listed, same))
+        absurd (counts (k, given_from t n.path n.except_cases k listed, same))
     of false decides = refl
 
 counted_from : (t : TwoTables) (n : Numbers) (g : Numbered) → Contains (counted t n) g → Counts t n g
@@ -208,7 +208,7 @@ counted_from t n g listed =
     of h (given_from t n.path n.cases h there) (has_number except h.at) (decides_number except h.at) is
   where
     except : List Numbered
-    except = given t n.except_path n.except_cases
+    except = given t n.path n.except_cases
 
     of : (h : Numbered) → GivenIn t n.path n.cases h → (b : Bool)
         → Decides b ((k : Numbered) × Contains except k × (k.number ≡ h.at)) → (if b then None else Some h) ≡ Some g
@@ -218,7 +218,7 @@ counted_from t n g listed =
         subst (Counts t n) (same_Some h g is) (
           is_given,
           λ (k, k_given, same). not_from_Decides false decides refl
-              (k, given_has t n.except_path n.except_cases k k_given, same),
+              (k, given_has t n.path n.except_cases k k_given, same),
         )
 
 abbrev given_place : Numbered → Place

@@ -213,13 +213,13 @@ sorted_given t path cases items sorted given moved g = (
 
 -- the numbers of a path, in order, are those at whose places none counts
 pub excepted_as : (t : TwoTables) (n : Numbers) (except : List Numbered) → AllPairs IsNotAbove except
-    → ((g : Numbered) → Contains except g ↔ GivenIn t n.except_path n.except_cases g) → AreExcepted t n except
+    → ((g : Numbered) → Contains except g ↔ GivenIn t n.path n.except_cases g) → AreExcepted t n except
 excepted_as t n except order are g given = (
   λ none (h, there, same). first_of_none except g.at none h ((are h).1 there) same,
   λ not. go not (first_of except g.at) refl,
 )
   where
-    go : ¬ IsGiven t n.except_path n.except_cases g.at → (o : Option Numbered) → first_of except g.at ≡ o → o ≡ None
+    go : ¬ IsGiven t n.path n.except_cases g.at → (o : Option Numbered) → first_of except g.at ≡ o → o ≡ None
     go not None none = refl
     go not (Some f) some =
         let (first, same) = first_of_is except g.at f order some in absurd (not (f, (are f).0 first.here, same))

@@ -11,12 +11,11 @@ use Rattle.acpi_rules.specs.declared.known.LookUp.{LookUp}
 use Rattle.acpi_rules.specs.declared.numbered.Numbered.{Numbered}
 use Rattle.acpi_rules.specs.declared.series.Path.{Path}
 
--- the path to the structures that give them, and the cases in which one gives a number; and the path and the cases of numbers that
--- say at which places none of these counts
+-- the path to the structures that give them, and the cases in which one gives a number; and the cases in which one gives a place at
+-- which none of these counts
 pub record Numbers : Type 0 where
   pub path : Path
   pub cases : List Case
-  pub except_path : Path
   pub except_cases : List Case
 
 -- a structure of the path gives this number
@@ -33,7 +32,7 @@ IsGiven t path cases n = (g : Numbered) × GivenIn t path cases g × (g.number �
 
 -- the number counts
 abbrev pub Counts : TwoTables → Numbers → Numbered → Type 0
-Counts t n g = GivenIn t n.path n.cases g × (¬ IsGiven t n.except_path n.except_cases g.at)
+Counts t n g = GivenIn t n.path n.cases g × (¬ IsGiven t n.path n.except_cases g.at)
 
 -- whether there are places at which none counts
 abbrev pub has_except : Numbers → Bool
@@ -42,15 +41,14 @@ has_except n = not (length n.except_cases == 0)
 -- ---- the code's
 
 abbrev pub BorNumbers : Type 0
-BorNumbers = Path × Bor (List BorCase) × Path × Bor (List BorCase)
+BorNumbers = Path × Bor (List BorCase) × Bor (List BorCase)
 
 abbrev pub numbers_value : BorNumbers → Numbers
 numbers_value n =
     record {
       path = n.0;
       cases = map case_value n.1.now;
-      except_path = n.2;
-      except_cases = map case_value n.3.now;
+      except_cases = map case_value n.2.now;
     }
 
 -- a structure gives the number at another place than these
@@ -61,7 +59,7 @@ GivenBeside t path cases except g = GivenIn t path cases g × (first_of except g
 abbrev pub AreExcepted : TwoTables → Numbers → List Numbered → Type 0
 AreExcepted t n except =
     (g : Numbered) → GivenIn t n.path n.cases g
-    → (first_of except g.at ≡ None) ↔ (¬ IsGiven t n.except_path n.except_cases g.at)
+    → (first_of except g.at ≡ None) ↔ (¬ IsGiven t n.path n.except_cases g.at)
 
 -- this is told of a number that a structure gives
 abbrev pub IsToldOf : LookUp → TwoTables → Path → List Case → List Numbered → List Numbered → ℕ → ℕ → ℕ → Type 0
@@ -72,13 +70,12 @@ IsToldOf l t path cases except known at other point =
 -- ---- the same as a constant has it
 
 abbrev pub SaidNumbers : Type 0
-SaidNumbers = Path × Said SaidCase × Path × Said SaidCase
+SaidNumbers = Path × Said SaidCase × Said SaidCase
 
 abbrev pub numbers_said : SaidNumbers → Numbers
 numbers_said n =
     record {
       path = n.0;
       cases = map case_said n.1.now;
-      except_path = n.2;
-      except_cases = map case_said n.3.now;
+      except_cases = map case_said n.2.now;
     }

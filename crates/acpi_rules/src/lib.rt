@@ -18,9 +18,9 @@
 //!     112,
 //!     Form::Repeated(Repeat::Twice),
 //!     &[],
-//!     (Path::Entries(ENTRIES), &cases, Path::Table, &[]),
+//!     (Path::Entries(ENTRIES), &cases, &[]),
 //!     Source::Table,
-//!     (Path::Table, &[], Path::Table, &[]),
+//!     (Path::Table, &[], &[]),
 //! );
 //! let found = first_finding(alloc, &row, &tables)?;
 //! assert_eq!(rt; found, Some(SECOND));

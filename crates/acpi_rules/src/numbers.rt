@@ -14,11 +14,11 @@ use crate::series::Path;
 use crate::term::Tables;
 use std::alloc::{AllocError, Global};
 
-/// Numbers: the path to the structures that give them, and the cases in which one gives a number; and the path and the
-/// cases of numbers that say at which places none of these counts. Mostly there are no such cases.
+/// Numbers: the path to the structures that give them, and the cases in which one gives a number; and the cases in which
+/// one gives a place at which none of these counts. Mostly there are no such cases.
 ///
 /// It is a tuple since a clause cannot name a constant of a struct that has references.
-pub type Numbers<'a> = (Path, &'a [Case<'a>], Path, &'a [Case<'a>]);
+pub type Numbers<'a> = (Path, &'a [Case<'a>], &'a [Case<'a>]);
 
 /// The numbers that structures give, in order. Refuses if out of memory.
 fn sorted_given(
@@ -48,12 +48,12 @@ pub(crate) fn excepted(
         (numbers_value numbers.now) except.items) }
     ensures refuses { OnErr result (IsTrue (has_except (numbers_value numbers.now))) }
 {
-    let (path, cases, except_path, except_cases) = numbers;
+    let (path, cases, except_cases) = numbers;
     // Mostly there are no cases, or no numbers that count.
     if except_cases.is_empty() || !gives_any(path, cases, tables) {
         return Ok(Vec::new(alloc));
     }
-    sorted_given(alloc, except_path, except_cases, tables)
+    sorted_given(alloc, path, except_cases, tables)
 }
 
 /// The numbers that count. Refuses if out of memory.

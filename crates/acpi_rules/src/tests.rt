@@ -54,9 +54,9 @@ fn example_finds_the_same_id_twice(rt: HostRuntime) -> Result<(), Fail> {
         112,
         Form::Repeated(Repeat::Twice),
         &[],
-        (Path::Entries(ENTRIES), &cases, Path::Table, &[]),
+        (Path::Entries(ENTRIES), &cases, &[]),
         Source::Table,
-        (Path::Table, &[], Path::Table, &[]),
+        (Path::Table, &[], &[]),
     );
     let found = first_finding(alloc, &row, &tables)?;
     assert_eq!(rt; found, Some(SECOND));
@@ -76,9 +76,9 @@ fn found_by_index(alloc: Global, index: &Index) -> Result<Option<Place>, AllocEr
         112,
         Form::Repeated(Repeat::Twice),
         &[],
-        (Path::Entries(ENTRIES), &cases, Path::Table, &[]),
+        (Path::Entries(ENTRIES), &cases, &[]),
         Source::Table,
-        (Path::Table, &[], Path::Table, &[]),
+        (Path::Table, &[], &[]),
     );
     first_finding(alloc, &row, &tables)
 }

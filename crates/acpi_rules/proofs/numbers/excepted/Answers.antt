@@ -10,7 +10,7 @@ returns-then-is_empty-clause-places c =
     rw c.new.ensures.items
     (elim c.then-is_empty.branch [
       | then-is_empty-via-then-is_empty w ↦ none_excepted (tables_value c.args.tables.now)
-          (numbers_value c.args.numbers.now) (no_cases c.args.numbers.now.3.now (sym w.if-is_empty.ensures))
+          (numbers_value c.args.numbers.now) (no_cases c.args.numbers.now.2.now (sym w.if-is_empty.ensures))
       | then-is_empty-via-else-is_empty+then-not-gives_any w ↦ nothing_excepted (tables_value c.args.tables.now)
           (numbers_value c.args.numbers.now) (sym w.if-not-gives_any.ensures)
     ])
