@@ -1,6 +1,6 @@
 -- What is told of given numbers, one after another.
 use Rattle.std.proofs.Common.{◌≡◌, ◌∙◌, ℕ, List, [], ◌∷◌, ◌++◌, Option, Some, None, true, false, refl, sym, ap, arith, inl, inr, le-leb, subst}
-use Rattle.std.specs.Prelude.{◌⊎◌, ◌↔◌, ◌==◌, not, Contains, IfSome, MatchOption}
+use Rattle.std.specs.Prelude.{◌⊎◌, ◌↔◌, ◌==◌, not, Contains, IfSome, MatchOption, option_to_list}
 use Rattle.std.specs.List.{filter_map, list_any, slice_get}
 use Rattle.std.specs.Option.{is_some}
 use Rattle.std.proofs.lemmas.List.{append_assoc, append-nil}
@@ -13,14 +13,15 @@ use Rattle.acpi_rules.specs.Known.{first_of, told}
 use Rattle.acpi_rules.specs.Places.{FindsLeast, IsNotAfter}
 use Rattle.acpi_rules.specs.Rows.{first_is_some, gives_two}
 use Rattle.acpi_rules.specs.Numbers.{GivenBeside, GivenIn, IsToldOf, gives_any}
-use Rattle.acpi_rules.specs.Sites.{SiteValue, sites_of}
+use Rattle.acpi_rules.specs.Sites.{SiteValue, sites_of, whole_site, whole_table}
 use Rattle.acpi_rules.specs.Terms.{TwoTables}
 use Rattle.acpi_rules.specs.declared.known.LookUp.{LookUp}
 use Rattle.acpi_rules.specs.declared.numbered.Numbered.{Numbered}
 use Rattle.acpi_rules.specs.declared.place.Place.{Place}
 use Rattle.acpi_rules.specs.declared.series.Path.{Path}
+use Rattle.acpi_rules.specs.declared.series.Path.TheVariants.{Table}
 use Rattle.acpi_rules.proofs.Following.{cases_Option}
-use Rattle.acpi_rules.proofs.LeastPlaces.{finds_one_more, least_as}
+use Rattle.acpi_rules.proofs.LeastPlaces.{finds_one_more, least_as, not_after_itself}
 
 -- something is told of one of these
 abbrev pub IsToldAmong : (Numbered → Option Place) → List Numbered → ℕ → ℕ → ℕ → Type 0
@@ -83,6 +84,61 @@ all_told l t path cases all except known least given found =
     (λ at other point (g, listed, is). (g, (given g).0 listed, is))
     (λ at other point (g, gives_it, is). (g, (given g).1 gives_it, is))
     found
+
+-- what the first call for a number gives
+abbrev pub IsFirstOf : List Numbered → Option Numbered → Type 0
+IsFirstOf all None = all ≡ []
+IsFirstOf all (Some g) = Contains all g
+
+-- ---- the number of a table itself
+
+pub table_given : (t : TwoTables) (cases : List Case) (found : Option Numbered)
+    → found ≡ gives t cases (whole_site (whole_table t.table)) → (g : Numbered)
+    → Contains (option_to_list found) g ↔ GivenIn t Table cases g
+table_given t cases None is g = (
+  λ listed. absurd (no_element g listed),
+  λ (s, there, gives_it). elim (first_or_later (whole_site (whole_table t.table)) s [] there) [
+    | inl same ↦ let no = is ∙ ap (gives t cases) same ∙ gives_it in absurd cc
+    | inr none ↦ absurd (no_element s none)
+  ],
+)
+table_given t cases (Some h) is g = (
+  λ listed. elim (first_or_later h g [] listed) [
+    | inl same ↦
+        (whole_site (whole_table t.table), first_element _ [], sym is ∙ ap (λ (y : Numbered). Some y) same)
+    | inr none ↦ absurd (no_element g none)
+  ],
+  λ (s, there, gives_it). elim (first_or_later (whole_site (whole_table t.table)) s [] there) [
+    | inl same ↦
+        subst (λ (y : Numbered). Contains (h ∷ []) y)
+        (same_Some h g (is ∙ ap (gives t cases) same ∙ gives_it)) (first_element h [])
+    | inr none ↦ absurd (no_element s none)
+  ],
+)
+
+pub first_alone : (found : Option Numbered) → IsFirstOf (option_to_list found) found
+first_alone None = refl
+first_alone (Some g) = first_element g []
+
+told_alone : (tell : Numbered → Option Place) (g : Numbered) (found : Option Place) → found ≡ tell g
+    → FindsLeast (IsToldAmong tell (g ∷ [])) found
+told_alone tell g None is = untold_next tell [] (g ∷ []) g None refl (sym is) (none_told tell [] refl)
+told_alone tell g (Some place) is =
+    told_next tell [] (g ∷ []) g None place place refl (sym is) (none_told tell [] refl) (inl refl)
+    (not_after_itself place place.at place.other place.point (refl, refl, refl)) tt
+
+pub table_told : (l : LookUp) (t : TwoTables) (cases : List Case) (except known : List Numbered) (g : Numbered)
+    → (found : Option Place) → Some g ≡ gives t cases (whole_site (whole_table t.table))
+    → found ≡ told l except known g → FindsLeast (IsToldOf l t Table cases except known) found
+table_told l t cases except known g found given is =
+    all_told l t Table cases (g ∷ []) except known found (table_given t cases (Some g) given)
+    (told_alone (told l except known) g found is)
+
+pub table_untold : (l : LookUp) (t : TwoTables) (cases : List Case) (except known : List Numbered)
+    → None ≡ gives t cases (whole_site (whole_table t.table)) → FindsLeast (IsToldOf l t Table cases except known) None
+table_untold l t cases except known given =
+    all_told l t Table cases [] except known None (table_given t cases None given)
+    (none_told (told l except known) [] refl)
 
 -- ---- numbers at other places than some
 
@@ -171,11 +227,6 @@ pub none_given : (t : TwoTables) (path : Path) (cases : List Case) → gives_any
     → ¬ GivenIn t path cases g
 none_given t path cases none g (s, listed, is) =
     let no = sym (some_of (gives t cases) (sites_of path t.table) s g listed is) ∙ none in absurd cc
-
--- what the first call for a number gives
-abbrev pub IsFirstOf : List Numbered → Option Numbered → Type 0
-IsFirstOf all None = all ≡ []
-IsFirstOf all (Some g) = Contains all g
 
 pub any_given : (t : TwoTables) (path : Path) (cases : List Case) (all : List Numbered)
     → ((g : Numbered) → Contains all g ↔ GivenIn t path cases g) → (first : Option Numbered) → IsFirstOf all first

@@ -1,11 +1,11 @@
 //! The numbers that the structures of a path give, by an index where the table has one of them.
 
 ghost use Rattle.std.specs.Prelude.{◌≡◌, ◌∷◌, [], ◌↔◌, Contains, MatchOption, map};
-ghost use Rattle.acpi_rules.specs.Cases.{case_value};
+ghost use Rattle.acpi_rules.specs.Cases.{case_value, gives};
 ghost use Rattle.acpi_rules.specs.Given.{all_given, given_by_type};
 ghost use Rattle.acpi_rules.specs.Indexes.{typed_sites};
 ghost use Rattle.acpi_rules.specs.Numbers.{GivenIn};
-ghost use Rattle.acpi_rules.specs.Sites.{whole_table};
+ghost use Rattle.acpi_rules.specs.Sites.{whole_site, whole_table};
 ghost use Rattle.acpi_rules.specs.Terms.{tables_value};
 ghost use Rattle.acpi_rules.specs.declared.numbered.Numbered.{Numbered};
 
@@ -130,6 +130,24 @@ impl<'a> Iterator for GivenByType<'a> {
             }
         }
     }
+}
+
+/// The number that the table itself gives.
+pub(crate) fn given_by_table(cases: &[Case<'_>], tables: &Tables<'_>) -> Option<Numbered>
+    ensures { result ≡ gives (tables_value tables.now) (map case_value cases.now)
+        (whole_site (whole_table tables.now.table.bytes.now)) }
+{
+    let table = Window {
+        at: 0,
+        bytes: tables.table.bytes,
+    };
+    let site = Site {
+        own: table,
+        around: table,
+        outer: table,
+        kind: 0,
+    };
+    given(cases, tables, &site)
 }
 
 /// The first number that structures give that are walked. Those before it give none.

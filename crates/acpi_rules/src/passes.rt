@@ -7,15 +7,35 @@ ghost use Rattle.acpi_rules.specs.Places.{FindsLeast};
 ghost use Rattle.acpi_rules.specs.Numbers.{GivenBeside, IsToldOf, gives_any};
 ghost use Rattle.acpi_rules.specs.Terms.{tables_value};
 ghost use Rattle.acpi_rules.specs.declared.numbered.Numbered.{Numbered};
+ghost use Rattle.acpi_rules.specs.declared.series.Path.TheVariants.{Table};
 
 use crate::case::Case;
-use crate::given::Given;
+use crate::given::{Given, given_by_table};
 use crate::known::{LookUp, first_of, told};
 use crate::numbered::{Numbered, lesser};
 use crate::place::Place;
 use crate::series::Path;
 use crate::term::Tables;
 use std::alloc::{AllocError, Global};
+
+/// What is told of the number that the table itself gives.
+fn told_of_table(
+    look_up: LookUp,
+    cases: &[Case<'_>],
+    tables: &Tables<'_>,
+    except: &[Numbered],
+    known: &[Numbered],
+) -> Option<Place>
+    requires except { AllPairs IsNotAbove except.now }
+    requires known { AllPairs IsNotAbove known.now }
+    ensures { FindsLeast (IsToldOf look_up (tables_value tables.now) Table
+        (map case_value cases.now) except.now known.now) result }
+{
+    match given_by_table(cases, tables) {
+        Some(given) => told(look_up, except, known, &given),
+        None => None,
+    }
+}
 
 /// The lowest place of what is told of the numbers that structures give, which are looked up among some.
 pub(crate) fn first_told(
@@ -31,6 +51,10 @@ pub(crate) fn first_told(
     ensures { FindsLeast (IsToldOf look_up (tables_value tables.now) path.now
         (map case_value cases.now) except.now known.now) result }
 {
+    // There are many rules on a table itself, and to walk to it takes longer than most of them.
+    if let Path::Table = path {
+        return told_of_table(look_up, cases, tables, except, known);
+    }
     let mut least = None;
     for given in Given::along(path, cases, tables) {
         if let Some(place) = told(look_up, except, known, &given) {
@@ -65,5 +89,8 @@ pub(crate) fn all_given(
 pub(crate) fn gives_any(path: &Path, cases: &[Case<'_>], tables: &Tables<'_>) -> bool
     ensures { result ≡ gives_any (tables_value tables.now) path.now (map case_value cases.now) }
 {
+    if let Path::Table = path {
+        return given_by_table(cases, tables).is_some();
+    }
     Given::along(path, cases, tables).next().is_some()
 }

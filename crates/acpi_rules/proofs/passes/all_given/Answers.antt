@@ -1,4 +1,4 @@
-use Rattle.std.proofs.Common.{◌∙◌, ◌++◌, ◌∷◌, [], map, refl, sym}
+use Rattle.std.proofs.Common.{◌∙◌, ◌++◌, ◌∷◌, [], map, refl}
 use Rattle.acpi_rules.specs.Cases.{case_value}
 use Rattle.acpi_rules.specs.Terms.{tables_value}
 use Rattle.acpi_rules.proofs.ToldNumbers.{all_beside, all_of, beside_found, beside_next, excepted_next, in_except, is_beside, none_beside, one_taken}

@@ -30,7 +30,7 @@ loop-given-preserved c =
       all = one_taken c.loop-given.yielded c.loop-given.given-iterator c.next.new.self _ g c.in-Some.ensures.steps
           c.loop-given.invariant.all;
       found = untold_next (told c.args.look_up c.args.except.now c.args.known.now) c.loop-given.yielded
-          (c.loop-given.yielded ++ (g ∷ [])) g c.loop-given.least refl (sym c.told.ensures ∙ c.in_default.is)
+          (c.loop-given.yielded ++ (g ∷ [])) g c.loop-given.least refl (sym c.told.ensures ∙ c.in_default-told.is)
           c.loop-given.invariant.found;
     }
 

@@ -1,4 +1,4 @@
-use Rattle.std.proofs.Common.{◌∙◌, map, sym}
+use Rattle.std.proofs.Common.{◌∙◌, map}
 use Rattle.acpi_rules.specs.Cases.{case_value}
 use Rattle.acpi_rules.specs.Terms.{tables_value}
 use Rattle.acpi_rules.proofs.ToldNumbers.{none_given_twice, two_given}
