@@ -116,6 +116,8 @@ pub fn allow_tip(name: &str) -> Option<&'static str> {
         if Code::new(number).is_some_and(|code| code.name() == name) {
             return Some("a fault can't be allowed: only rules of advice can");
         }
+    }
+    for number in Rule::FIRST..=Rule::LAST {
         if Rule::new(number).is_some_and(|rule| rule.name().eq_ignore_ascii_case(name)) {
             return Some("upper and lower case differ: write the name as lint prints it");
         }

@@ -22,8 +22,10 @@ pub enum Numbered {
 fn with_number(number: u32) -> Option<Numbered>
     ensures { IsNumbered number result }
 {
-    let number = u8::try_from(number).ok()?;
-    if let Some(code) = Code::new(number) {
+    let number = u16::try_from(number).ok()?;
+    if let Ok(number) = u8::try_from(number)
+        && let Some(code) = Code::new(number)
+    {
         return Some(Numbered::Code(code));
     }
     let rule = Rule::new(number)?;
@@ -85,7 +87,7 @@ pub extern "C" fn acpiset_severity(number: u32) -> u32
 /// The severity of a rule.
 fn rule_severity(rule: Rule) -> Severity {
     let rows = SEVERITIES.as_slice();
-    match rows.get(usize::from(rule.number() - 101)) {
+    match rows.get(usize::from(rule.number() - Rule::FIRST)) {
         Some(severity) => *severity,
         None => Severity::LikelyWrong,
     }
@@ -103,7 +105,7 @@ fn code_text(code: Code) -> &'static str {
 /// The text that explains a rule.
 fn rule_text(rule: Rule) -> &'static str {
     let rows = RULES.as_slice();
-    match rows.get(usize::from(rule.number() - 101)) {
+    match rows.get(usize::from(rule.number() - Rule::FIRST)) {
         Some(text) => *text,
         None => "",
     }

@@ -1,5 +1,6 @@
 -- Proofs about the finders, and the number of a rule, which other crates cite.
 mod BlockRanges
+mod ByHand
 mod CollectedNumbers
 mod Differences
 mod EitherPlace

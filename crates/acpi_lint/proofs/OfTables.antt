@@ -1,9 +1,9 @@
 -- From what is found in a table to what is found in the set that lists it, and for the rules that look at it.
-use Rattle.std.proofs.Common.{◌≡◌, ℕ, ◌≤◌, List, length, Option, Some, None, Result, Ok, Err, refl, arith, ◌<◌, sym, ◌∙◌, subst}
+use Rattle.std.proofs.Common.{◌≡◌, ℕ, ◌≤◌, List, length, Option, Some, None, Result, Ok, Err, refl, arith, ◌<◌}
 use Rattle.std.specs.Prelude.{◌↔◌, IfOk, MatchOption}
 use Rattle.std.proofs.lemmas.Option.{same_Some}
 use Rattle.acpi_base.specs.Contents.{HasPptt}
-use Rattle.acpi_lint.specs.Rules.Broken.{OfFadt, OfMadt, Condition, HoldsAt, Rows, Slots, Set, Fadt, FadtMemory, FadtMadt, Madt, Slit, Pptt}
+use Rattle.acpi_lint.specs.Rules.Broken.{OfFadt, OfMadt}
 use Rattle.acpi_base.specs.Listed.{fadt_signature, madt_signature, srat_signature, slit_signature, pptt_signature, HasListed, IsListedTable}
 use Rattle.acpi_base.specs.Madt.{madt_contents}
 use Rattle.acpi_base.specs.Memory.{Memory}
@@ -20,8 +20,6 @@ use Rattle.acpi_base.specs.Root.{IsSlot}
 use Rattle.acpi_base.specs.TableKinds.{signature_of}
 use Rattle.acpi_base.specs.declared.table_kind.TableKind.{TableKind}
 use Rattle.acpi_lint.specs.Slots.{IsRootOf, AreSlots, AreFirstSlots}
-use Rattle.acpi_lint.specs.RuleGroups.{group_of, as_group, Finds}
-use Rattle.acpi_lint.specs.declared.rule_group.RuleGroup.{RuleGroup}
 use Rattle.acpi_base.specs.declared.table_kind.TableKind.TheVariants as kind
 
 pub of_table : {m : Memory} {p : ℕ} {signature whole : List ℕ} (P : List ℕ → ℕ → ℕ → ℕ → Type 0) (found : Option Place)
@@ -183,8 +181,6 @@ of_one Of read P r None lifts is none some = rw (none is) (λ at other point has
 of_one Of read P r (Some whole) lifts is none some =
     each_ok r (λ found least. there Of read P found lifts refl least) (some whole is)
 
--- ---- what is found in entries
-
 -- ---- the SRAT and the SLIT
 
 pub slit_found : (m : Memory) (q : PolicyValue) {tables : CompleteTables} (view : Option (List ℕ))
@@ -192,49 +188,3 @@ pub slit_found : (m : Memory) (q : PolicyValue) {tables : CompleteTables} (view 
     → Lifts (HasListed m q.rsdp slit_signature) (λ whole. whole) view
 slit_found m q {tables = tables} view are is =
     rw is (listed_lifts m q.rsdp slit_signature tables.slit (are.listed kind.Slit))
-
--- ---- the rules of a group: what is found for the relation of a condition is found for the condition
-
--- a condition is that of its group
-in_group : (c : Condition) → as_group (group_of c) c ≡ c
-in_group Rows = refl
-in_group (Slots P) = refl
-in_group (Set P) = refl
-in_group (Fadt P) = refl
-in_group (FadtMemory P) = refl
-in_group (FadtMadt P) = refl
-in_group (Madt P) = refl
-in_group (Slit P) = refl
-in_group (Pptt P) = refl
-
-pub is_of_group : (c : Condition) {found g : RuleGroup} → found ≡ group_of c → found ≡ g → as_group g c ≡ c
-is_of_group c is same = subst (λ (h : RuleGroup). as_group h c ≡ c) (sym is ∙ same) (in_group c)
-
-pub as_rule : (m : Memory) (q : PolicyValue) {k c : Condition} (found : Option Place) → k ≡ c
-    → FindsLeast (HoldsAt k m q) found → FindsLeast (HoldsAt c m q) found
-as_rule m q found is = subst (λ (d : Condition). FindsLeast (HoldsAt d m q) found) is
-
-pub each_rule : (m : Memory) (q : PolicyValue) {k c : Condition} {X : Type 0} (result : Result (Option Place) X) → k ≡ c
-    → IfOk result (FindsLeast (HoldsAt k m q)) → IfOk result (FindsLeast (HoldsAt c m q))
-each_rule m q result is = subst (λ (d : Condition). IfOk result (FindsLeast (HoldsAt d m q))) is
-
--- what is found in the memory from the RSDP on
-pub each_memory : (m : Memory) (q : PolicyValue) (P : Memory → ℕ → ℕ → ℕ → ℕ → Type 0) {X : Type 0}
-    (result : Result (Option Place) X) → IfOk result (FindsLeast (P m q.rsdp))
-    → IfOk result (FindsLeast (HoldsAt (Set P) m q))
-each_memory m q P (Ok found) least =
-    least_as found (λ at other point holds. holds) (λ at other point holds. holds) least
-each_memory m q P (Err e) least = tt
-
--- the same for what is found in the tables of a set
-pub each_set : (m : Memory) (q : PolicyValue) {k c : Condition} {X : Type 0} {tables : CompleteTables}
-    (result : Result (Option Place) X) → k ≡ c → AreCompleteTables m q.rsdp tables → IfOk result (Finds k tables)
-    → IfOk result (FindsLeast (HoldsAt c m q))
-each_set m q (Ok found) is are finds = as_rule m q found is (finds m q are)
-each_set m q (Err e) is are finds = tt
-
-pub each_found : (c : Condition) {X : Type 0} {tables : CompleteTables} (result : Result (Option Place) X)
-    → ((m : Memory) (q : PolicyValue) → AreCompleteTables m q.rsdp tables → IfOk result (FindsLeast (HoldsAt c m q)))
-    → IfOk result (Finds c tables)
-each_found c (Ok found) finds = finds
-each_found c (Err e) finds = tt

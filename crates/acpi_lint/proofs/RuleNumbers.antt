@@ -7,11 +7,10 @@ use Rattle.std.proofs.lemmas.Option.{same_Some}
 use Rattle.acpi_lint.specs.Rules.Rows.{all_rules, rule_name, rule_number}
 use Rattle.acpi_lint.specs.declared.rule.Rule.{Rule}
 use Rattle.acpi_lint.specs.declared.rule.Rule.TheVariants as rule
-use Rattle.acpi_lint.specs.declared.rule_group.RuleGroup.{RuleGroup}
 
--- a rule with its name and its group
+-- a rule with its name
 abbrev pub Row : Type 0
-Row = Rule × Bor (List ℕ) × RuleGroup
+Row = Rule × Bor (List ℕ)
 
 abbrev pub number_in : Row → ℕ
 number_in row = rule_number row.0

@@ -1,5 +1,6 @@
 -- The definitions that contracts of the linter cite.
 pub mod AdviceText
+pub mod ByHand
 pub mod CompleteTables
 pub mod Differences
 pub mod FadtPlaces
@@ -15,7 +16,6 @@ pub mod Ranges
 pub mod References
 pub mod RowFindings
 pub mod RowGroups
-pub mod RuleGroups
 pub mod Rules
 pub mod Slots
 pub mod StageFaults

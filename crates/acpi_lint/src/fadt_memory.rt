@@ -2,12 +2,9 @@
 
 ghost use Rattle.std.specs.Prelude.{◌≤◌, ◌↔◌, IsTrue, length};
 ghost use Rattle.acpi_rules.specs.Places.{FindsLeast};
-ghost use Rattle.acpi_lint.specs.RuleGroups.{in_fadt_memory};
-ghost use Rattle.acpi_lint.specs.Rules.Broken.{condition};
 ghost use Rattle.acpi_lint.specs.Rules.NamedAdvice.{IsBrokenDsdt, IsDsdtWrong, IsOddFacs, IsFacsReserved};
 
 use crate::limits::{above, used};
-use crate::rule::Rule;
 use acpi_base::{Frame, LentImage, Question};
 use acpi_read::{Facs, Fadt, fails};
 use acpi_rules::Place;
@@ -23,7 +20,7 @@ fn is_no_dsdt(image: &LentImage<'_>, address: u64) -> bool
 }
 
 /// DSDT, at 40, if what a FADT names as the DSDT is none, or has a wrong checksum.
-fn dsdt_wrong(image: &LentImage<'_>, fadt: &Fadt<'_>) -> Option<Place>
+pub fn dsdt_wrong(image: &LentImage<'_>, fadt: &Fadt<'_>) -> Option<Place>
     ensures { FindsLeast (IsDsdtWrong image.now fadt.now) result }
 {
     let address = fadt.dsdt_address();
@@ -45,20 +42,9 @@ fn odd_facs(bytes: &[u8]) -> Option<Place>
 }
 
 /// The same of the FACS that a FADT names, if it is valid.
-fn facs_reserved(image: &LentImage<'_>, fadt: &Fadt<'_>) -> Option<Place>
+pub fn facs_reserved(image: &LentImage<'_>, fadt: &Fadt<'_>) -> Option<Place>
     ensures { FindsLeast (IsFacsReserved image.now fadt.now) result }
 {
     let facs = Facs::read(image, fadt).ok()??;
     odd_facs(facs.bytes())
-}
-
-/// The place where a rule on what a FADT names is broken. None for another rule.
-pub fn fadt_memory_place(image: &LentImage<'_>, rule: Rule, fadt: &Fadt<'_>) -> Option<Place>
-    ensures { FindsLeast (in_fadt_memory (condition rule) image.now fadt.now) result }
-{
-    match rule {
-        Rule::DsdtWrong => dsdt_wrong(image, fadt),
-        Rule::FacsReserved => facs_reserved(image, fadt),
-        _ => None,
-    }
 }

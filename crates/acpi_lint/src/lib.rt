@@ -33,10 +33,10 @@
 #![tactic(auto)]
 
 mod advice;
+mod by_hand;
 mod complete_tables;
 mod facs;
 mod fadt;
-mod fadt_advice;
 mod fadt_blocks;
 mod fadt_memory;
 mod faults;
@@ -67,9 +67,7 @@ mod rows;
 mod rsdp;
 mod rsdp_advice;
 mod rule;
-mod rule_group;
 mod sci;
-mod set_advice;
 mod slit;
 mod slot_advice;
 mod slots;

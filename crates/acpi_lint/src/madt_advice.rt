@@ -3,13 +3,10 @@
 ghost use Rattle.std.specs.Prelude.{◌≡◌, ◌↔◌, ◌⊎◌, ◌/◌, IfOk, IsTrue, sum_by};
 ghost use Rattle.acpi_base.specs.Madt.{madt_contents};
 ghost use Rattle.acpi_rules.specs.Places.{FindsLeast};
-ghost use Rattle.acpi_lint.specs.RuleGroups.{in_madt};
-ghost use Rattle.acpi_lint.specs.Rules.Broken.{condition};
 ghost use Rattle.acpi_lint.specs.Rules.GicAdvice.{AreGicrsKnown, IsGicrTooSmall, HasVersion};
 
 use crate::gic_overlap::gic_overlap;
 use crate::madt_numbers::{MadtNumber, all_numbers, first_number, has_number};
-use crate::rule::Rule;
 use crate::well_formed::is_madt_well_formed;
 use acpi_base::Policy;
 use acpi_read::Table;
@@ -62,7 +59,7 @@ fn redistributors(lengths: &[u64]) -> u128
 
 /// The first range of redistributors, with how many there are as `other`, and with how many CPU interfaces are usable
 /// as `point`, if these are more, and all ranges are known. Allocates for each of both.
-fn gicr_too_small(
+pub fn gicr_too_small(
     alloc: Global,
     policy: &Policy,
     madt: &Table<'_>,
@@ -87,20 +84,4 @@ fn gicr_too_small(
         other: count as u64,
         point: due as u64,
     }))
-}
-
-/// The place where a rule on a MADT is broken. None for another rule.
-pub fn madt_place(
-    alloc: Global,
-    policy: &Policy,
-    rule: Rule,
-    madt: &Table<'_>,
-) -> Result<Option<Place>, AllocError>
-    ensures { IfOk result (FindsLeast (in_madt (condition rule) (madt_contents madt.now))) }
-{
-    match rule {
-        Rule::GicOverlap => gic_overlap(alloc, madt),
-        Rule::GicrTooSmall => gicr_too_small(alloc, policy, madt),
-        _ => Ok(None),
-    }
 }

@@ -9,13 +9,10 @@ ghost use Rattle.acpi_lint.specs.Numbered.{at_place, HasAt, AreNumbersAt};
 ghost use Rattle.acpi_rules.specs.Places.{FindsLeast};
 ghost use Rattle.acpi_lint.specs.Rules.Hierarchy.{outer_parent, IsNoPackage};
 ghost use Rattle.acpi_lint.specs.Rules.Numbered.{NamesAt};
-ghost use Rattle.acpi_lint.specs.RuleGroups.{in_pptt};
-ghost use Rattle.acpi_lint.specs.Rules.Broken.{condition};
 
 use crate::leaves::leaves_of;
 use crate::numbered::at_place;
 use crate::processors::is_set;
-use crate::rule::Rule;
 use acpi_base::Policy;
 use acpi_check::{binary_search, collected};
 use acpi_read::{EntryAt, PpttEntry, Table};
@@ -112,7 +109,11 @@ fn first_outside(
 
 /// The first leaf with an ID, `point`, whose chain of Parents ends and has no physical package. Allocates for each leaf
 /// and for each node.
-fn no_package(alloc: Global, policy: &Policy, pptt: &Table<'_>) -> Result<Option<Place>, AllocError>
+pub fn no_package(
+    alloc: Global,
+    policy: &Policy,
+    pptt: &Table<'_>,
+) -> Result<Option<Place>, AllocError>
     ensures { IfOk result (FindsLeast (IsNoPackage (pptt_contents pptt.now))) }
 {
     let leaves = leaves_of(alloc, policy, pptt)?;
@@ -120,19 +121,4 @@ fn no_package(alloc: Global, policy: &Policy, pptt: &Table<'_>) -> Result<Option
     let offsets = places_of(alloc, &nodes)?;
     let mut visited = vec![in alloc; false; offsets.len()]?;
     Ok(first_outside(&nodes, &offsets, &mut visited, &leaves))
-}
-
-/// The place where a rule on a PPTT is broken. None for another rule.
-pub fn pptt_place(
-    alloc: Global,
-    policy: &Policy,
-    rule: Rule,
-    pptt: &Table<'_>,
-) -> Result<Option<Place>, AllocError>
-    ensures { IfOk result (FindsLeast (in_pptt (condition rule) (pptt_contents pptt.now))) }
-{
-    match rule {
-        Rule::NoPackage => no_package(alloc, policy, pptt),
-        _ => Ok(None),
-    }
 }

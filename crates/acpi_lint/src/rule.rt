@@ -1,11 +1,7 @@
 //! Advice: what breaks none of the statements, but is probably wrong.
 
 ghost use Rattle.std.specs.Prelude.{◌≡◌, ◌+◌, ◌<◌, ◌≤◌, ◌↔◌, length, IsSome, IfSome};
-ghost use Rattle.acpi_lint.specs.RuleGroups.{group_of};
-ghost use Rattle.acpi_lint.specs.Rules.Broken.{condition};
 ghost use Rattle.acpi_lint.specs.Rules.Rows.{all_rules, rule_name, rule_named, rule_number};
-
-use crate::rule_group::RuleGroup;
 
 /// A rule of advice. A set of tables may have a reason to break a rule, so none is a fault. A processor is usable if it
 /// is Enabled or Online Capable. Sections are those of ACPI 6.5.
@@ -181,125 +177,112 @@ pub enum Rule {
     PpttReserved,
 }
 
-/// The number of the first rule.
-const FIRST: u8 = 101;
-
-/// Each rule with its name and its group, in the order of their numbers.
-const ROWS: [(Rule, &str, RuleGroup); Rule::COUNT] = [
-    (Rule::ListedTwice, "ListedTwice", RuleGroup::Slots),
-    (Rule::SecondTable, "SecondTable", RuleGroup::Slots),
-    (Rule::ListedApart, "ListedApart", RuleGroup::Slots),
-    (Rule::FadtOfRevision, "FadtOfRevision", RuleGroup::Rows),
-    (Rule::FacsDiffers, "FacsDiffers", RuleGroup::Rows),
-    (Rule::DsdtDiffers, "DsdtDiffers", RuleGroup::Rows),
-    (Rule::BlockDiffers, "BlockDiffers", RuleGroup::Rows),
-    (Rule::SciNowhere, "SciNowhere", RuleGroup::FadtMadt),
-    (Rule::SameUid, "SameUid", RuleGroup::Rows),
-    (Rule::SameApicId, "SameApicId", RuleGroup::Rows),
-    (Rule::IoApicAtZero, "IoApicAtZero", RuleGroup::Rows),
-    (Rule::SameIoApicId, "SameIoApicId", RuleGroup::Rows),
-    (
-        Rule::SameIoApicAddress,
-        "SameIoApicAddress",
-        RuleGroup::Rows,
-    ),
-    (Rule::NmiNowhere, "NmiNowhere", RuleGroup::Rows),
-    (Rule::SecondGicd, "SecondGicd", RuleGroup::Rows),
-    (Rule::NoProcessor, "NoProcessor", RuleGroup::Rows),
-    (Rule::TwoUidDomains, "TwoUidDomains", RuleGroup::Rows),
-    (Rule::AffinityNowhere, "AffinityNowhere", RuleGroup::Rows),
-    (Rule::NoDomain, "NoDomain", RuleGroup::Rows),
-    (Rule::DomainPastSlit, "DomainPastSlit", RuleGroup::Rows),
-    (Rule::SlitDiffers, "SlitDiffers", RuleGroup::Slit),
-    (Rule::SameLeaf, "SameLeaf", RuleGroup::Rows),
-    (Rule::CacheShape, "CacheShape", RuleGroup::Rows),
-    (Rule::SameCacheId, "SameCacheId", RuleGroup::Rows),
-    (Rule::NoLeaf, "NoLeaf", RuleGroup::Rows),
-    (Rule::LeafNowhere, "LeafNowhere", RuleGroup::Rows),
-    (Rule::MadtUnread, "MadtUnread", RuleGroup::Rows),
-    (Rule::SratUnread, "SratUnread", RuleGroup::Rows),
-    (Rule::NullSlot, "NullSlot", RuleGroup::Slots),
-    (Rule::RsdtDiffers, "RsdtDiffers", RuleGroup::Set),
-    (Rule::TablesOverlap, "TablesOverlap", RuleGroup::Set),
-    (Rule::NoDsdt, "NoDsdt", RuleGroup::Rows),
-    (Rule::DsdtWrong, "DsdtWrong", RuleGroup::FadtMemory),
-    (Rule::NoPm1Block, "NoPm1Block", RuleGroup::Rows),
-    (Rule::BlockWidth, "BlockWidth", RuleGroup::Rows),
-    (Rule::HalfBlock, "HalfBlock", RuleGroup::Rows),
-    (Rule::PortsOverlap, "PortsOverlap", RuleGroup::Fadt),
-    (Rule::PortPastEnd, "PortPastEnd", RuleGroup::Fadt),
-    (Rule::GpeOverlap, "GpeOverlap", RuleGroup::Rows),
-    (Rule::SmiHalf, "SmiHalf", RuleGroup::Rows),
-    (Rule::SciZero, "SciZero", RuleGroup::Rows),
-    (Rule::ResetNowhere, "ResetNowhere", RuleGroup::Rows),
-    (Rule::FadtForArch, "FadtForArch", RuleGroup::Rows),
-    (Rule::SleepRegister, "SleepRegister", RuleGroup::Rows),
-    (Rule::FadtReserved, "FadtReserved", RuleGroup::Rows),
-    (Rule::FacsReserved, "FacsReserved", RuleGroup::FadtMemory),
-    (Rule::RsdpReserved, "RsdpReserved", RuleGroup::Set),
-    (Rule::HeaderText, "HeaderText", RuleGroup::Slots),
-    (Rule::SecondOther, "SecondOther", RuleGroup::Slots),
-    (Rule::X2ApicBelow255, "X2ApicBelow255", RuleGroup::Rows),
-    (Rule::BroadcastId, "BroadcastId", RuleGroup::Rows),
-    (Rule::CapableTooEarly, "CapableTooEarly", RuleGroup::Rows),
-    (
-        Rule::EnabledAndCapable,
-        "EnabledAndCapable",
-        RuleGroup::Rows,
-    ),
-    (Rule::OverridePastIsa, "OverridePastIsa", RuleGroup::Rows),
-    (Rule::TimerLevel, "TimerLevel", RuleGroup::Rows),
-    (Rule::TwoSourcesOneGsi, "TwoSourcesOneGsi", RuleGroup::Rows),
-    (Rule::LintNotOne, "LintNotOne", RuleGroup::Rows),
-    (Rule::NoIoApic, "NoIoApic", RuleGroup::Rows),
-    (Rule::NoDistributor, "NoDistributor", RuleGroup::Rows),
-    (Rule::NoRedistributor, "NoRedistributor", RuleGroup::Rows),
-    (Rule::GicrTooSmall, "GicrTooSmall", RuleGroup::Madt),
-    (Rule::GiccBaseDiffers, "GiccBaseDiffers", RuleGroup::Rows),
-    (Rule::SameMpidr, "SameMpidr", RuleGroup::Rows),
-    (Rule::MpidrReserved, "MpidrReserved", RuleGroup::Rows),
-    (Rule::GicrEmpty, "GicrEmpty", RuleGroup::Rows),
-    (Rule::SameIts, "SameIts", RuleGroup::Rows),
-    (Rule::SameMsiFrame, "SameMsiFrame", RuleGroup::Rows),
-    (Rule::GicOverlap, "GicOverlap", RuleGroup::Madt),
-    (
-        Rule::RedistributorTwice,
-        "RedistributorTwice",
-        RuleGroup::Rows,
-    ),
-    (Rule::NoBootMethod, "NoBootMethod", RuleGroup::Rows),
-    (Rule::SameHart, "SameHart", RuleGroup::Rows),
-    (Rule::MadtReserved, "MadtReserved", RuleGroup::Rows),
-    (Rule::NoMemoryRange, "NoMemoryRange", RuleGroup::Rows),
-    (Rule::EmptyRange, "EmptyRange", RuleGroup::Rows),
-    (Rule::InitiatorOff, "InitiatorOff", RuleGroup::Rows),
-    (
-        Rule::DomainPastRevision,
-        "DomainPastRevision",
-        RuleGroup::Rows,
-    ),
-    (Rule::ItsNowhere, "ItsNowhere", RuleGroup::Rows),
-    (Rule::SratReserved, "SratReserved", RuleGroup::Rows),
-    (Rule::RemoteAsLocal, "RemoteAsLocal", RuleGroup::Slit),
-    (Rule::LeafUnflagged, "LeafUnflagged", RuleGroup::Rows),
-    (Rule::LeafAsParent, "LeafAsParent", RuleGroup::Rows),
-    (Rule::NoPackage, "NoPackage", RuleGroup::Pptt),
-    (Rule::CacheNumbers, "CacheNumbers", RuleGroup::Rows),
-    (Rule::PpttReserved, "PpttReserved", RuleGroup::Rows),
+/// Each rule with its name, in the order of their numbers.
+const ROWS: [(Rule, &str); Rule::COUNT] = [
+    (Rule::ListedTwice, "ListedTwice"),
+    (Rule::SecondTable, "SecondTable"),
+    (Rule::ListedApart, "ListedApart"),
+    (Rule::FadtOfRevision, "FadtOfRevision"),
+    (Rule::FacsDiffers, "FacsDiffers"),
+    (Rule::DsdtDiffers, "DsdtDiffers"),
+    (Rule::BlockDiffers, "BlockDiffers"),
+    (Rule::SciNowhere, "SciNowhere"),
+    (Rule::SameUid, "SameUid"),
+    (Rule::SameApicId, "SameApicId"),
+    (Rule::IoApicAtZero, "IoApicAtZero"),
+    (Rule::SameIoApicId, "SameIoApicId"),
+    (Rule::SameIoApicAddress, "SameIoApicAddress"),
+    (Rule::NmiNowhere, "NmiNowhere"),
+    (Rule::SecondGicd, "SecondGicd"),
+    (Rule::NoProcessor, "NoProcessor"),
+    (Rule::TwoUidDomains, "TwoUidDomains"),
+    (Rule::AffinityNowhere, "AffinityNowhere"),
+    (Rule::NoDomain, "NoDomain"),
+    (Rule::DomainPastSlit, "DomainPastSlit"),
+    (Rule::SlitDiffers, "SlitDiffers"),
+    (Rule::SameLeaf, "SameLeaf"),
+    (Rule::CacheShape, "CacheShape"),
+    (Rule::SameCacheId, "SameCacheId"),
+    (Rule::NoLeaf, "NoLeaf"),
+    (Rule::LeafNowhere, "LeafNowhere"),
+    (Rule::MadtUnread, "MadtUnread"),
+    (Rule::SratUnread, "SratUnread"),
+    (Rule::NullSlot, "NullSlot"),
+    (Rule::RsdtDiffers, "RsdtDiffers"),
+    (Rule::TablesOverlap, "TablesOverlap"),
+    (Rule::NoDsdt, "NoDsdt"),
+    (Rule::DsdtWrong, "DsdtWrong"),
+    (Rule::NoPm1Block, "NoPm1Block"),
+    (Rule::BlockWidth, "BlockWidth"),
+    (Rule::HalfBlock, "HalfBlock"),
+    (Rule::PortsOverlap, "PortsOverlap"),
+    (Rule::PortPastEnd, "PortPastEnd"),
+    (Rule::GpeOverlap, "GpeOverlap"),
+    (Rule::SmiHalf, "SmiHalf"),
+    (Rule::SciZero, "SciZero"),
+    (Rule::ResetNowhere, "ResetNowhere"),
+    (Rule::FadtForArch, "FadtForArch"),
+    (Rule::SleepRegister, "SleepRegister"),
+    (Rule::FadtReserved, "FadtReserved"),
+    (Rule::FacsReserved, "FacsReserved"),
+    (Rule::RsdpReserved, "RsdpReserved"),
+    (Rule::HeaderText, "HeaderText"),
+    (Rule::SecondOther, "SecondOther"),
+    (Rule::X2ApicBelow255, "X2ApicBelow255"),
+    (Rule::BroadcastId, "BroadcastId"),
+    (Rule::CapableTooEarly, "CapableTooEarly"),
+    (Rule::EnabledAndCapable, "EnabledAndCapable"),
+    (Rule::OverridePastIsa, "OverridePastIsa"),
+    (Rule::TimerLevel, "TimerLevel"),
+    (Rule::TwoSourcesOneGsi, "TwoSourcesOneGsi"),
+    (Rule::LintNotOne, "LintNotOne"),
+    (Rule::NoIoApic, "NoIoApic"),
+    (Rule::NoDistributor, "NoDistributor"),
+    (Rule::NoRedistributor, "NoRedistributor"),
+    (Rule::GicrTooSmall, "GicrTooSmall"),
+    (Rule::GiccBaseDiffers, "GiccBaseDiffers"),
+    (Rule::SameMpidr, "SameMpidr"),
+    (Rule::MpidrReserved, "MpidrReserved"),
+    (Rule::GicrEmpty, "GicrEmpty"),
+    (Rule::SameIts, "SameIts"),
+    (Rule::SameMsiFrame, "SameMsiFrame"),
+    (Rule::GicOverlap, "GicOverlap"),
+    (Rule::RedistributorTwice, "RedistributorTwice"),
+    (Rule::NoBootMethod, "NoBootMethod"),
+    (Rule::SameHart, "SameHart"),
+    (Rule::MadtReserved, "MadtReserved"),
+    (Rule::NoMemoryRange, "NoMemoryRange"),
+    (Rule::EmptyRange, "EmptyRange"),
+    (Rule::InitiatorOff, "InitiatorOff"),
+    (Rule::DomainPastRevision, "DomainPastRevision"),
+    (Rule::ItsNowhere, "ItsNowhere"),
+    (Rule::SratReserved, "SratReserved"),
+    (Rule::RemoteAsLocal, "RemoteAsLocal"),
+    (Rule::LeafUnflagged, "LeafUnflagged"),
+    (Rule::LeafAsParent, "LeafAsParent"),
+    (Rule::NoPackage, "NoPackage"),
+    (Rule::CacheNumbers, "CacheNumbers"),
+    (Rule::PpttReserved, "PpttReserved"),
 ];
 
 impl Rule {
-    /// How many rules there are. Their numbers begin at 101.
+    /// How many rules there are.
     pub const COUNT: usize = 84;
 
+    /// The lowest number of a rule.
+    pub const FIRST: u16 = 101;
+
+    /// The highest number of a rule.
+    pub const LAST: u16 = 184;
+
     /// The rule with this number, from 101 on.
-    pub fn new(number: u8) -> Option<Rule>
+    pub fn new(number: u16) -> Option<Rule>
         ensures some { IsSome result ↔ ((101 ≤ number) × (number < 101 + length all_rules)) }
         ensures same { IfSome result (λ rule. rule_number rule ≡ number) }
     {
-        let index = number.checked_sub(FIRST)?;
+        let index = number.checked_sub(Rule::FIRST)?;
         let rows = ROWS.as_slice();
-        let (rule, _, _) = rows.get(usize::from(index))?;
+        let (rule, _) = rows.get(usize::from(index))?;
         Some(*rule)
     }
 
@@ -307,7 +290,7 @@ impl Rule {
     pub fn from_name(name: &str) -> Option<Rule>
         ensures { result ≡ rule_named name.now }
     {
-        let mut number = FIRST;
+        let mut number = Rule::FIRST;
         while let Some(rule) = Rule::new(number) {
             if rule.name() == name {
                 return Some(rule);
@@ -318,10 +301,10 @@ impl Rule {
     }
 
     /// The rule's number, from 101 on.
-    pub fn number(self) -> u8
+    pub fn number(self) -> u16
         ensures { result ≡ rule_number self }
     {
-        self as u8 + FIRST
+        self as u16 + Rule::FIRST
     }
 
     /// The rule's name, as in a line of advice.
@@ -329,15 +312,7 @@ impl Rule {
         ensures { result.now ≡ rule_name self }
     {
         let rows = ROWS.as_slice();
-        rows[usize::from(self.number() - FIRST)].1
-    }
-
-    /// What the rule looks at.
-    pub(crate) fn group(self) -> RuleGroup
-        ensures { result ≡ group_of (condition self) }
-    {
-        let rows = ROWS.as_slice();
-        rows[usize::from(self.number() - FIRST)].2
+        rows[usize::from(self.number() - Rule::FIRST)].1
     }
 }
 

@@ -8,12 +8,9 @@ ghost use Rattle.acpi_read.specs.Madts.{madt_value};
 ghost use Rattle.acpi_read.specs.Entries.{entry_at_value};
 ghost use Rattle.acpi_rules.specs.Places.{FindsLeast};
 ghost use Rattle.acpi_lint.specs.Places.{FindsOwn};
-ghost use Rattle.acpi_lint.specs.RuleGroups.{in_fadt_madt};
-ghost use Rattle.acpi_lint.specs.Rules.Broken.{condition};
 ghost use Rattle.acpi_lint.specs.Overrides.{IsOwnOverride, IsOverrideAt, ServesNumber, IsUnserved, IsNowhere};
 
 use crate::passes::first_picked;
-use crate::rule::Rule;
 use crate::well_formed::is_madt_well_formed;
 use acpi_base::Policy;
 use acpi_base::field::u16_at;
@@ -111,7 +108,7 @@ fn is_nowhere(policy: &Policy, fadt: &Fadt<'_>, madt: &Table<'_>, gsi: u64) -> b
 
 /// SCI_INT, at 46, if the hardware is not reduced, and none of the I/O APICs serves its interrupt number although
 /// there are some, and the MADT is well-formed.
-fn sci_nowhere(policy: &Policy, fadt: &Fadt<'_>, madt: &Table<'_>) -> Option<Place>
+pub fn sci_nowhere(policy: &Policy, fadt: &Fadt<'_>, madt: &Table<'_>) -> Option<Place>
     ensures { FindsLeast (IsSciNowhere policy.now fadt.now (madt_contents madt.now)) result }
 {
     let gsi = gsi_of(madt, u16_at(fadt.bytes(), 46));
@@ -120,20 +117,4 @@ fn sci_nowhere(policy: &Policy, fadt: &Fadt<'_>, madt: &Table<'_>) -> Option<Pla
         other: 0,
         point: gsi,
     })
-}
-
-/// The place where a rule on a FADT and a MADT is broken. None for another rule.
-pub fn fadt_madt_place(
-    policy: &Policy,
-    rule: Rule,
-    fadt: &Fadt<'_>,
-    madt: &Table<'_>,
-) -> Option<Place>
-    ensures { FindsLeast
-        (in_fadt_madt (condition rule) policy.now fadt.now (madt_contents madt.now)) result }
-{
-    match rule {
-        Rule::SciNowhere => sci_nowhere(policy, fadt, madt),
-        _ => None,
-    }
 }

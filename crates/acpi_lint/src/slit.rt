@@ -6,11 +6,9 @@ ghost use Rattle.acpi_lint.specs.Rules.SlitAdvice.{IsSlitDiffers, IsRemoteAsLoca
 ghost use Rattle.acpi_base.specs.declared.code.Code.{Code};
 ghost use Rattle.acpi_read.specs.Slits.{HasRows};
 ghost use Rattle.acpi_rules.specs.Places.{FindsLeast};
+ghost use Rattle.acpi_lint.specs.ByHand.{InSized};
 ghost use Rattle.acpi_lint.specs.Places.{IsRowDiffers, IsRowLocal};
-ghost use Rattle.acpi_lint.specs.RuleGroups.{in_sized_slit};
-ghost use Rattle.acpi_lint.specs.Rules.Broken.{condition};
 
-use crate::rule::Rule;
 use acpi_base::Code;
 use acpi_base::field::u64_at;
 use acpi_read::{Slit, Table};
@@ -160,14 +158,18 @@ fn rows_local(bytes: &[u8], count: usize) -> Option<Place>
     None
 }
 
-/// The place where a rule on a SLIT is broken, whose cells are read only if it has the right size. None for another rule.
-pub fn slit_place(rule: Rule, slit: Table<'_>) -> Option<Place>
-    ensures { FindsLeast (in_sized_slit (condition rule) (slit_contents slit.entry)) result }
+/// The same in a table of the right size. The cells of another one are not read.
+pub fn slit_differs(slit: &Table<'_>) -> Option<Place>
+    ensures { FindsLeast (InSized IsSlitDiffers (slit_contents slit.now)) result }
 {
     let bytes = slit.bytes();
-    match rule {
-        Rule::SlitDiffers => rows_differ(bytes, rows(bytes)?),
-        Rule::RemoteAsLocal => rows_local(bytes, rows(bytes)?),
-        _ => None,
-    }
+    rows_differ(bytes, rows(bytes)?)
+}
+
+/// The place of the first distance of a locality from another one that is 10, in a table of the right size.
+pub fn remote_as_local(slit: &Table<'_>) -> Option<Place>
+    ensures { FindsLeast (InSized IsRemoteAsLocal (slit_contents slit.now)) result }
+{
+    let bytes = slit.bytes();
+    rows_local(bytes, rows(bytes)?)
 }

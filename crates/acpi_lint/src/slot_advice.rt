@@ -7,9 +7,6 @@ ghost use Rattle.acpi_base.specs.Memory.{Memory};
 ghost use Rattle.acpi_rules.specs.Places.{FindsLeast};
 ghost use Rattle.acpi_lint.specs.Slots.{numbered_slot, second_place};
 ghost use Rattle.acpi_lint.specs.CompleteTables.{AreCompleteTables};
-ghost use Rattle.acpi_lint.specs.RuleGroups.{as_group, Finds};
-ghost use Rattle.acpi_lint.specs.Rules.Broken.{condition};
-ghost use Rattle.acpi_lint.specs.declared.rule_group.RuleGroup.TheVariants as group;
 
 use crate::complete_tables::CompleteTables;
 use crate::first_slots::FirstSlots;
@@ -17,7 +14,6 @@ use crate::header_advice::{header_text, second_other};
 use crate::listed_slots::{Slot, first_slot};
 use crate::numbered::first_later;
 use crate::root_advice::null_slot;
-use crate::rule::Rule;
 use crate::table_at::Sought;
 use acpi_rules::{Numbered, Place};
 use std::alloc::{AllocError, Global};
@@ -39,7 +35,7 @@ fn numbered_slots(alloc: Global, slots: &[Slot]) -> Result<Vec<Numbered>, AllocE
 
 /// The first slot that lists an address that an earlier slot also lists. The tables are those of the set. Allocates for
 /// each slot.
-fn listed_twice(alloc: Global, tables: &CompleteTables<'_>) -> Result<Option<Place>, AllocError>
+pub fn listed_twice(alloc: Global, tables: &CompleteTables<'_>) -> Result<Option<Place>, AllocError>
     ensures { (m : Memory) (p : ℕ) → AreCompleteTables m p tables.now
         → IfOk result (FindsLeast (IsListedTwice m p)) }
 {
@@ -62,7 +58,7 @@ fn second_place(firsts: &FirstSlots, slot: &Slot) -> Option<Place>
 
 /// The first slot that lists a table of the same kind as an earlier one, at another address. The tables are those of
 /// the set.
-fn second_table(tables: &CompleteTables<'_>) -> Option<Place>
+pub fn second_table(tables: &CompleteTables<'_>) -> Option<Place>
     ensures { (m : Memory) (p : ℕ) → AreCompleteTables m p tables.now
         → FindsLeast (IsSecondTable m p) result }
 {
@@ -75,7 +71,7 @@ fn second_table(tables: &CompleteTables<'_>) -> Option<Place>
 }
 
 /// The first slot that lists a DSDT or a FACS, which only the FADT should name. The tables are those of the set.
-fn listed_apart(tables: &CompleteTables<'_>) -> Option<Place>
+pub fn listed_apart(tables: &CompleteTables<'_>) -> Option<Place>
     ensures { (m : Memory) (p : ℕ) → AreCompleteTables m p tables.now
         → FindsLeast (IsListedApart m p) result }
 {
@@ -85,24 +81,4 @@ fn listed_apart(tables: &CompleteTables<'_>) -> Option<Place>
         other: 0,
         point: slot.table.address,
     })
-}
-
-/// The place where a rule on the slots of the root table is broken. None for another rule. The tables are those of the
-/// set. Allocates for each slot.
-pub fn slot_place(
-    alloc: Global,
-    tables: &CompleteTables<'_>,
-    rule: Rule,
-) -> Result<Option<Place>, AllocError>
-    ensures { IfOk result (Finds (as_group group.Slots (condition rule)) tables.now) }
-{
-    match rule {
-        Rule::ListedTwice => listed_twice(alloc, tables),
-        Rule::SecondTable => Ok(second_table(tables)),
-        Rule::ListedApart => Ok(listed_apart(tables)),
-        Rule::NullSlot => Ok(null_slot(tables)),
-        Rule::HeaderText => Ok(header_text(tables)),
-        Rule::SecondOther => second_other(alloc, tables),
-        _ => Ok(None),
-    }
 }

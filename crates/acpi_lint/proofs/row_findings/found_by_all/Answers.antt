@@ -1,4 +1,3 @@
-use Rattle.std.proofs.Common.{◌∙◌, sym}
 use Rattle.acpi_lint.specs.RowFindings.{AreBroken}
 use Rattle.acpi_lint.specs.RowGroups.{group_value}
 use Rattle.acpi_lint.proofs.RowFindings.{all_passed, found_has_table, next_found, none_more, on_err}

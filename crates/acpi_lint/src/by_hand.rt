@@ -1,0 +1,186 @@
+//! What the rules that are not rows find in a set. A rule on a table finds nothing if the set lists no complete one with
+//! all its fields.
+
+ghost use Rattle.std.specs.Prelude.{◌≡◌, ◌∷◌, [], IfOk};
+ghost use Rattle.acpi_base.specs.Memory.{Memory};
+ghost use Rattle.acpi_base.specs.Policy.{PolicyValue};
+ghost use Rattle.acpi_rules.specs.Places.{FindsLeast};
+ghost use Rattle.acpi_lint.specs.ByHand.{Adds, AreFoundByHand, fadt_madt_rules, fadt_rules, madt_rules, memory_rules, pptt_rules, rules_by_hand, slit_rules, slot_rules};
+ghost use Rattle.acpi_lint.specs.CompleteTables.{AreCompleteTables};
+ghost use Rattle.acpi_lint.specs.Rules.Broken.{IsBrokenByHand};
+
+use crate::complete_tables::CompleteTables;
+use crate::fadt_blocks::port_past_end;
+use crate::fadt_memory::{dsdt_wrong, facs_reserved};
+use crate::gic_overlap::gic_overlap;
+use crate::header_advice::{header_text, second_other};
+use crate::madt_advice::gicr_too_small;
+use crate::packages::no_package;
+use crate::port_overlap::ports_overlap;
+use crate::root_advice::{null_slot, rsdt_differs};
+use crate::row_findings::Found;
+use crate::rsdp_advice::rsdp_reserved;
+use crate::rule::Rule;
+use crate::sci::sci_nowhere;
+use crate::slit::{remote_as_local, slit_differs};
+use crate::slot_advice::{listed_apart, listed_twice, second_table};
+use crate::structures::tables_overlap;
+use acpi_base::{LentImage, Policy, TableKind};
+use acpi_rules::Place;
+use std::alloc::{AllocError, Global};
+
+/// Adds the place where a rule is broken, if it is. Allocates for it.
+fn add(found: &mut Vec<Found>, rule: Rule, place: Option<Place>) -> Result<(), AllocError>
+    ensures { IfOk result (λ _. (m : Memory) (q : PolicyValue)
+        → FindsLeast (IsBrokenByHand rule m q) place
+        → Adds m q (rule ∷ []) found.old.items found.new.items) }
+{
+    if let Some(place) = place {
+        found.push(Found {
+            number: rule.number(),
+            place,
+        })?;
+    }
+    Ok(())
+}
+
+/// Adds what the rules on the slots of the root table find.
+fn add_of_slots(
+    alloc: Global,
+    tables: &CompleteTables<'_>,
+    found: &mut Vec<Found>,
+) -> Result<(), AllocError>
+    ensures { IfOk result (λ _. (m : Memory) (q : PolicyValue) → AreCompleteTables m q.rsdp tables.now
+        → Adds m q slot_rules found.old.items found.new.items) }
+{
+    add(found, Rule::ListedTwice, listed_twice(alloc, tables)?)?;
+    add(found, Rule::SecondTable, second_table(tables))?;
+    add(found, Rule::ListedApart, listed_apart(tables))?;
+    add(found, Rule::NullSlot, null_slot(tables))?;
+    add(found, Rule::HeaderText, header_text(tables))?;
+    add(found, Rule::SecondOther, second_other(alloc, tables)?)
+}
+
+/// Adds what the rules on the memory find, from the RSDP on.
+fn add_of_memory(
+    alloc: Global,
+    image: &LentImage<'_>,
+    rsdp: u64,
+    tables: &CompleteTables<'_>,
+    found: &mut Vec<Found>,
+) -> Result<(), AllocError>
+    requires { AreCompleteTables image.now rsdp tables.now }
+    ensures { IfOk result (λ _. (q : PolicyValue) → q.rsdp ≡ rsdp
+        → Adds image.now q memory_rules found.old.items found.new.items) }
+{
+    let differs = rsdt_differs(alloc, image, rsdp, tables)?;
+    add(found, Rule::RsdtDiffers, differs)?;
+    let overlaps = tables_overlap(alloc, image, rsdp, tables)?;
+    add(found, Rule::TablesOverlap, overlaps)?;
+    add(found, Rule::RsdpReserved, rsdp_reserved(image, rsdp))
+}
+
+/// Adds what the rules on the FADT find, and those on what it names.
+fn add_of_fadt(
+    alloc: Global,
+    image: &LentImage<'_>,
+    tables: &CompleteTables<'_>,
+    found: &mut Vec<Found>,
+) -> Result<(), AllocError>
+    ensures { IfOk result (λ _. (q : PolicyValue) → AreCompleteTables image.now q.rsdp tables.now
+        → Adds image.now q fadt_rules found.old.items found.new.items) }
+{
+    let Some(fadt) = tables.fadt() else {
+        return Ok(());
+    };
+    add(found, Rule::PortsOverlap, ports_overlap(alloc, &fadt)?)?;
+    add(found, Rule::PortPastEnd, port_past_end(&fadt))?;
+    add(found, Rule::DsdtWrong, dsdt_wrong(image, &fadt))?;
+    add(found, Rule::FacsReserved, facs_reserved(image, &fadt))
+}
+
+/// Adds what the rule on the FADT and the MADT finds.
+fn add_of_fadt_madt(
+    policy: &Policy,
+    tables: &CompleteTables<'_>,
+    found: &mut Vec<Found>,
+) -> Result<(), AllocError>
+    ensures { IfOk result (λ _. (m : Memory) → AreCompleteTables m policy.now.rsdp tables.now
+        → Adds m policy.now fadt_madt_rules found.old.items found.new.items) }
+{
+    let Some(fadt) = tables.fadt() else {
+        return Ok(());
+    };
+    let Some(madt) = tables.madt() else {
+        return Ok(());
+    };
+    add(found, Rule::SciNowhere, sci_nowhere(policy, &fadt, &madt))
+}
+
+/// Adds what the rules on the MADT find.
+fn add_of_madt(
+    alloc: Global,
+    policy: &Policy,
+    tables: &CompleteTables<'_>,
+    found: &mut Vec<Found>,
+) -> Result<(), AllocError>
+    ensures { IfOk result (λ _. (m : Memory) (q : PolicyValue) → AreCompleteTables m q.rsdp tables.now
+        → Adds m q madt_rules found.old.items found.new.items) }
+{
+    let Some(madt) = tables.madt() else {
+        return Ok(());
+    };
+    let small = gicr_too_small(alloc, policy, &madt)?;
+    add(found, Rule::GicrTooSmall, small)?;
+    add(found, Rule::GicOverlap, gic_overlap(alloc, &madt)?)
+}
+
+/// Adds what the rules on the SLIT find.
+fn add_of_slit(tables: &CompleteTables<'_>, found: &mut Vec<Found>) -> Result<(), AllocError>
+    ensures { IfOk result (λ _. (m : Memory) (q : PolicyValue) → AreCompleteTables m q.rsdp tables.now
+        → Adds m q slit_rules found.old.items found.new.items) }
+{
+    let Some(slit) = tables.table(TableKind::Slit) else {
+        return Ok(());
+    };
+    add(found, Rule::SlitDiffers, slit_differs(&slit))?;
+    add(found, Rule::RemoteAsLocal, remote_as_local(&slit))
+}
+
+/// Adds what the rule on the PPTT finds.
+fn add_of_pptt(
+    alloc: Global,
+    policy: &Policy,
+    tables: &CompleteTables<'_>,
+    found: &mut Vec<Found>,
+) -> Result<(), AllocError>
+    ensures { IfOk result (λ _. (m : Memory) (q : PolicyValue) → AreCompleteTables m q.rsdp tables.now
+        → Adds m q pptt_rules found.old.items found.new.items) }
+{
+    let Some(pptt) = tables.pptt() else {
+        return Ok(());
+    };
+    add(found, Rule::NoPackage, no_package(alloc, policy, &pptt)?)
+}
+
+/// The first finding of each rule that is not a row. The tables are those of the set. Allocates for each finding, for
+/// each slot of the root table, each structure of the GIC and each node of the PPTT.
+pub fn found_by_hand(
+    alloc: Global,
+    image: &LentImage<'_>,
+    tables: &CompleteTables<'_>,
+    policy: &Policy,
+) -> Result<Vec<Found>, AllocError>
+    requires { AreCompleteTables image.now policy.now.rsdp tables.now }
+    ensures { IfOk result (λ found. AreFoundByHand image.now policy.now rules_by_hand found.items) }
+{
+    let mut found = Vec::new(alloc);
+    add_of_slots(alloc, tables, &mut found)?;
+    add_of_memory(alloc, image, policy.rsdp(), tables, &mut found)?;
+    add_of_fadt(alloc, image, tables, &mut found)?;
+    add_of_fadt_madt(policy, tables, &mut found)?;
+    add_of_madt(alloc, policy, tables, &mut found)?;
+    add_of_slit(tables, &mut found)?;
+    add_of_pptt(alloc, policy, tables, &mut found)?;
+    Ok(found)
+}
