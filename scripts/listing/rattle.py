@@ -1,0 +1,69 @@
+"""The parts of the crates that are written: the rules of acpi_lint, and the texts of acpi_c."""
+
+from .rules import SEVERITIES
+from .tree import CRATES, SCRIPT, lines_of, quoted, replaced, wrapped
+
+RULE = CRATES / "acpi_lint/src/rule.rt"
+ROWS = CRATES / "acpi_lint/specs/Rules/Rows.antt"
+EXPLAINED = CRATES / "acpi_c/src/explained.rt"
+BEGIN, END = f"    // begin: rules, made by {SCRIPT}", "    // end: rules"
+WIDEST = 60  # characters between parentheses, beyond which `rt fmt` writes a line for each item
+
+
+def row_of(rule):
+    items = [f"Rule::{rule.name}", str(rule.number), quoted(rule.name)]
+    inside = ", ".join(items)
+    return [f"    ({inside}),"] if len(inside) <= WIDEST else ["    (", *(f"        {item}," for item in items), "    ),"]
+
+
+def variants(rules):
+    for rule in rules:
+        yield from wrapped(rule.heading(), 120, "    /// ", "    /// ")
+        yield f"    {rule.name},"
+
+
+def rule_source(text, rules):
+    """What src/rule.rt of acpi_lint has to be."""
+    body = lines_of([BEGIN, *variants(rules), END])
+    text = replaced(r"(?<=^pub enum Rule \{\n).*?(?=^\})", text, body, "the enum Rule")
+    rows = lines_of([BEGIN, *(line for rule in rules for line in row_of(rule)), END])
+    text = replaced(r"(?<=^const ROWS: \[\(Rule, u16, &str\); Rule::COUNT\] = \[\n).*?(?=^\];)", text, rows, "the table ROWS of rules")
+    return replaced(r"^    pub const COUNT: usize = \d+;$", text, f"    pub const COUNT: usize = {len(rules)};", "the number of rules")
+
+
+def rule_rows(text, rules):
+    """What specs/Rules/Rows.antt of acpi_lint has to be."""
+    rows = lines_of(f'rule_row rule.{rule.name} = ({rule.number}, codes "{rule.name}")' for rule in rules)
+    text = replaced(r"(?:^rule_row rule\.\w+ = [^\n]*\n)+", text, rows, "the rows of rule_row")
+    listed = lines_of(wrapped(" ∷ ".join([*(f"rule.{rule.name}" for rule in rules), "[]"]), 110, "    ", "    "))
+    return replaced(r"(?<=^all_rules =\n).*?(?=^\n|\Z)", text, listed, "the list all_rules")
+
+
+def explained(codes, rules, page):
+    """What src/explained.rt of acpi_c has to be."""
+    texts_of = {one.number: quoted(page.explained(one.number)) for one in (*codes, *rules)}
+    variants_of = {severity: severity.title().replace(" ", "") for severity in SEVERITIES}
+    return lines_of(
+        [
+            f"//! What docs/FAULTS.md says of the codes and the rules. {SCRIPT} writes this file.",
+            "",
+            "use crate::meaning::Severity;",
+            "use acpi_base::Code;",
+            "use acpi_lint::Rule;",
+            "",
+            "/// What is wrong and how it is mended, by the number of the code.",
+            "pub const CODES: [&str; Code::COUNT] = [",
+            *(f"    {texts_of[code.number]}," for code in codes),
+            "];",
+            "",
+            "/// What is found and how it is mended, by the number of the rule.",
+            "pub const RULES: [&str; Rule::COUNT] = [",
+            *(f"    {texts_of[rule.number]}," for rule in rules),
+            "];",
+            "",
+            "/// The severity of each rule, by its number.",
+            "pub const SEVERITIES: [Severity; Rule::COUNT] = [",
+            *(f"    Severity::{variants_of[rule.severity]}," for rule in rules),
+            "];",
+        ]
+    )
