@@ -1,7 +1,7 @@
 """The parts of the crates that are written: the rules of acpi_lint, and the texts of acpi_c."""
 
 from .rules import SEVERITIES
-from .tree import CRATES, SCRIPT, lines_of, quoted, replaced, wrapped
+from .tree import CRATES, SCRIPT, lines_of, named, quoted, replaced, wrapped
 
 RULE = CRATES / "acpi_lint/src/rule.rt"
 ROWS = CRATES / "acpi_lint/specs/Rules/Rows.antt"
@@ -25,18 +25,19 @@ def variants(rules):
 def rule_source(text, rules):
     """What src/rule.rt of acpi_lint has to be."""
     body = lines_of([BEGIN, *variants(rules), END])
-    text = replaced(r"(?<=^pub enum Rule \{\n).*?(?=^\})", text, body, "the enum Rule")
+    text = replaced(r"(^pub enum Rule \{\n).*?(?=^\})", text, body, f"{named(RULE)}: the enum Rule")
     rows = lines_of([BEGIN, *(line for rule in rules for line in row_of(rule)), END])
-    text = replaced(r"(?<=^const ROWS: \[\(Rule, u16, &str\); Rule::COUNT\] = \[\n).*?(?=^\];)", text, rows, "the table ROWS of rules")
-    return replaced(r"^    pub const COUNT: usize = \d+;$", text, f"    pub const COUNT: usize = {len(rules)};", "the number of rules")
+    table = r"(^const ROWS: \[\(Rule, u16, &(?:'static )?str\); [^\]]*\] = \[\n).*?(?=^\];)"
+    text = replaced(table, text, rows, f"{named(RULE)}: ROWS, a table of rules, numbers and names")
+    return replaced(r"(^    pub const COUNT: usize = )\d+(?=;$)", text, str(len(rules)), f"{named(RULE)}: the number of rules")
 
 
 def rule_rows(text, rules):
     """What specs/Rules/Rows.antt of acpi_lint has to be."""
     rows = lines_of(f'rule_row rule.{rule.name} = ({rule.number}, codes "{rule.name}")' for rule in rules)
-    text = replaced(r"(?:^rule_row rule\.\w+ = [^\n]*\n)+", text, rows, "the rows of rule_row")
+    text = replaced(r"(?:^rule_row rule\.\w+ = [^\n]*\n)+", text, rows, f"{named(ROWS)}: the rows of rule_row")
     listed = lines_of(wrapped(" ∷ ".join([*(f"rule.{rule.name}" for rule in rules), "[]"]), 110, "    ", "    "))
-    return replaced(r"(?<=^all_rules =\n).*?(?=^\n|\Z)", text, listed, "the list all_rules")
+    return replaced(r"(^all_rules =\n).*?(?=^\n|\Z)", text, listed, f"{named(ROWS)}: the list all_rules")
 
 
 def explained(codes, rules, page):

@@ -31,8 +31,8 @@ def found(pattern, path, what):
 
 
 def replaced(pattern, text, new, what):
-    """The text with new text for what a pattern finds, which has to be there once."""
-    changed, count = re.subn(pattern, lambda _: new, text, flags=re.M | re.S)
+    """The text with new text for what a pattern finds, which has to be there once. What its first group finds, if it has one, is kept."""
+    changed, count = re.subn(pattern, lambda found: (found[1] if found.re.groups else "") + new, text, flags=re.M | re.S)
     if count != 1:
         raise Wrong(f"{what}: {count} times, not once")
     return changed

@@ -93,8 +93,8 @@ SENTENCES = {
     ),
     144: (
         "SleepRegister",
-        {},
-        "The sleep register at {at} of the FADT has no address, or its width, {other:d}, is not 8, or its offset, {point:d}, is not 0.",
+        {("other", 0x0): "The sleep register at {at} of the FADT has no address, or the bit width 0."},
+        "The sleep register at {at} of the FADT has {other:d} bits from bit {point:d} on, not 8 from bit 0 on.",
     ),
     145: ("FadtReserved", {}, "The field at {at} of the FADT has the value {point}, which is reserved."),
     146: ("FacsReserved", {}, "The field at {at} of the FACS has the value {point}, which is reserved."),
