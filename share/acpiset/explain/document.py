@@ -4,8 +4,8 @@ import os
 import re
 from difflib import get_close_matches
 
+from .advised import sentence
 from .refusal import BAD_INPUT, Refusal
-from .sentences import SENTENCES
 
 FIRST_RULE = 101
 MOST_WORDS = 6  # of a line
@@ -38,16 +38,6 @@ class Part:
         return lines
 
 
-class Number(int):
-    """A number of a line, as a sentence on it has it: in hexadecimal, with `d` in decimal, with `s` as the characters of a signature."""
-
-    def __format__(self, form):
-        text = self.to_bytes(8, "little").rstrip(b"\0").decode("latin-1")
-        if form == "s" and text.isascii() and text.isprintable():
-            return text
-        return f"{int(self):d}" if form == "d" else f"{int(self):#x}"
-
-
 class Line:
     """A line of acpiset, its part of the document, and its three numbers."""
 
@@ -57,12 +47,7 @@ class Line:
 
     def sentence(self):
         """What a line of advice says, with its numbers; nothing of another line."""
-        name, special, usual = SENTENCES.get(self.part.code, ("", {}, ""))
-        if name != self.part.name:
-            return ""
-        numbers = dict(zip(("at", "other", "point"), map(Number, self.numbers)))
-        own = (special[number, value] for number, value in special if numbers[number] == value)
-        return next(own, usual).format(**numbers)
+        return sentence(self.part.name, self.numbers) if self.part.code >= FIRST_RULE else ""
 
 
 class Document:
