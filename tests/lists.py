@@ -43,6 +43,7 @@ COMPARED = [
     (FAULTS, "[TimerLevel](#155-timerlevel) 155, ", "", [FAULTS]),
     (FAULTS, "155 [TimerLevel](#155-timerlevel), ", "", [FAULTS]),
     (FAULTS, "- Numbers: `at` is the override's offset, `point` is its Flags.", "- Numbers: `at` is its offset.", [FAULTS]),
+    (FAULTS, "- Numbers: `at` is the override's offset, `point` is its Flags.\n- Severity: likely wrong.\n", "", [FAULTS]),
     (FAULTS, "| not looked at | 127, 128 |", "| not looked at | 127 |", [FAULTS]),
     (TABLES, "| entry | 0 | Flags | 5.2.12.5 |", "| entry | 0 | Flags | 5.2.12.7 |", [TABLES]),
     (TABLES, "| 127, 128 | not looked at", "| 127 | not looked at", [TABLES]),
