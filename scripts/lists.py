@@ -14,7 +14,8 @@ compared too. Written are:
   crates/acpi_c/src/explained.rt          the texts of the library
   bindings                                parts of c/acpiset.h, python/acpiset/_lists.py, rust/src/lists.rs
   share/acpiset/explain/sentences.py      what lines of advice say
-  docs/FAULTS.md                          its indexes, the rules of a severity, and of each rule the points Numbers and Severity
+  docs/FAULTS.md                          its indexes, the faults of a stage, the rules of a severity, and of each rule the points Numbers
+                                          and Severity
   docs/TABLES.md                          the sections of the rules, and the rules of a severity"""
 
 import difflib

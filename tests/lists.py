@@ -40,6 +40,7 @@ COMPARED = [
     (ROWS, "rule.TimerLevel ∷ rule.TwoSourcesOneGsi", "rule.TwoSourcesOneGsi ∷ rule.TimerLevel", [ROWS]),
     (SENTENCES, "its Flags are {point}", "its Flags are {other}", [SENTENCES]),
     (FAULTS, "| 10 | 45 [Overlap](#45-overlap) |", "| 9 | 45 [Overlap](#45-overlap) |", [FAULTS]),
+    (FAULTS, "| 50, 51 |\n", "| 50 to 52 |\n", [FAULTS]),
     (FAULTS, "[TimerLevel](#155-timerlevel) 155, ", "", [FAULTS]),
     (FAULTS, "155 [TimerLevel](#155-timerlevel), ", "", [FAULTS]),
     (FAULTS, "- Numbers: `at` is the override's offset, `point` is its Flags.", "- Numbers: `at` is its offset.", [FAULTS]),

@@ -146,6 +146,9 @@ def faults_page(page, codes, rules):
     page = with_table(page, "## Index", "**By name:**", by_name(codes))
     page = with_table(page, "### Index of advice", "**By number:**", by_chapter(page, rules))
     page = with_table(page, "### Index of advice", "**By name:**", by_name(rules))
+    for stage, ones in groupby(codes, lambda code: code.stage.number):
+        row_of = rf"(^\| {stage} \| [^|\n]* \| )[\d, to]*(?= \|$)"
+        page = replaced(row_of, page, ranges([code.number for code in ones]), f"{named(FAULTS)}: the row of stage {stage}")
     for severity in SEVERITIES:
         rules_of = f"| {severity} | {of_severity(rules, severity)} |"
         page = replaced(rf"^\| {severity} \| [\d, to]* \|", page, rules_of, f"{named(FAULTS)}: the row of {severity}")
