@@ -93,7 +93,7 @@ pub static FADT: [Row<'static>; 14] = [
     // Numbers: `at` is the offset of the 4-byte address, `other` is 8 times the length byte, `point` is the bit width.
     // "The register block at {at} of the FADT has a length of {other:d} bits, and its X_ structure a width of
     // {point:d}."
-    // Neither is 0, nor is an address, and the length is at most that a width, of one byte, can say.
+    // Neither of them is 0, nor one of the addresses, and a width, which has one byte, can be this length.
     rule!(135 BlockWidth, given in TABLE where NOT_REDUCED: {
         WHOLE if PM1A_EVT_BLK != 0 && X_PM1A_EVT_ADDRESS != 0
             && PM1_EVT_LEN != 0 && PM1_EVT_LEN < 32 && X_PM1A_EVT_WIDTH != 0 && (8 * PM1_EVT_LEN) != X_PM1A_EVT_WIDTH
