@@ -1,7 +1,9 @@
 """The parts of the crates that are written: the rules of acpi_lint, and the texts of acpi_c."""
 
+import re
+
 from .rules import SEVERITIES
-from .tree import CRATES, SCRIPT, lines_of, named, quoted, replaced, wrapped
+from .tree import CRATES, SCRIPT, Wrong, lines_of, named, quoted, replaced, wrapped
 
 RULE = CRATES / "acpi_lint/src/rule.rt"
 ROWS = CRATES / "acpi_lint/specs/Rules/Rows.antt"
@@ -10,10 +12,28 @@ BEGIN, END = f"    // begin: rules, made by {SCRIPT}", "    // end: rules"
 WIDEST = 60  # characters between parentheses, beyond which `rt fmt` writes a line for each item
 
 
-def row_of(rule):
-    items = [f"Rule::{rule.name}", str(rule.number), quoted(rule.name)]
+TABLE = re.compile(r"^const ROWS: \[\(([^)]*)\); [^\]]*\] = \[\n", re.M)
+# What a row of this table has in a column of this type.
+COLUMNS = {
+    "Rule": lambda rule: f"Rule::{rule.name}",
+    "u16": lambda rule: str(rule.number),
+    "&str": lambda rule: quoted(rule.name),
+}
+
+
+def row_of(rule, columns):
+    items = [column(rule) for column in columns]
     inside = ", ".join(items)
     return [f"    ({inside}),"] if len(inside) <= WIDEST else ["    (", *(f"        {item}," for item in items), "    ),"]
+
+
+def columns_of(text):
+    """What the rows of the table ROWS have, by its type."""
+    table = TABLE.search(text)
+    types = table[1].split(", ") if table else []
+    if not types or not COLUMNS.keys() >= set(types):
+        raise Wrong(f"{named(RULE)}: no table ROWS whose columns are of the types {', '.join(COLUMNS)}")
+    return [COLUMNS[kind] for kind in types]
 
 
 def variants(rules):
@@ -26,9 +46,9 @@ def rule_source(text, rules):
     """What src/rule.rt of acpi_lint has to be."""
     body = lines_of([BEGIN, *variants(rules), END])
     text = replaced(r"(^pub enum Rule \{\n).*?(?=^\})", text, body, f"{named(RULE)}: the enum Rule")
-    rows = lines_of([BEGIN, *(line for rule in rules for line in row_of(rule)), END])
-    table = r"(^const ROWS: \[\(Rule, u16, &(?:'static )?str\); [^\]]*\] = \[\n).*?(?=^\];)"
-    text = replaced(table, text, rows, f"{named(RULE)}: ROWS, a table of rules, numbers and names")
+    columns = columns_of(text)
+    rows = lines_of([BEGIN, *(line for rule in rules for line in row_of(rule, columns)), END])
+    text = replaced(rf"({TABLE.pattern}).*?(?=^\];)", text, rows, f"{named(RULE)}: the table ROWS")
     return replaced(r"(^    pub const COUNT: usize = )\d+(?=;$)", text, str(len(rules)), f"{named(RULE)}: the number of rules")
 
 

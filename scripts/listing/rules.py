@@ -1,5 +1,5 @@
-"""The rules of advice, as the comments at them in crates/acpi_lint/src say. Such a comment is above the first row of a rule, or ends
-the comment of the function that finds it:
+"""The rules of advice, as the comments at them in crates/acpi_lint/src say. Such a comment is above the first row of a rule, or begins
+the comment of the function that finds it, followed by an empty line:
 
     // 140 SmiHalf, likely wrong (5.2.9): SMI_CMD cannot switch between legacy mode and ACPI mode, or is 0 and its values
     // are not.

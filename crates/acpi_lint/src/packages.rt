@@ -110,12 +110,12 @@ fn first_outside(
     None
 }
 
-/// The first leaf with an ID, `point`, whose chain of Parents ends and has no physical package. Allocates for each leaf
-/// and for each node.
-///
 /// 182 NoPackage, likely wrong (5.2.30.1): no node from a leaf to its root is a package.
 /// Numbers: `at` is the leaf's offset, `point` is its ACPI Processor ID.
 /// "The leaf at {at} of the PPTT, of ACPI Processor ID {point:d}, is in no package."
+///
+/// The first leaf with an ID, `point`, whose chain of Parents ends and has no physical package. Allocates for each leaf
+/// and for each node.
 fn no_package(alloc: Global, policy: &Policy, pptt: &Table<'_>) -> Result<Option<Place>, AllocError>
     ensures { IfOk result (FindsLeast (IsNoPackage (pptt_contents pptt.now))) }
 {
