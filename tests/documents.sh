@@ -342,8 +342,7 @@ told=$(sed -n '/^\.SH SYNOPSIS$/,/^\.SH DESCRIPTION$/p' man/acpiset.3 | grep -o 
 within 'fields that the synopsis of man/acpiset.3 does not name' "$(for own in piece inputs settings finding answer; do members "acpiset_$own"; done)" "$told"
 within 'settings that LIBRARY.md does not explain' "$(members acpiset_settings | grep -vx size)" "$(sed -n '/^## Settings$/,/^## /s/^| `\([a-z_]*\)`.*/\1/p' docs/LIBRARY.md)"
 
-count 'the Rust crate, and what its lists are written from' "$(bindings/rust/lists.py --check 2>&1)"
-count 'the Python package, and what its lists are written from' "$(bindings/python/lists.py --check 2>&1)"
+count 'lists and texts, and what they are written from' "$(scripts/lists.py --check 2>&1)"
 
 # What a call needs of the stack is said wherever the library is described, with one number.
 said=$(for page in bindings/c/acpiset.h man/acpiset.3 bindings/rust/src/lib.rs bindings/rust/README.md bindings/python/README.md \
@@ -361,7 +360,7 @@ within 'tools that the README of an archive does not name' "$tools" "$(grep -o '
 count 'an install' "$(BINARY=/bin/sh LIBRARY=none DESTDIR=$scratch/root PREFIX=/usr scripts/install install 2>&1)"
 if [ -z "$(git rev-parse --show-cdup 2>&1)" ]; then
   packed=$(git ls-files -- LICENSE README.md CHANGELOG.md CONTRIBUTING.md SECURITY.md bench/README.md docs 'man/*.[0-9]' share tests/images examples \
-    bindings/rust bindings/python | grep -v '/lists.py$\|/\.[^/]*$\|^bindings/rust/tests/[^t]')
+    bindings/rust bindings/python | grep -v '/\.[^/]*$\|^bindings/rust/tests/[^t]')
   agree 'files that release/files.txt lists (<) and those that git has (>)' "$(grep -v '^#' release/files.txt)" "$packed"
 else
   echo 'left out: the files that release/files.txt lists: this folder is not the top of a repository'

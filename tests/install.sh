@@ -652,7 +652,7 @@ tar -xzf "$archive" -C "$scratch/unpacked"
 beside=$({
   printf '%s\n' bindings/rust/Cargo.lock bindings/rust/Cargo.toml bindings/rust/README.md bindings/rust/build.rs bindings/rust/tests/tables_in_memory.rs
   of_tree 'bindings/rust/src/*' 'bindings/rust/examples/*' 'examples/*'
-  of_tree 'bindings/python/*' | grep -v '/lists.py$\|/\.[^/]*$'
+  of_tree 'bindings/python/*' | grep -v '/\.[^/]*$'
 } | sorted)
 mapfile -t installed <<<"$with_library"$'\n'"$beside"
 same 'files in the archive with the library' "$(files_in "$unpacked" | grep -v SHA256SUMS)" "$(packed "${installed[@]}")"

@@ -127,7 +127,7 @@ struct acpiset_answer acpiset_confirm(const struct acpiset_piece *pieces, size_t
                                       const struct acpiset_settings *settings, const struct acpiset_finding *finding) ACPISET_CALL;
 
 /* The most findings that acpiset_lint of this version reports. A shared library of a later version may count more. */
-/* begin: most, made by lists.py */
+/* begin: most, made by scripts/lists.py */
 #define ACPISET_MOST_FINDINGS 143
 /* end: most */
 
@@ -176,7 +176,7 @@ uint32_t acpiset_abi(void) ACPISET_CALL;
 /* ---- codes, rules and names */
 
 /* The codes of faults, by the stage that reports them. acpiset-faults(7) says of each what its numbers are and what to fix. */
-/* begin: codes, made by lists.py */
+/* begin: codes, made by scripts/lists.py */
 enum acpiset_code {
     /* stage 1: the RSDP */
     ACPISET_RSDP_OUT = 1,                 /* the 20 bytes at the RSDP's address are not all in the image */
@@ -260,7 +260,7 @@ enum acpiset_code {
 
 /* The rules of advice. A set of tables may have a reason to break one. A processor is usable if it is Enabled or Online
  * Capable. */
-/* begin: rules, made by lists.py */
+/* begin: rules, made by scripts/lists.py */
 enum acpiset_rule {
     ACPISET_LISTED_TWICE = 101,         /* an address is listed twice */
     ACPISET_SECOND_TABLE = 102,         /* a second table of a kind is listed, of which only the first is read */
@@ -350,7 +350,7 @@ enum acpiset_rule {
 /* end: rules */
 
 /* The name of a code or a rule as the program prints it, such as "RsdpOut"; "" if there is none of this number. */
-/* begin: names, made by lists.py */
+/* begin: names, made by scripts/lists.py */
 static inline const char *acpiset_number_name(uint32_t number) {
     switch (number) {
     case ACPISET_RSDP_OUT: return "RsdpOut";
@@ -502,7 +502,7 @@ static inline const char *acpiset_number_name(uint32_t number) {
 /* end: names */
 
 /* The stage that reports the code, 1 to 18; 0 if there is no such code. */
-/* begin: stages, made by lists.py */
+/* begin: stages, made by scripts/lists.py */
 static inline uint32_t acpiset_stage_of(uint32_t code) {
     static const uint8_t stages[] = {
         0, 1, 1, 1, 1, 1, 1, 1, 2, 2, 2, 2, 2, 2, 2, 3, 3, 3, 3, 4,
@@ -522,7 +522,7 @@ enum acpiset_severity {
 };
 
 /* The severity of a code or a rule; 0 if there is none of this number, as for those of a later library. */
-/* begin: severities, made by lists.py */
+/* begin: severities, made by scripts/lists.py */
 static inline uint32_t acpiset_severity_of(uint32_t number) {
     switch (number) {
     case ACPISET_MADT_UNREAD:
@@ -618,7 +618,7 @@ static inline uint32_t acpiset_severity_of(uint32_t number) {
 /* end: severities */
 
 /* The name of a kind, such as "OutOfMemory"; "" if there is none of this number. */
-/* begin: kinds, made by lists.py */
+/* begin: kinds, made by scripts/lists.py */
 static inline const char *acpiset_kind_name(uint32_t kind) {
     switch (kind) {
     case ACPISET_YES: return "Yes";
@@ -660,7 +660,7 @@ static inline const char *acpiset_kind_name(uint32_t kind) {
     ACPISET_ASSERT(offsetof(struct name, field) == (offset) && sizeof(((struct name *)0)->field) == (size))
 #define ACPISET_SIZE(name, size) ACPISET_ASSERT(sizeof(struct name) == (size))
 
-/* begin: layout, made by lists.py */
+/* begin: layout, made by scripts/lists.py */
 ACPISET_FIELD(acpiset_piece, address, 0, 8);
 ACPISET_FIELD(acpiset_piece, bytes, 8, 8);
 ACPISET_FIELD(acpiset_piece, length, 16, 8);

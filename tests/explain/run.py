@@ -59,6 +59,46 @@ def lines_without_image(tests):
         tests.says(b"", [title, "..- Example: "], None, word)
 
 
+# Lines of advice, and the sentence on each: with numbers in hexadecimal and in decimal, a signature, and one of several sentences.
+SENTENCES = [
+    ("TimerLevel 0x54 0x0 0xd", "The override at 0x54 of the MADT, of ISA interrupt 0, the timer, is level-triggered: its Flags are 0xd."),
+    ("FadtOfRevision 0x4 0xf4 0x114", "The FADT's Length, at 0x4, is 244, and its Revision needs 276 bytes."),
+    ("SameHart 0x96 0x82 0xffffffffffffffff", "The usable hart at 0x96 of the MADT has the ID 18446744073709551615, as the one at 0x82 does."),
+    ("NoProcessor 0x0 0x0 0x0", "No processor of the MADT is usable."),
+    ("RsdtDiffers 0x10 0x0 0x54545050", "..list different numbers of tables with the signature PPTT."),
+    ("RsdtDiffers 0x10 0x0 0x54545009", "..list different numbers of tables with the signature 0x54545009."),
+    ("RsdtDiffers 0x10 0x0 0xe9e9e9e9", "..list different numbers of tables with the signature 0xe9e9e9e9."),
+    ("NoPm1Block 0x38 0x0 0x0", "PM1a_EVT_BLK, at 0x38 of the FADT, has no address."),
+    ("NoPm1Block 0x40 0x0 0x0", "PM1a_CNT_BLK, at 0x40 of the FADT, has no address."),
+    ("HalfBlock 0x50 0x0 0x620", "The register block at 0x50 of the FADT has the address 0x620, and the length 0."),
+    ("HalfBlock 0x50 0x4 0x0", "The register block at 0x50 of the FADT has the length 4, and no address."),
+    ("SmiHalf 0x30 0x35 0x0", "SMI_CMD, at 0x30 of the FADT, is 0, and the command at 0x35 is not."),
+    ("SmiHalf 0x30 0x34 0xb2", "SMI_CMD, at 0x30 of the FADT, is 0xb2, and ACPI_ENABLE, at 0x34, is the same as ACPI_DISABLE."),
+    ("FadtForArch 0x70 0x0 0x0", "..Flags, at 0x70 of the FADT, do not say that the hardware is reduced."),
+    ("FadtForArch 0x8 0x5 0x0", "The MADT is of Arm, and the FADT, of version 5.0, is older than 5.1."),
+    ("SleepRegister 0x100 0x0 0x0", "The sleep register at 0x100 of the FADT has no address, or the bit width 0."),
+    ("SleepRegister 0xf4 0x10 0x1", "The sleep register at 0xf4 of the FADT has 16 bits from bit 1 on, not 8 from bit 0 on."),
+    ("MadtReserved 0x28 0x0 0x3", "Flags, at 0x28 of the MADT, are 0x3, in which a reserved bit is set."),
+    ("MadtReserved 0x3c 0x3 0x0", "The structure at 0x3c of the MADT has a reserved value at its offset 3."),
+    ("SratReserved 0x24 0x0 0x2", "The number at 0x24 of the SRAT is 0x2, not 1."),
+    ("SratReserved 0x30 0x4 0x0", "The structure at 0x30 of the SRAT has a reserved value at its offset 4."),
+]
+
+
+def sentences(tests):
+    """A line of advice is followed by a sentence with its numbers, a fault by nothing."""
+    for line, text in SENTENCES:
+        tests.says(f"advice {line}", text)
+    tests.says("no 3 TableSum 0x1 0x3000 0x0", "..no 3 TableSum 0x1 0x3000 0x0\n\n18 TableSum\n")
+    names = re.findall(r"^### (\d+) (\w+)$", Path(TOP, "docs/FAULTS.md").read_text(encoding="utf-8"), re.M)
+    rules = [name for number, name in names if int(number) > 100]
+    said = tests.run(text="\n".join(f"advice {name} 0x51 0x52 0x53" for name in rules)).stdout.decode().split("\n")
+    told = {name: said[said.index(f"advice {name} 0x51 0x52 0x53") + 1] for name in rules}
+    tests.count("rules of advice that have a sentence", "" if rules and len(set(told.values())) == len(rules) else f"{len(set(told.values()))}")
+    wrong = {name: text for name, text in told.items() if not re.fullmatch(r"[A-Z][^{}]*\.", text)}
+    tests.count("sentences on lines of advice", str(wrong) if wrong else "")
+
+
 # Lines that acpiset does not write.
 NO_LINES = """no 3 RsdpSum 0x0 0x0 0x0
 no 1 RsdpSun 0x0 0x0 0x0
@@ -595,7 +635,7 @@ def many(tests):
         tests.refuses(2, "one line, name or code, and one image at most", *words)
 
 
-PARTS = [lines_without_image, refused_lines, structures, chains, numbers, fields, advised, unread, judged, other_programs]
+PARTS = [lines_without_image, sentences, refused_lines, structures, chains, numbers, fields, advised, unread, judged, other_programs]
 PARTS += [shown, image_texts, streams, places, many, terminal]
 
 

@@ -4,13 +4,13 @@ from acpi_images.advice import RULES
 from acpi_images.faults import STAGE_OF
 from builds import HEADER, HERE, TOP, difference, refused_by, run, syntaxes
 
-# Changes of parts that lists.py compares, and does not write.
+# Changes of parts that scripts/lists.py compares, and does not write.
 BY_HAND = ("a kind's number", "a kind", "the version")
 
 
 def lists(cases, scratch):
     """The lists of the header are those of the crates, and the script that compares them sees what differs."""
-    script = TOP / "bindings" / "c" / "lists.py"
+    script = TOP / "scripts" / "lists.py"
     told, status = run([script, "--check"])
     cases.count("lists of the header", told if told or status else "")
     text = HEADER.read_text()
@@ -30,10 +30,10 @@ def lists(cases, scratch):
         cases.count(f"{name}, to be changed", "" if old in text else f"the header does not have {old}")
         other = scratch / "other.h"
         other.write_text(text.replace(old, new, 1))
-        told, status = run([script, "--check", other])
+        told, status = run([script, "--check", "--header", other])
         cases.count(f"{name}, changed", "" if told and status == 1 else f"{told}, status {status}")
         if name not in BY_HAND:
-            run([script, other])
+            run([script, "--header", other])
             cases.count(f"{name}, made anew", "" if other.read_text() == text else "another header")
 
 

@@ -76,34 +76,6 @@ if python3 -c 'import mypy' 2>/dev/null; then
 else
   left_out 'the types' 'mypy is not installed'
 fi
-# ---- what lists.py sees: each change of the header and of docs/FAULTS.md, in a copy of the tree
-
-# sees TEXT FILE EDIT: a change of a file by an edit of sed, of which lists.py has to say this.
-sees() {
-  rm -rf "$scratch/tree"
-  mkdir -p "$scratch/tree/bindings" "$scratch/tree/docs"
-  cp -r "$SOURCE/bindings/c" "$package" "$scratch/tree/bindings"
-  cp "$SOURCE/docs/FAULTS.md" "$scratch/tree/docs"
-  sed -i "$3" "$scratch/tree/$2"
-  cmp -s "$scratch/tree/$2" "$SOURCE/$2" && count "the edit $3" 'it changes nothing'
-  ! "$scratch/tree/bindings/python/lists.py" --check >"$scratch/log" 2>&1 && grep -qF -- "$1" "$scratch/log"
-  count "lists.py after the edit $3, which has to say \"$1\"" "$([ $? = 0 ] || { echo 'it says:'; cat "$scratch/log"; })"
-}
-header=bindings/c/acpiset.h
-ran 'lists.py' "$package/lists.py" --check
-sees 'acpiset/_lists.py is not what' docs/FAULTS.md 's/^- Fix: list the FADT\./- Fix: add the FADT./'
-ran 'lists.py, which writes the change' "$scratch/tree/bindings/python/lists.py"
-ran 'lists.py after that' "$scratch/tree/bindings/python/lists.py" --check
-sees 'acpiset/_lists.py is not what' $header 's/ACPISET_NO_FADT = 19,/ACPISET_NO_FADT = 20,/'
-sees 'acpiset/_lists.py is not what' $header 's/return "NoFadt"/return "NoFACP"/'
-sees 'kind 9: None in acpiset.h, BadCode in the package' $header 's/ACPISET_BAD_CODE = 9,/ACPISET_BAD_CODE = 17,/'
-sees 'kind 9: BadNumber in acpiset.h, BadCode in the package' $header 's/return "BadCode"/return "BadNumber"/'
-sees 'ABI: 2 in acpiset.h, 1 in the package' $header 's/^#define ACPISET_ABI 1/#define ACPISET_ABI 2/'
-sees 'answer.at: (12, 8) in acpiset.h, (16, 8) in the package' $header 's/(acpiset_answer, at, 16, 8)/(acpiset_answer, at, 12, 8)/'
-sees 'settings: 40 in acpiset.h, 32 in the package' $header 's/(acpiset_settings, 32)/(acpiset_settings, 40)/'
-sees 'acpiset_find: ' $header 's/^struct acpiset_answer acpiset_find(/&const char *text, /'
-sees 'severity 4: ERROR in acpiset.h' $header 's/ACPISET_FAULT = 4/ACPISET_ERROR = 4/'
-sees 'hotplug 1: ALONE in acpiset.h' $header 's/ACPISET_HOTPLUG_APART = 1/ACPISET_HOTPLUG_ALONE = 1/'
 
 count 'files that were written into the tree' "$(find "$package" "$SOURCE/examples" -newer "$scratch/functions.py" ! -type d)"
 

@@ -128,9 +128,10 @@ def verdicts(cases):
     reported(cases, ["yes"], status=0, json={"verdict": "yes", "passed": True, "findings": []}, tap=[(True, "yes", None)], junit=[("yes", None, None)], sarif=[])
     for line in ("true", "rsdp 0xf59e0"):
         reported(cases, [line], status=0, json={"verdict": line, "passed": True, "findings": []}, tap=[(True, line, None)], junit=[(line, None, None)], sarif=[])
-    listed, shape = "A slot holds the same address as an earlier slot.", "A cache says that its Number of sets is valid, but that is 0; or that its Line size is valid"
+    listed = "Slot 3 lists the address 0x47fc198e, as slot 2 does."
     run = cases.run("report", "--format", "sarif", data=f"yes\n{LISTED}\n{SHAPE}\n{UNREAD}\n".encode())
     told = sarif_of(run.stdout.decode())
+    cases.count("a message of advice", not told[0][2].startswith(f"{listed} Line of acpiset: {LISTED}. Numbers: at is the slot's number, ") and f"{told[0]}")
     cases.count("levels of advice", [one[:2] for one in told] != [("ListedTwice", "warning"), ("CacheShape", "note"), ("MadtUnread", "note")] and f"{told}", run.returncode and "its status")
     reported(
         cases, ["yes", LISTED], status=0,
@@ -250,6 +251,18 @@ def prove(cases):
         cases.count(f"prove of {lines!r} {words}", (told.returncode != 0) != status and f"{told}")
 
 
+def beside_no_modules(cases):
+    """The tool and FAULTS.md without share/acpiset: advice has the first sentence of the page."""
+    for part in ("tools/report", "docs/FAULTS.md"):
+        os.makedirs(cases.path(os.path.join("bare", os.path.dirname(part))))
+        shutil.copy(os.path.join(TOP, part), cases.path(os.path.join("bare", part)))
+    words = [sys.executable, cases.path("bare/tools/report"), "--format", "tap"]
+    run = subprocess.run(words, input=f"yes\n{LISTED}\n".encode(), capture_output=True, timeout=600)
+    wanted = [(True, "yes", None), (False, f"{LISTED}: A slot holds the same address as an earlier slot.", "TODO")]
+    told = read("tap", run.stdout.decode())
+    cases.count("tap without modules", run.returncode and f"{run}", told != wanted and f"{told}")
+
+
 def beside_no_document(cases):
     """The tool alone, without FAULTS.md."""
     shutil.copy(os.path.join(TOP, "tools", "report"), cases.path("alone"))
@@ -367,5 +380,5 @@ def shown_by_hand(cases):
 
 
 def all_cases(cases):
-    for part in (verdicts, each_name, no_verdicts, refused, names_of_images, prove, beside_no_document, shown_sets, shown_by_hand):
+    for part in (verdicts, each_name, no_verdicts, refused, names_of_images, prove, beside_no_modules, beside_no_document, shown_sets, shown_by_hand):
         part(cases)

@@ -1,6 +1,6 @@
 """The codes of faults and the rules of advice."""
 
-# Written by lists.py from acpiset.h and docs/FAULTS.md: change those, and run it again.
+# Written by scripts/lists.py from the crates and docs/FAULTS.md: change those, and run it again.
 
 from enum import IntEnum
 from typing import Dict

@@ -1,6 +1,6 @@
 //! The stages, codes and rules.
 
-// Written by lists.py from definitions and docs/FAULTS.md: change those, and run it again.
+// Written by scripts/lists.py from the crates and docs/FAULTS.md: change those, and run it again.
 
 use crate::finding::Severity;
 use crate::numbered::numbered;

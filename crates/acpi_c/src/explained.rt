@@ -1,4 +1,4 @@
-//! What docs/FAULTS.md says of the codes and the rules. bindings/c/lists.py writes this file.
+//! What docs/FAULTS.md says of the codes and the rules. scripts/lists.py writes this file.
 
 use crate::meaning::Severity;
 use acpi_base::Code;

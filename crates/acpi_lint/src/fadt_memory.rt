@@ -19,6 +19,10 @@ fn is_no_dsdt(image: &LentImage<'_>, address: u64) -> bool
         || fails(image, address, Frame::TABLE, Question::Sum)
 }
 
+/// 133 DsdtWrong, likely wrong (5.2.11.1): the DSDT has another signature, a wrong Length or a wrong checksum.
+/// Numbers: `at` is 0x28 (40), the offset of DSDT in the FADT, `point` is the DSDT's address.
+/// "The DSDT at {point}, which the FADT names, has another signature, a wrong Length or a wrong checksum."
+///
 /// DSDT, at 40, if what a FADT names as the DSDT is none, or has a wrong checksum.
 pub fn dsdt_wrong(image: &LentImage<'_>, fadt: &Fadt<'_>) -> Option<Place>
     ensures { FindsLeast (IsDsdtWrong image.now fadt.now) result }
@@ -41,6 +45,10 @@ fn odd_facs(bytes: &[u8]) -> Option<Place>
     above(bytes, 20, 4, 3).or(version)
 }
 
+/// 146 FacsReserved, look at it (5.2.10): a field of the FACS has a reserved value.
+/// Numbers: `at` is the field's offset in the FACS, `point` is its value.
+/// "The field at {at} of the FACS has the value {point}, which is reserved."
+///
 /// The same of the FACS that a FADT names, if it is valid.
 pub fn facs_reserved(image: &LentImage<'_>, fadt: &Fadt<'_>) -> Option<Place>
     ensures { FindsLeast (IsFacsReserved image.now fadt.now) result }

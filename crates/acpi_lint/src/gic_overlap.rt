@@ -75,6 +75,11 @@ fn register_spans(alloc: Global, madt: &Table<'_>) -> Result<Vec<Span>, AllocErr
     )
 }
 
+/// 168 GicOverlap, likely wrong (5.2.12.15): two structures of the GIC share an address.
+/// Numbers: `at` and `other` are the offsets of two such structures, first the one with the lower address, `point` is
+/// the lowest address at which two overlap.
+/// "The structures of the GIC at {at} and {other} of the MADT share the address {point}."
+///
 /// The lowest address that the registers of two parts have, and the first two that have it. None
 /// if no two parts share an address. Allocates for each part.
 pub fn gic_overlap(alloc: Global, madt: &Table<'_>) -> Result<Option<Place>, AllocError>

@@ -59,6 +59,10 @@ pub fn odd_field(header: &[u8]) -> Option<u8>
     }
 }
 
+/// 148 HeaderText, look at it (5.2.6): a text of a table's header has a byte that is not printable.
+/// Numbers: `at` is the slot's number, `other` the offset of the text, `point` is the table's address.
+/// "The table at {point}, of slot {at:d}, has a byte that is not printable in the text at {other} of its header."
+///
 /// The first slot that lists a header with such a field. The tables are those of a set.
 pub fn header_text(tables: &CompleteTables<'_>) -> Option<Place>
     ensures { (m : Memory) (p : ℕ) → AreCompleteTables m p tables.now
@@ -145,6 +149,11 @@ fn address_of(slots: &[Slot], number: u64) -> u64
     0
 }
 
+/// 149 SecondOther, look at it (5.2.6): a second table of a kind is listed that should be listed once.
+/// Numbers: `at` is the slot's number, `other` that of the first slot with this signature, `point` is the address in
+/// slot `at`.
+/// "Slot {at:d} lists a second table of a kind that should be listed once, at {point}: the first is in slot {other:d}."
+///
 /// The first slot that lists a table of which a set has one, at another address than the first slot with its signature.
 /// The tables are those of a set. Allocates for each such slot.
 pub fn second_other(alloc: Global, tables: &CompleteTables<'_>) -> Result<Option<Place>, AllocError>

@@ -57,6 +57,12 @@ fn redistributors(lengths: &[u64]) -> u128
     count
 }
 
+/// 161 GicrTooSmall, likely wrong (5.2.12.17): the ranges of redistributors are too small for the usable processors.
+/// Numbers: `at` is the offset of the first GICR, `other` is the number of redistributors for which there is room,
+/// `point` that of usable GICCs.
+/// "The ranges of redistributors, the first at {at} of the MADT, have room for {other:d}, and {point:d} processors are
+/// usable."
+///
 /// The first range of redistributors, with how many there are as `other`, and with how many CPU interfaces are usable
 /// as `point`, if these are more, and all ranges are known. Allocates for each of both.
 pub fn gicr_too_small(

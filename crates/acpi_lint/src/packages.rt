@@ -107,6 +107,10 @@ fn first_outside(
     None
 }
 
+/// 182 NoPackage, likely wrong (5.2.30.1): no node from a leaf to its root is a package.
+/// Numbers: `at` is the leaf's offset, `point` is its ACPI Processor ID.
+/// "The leaf at {at} of the PPTT, of ACPI Processor ID {point:d}, is in no package."
+///
 /// The first leaf with an ID, `point`, whose chain of Parents ends and has no physical package. Allocates for each leaf
 /// and for each node.
 pub fn no_package(

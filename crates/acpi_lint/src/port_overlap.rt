@@ -36,6 +36,11 @@ fn block_spans(alloc: Global, fadt: &Fadt<'_>) -> Result<Vec<Span>, AllocError>
     Ok(spans)
 }
 
+/// 137 PortsOverlap, likely wrong (5.2.9): two register blocks share an I/O port.
+/// Numbers: `at` and `other` are the offsets of the 4-byte fields of two such blocks, first the one at the lower port,
+/// `point` is the lowest port at which two blocks overlap.
+/// "The register blocks at {at} and {other} of the FADT share the I/O port {point}."
+///
 /// The lowest port that two register blocks have, and the first two that have it, if the hardware
 /// is not reduced. Allocates for each block.
 pub fn ports_overlap(alloc: Global, fadt: &Fadt<'_>) -> Result<Option<Place>, AllocError>

@@ -32,6 +32,10 @@ fn null_in(root: &Root<'_>) -> Option<Place>
     None
 }
 
+/// 129 NullSlot, look at it (5.2.7, 5.2.8): a slot of the root table is 0.
+/// Numbers: `at` is the slot's number, from 0.
+/// "Slot {at:d} is 0."
+///
 /// The first slot of a set's root table that is 0. None if no slot is, or the set has no complete
 /// root table. The tables are those of the set.
 pub fn null_slot(tables: &CompleteTables<'_>) -> Option<Place>
@@ -146,6 +150,12 @@ fn lowest_difference(mut ours: Vec<u64>, mut theirs: Vec<u64>) -> Result<Option<
     Ok(first_difference(&ours, &theirs))
 }
 
+/// 130 RsdtDiffers, likely wrong (5.2.7): the RSDT and the XSDT list different numbers of tables with a signature.
+/// Numbers: `at` is 0x10 (16), the offset of RsdtAddress in the RSDP, `point` is the signature as a little-endian
+/// number: 0x54545050 is `PPTT`. If several signatures differ, it is the lowest of these numbers.
+/// "The RSDT, by the address at {at} of the RSDP, and the XSDT list different numbers of tables with the signature
+/// {point:s}."
+///
 /// The lowest signature that the XSDT and the RSDT list a different number of times, if the RSDP at an address names
 /// both. The tables are those of the set. Allocates for each slot of the two.
 pub fn rsdt_differs(

@@ -69,6 +69,10 @@ fn odd_extended(image: &LentImage<'_>, rsdp: u64) -> Option<Place>
     long_rsdp(image, rsdp, bytes).or(used(bytes, 33, 36))
 }
 
+/// 147 RsdpReserved, look at it (5.2.5.3): a field of the RSDP has a reserved value.
+/// Numbers: `at` is the field's offset in the RSDP, `point` is its value.
+/// "The field at {at} of the RSDP has the value {point}, which is reserved."
+///
 /// The place of the first field or reserved byte of the RSDP at an address that has no meaning.
 pub fn rsdp_reserved(image: &LentImage<'_>, rsdp: u64) -> Option<Place>
     ensures { FindsLeast (IsRsdpReserved image.now rsdp) result }

@@ -106,6 +106,10 @@ fn is_nowhere(policy: &Policy, fadt: &Fadt<'_>, madt: &Table<'_>, gsi: u64) -> b
     is_unserved(policy, fadt, madt, gsi) && is_madt_well_formed(policy, madt)
 }
 
+/// 108 SciNowhere, likely wrong (5.2.9, 5.2.12.5): no I/O APIC serves the interrupt number of SCI_INT.
+/// Numbers: `at` is 0x2e (46), the offset of SCI_INT in the FADT, `point` is the interrupt number.
+/// "No I/O APIC serves interrupt number {point:d}, that of SCI_INT, at {at} of the FADT."
+///
 /// SCI_INT, at 46, if the hardware is not reduced, and none of the I/O APICs serves its interrupt number although
 /// there are some, and the MADT is well-formed.
 pub fn sci_nowhere(policy: &Policy, fadt: &Fadt<'_>, madt: &Table<'_>) -> Option<Place>

@@ -110,6 +110,10 @@ fn row_differs(bytes: &[u8], count: usize, i: usize) -> Option<Place>
     None
 }
 
+/// 121 SlitDiffers, look at it (5.2.17): the distance between two localities depends on the direction.
+/// Numbers: `at` is the offset of the distance from i to j, with i below j, `other` that of the distance from j to i.
+/// "The distance at {at} of the SLIT is not that at {other}, of the other direction."
+///
 /// The place of the first such distance of all localities.
 fn rows_differ(bytes: &[u8], count: usize) -> Option<Place>
     requires { HasRows bytes.now count }
@@ -145,6 +149,11 @@ fn row_local(bytes: &[u8], count: usize, i: usize) -> Option<Place>
     None
 }
 
+/// 179 RemoteAsLocal, likely wrong (5.2.17): the distance of a locality from another one is 10, that from itself.
+/// Numbers: `at` is the offset of the distance in the SLIT, `other` is i, `point` is j: it is the distance from i to j.
+/// "The distance from locality {other:d} to locality {point:d}, at {at} of the SLIT, is 10, that from a locality to
+/// itself."
+///
 /// The place of the first such distance of all localities; `other` is the locality from which it is.
 fn rows_local(bytes: &[u8], count: usize) -> Option<Place>
     requires { HasRows bytes.now count }

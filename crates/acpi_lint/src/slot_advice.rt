@@ -33,6 +33,11 @@ fn numbered_slots(alloc: Global, slots: &[Slot]) -> Result<Vec<Numbered>, AllocE
     Ok(given)
 }
 
+/// 101 ListedTwice, likely wrong (5.2.7, 5.2.8): an address is listed twice.
+/// Numbers: `at` is the slot's number, from 0, `other` that of the first slot with this address, `point` is the
+/// address.
+/// "Slot {at:d} lists the address {point}, as slot {other:d} does."
+///
 /// The first slot that lists an address that an earlier slot also lists. The tables are those of the set. Allocates for
 /// each slot.
 pub fn listed_twice(alloc: Global, tables: &CompleteTables<'_>) -> Result<Option<Place>, AllocError>
@@ -56,6 +61,11 @@ fn second_place(firsts: &FirstSlots, slot: &Slot) -> Option<Place>
     })
 }
 
+/// 102 SecondTable, likely wrong (5.2): a second table of a kind is listed, of which only the first is read.
+/// Numbers: `at` is the slot's number, `other` that of the first slot with this signature, `point` is the address in
+/// slot `at`.
+/// "Slot {at:d} lists a second table of a kind, at {point}: only the first one, in slot {other:d}, is read."
+///
 /// The first slot that lists a table of the same kind as an earlier one, at another address. The tables are those of
 /// the set.
 pub fn second_table(tables: &CompleteTables<'_>) -> Option<Place>
@@ -70,6 +80,10 @@ pub fn second_table(tables: &CompleteTables<'_>) -> Option<Place>
     None
 }
 
+/// 103 ListedApart, likely wrong (5.2.9): a DSDT or FACS is listed, which only the FADT should name.
+/// Numbers: `at` is the slot's number, `point` is the address in it.
+/// "Slot {at:d} lists a DSDT or FACS, at {point}: only the FADT should name it."
+///
 /// The first slot that lists a DSDT or a FACS, which only the FADT should name. The tables are those of the set.
 pub fn listed_apart(tables: &CompleteTables<'_>) -> Option<Place>
     ensures { (m : Memory) (p : ℕ) → AreCompleteTables m p tables.now

@@ -147,6 +147,11 @@ fn overlap_by_starts(sorted: &[Numbered]) -> Option<Place>
     None
 }
 
+/// 131 TablesOverlap, likely wrong (5.2): two structures, the RSDP or tables, share bytes of memory.
+/// Numbers: `at` and `other` are the addresses at which two such structures begin, the lower one first, `point` is the
+/// lowest address at which two of them overlap.
+/// "The structures at {at} and {other} both have the byte at {point}."
+///
 /// The lowest address that is in two structures of a set in memory, and where the first two that contain it begin; of
 /// those that begin at one address only the first is compared. The tables are those of the set that the RSDP at an
 /// address leads to. Allocates for each structure, and for each slot.

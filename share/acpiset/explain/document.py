@@ -4,6 +4,7 @@ import os
 import re
 from difflib import get_close_matches
 
+from .advised import sentence
 from .refusal import BAD_INPUT, Refusal
 
 FIRST_RULE = 101
@@ -43,6 +44,10 @@ class Line:
     def __init__(self, text, part, numbers=()):
         self.text, self.part = text, part
         self.numbers = [int(number, 16) for number in numbers] or [0, 0, 0]
+
+    def sentence(self):
+        """What a line of advice says, with its numbers; nothing of another line."""
+        return sentence(self.part.name, self.numbers) if self.part.code >= FIRST_RULE else ""
 
 
 class Document:

@@ -1,4 +1,4 @@
--- The rules of advice: their numbers and names.
+-- The rules of advice: their numbers and names. scripts/lists.py writes rule_row and all_rules.
 use Rattle.std.specs.Prelude.{ℕ, List, [], ◌∷◌, Option, codes, find}
 use Rattle.std.specs.Str.{bytes_eq}
 use Rattle.acpi_lint.specs.declared.rule.Rule.{Rule}
@@ -105,18 +105,18 @@ all_rules =
     rule.IoApicAtZero ∷ rule.SameIoApicId ∷ rule.SameIoApicAddress ∷ rule.NmiNowhere ∷ rule.SecondGicd ∷
     rule.NoProcessor ∷ rule.TwoUidDomains ∷ rule.AffinityNowhere ∷ rule.NoDomain ∷ rule.DomainPastSlit ∷
     rule.SlitDiffers ∷ rule.SameLeaf ∷ rule.CacheShape ∷ rule.SameCacheId ∷ rule.NoLeaf ∷ rule.LeafNowhere ∷
-    rule.MadtUnread ∷ rule.SratUnread ∷
-    rule.NullSlot ∷ rule.RsdtDiffers ∷ rule.TablesOverlap ∷ rule.NoDsdt ∷ rule.DsdtWrong ∷ rule.NoPm1Block ∷
-    rule.BlockWidth ∷ rule.HalfBlock ∷ rule.PortsOverlap ∷ rule.PortPastEnd ∷ rule.GpeOverlap ∷ rule.SmiHalf ∷
-    rule.SciZero ∷ rule.ResetNowhere ∷ rule.FadtForArch ∷ rule.SleepRegister ∷ rule.FadtReserved ∷
-    rule.FacsReserved ∷ rule.RsdpReserved ∷ rule.HeaderText ∷ rule.SecondOther ∷ rule.X2ApicBelow255 ∷
-    rule.BroadcastId ∷ rule.CapableTooEarly ∷ rule.EnabledAndCapable ∷ rule.OverridePastIsa ∷
-    rule.TimerLevel ∷ rule.TwoSourcesOneGsi ∷ rule.LintNotOne ∷ rule.NoIoApic ∷ rule.NoDistributor ∷
-    rule.NoRedistributor ∷ rule.GicrTooSmall ∷ rule.GiccBaseDiffers ∷ rule.SameMpidr ∷ rule.MpidrReserved ∷
-    rule.GicrEmpty ∷ rule.SameIts ∷ rule.SameMsiFrame ∷ rule.GicOverlap ∷ rule.RedistributorTwice ∷
-    rule.NoBootMethod ∷ rule.SameHart ∷ rule.MadtReserved ∷ rule.NoMemoryRange ∷ rule.EmptyRange ∷
-    rule.InitiatorOff ∷ rule.DomainPastRevision ∷ rule.ItsNowhere ∷ rule.SratReserved ∷ rule.RemoteAsLocal ∷
-    rule.LeafUnflagged ∷ rule.LeafAsParent ∷ rule.NoPackage ∷ rule.CacheNumbers ∷ rule.PpttReserved ∷ []
+    rule.MadtUnread ∷ rule.SratUnread ∷ rule.NullSlot ∷ rule.RsdtDiffers ∷ rule.TablesOverlap ∷ rule.NoDsdt ∷
+    rule.DsdtWrong ∷ rule.NoPm1Block ∷ rule.BlockWidth ∷ rule.HalfBlock ∷ rule.PortsOverlap ∷
+    rule.PortPastEnd ∷ rule.GpeOverlap ∷ rule.SmiHalf ∷ rule.SciZero ∷ rule.ResetNowhere ∷ rule.FadtForArch ∷
+    rule.SleepRegister ∷ rule.FadtReserved ∷ rule.FacsReserved ∷ rule.RsdpReserved ∷ rule.HeaderText ∷
+    rule.SecondOther ∷ rule.X2ApicBelow255 ∷ rule.BroadcastId ∷ rule.CapableTooEarly ∷
+    rule.EnabledAndCapable ∷ rule.OverridePastIsa ∷ rule.TimerLevel ∷ rule.TwoSourcesOneGsi ∷
+    rule.LintNotOne ∷ rule.NoIoApic ∷ rule.NoDistributor ∷ rule.NoRedistributor ∷ rule.GicrTooSmall ∷
+    rule.GiccBaseDiffers ∷ rule.SameMpidr ∷ rule.MpidrReserved ∷ rule.GicrEmpty ∷ rule.SameIts ∷
+    rule.SameMsiFrame ∷ rule.GicOverlap ∷ rule.RedistributorTwice ∷ rule.NoBootMethod ∷ rule.SameHart ∷
+    rule.MadtReserved ∷ rule.NoMemoryRange ∷ rule.EmptyRange ∷ rule.InitiatorOff ∷ rule.DomainPastRevision ∷
+    rule.ItsNowhere ∷ rule.SratReserved ∷ rule.RemoteAsLocal ∷ rule.LeafUnflagged ∷ rule.LeafAsParent ∷
+    rule.NoPackage ∷ rule.CacheNumbers ∷ rule.PpttReserved ∷ []
 
 -- the rule with this name
 unfoldable pub rule_named : List ℕ → Option Rule

@@ -18,22 +18,34 @@ const REDUCED_FLAG: &[Case<'static>] = any!({ WHOLE if (FLAGS & 0x10_0000) != 0 
 
 /// Rules on the FADT.
 pub static FADT: [Row<'static>; 14] = [
-    // the table is shorter than the fields of its Revision; below Revision 3 there is no minimum
+    // 104 FadtOfRevision, likely wrong (5.2.9): the FADT is too short for its Revision.
+    // Numbers: `at` is 0x4, the offset of Length, `other` is Length, `point` is the length that the Revision needs.
+    // "The FADT's Length, at {at}, is {other:d}, and its Revision needs {point:d} bytes."
+    // Below Revision 3 there is no minimum.
     rule!(104 FadtOfRevision, given in TABLE: {
         WHOLE if REVISION >= 6 && (length own) < 276 => at 4 shows (length own), 276;
         WHOLE if REVISION >= 5 && (length own) < 268 => at 4 shows (length own), 268;
         WHOLE if REVISION >= 3 && (length own) < 244 => at 4 shows (length own), 244
     }),
-    // FIRMWARE_CTRL and X_FIRMWARE_CTRL differ, and neither is 0
+    // 105 FacsDiffers, likely wrong (5.2.9): FIRMWARE_CTRL and X_FIRMWARE_CTRL differ.
+    // Numbers: `at` is 0x24 (36), the offset of FIRMWARE_CTRL, `other` is FIRMWARE_CTRL, `point` is X_FIRMWARE_CTRL.
+    // "FIRMWARE_CTRL, at {at} of the FADT, is {other}, and X_FIRMWARE_CTRL is {point}."
+    // Neither is 0.
     rule!(105 FacsDiffers, given in TABLE: {
         WHOLE if FIRMWARE_CTRL != 0 && X_FIRMWARE_CTRL != 0 && FIRMWARE_CTRL != X_FIRMWARE_CTRL
             => at 36 shows FIRMWARE_CTRL, X_FIRMWARE_CTRL
     }),
-    // DSDT and X_DSDT differ, and neither is 0
+    // 106 DsdtDiffers, likely wrong (5.2.9): DSDT and X_DSDT differ.
+    // Numbers: `at` is 0x28 (40), the offset of DSDT, `other` is DSDT, `point` is X_DSDT.
+    // "DSDT, at {at} of the FADT, is {other}, and X_DSDT is {point}."
+    // Neither is 0.
     rule!(106 DsdtDiffers, given in TABLE: {
         WHOLE if DSDT != 0 && X_DSDT != 0 && DSDT != X_DSDT => at 40 shows DSDT, X_DSDT
     }),
-    // the two addresses of a register block in system I/O differ
+    // 107 BlockDiffers, likely wrong (5.2.9): the two fields of a register block give different I/O ports.
+    // Numbers: `at` is the offset of the 4-byte address, `other` is this address, `point` is the address in the X_
+    // structure, which is at 148 + 3 * (`at` - 56).
+    // "The register block at {at} of the FADT has the I/O port {other} there, and {point} in its X_ structure."
     rule!(107 BlockDiffers, given in TABLE where NOT_REDUCED: {
         WHOLE if X_PM1A_EVT_SPACE == 1
             && PM1A_EVT_BLK != 0 && X_PM1A_EVT_ADDRESS != 0 && PM1A_EVT_BLK != X_PM1A_EVT_ADDRESS
@@ -60,20 +72,28 @@ pub static FADT: [Row<'static>; 14] = [
             && GPE1_BLK != 0 && X_GPE1_ADDRESS != 0 && GPE1_BLK != X_GPE1_ADDRESS
             => at 84 shows GPE1_BLK, X_GPE1_ADDRESS
     }),
-    // neither DSDT nor X_DSDT has an address
+    // 132 NoDsdt, likely wrong (5.2.9): the FADT names no DSDT.
+    // Numbers: `at` is 0x28 (40), the offset of DSDT.
+    // "DSDT, at {at} of the FADT, is 0, and X_DSDT is 0 or does not exist."
     rule!(132 NoDsdt, given in TABLE: {
         WHOLE if DSDT == 0 && X_DSDT == 0 => at 40 shows 0, 0;
         WHOLE if DSDT == 0 && (length own) < 148 => at 40 shows 0, 0
     }),
-    // PM1a_EVT_BLK or PM1a_CNT_BLK has no address
+    // 134 NoPm1Block, likely wrong (5.2.9): PM1a_EVT_BLK or PM1a_CNT_BLK is missing.
+    // Numbers: `at` is the offset of the 4-byte field, 0x38 (56) or 0x40 (64).
+    // If `at` is 0x38: "PM1a_EVT_BLK, at {at} of the FADT, has no address."
+    // "PM1a_CNT_BLK, at {at} of the FADT, has no address."
     rule!(134 NoPm1Block, given in TABLE where NOT_REDUCED: {
         WHOLE if PM1A_EVT_BLK == 0 && X_PM1A_EVT_ADDRESS == 0 => at 56 shows 0, 0;
         WHOLE if PM1A_EVT_BLK == 0 && (length own) < 160 => at 56 shows 0, 0;
         WHOLE if PM1A_CNT_BLK == 0 && X_PM1A_CNT_ADDRESS == 0 => at 64 shows 0, 0;
         WHOLE if PM1A_CNT_BLK == 0 && (length own) < 184 => at 64 shows 0, 0
     }),
-    // the length byte of a register block with two addresses, in bits, is not the width of its X_ structure; both are given,
-    // and a width can say it
+    // 135 BlockWidth, likely wrong (5.2.9): the length of a register block is not the width of its X_ structure.
+    // Numbers: `at` is the offset of the 4-byte address, `other` is 8 times the length byte, `point` is the bit width.
+    // "The register block at {at} of the FADT has a length of {other:d} bits, and its X_ structure a width of
+    // {point:d}."
+    // Neither of them is 0, nor one of the addresses, and a width, which has one byte, can be this length.
     rule!(135 BlockWidth, given in TABLE where NOT_REDUCED: {
         WHOLE if PM1A_EVT_BLK != 0 && X_PM1A_EVT_ADDRESS != 0
             && PM1_EVT_LEN != 0 && PM1_EVT_LEN < 32 && X_PM1A_EVT_WIDTH != 0 && (8 * PM1_EVT_LEN) != X_PM1A_EVT_WIDTH
@@ -100,7 +120,12 @@ pub static FADT: [Row<'static>; 14] = [
             && GPE1_BLK_LEN != 0 && GPE1_BLK_LEN < 32 && X_GPE1_WIDTH != 0 && (8 * GPE1_BLK_LEN) != X_GPE1_WIDTH
             => at 84 shows (8 * GPE1_BLK_LEN), X_GPE1_WIDTH
     }),
-    // just one of the length byte and the address is 0, of PM2_CNT, PM_TMR, GPE0 or GPE1
+    // 136 HalfBlock, likely wrong (5.2.9): a register block has an address and no length, or a length and no address.
+    // Numbers: `at` is the offset of the 4-byte field, `other` is the length byte, `point` is the address, or 0 if
+    // there is none.
+    // If `other` is 0: "The register block at {at} of the FADT has the address {point}, and the length 0."
+    // "The register block at {at} of the FADT has the length {other:d}, and no address."
+    // Looked at are PM2_CNT, PM_TMR, GPE0 and GPE1.
     rule!(136 HalfBlock, given in TABLE where NOT_REDUCED: {
         WHOLE if PM2_CNT_LEN != 0 && PM2_CNT_BLK == 0 && X_PM2_CNT_ADDRESS == 0
             => at 72 shows PM2_CNT_LEN, 0;
@@ -127,7 +152,10 @@ pub static FADT: [Row<'static>; 14] = [
         WHOLE if GPE1_BLK_LEN == 0 && X_GPE1_ADDRESS != 0 => at 84 shows 0, X_GPE1_ADDRESS;
         WHOLE if GPE1_BLK_LEN == 0 && GPE1_BLK != 0 => at 84 shows 0, GPE1_BLK
     }),
-    // GPE1_BASE is among the events of GPE0, which has 8 for each byte of half its length
+    // 139 GpeOverlap, likely wrong (5.2.9): GPE1_BASE is an event number of the GPE0 block.
+    // Numbers: `at` is 0x5e (94), the offset of GPE1_BASE, `other` is 4 * GPE0_BLK_LEN, `point` is GPE1_BASE.
+    // "GPE1_BASE, at {at} of the FADT, is {point:d}, and the GPE0 block has the events below {other:d}."
+    // GPE0 has 8 events for each byte of half its length.
     rule!(139 GpeOverlap, given in TABLE where NOT_REDUCED: {
         WHOLE if GPE0_BLK != 0 && GPE1_BLK != 0
             && GPE0_BLK_LEN != 0 && GPE1_BLK_LEN != 0 && GPE1_BASE < (4 * GPE0_BLK_LEN)
@@ -142,7 +170,12 @@ pub static FADT: [Row<'static>; 14] = [
             && GPE0_BLK_LEN != 0 && GPE1_BLK_LEN != 0 && GPE1_BASE < (4 * GPE0_BLK_LEN)
             => at 94 shows (4 * GPE0_BLK_LEN), GPE1_BASE
     }),
-    // SMI_CMD is a port, and ACPI_ENABLE is ACPI_DISABLE; or it is 0, and a command that is written to it is not
+    // 140 SmiHalf, likely wrong (5.2.9): SMI_CMD cannot switch between legacy mode and ACPI mode, or is 0 and its
+    // values are not.
+    // Numbers: `at` is 0x30 (48), the offset of SMI_CMD, `other` is the offset of ACPI_ENABLE, 0x34 (52), or of the
+    // first command that is not 0, `point` is SMI_CMD.
+    // If `point` is 0: "SMI_CMD, at {at} of the FADT, is 0, and the command at {other} is not."
+    // "SMI_CMD, at {at} of the FADT, is {point}, and ACPI_ENABLE, at {other}, is the same as ACPI_DISABLE."
     rule!(140 SmiHalf, given in TABLE where NOT_REDUCED: {
         WHOLE if SMI_CMD != 0 && ACPI_ENABLE == ACPI_DISABLE
             => at 48 shows 52, SMI_CMD;
@@ -152,16 +185,27 @@ pub static FADT: [Row<'static>; 14] = [
         WHOLE if SMI_CMD == 0 && PSTATE_CNT != 0 => at 48 shows 55, 0;
         WHOLE if SMI_CMD == 0 && CST_CNT != 0 => at 48 shows 95, 0
     }),
-    // SCI_INT is 0
+    // 141 SciZero, likely wrong (5.2.9): SCI_INT is 0.
+    // Numbers: `at` is 0x2e (46), the offset of SCI_INT.
+    // "SCI_INT, at {at} of the FADT, is 0."
     rule!(141 SciZero, given in TABLE where NOT_REDUCED: {
         WHOLE if SCI_INT == 0 => at 46 shows 0, 0
     }),
-    // RESET_REG_SUP, bit 10 of Flags, and a reset register with the address 0
+    // 142 ResetNowhere, likely wrong (5.2.9): the reset register is supported and has the address 0.
+    // Numbers: `at` is 0x74 (116), the offset of RESET_REG.
+    // "The reset register, at {at} of the FADT, is supported and has the address 0."
+    // RESET_REG_SUP is bit 10 of Flags.
     rule!(142 ResetNowhere, given in TABLE: {
         WHOLE if (FLAGS & 0x400) != 0 && (length own) >= 129 && RESET_REG_ADDRESS == 0
             => at 116 shows 0, 0
     }),
-    // a sleep register of reduced hardware has an address and not 8 bits from bit 0 on, or has none, and the other one has
+    // 144 SleepRegister, likely wrong (5.2.9): a sleep register of reduced hardware has no address, or not 8 bits from
+    // bit 0 on.
+    // Numbers: `at` is the register's offset, 0xf4 (244) or 0x100 (256). For a width or an offset `other` is the bit
+    // width, `point` is the bit offset; for a register without an address both are 0.
+    // If `other` is 0: "The sleep register at {at} of the FADT has no address, or the bit width 0."
+    // "The sleep register at {at} of the FADT has {other:d} bits from bit {point:d} on, not 8 from bit 0 on."
+    // A register without an address is found if the other one has one.
     rule!(144 SleepRegister, given in TABLE where REDUCED: {
         WHOLE if SLEEP_CONTROL_ADDRESS != 0 && SLEEP_CONTROL_WIDTH != 8
             => at 244 shows SLEEP_CONTROL_WIDTH, SLEEP_CONTROL_OFFSET;
@@ -176,8 +220,11 @@ pub static FADT: [Row<'static>; 14] = [
         WHOLE if SLEEP_STATUS_ADDRESS == 0 && SLEEP_CONTROL_ADDRESS != 0
             => at 256 shows 0, 0
     }),
-    // byte 44 above 1, Preferred_PM_Profile above 8, byte 111 not 0, or reserved bits of Flags: those above bit 23, or both
-    // of bits 23:22, of what caches keep
+    // 145 FadtReserved, look at it (5.2.9): a field of the FADT has a reserved value.
+    // Numbers: `at` is the field's offset, `point` is its value.
+    // "The field at {at} of the FADT has the value {point}, which is reserved."
+    // Reserved are byte 44 above 1, Preferred_PM_Profile above 8, byte 111 above 0, and in Flags the bits above bit 23
+    // and both of bits 23:22, of what caches keep.
     rule!(145 FadtReserved, given in TABLE: {
         WHOLE if RESERVED_44 > 1 => at 44 shows 0, RESERVED_44;
         WHOLE if PREFERRED_PM_PROFILE > 8 => at 45 shows 0, PREFERRED_PM_PROFILE;
@@ -189,8 +236,15 @@ pub static FADT: [Row<'static>; 14] = [
 
 /// Rules on the FADT with the MADT.
 pub static FADT_WITH_MADT: [Row<'static>; 3] = [
-    // a GIC CPU interface, and the FADT is older than 5.1: its Revision is the major version, and the lower 4 bits of the byte
-    // at 131 are the minor one, 0 if it is not there
+    // 143 FadtForArch, likely wrong (5.2.9): the MADT is of Arm or RISC-V, and the FADT is not of reduced hardware or
+    // is too old.
+    // Numbers: for HW_REDUCED_ACPI `at` is 0x70 (112), the offset of Flags. For the version `at` is 0x8, the offset of
+    // Revision, `other` is Revision, `point` is the minor version.
+    // If `at` is 0x70: "The MADT is of Arm or RISC-V, and Flags, at {at} of the FADT, do not say that the hardware is
+    // reduced."
+    // "The MADT is of Arm, and the FADT, of version {other:d}.{point:d}, is older than 5.1."
+    // This row: a GIC CPU interface, and a FADT older than 5.1. The lower 4 bits of the byte at 131 are the minor
+    // version, 0 if it is not there.
     rule!(143 FadtForArch, given in TABLE where (some other MADT_ENTRIES: { (any GICC) }): {
         WHOLE if ((MINOR_VERSION & 0xf) + 16 * REVISION) < 0x51
             => at 8 shows REVISION, (MINOR_VERSION & 0xf);
@@ -202,8 +256,11 @@ pub static FADT_WITH_MADT: [Row<'static>; 3] = [
     {
         WHOLE => at 112 shows 0, 0
     }),
-    // more than one usable GIC CPU interface, none of which has a version of the parking protocol, and bit 0 of ARM_BOOT_ARCH,
-    // PSCI, is clear (5.2.12.14)
+    // 170 NoBootMethod, likely wrong (5.2.12.14): there are several processors and neither PSCI nor a parking protocol.
+    // Numbers: `at` is 0x81 (129), the offset of ARM_BOOT_ARCH in the FADT, `point` is ARM_BOOT_ARCH.
+    // "Several processors are usable, ARM_BOOT_ARCH, at {at} of the FADT, is {point}, without PSCI, and none has a
+    // parking protocol."
+    // PSCI is bit 0 of ARM_BOOT_ARCH. A processor has a parking protocol if it has a version of it.
     rule!(170 NoBootMethod, given in TABLE where
         (two other MADT_ENTRIES: { GICC if (GICC_FLAGS & 0b1001) != 0 }),
         (none other MADT_ENTRIES: { GICC if (GICC_FLAGS & 0b1001) != 0 && GICC_PARKING_VERSION != 0 }),

@@ -119,34 +119,55 @@ const UNREAD_PROCESSORS: &[Case<'static>] = any!({
 
 /// Rules on the MADT, but for those on the parts of a GIC.
 pub static MADT: [Row<'static>; 18] = [
-    // two usable processors have the same UID
+    // 109 SameUid, likely wrong (5.2.12): two usable processors have the same UID.
+    // Numbers: `at` is the structure's offset, `other` that of the first usable one with this UID, `point` is the UID.
+    // "The usable processor at {at} of the MADT has the UID {point:d}, as the one at {other} does."
     rule!(109 SameUid, repeated in MADT_ENTRIES: USABLE_UIDS),
-    // two usable processors have the same APIC ID, x2APIC ID or core ID
+    // 110 SameApicId, likely wrong (5.2.12): two usable processors have the same APIC ID, x2APIC ID or core ID.
+    // Numbers: `at` is the structure's offset, `other` that of the first usable one with this ID, `point` is the ID.
+    // "The usable processor at {at} of the MADT has the APIC ID, x2APIC ID or core ID {point:d}, as the one at {other}
+    // does."
     rule!(110 SameApicId, repeated in MADT_ENTRIES: USABLE_APIC_IDS),
-    // an I/O APIC has the address 0 (5.2.12.3)
+    // 111 IoApicAtZero, likely wrong (5.2.12.3): an I/O APIC has the address 0.
+    // Numbers: `at` is the structure's offset.
+    // "The I/O APIC at {at} of the MADT has the address 0."
     rule!(111 IoApicAtZero, given in MADT_ENTRIES: {
         IO_APIC if IO_APIC_ADDRESS == 0 => at 0 shows 0, 0
     }),
-    // two I/O APICs have the same ID (5.2.12.3)
+    // 112 SameIoApicId, likely wrong (5.2.12.3): two I/O APICs have the same ID.
+    // Numbers: `at` is the structure's offset, `other` that of the first I/O APIC with this ID, `point` is the ID.
+    // "The I/O APIC at {at} of the MADT has the ID {point:d}, as the one at {other} does."
     rule!(112 SameIoApicId, repeated in MADT_ENTRIES: {
         IO_APIC => at 0 shows IO_APIC_ID, IO_APIC_ID
     }),
-    // two I/O APICs have the same address, which is not 0 (5.2.12.3)
+    // 113 SameIoApicAddress, likely wrong (5.2.12.3): two I/O APICs have the same address.
+    // Numbers: `at` is the structure's offset, `other` that of the first I/O APIC with this address, `point` is the
+    // address.
+    // "The I/O APIC at {at} of the MADT has the address {point}, as the one at {other} does."
+    // An address of 0 does not count.
     rule!(113 SameIoApicAddress, repeated in MADT_ENTRIES: {
         IO_APIC if IO_APIC_ADDRESS != 0 => at 0 shows IO_APIC_ADDRESS, IO_APIC_ADDRESS
     }),
-    // an NMI is for a UID that no processor has; all ones mean all processors (5.2.12.7, 5.2.12.13)
+    // 114 NmiNowhere, likely wrong (5.2.12.7, 5.2.12.13): a Local APIC NMI names a UID that no processor has.
+    // Numbers: `at` is the structure's offset, `point` is the UID.
+    // "The Local APIC NMI at {at} of the MADT names the UID {point:d}, which no processor has."
+    // A UID of all ones means all processors.
     rule!(114 NmiNowhere, nowhere in MADT_ENTRIES where PROCESSORS_READ, MADT_WHOLE, MADT_LENGTHS: {
         LOCAL_NMI if LOCAL_NMI_UID != 0xff => at 0 shows 0, LOCAL_NMI_UID;
         X2APIC_NMI if X2APIC_NMI_UID != 0xffff_ffff => at 0 shows 0, X2APIC_NMI_UID
     } among table MADT_ENTRIES UIDS),
-    // no processor is usable, and all are known
+    // 116 NoProcessor, likely wrong (5.2.12): no processor is usable.
+    // Numbers: all 0.
+    // "No processor of the MADT is usable."
+    // Applies if all processors are read.
     rule!(116 NoProcessor, given in TABLE where
         (none table MADT_ENTRIES: USABLE_UIDS), PROCESSORS_READ, MADT_WHOLE, MADT_LENGTHS:
     {
         WHOLE => at 0 shows 0, 0
     }),
-    // an entry of a type or length that neither `check` nor these rules read
+    // 127 MadtUnread, not looked at (5.2.12): a structure of the MADT of a type or length that is not read.
+    // Numbers: `at` is the offset of the first one, `other` its type.
+    // "The structure at {at} of the MADT, of type {other:d}, is not looked at."
     rule!(127 MadtUnread, given in MADT_ENTRIES: {
         UNREAD_6_TO_8 => at 0 shows TYPE, 0;
         (any GICC) if (length own) < 40 => at 0 shows TYPE, 0;
@@ -160,39 +181,60 @@ pub static MADT: [Row<'static>; 18] = [
         (any RINTC) if (length own) < 20 => at 0 shows TYPE, 0;
         UNREAD_FROM_25 => at 0 shows TYPE, 0
     }),
-    // a usable local APIC has an ID, and a usable local x2APIC an ID that a local APIC could have (5.2.12.12)
+    // 150 X2ApicBelow255, likely wrong (5.2.12.12): a usable local x2APIC and a usable local APIC both have an ID below
+    // 255.
+    // Numbers: `at` is the offset of the local x2APIC, `point` is its X2APIC ID.
+    // "The usable local x2APIC at {at} of the MADT has the ID {point:d}, below 255, beside usable local APICs."
     rule!(150 X2ApicBelow255, given in MADT_ENTRIES where (some table MADT_ENTRIES: {
         LOCAL_APIC if (LOCAL_APIC_FLAGS & 0b11) != 0 && LOCAL_APIC_ID != 255
     }): {
         X2APIC if (X2APIC_FLAGS & 0b11) != 0 && X2APIC_ID < 255 => at 0 shows 0, X2APIC_ID
     }),
-    // a usable processor has the ID that means all (5.2.12.2, 5.2.12.12)
+    // 151 BroadcastId, likely wrong (5.2.12.2, 5.2.12.12): a usable processor has the ID of a broadcast.
+    // Numbers: `at` is the structure's offset, `point` is the ID.
+    // "The usable processor at {at} of the MADT has the ID {point}, which means all processors."
     rule!(151 BroadcastId, given in MADT_ENTRIES: {
         LOCAL_APIC if (LOCAL_APIC_FLAGS & 0b11) != 0 && LOCAL_APIC_ID == 255 => at 0 shows 0, LOCAL_APIC_ID;
         X2APIC if (X2APIC_FLAGS & 0b11) != 0 && X2APIC_ID == 0xffff_ffff => at 0 shows 0, X2APIC_ID
     }),
-    // Enabled and Online Capable exclude each other (5.2.12.2, 5.2.12.12, 5.2.12.14)
+    // 153 EnabledAndCapable, look at it (5.2.12.2, 5.2.12.12, 5.2.12.14): a processor is both Enabled and Online
+    // Capable.
+    // Numbers: `at` is the structure's offset, `point` is its Flags.
+    // "The processor at {at} of the MADT is both Enabled and Online Capable: its Flags are {point}."
+    // The two flags exclude each other.
     rule!(153 EnabledAndCapable, given in MADT_ENTRIES: {
         LOCAL_APIC if (LOCAL_APIC_FLAGS & 0b11) == 0b11 => at 0 shows 0, LOCAL_APIC_FLAGS;
         X2APIC if (X2APIC_FLAGS & 0b11) == 0b11 => at 0 shows 0, X2APIC_FLAGS;
         GICC if (GICC_FLAGS & 0b1001) == 0b1001 => at 0 shows 0, GICC_FLAGS;
         RINTC if (RINTC_FLAGS & 0b11) == 0b11 => at 0 shows 0, RINTC_FLAGS
     }),
-    // the override of the timer's interrupt, 0, is level-triggered: bits 3:2 are 11b (5.2.12.5)
+    // 155 TimerLevel, likely wrong (5.2.12.5): the override of ISA interrupt 0, the timer, is level-triggered.
+    // Numbers: `at` is the override's offset, `point` is its Flags.
+    // "The override at {at} of the MADT, of ISA interrupt 0, the timer, is level-triggered: its Flags are {point}."
+    // Bits 3:2 of Flags are 11b.
     rule!(155 TimerLevel, given in MADT_ENTRIES: {
         OVERRIDE if OVERRIDE_SOURCE == 0 && (OVERRIDE_FLAGS & 0b1100) == 0b1100
             => at 0 shows 0, OVERRIDE_FLAGS
     }),
-    // two ISA interrupts are given one interrupt number (5.2.12.5)
+    // 156 TwoSourcesOneGsi, likely wrong (5.2.12.5): two ISA interrupts are overridden with one interrupt number.
+    // Numbers: `at` is the override's offset, `other` that of the first one with this number and another Source,
+    // `point` is the number.
+    // "The override at {at} of the MADT has interrupt number {point:d}, as the one at {other}, of another Source,
+    // does."
     rule!(156 TwoSourcesOneGsi, unlike in MADT_ENTRIES: {
         OVERRIDE => at 0 shows OVERRIDE_SOURCE, OVERRIDE_GSI
     }),
-    // an NMI is connected to another input than LINT1 (5.2.12.7, 5.2.12.13)
+    // 157 LintNotOne, look at it (5.2.12.7, 5.2.12.13): an NMI is connected to another input than LINT1.
+    // Numbers: `at` is the structure's offset, `point` is the LINT#.
+    // "The NMI at {at} of the MADT is connected to LINT{point:d}, not to LINT1."
     rule!(157 LintNotOne, given in MADT_ENTRIES: {
         LOCAL_NMI if LOCAL_NMI_LINT != 1 => at 0 shows 0, LOCAL_NMI_LINT;
         X2APIC_NMI if X2APIC_NMI_LINT != 1 => at 0 shows 0, X2APIC_NMI_LINT
     }),
-    // a usable local APIC and an override or NMI source, and neither an I/O APIC nor an I/O SAPIC (5.2.12.3)
+    // 158 NoIoApic, look at it (5.2.12.3): overrides or NMI sources are there, and no I/O APIC.
+    // Numbers: all 0.
+    // "The MADT has overrides or NMI sources, and no I/O APIC."
+    // There is a usable local APIC, and no I/O SAPIC.
     rule!(158 NoIoApic, given in TABLE where
         (none table MADT_ENTRIES: { (any IO_APIC); IO_SAPIC }),
         (some table MADT_ENTRIES: { (any OVERRIDE); (any NMI_SOURCE) }),
@@ -204,11 +246,18 @@ pub static MADT: [Row<'static>; 18] = [
     {
         WHOLE => at 0 shows 0, 0
     }),
-    // two usable harts have the same ID
+    // 171 SameHart, likely wrong: two usable harts have the same ID.
+    // Numbers: `at` is the structure's offset, `other` that of the first usable one with this ID, `point` is the ID.
+    // "The usable hart at {at} of the MADT has the ID {point:d}, as the one at {other} does."
     rule!(171 SameHart, repeated in MADT_ENTRIES: {
         RINTC if (RINTC_FLAGS & 0b11) != 0 => at 0 shows RINTC_HART_ID, RINTC_HART_ID
     }),
-    // a flag of the table above bit 0
+    // 172 MadtReserved, look at it (5.2.12): a field of the MADT has a reserved value.
+    // Numbers: for the MADT's Flags `at` is 0x28 (40), `point` is Flags. Otherwise `at` is the structure's offset,
+    // `other` the offset in it of the first field or byte that is wrong.
+    // If `at` is 0x28: "Flags, at {at} of the MADT, are {point}, in which a reserved bit is set."
+    // "The structure at {at} of the MADT has a reserved value at its offset {other:d}."
+    // This row: a flag of the table above bit 0.
     rule!(172 MadtReserved, given in TABLE: {
         WHOLE if MADT_FLAGS > 1 => at 40 shows 0, MADT_FLAGS
     }),
@@ -238,11 +287,16 @@ pub static MADT: [Row<'static>; 18] = [
 
 /// Rules on the parts of a GIC in it (5.2.12.14 to 5.2.12.18).
 pub static GIC: [Row<'static>; 10] = [
-    // a second GIC distributor, of any length (5.2.12.15)
+    // 115 SecondGicd, likely wrong (5.2.12.15): there is a second GIC Distributor.
+    // Numbers: `at` is the structure's offset, `other` that of the first one.
+    // "The GIC Distributor at {at} of the MADT is not the only one: the first is at {other}."
+    // They may have any length.
     rule!(115 SecondGicd, repeated in MADT_ENTRIES: {
         (any GICD) => at 0 shows 0, 0
     }),
-    // a GIC CPU interface, and no distributor (5.2.12.15)
+    // 159 NoDistributor, likely wrong (5.2.12.15): there are GIC CPU interfaces, and no GIC Distributor.
+    // Numbers: all 0.
+    // "The MADT has GIC CPU interfaces, and no GIC Distributor."
     rule!(159 NoDistributor, given in TABLE where
         (some table MADT_ENTRIES: { (any GICC) }),
         (none table MADT_ENTRIES: { (any GICD) }),
@@ -250,8 +304,10 @@ pub static GIC: [Row<'static>; 10] = [
     {
         WHOLE => at 0 shows 0, 0
     }),
-    // a GIC has redistributors by its version, and there is no range of them, nor does a CPU interface name its own; the
-    // first distributor is told, with its version (5.2.12.17)
+    // 160 NoRedistributor, likely wrong (5.2.12.17): the GIC has version 3 or 4, and no redistributor.
+    // Numbers: `at` is the GICD's offset, `other` is its version.
+    // "The GIC Distributor at {at} of the MADT has version {other:d}, and there is no redistributor."
+    // There is no range of them, and no usable CPU interface names its own.
     rule!(160 NoRedistributor, given in MADT_ENTRIES where
         HAS_REDISTRIBUTORS,
         (none table MADT_ENTRIES: { (any GICR) }),
@@ -260,32 +316,54 @@ pub static GIC: [Row<'static>; 10] = [
     {
         GICD => at 0 shows GICD_VERSION, 0
     }),
-    // a GIC has no redistributors by its version, and the address of a CPU interface is not that of the first (5.2.12.14)
+    // 162 GiccBaseDiffers, likely wrong (5.2.12.14): two GIC CPU interfaces of a GIC of version 1 or 2 have different
+    // base addresses.
+    // Numbers: `at` is the offset of the GICC, `other` that of the first GICC, `point` is the address of the one at
+    // `at`.
+    // "The GIC CPU interface at {at} of the MADT has the base address {point}, and the first one, at {other}, has
+    // another."
     rule!(162 GiccBaseDiffers, unlike_value in MADT_ENTRIES where HAS_NO_REDISTRIBUTORS: {
         GICC => at 0 shows GICC_BASE, 0
     }),
-    // two usable CPU interfaces have the same MPIDR (5.2.12.14)
+    // 163 SameMpidr, likely wrong (5.2.12.14): two usable processors have the same MPIDR.
+    // Numbers: `at` is the structure's offset, `other` that of the first usable one with this MPIDR, `point` is the
+    // MPIDR.
+    // "The usable processor at {at} of the MADT has the MPIDR {point}, as the one at {other} does."
     rule!(163 SameMpidr, repeated in MADT_ENTRIES: {
         GICC_WITH_MPIDR if (GICC_FLAGS & 0b1001) != 0 => at 0 shows GICC_MPIDR, GICC_MPIDR
     }),
-    // a usable one's MPIDR has a bit that is none of an affinity: bits 23:0 and 39:32 are (5.2.12.14)
+    // 164 MpidrReserved, likely wrong (5.2.12.14): a usable processor's MPIDR has a reserved bit set.
+    // Numbers: `at` is the structure's offset, `point` is the MPIDR.
+    // "The usable processor at {at} of the MADT has the MPIDR {point}, in which a reserved bit is set."
+    // Bits 23:0 and 39:32 are those of affinities; all others are reserved.
     rule!(164 MpidrReserved, given in MADT_ENTRIES: {
         GICC_WITH_MPIDR if (GICC_FLAGS & 0b1001) != 0 && (GICC_MPIDR & 0xffff_ff00_ff00_0000) != 0
             => at 0 shows 0, GICC_MPIDR
     }),
-    // a range of redistributors has no bytes (5.2.12.17)
+    // 165 GicrEmpty, likely wrong (5.2.12.17): a range of redistributors has the length 0.
+    // Numbers: `at` is the structure's offset, `point` is the base address.
+    // "The range of redistributors at {at} of the MADT, from {point} on, has the length 0."
     rule!(165 GicrEmpty, given in MADT_ENTRIES: {
         GICR if GICR_LENGTH == 0 => at 0 shows 0, GICR_BASE
     }),
-    // two ITS have the same ID (5.2.12.18)
+    // 166 SameIts, likely wrong (5.2.12.18): two ITS have the same ID.
+    // Numbers: `at` is the structure's offset, `other` that of the first one with this ID, `point` is the ID.
+    // "The ITS at {at} of the MADT has the ID {point:d}, as the one at {other} does."
     rule!(166 SameIts, repeated in MADT_ENTRIES: {
         ITS => at 0 shows ITS_ID, ITS_ID
     }),
-    // two MSI frames have the same ID (5.2.12.16)
+    // 167 SameMsiFrame, likely wrong (5.2.12.16): two GIC MSI frames have the same ID.
+    // Numbers: `at` is the structure's offset, `other` that of the first one with this ID, `point` is the ID.
+    // "The GIC MSI frame at {at} of the MADT has the ID {point:d}, as the one at {other} does."
     rule!(167 SameMsiFrame, repeated in MADT_ENTRIES: {
         MSI_FRAME => at 0 shows MSI_FRAME_ID, MSI_FRAME_ID
     }),
-    // a usable CPU interface names its own redistributor, though there are ranges of them (5.2.12.17)
+    // 169 RedistributorTwice, likely wrong (5.2.12.14, 5.2.12.17): a processor names a redistributor, and ranges of
+    // redistributors are there.
+    // Numbers: `at` is the offset of the GICC, `other` that of the first GICR, `point` is the GICR Base Address.
+    // "The processor at {at} of the MADT names the redistributor at {point}, and there is a range of redistributors, at
+    // {other}."
+    // The processor is usable.
     rule!(169 RedistributorTwice, somewhere in MADT_ENTRIES: OWN_REDISTRIBUTORS among table MADT_ENTRIES {
         GICR => at 0 shows 0, 0
     }),
@@ -293,8 +371,12 @@ pub static GIC: [Row<'static>; 10] = [
 
 /// Rules on the MADT with the FADT.
 pub static MADT_WITH_FADT: [Row<'static>; 2] = [
-    // a processor is Online Capable and not Enabled, and the FADT is older than 6.3, or 6.5 for a GICC: its Revision is the
-    // major version, and the lower 4 bits of the byte at 131 are the minor one, 0 if it is not there
+    // 152 CapableTooEarly, likely wrong (5.2.12.2, 5.2.12.12, 5.2.12.14): a processor is Online Capable, which the
+    // FADT's version does not have.
+    // Numbers: `at` is the structure's offset, `other` is the FADT's Revision, `point` is its minor version.
+    // "The processor at {at} of the MADT is Online Capable, which a FADT of version {other:d}.{point:d} does not have."
+    // It is not Enabled. The FADT is older than 6.3, or 6.5 for a GICC: its Revision is the major version, and the
+    // lower 4 bits of the byte at 131 are the minor one, 0 if it is not there.
     rule!(152 CapableTooEarly, given in MADT_ENTRIES: {
         LOCAL_APIC if (LOCAL_APIC_FLAGS & 0b11) == 0b10
             && (((other MINOR_VERSION) & 0xf) + 16 * (other REVISION)) < 0x63
@@ -315,7 +397,10 @@ pub static MADT_WITH_FADT: [Row<'static>; 2] = [
             && (length other) < 132 && (other REVISION) <= 6
             => at 0 shows (other REVISION), 0
     }),
-    // an override is for an interrupt above 15 that is not SCI_INT (5.2.12.5)
+    // 154 OverridePastIsa, likely wrong (5.2.12.5): an override is for an interrupt above 15 that is not SCI_INT.
+    // Numbers: `at` is the override's offset, `other` is its Source, `point` is its Global System Interrupt.
+    // "The override at {at} of the MADT, with interrupt number {point:d}, has the Source {other:d}, above 15 and not
+    // SCI_INT."
     rule!(154 OverridePastIsa, given in MADT_ENTRIES: {
         OVERRIDE if OVERRIDE_SOURCE > 15 && OVERRIDE_SOURCE != (other SCI_INT)
             => at 0 shows OVERRIDE_SOURCE, OVERRIDE_GSI
@@ -324,8 +409,10 @@ pub static MADT_WITH_FADT: [Row<'static>; 2] = [
 
 /// Rules on the MADT with the PPTT.
 pub static MADT_WITH_PPTT: [Row<'static>; 2] = [
-    // no leaf has the UID of a usable processor; applies if the PPTT has a node and is well-formed, and all processors are
-    // read; from Revision 2 on (5.2.30.1)
+    // 125 NoLeaf, likely wrong (5.2.30.1): a usable processor has no leaf in the PPTT, which has nodes.
+    // Numbers: `at` is the processor's offset in the MADT, `point` is its UID.
+    // "The usable processor at {at} of the MADT has the UID {point:d}, which no leaf of the PPTT has."
+    // Applies if the PPTT is well-formed and all processors are read. This row: from Revision 2 on.
     rule!(125 NoLeaf, nowhere in MADT_ENTRIES where
         OTHER_MARKED, OTHER_NODES, PROCESSORS_READ, OTHER_PPTT_WHOLE, OTHER_PPTT_LENGTHS:
         LEAFLESS_UIDS
@@ -339,7 +426,12 @@ pub static MADT_WITH_PPTT: [Row<'static>; 2] = [
 
 /// Rules on the MADT with the SRAT.
 pub static MADT_WITH_SRAT: [Row<'static>; 2] = [
-    // a usable processor with an APIC ID is not in the SRAT, which has others and is well-formed (5.2.16)
+    // 119 NoDomain, likely wrong (5.2.16): a usable processor is not in the SRAT, and others are.
+    // Numbers: `at` is the processor's offset in the MADT, `point` is its APIC ID, X2APIC ID or core ID, of a GICC or
+    // an RINTC its UID.
+    // "The usable processor at {at} of the MADT, of the ID or UID {point:d}, has no affinity in the SRAT, and others
+    // have."
+    // This row: a processor with an APIC ID. Applies if the SRAT is well-formed.
     rule!(119 NoDomain, nowhere in MADT_ENTRIES where
         PROCESSORS_READ, OTHER_SRAT_WHOLE, OTHER_SRAT_LENGTHS, PLACED_PROCESSORS:
         {

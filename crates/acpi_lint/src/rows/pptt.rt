@@ -68,7 +68,10 @@ const OTHER_BEYOND_X86: Guard<'static> =
 
 /// Rules on the PPTT.
 pub static PPTT: [Row<'static>; 8] = [
-    // two leaves have the same ID; applies from Revision 2 on
+    // 122 SameLeaf, likely wrong (5.2.30.1): two leaves of the PPTT have the same ACPI Processor ID.
+    // Numbers: `at` is the leaf's offset, `other` that of the first leaf with this ID, `point` is the ID.
+    // "The leaf at {at} of the PPTT has the ACPI Processor ID {point:d}, as the one at {other} does."
+    // This row: from Revision 2 on.
     rule!(122 SameLeaf, repeated in PPTT_ENTRIES where MARKED: {
         NODE if (NODE_FLAGS & 0b1010) == 0b1010 && (length own) == (20 + 4 * NODE_RESOURCES)
             => at 0 shows NODE_ID, NODE_ID
@@ -78,7 +81,10 @@ pub static PPTT: [Row<'static>; 8] = [
         NODE if (NODE_FLAGS & 0b10) != 0 && (length own) == (20 + 4 * NODE_RESOURCES)
             => at 0 shows NODE_ID, NODE_ID
     } except PARENTS),
-    // a valid Number of Sets is 0, or a valid Line Size is no power of two (5.2.30.2)
+    // 123 CacheShape, look at it (5.2.30.2): a cache has no sets, or a line size that is no power of two.
+    // Numbers: `at` is the cache's offset.
+    // "The cache at {at} of the PPTT has no sets, or a line size that is no power of two."
+    // A number counts if the flags say that it is valid.
     rule!(123 CacheShape, given in PPTT_ENTRIES: {
         CACHE_24 if (CACHE_FLAGS & 0b10) != 0 && CACHE_SETS == 0 => at 0 shows 0, 0;
         CACHE_24 if (CACHE_FLAGS & 0b100_0000) != 0
@@ -95,23 +101,36 @@ pub static PPTT: [Row<'static>; 8] = [
             && CACHE_LINE_SIZE != 0x1000 && CACHE_LINE_SIZE != 0x2000 && CACHE_LINE_SIZE != 0x4000 && CACHE_LINE_SIZE != 0x8000
             => at 0 shows 0, 0
     }),
-    // two caches have the same valid Cache ID; applies from Revision 3 on
+    // 124 SameCacheId, likely wrong (5.2.30.2): two caches have the same Cache ID.
+    // Numbers: `at` is the cache's offset, `other` that of the first cache with this Cache ID, `point` is the Cache ID.
+    // "The cache at {at} of the PPTT has the Cache ID {point:d}, as the one at {other} does."
+    // Both are valid; applies from Revision 3 on.
     rule!(124 SameCacheId, repeated in PPTT_ENTRIES: {
         CACHE_28 if (table REVISION) >= 3 && (CACHE_FLAGS & 0b1000_0000) != 0
             => at 0 shows CACHE_ID, CACHE_ID
     }),
-    // a node that is not marked as a leaf has a valid ID, and no node has it as its Parent; applies from Revision 2 on, if the
-    // table is well-formed (5.2.30.1)
+    // 180 LeafUnflagged, likely wrong (5.2.30.1): a processor that no node names as Parent is not marked as a leaf.
+    // Numbers: `at` is the node's offset, `point` is its ACPI Processor ID.
+    // "The node at {at} of the PPTT, of ACPI Processor ID {point:d}, is no node's Parent, and is not marked as a leaf."
+    // Applies from Revision 2 on, if the table is well-formed.
     rule!(180 LeafUnflagged, given in PPTT_ENTRIES where MARKED, PPTT_WHOLE, PPTT_LENGTHS: {
         NODE if (NODE_FLAGS & 0b1010) == 0b10 && (length own) == (20 + 4 * NODE_RESOURCES)
             => at 0 shows 0, NODE_ID
     } except PARENTS),
-    // a node that is marked as a leaf is the Parent of another one; applies from Revision 2 on (5.2.30.1)
+    // 181 LeafAsParent, look at it (5.2.30.1): a leaf is the Parent of a node.
+    // Numbers: `at` is the leaf's offset, `other` that of the first node that names it as its Parent.
+    // "The leaf at {at} of the PPTT is the Parent of the node at {other}."
+    // Applies from Revision 2 on.
     rule!(181 LeafAsParent, somewhere in PPTT_ENTRIES where MARKED: {
         NODE if (NODE_FLAGS & 0b1000) != 0 && (length own) == (20 + 4 * NODE_RESOURCES)
             => at 0 shows 0, (offset own)
     } among table PPTT_ENTRIES PARENTS),
-    // a valid Associativity or Size is 0, or the Size is another than by the other numbers, all of which are valid (5.2.30.2)
+    // 183 CacheNumbers, look at it (5.2.30.2): a cache's size or associativity is 0, or its size is not sets * ways *
+    // line size.
+    // Numbers: `at` is the cache's offset, `other` is its Size, `point` is Number of Sets * Associativity * Line Size,
+    // as these fields are.
+    // "The cache at {at} of the PPTT has the size {other:d}, and its sets * ways * line size are {point:d}."
+    // The numbers are valid.
     rule!(183 CacheNumbers, given in PPTT_ENTRIES: {
         CACHE_24 if (CACHE_FLAGS & 0b100) != 0 && CACHE_ASSOCIATIVITY == 0
             => at 0 shows CACHE_SIZE, 0;
@@ -128,7 +147,9 @@ pub static PPTT: [Row<'static>; 8] = [
             && CACHE_SIZE != (CACHE_SETS * CACHE_ASSOCIATIVITY * CACHE_LINE_SIZE)
             => at 0 shows CACHE_SIZE, (CACHE_SETS * CACHE_ASSOCIATIVITY * CACHE_LINE_SIZE)
     }),
-    // a flag or an attribute of an entry that is not defined, or a reserved byte; `other` is its offset in the entry
+    // 184 PpttReserved, look at it (5.2.30): a field of the PPTT has a reserved value.
+    // Numbers: `at` is the structure's offset, `other` the offset in it of the first field or byte that is wrong.
+    // "The structure at {at} of the PPTT has a reserved value at its offset {other:d}."
     rule!(184 PpttReserved, given in PPTT_ENTRIES: {
         NODE if NODE_RESERVED != 0 && (length own) == (20 + 4 * NODE_RESOURCES) => at 0 shows 2, 0;
         NODE if NODE_RESERVED_1 != 0 && (length own) == (20 + 4 * NODE_RESOURCES) => at 0 shows 3, 0;
@@ -146,7 +167,11 @@ pub static PPTT: [Row<'static>; 8] = [
 
 /// Rules on the PPTT with the MADT.
 pub static PPTT_WITH_MADT: [Row<'static>; 2] = [
-    // a leaf's ID is no processor's UID, and all are known; applies if one is not of x86; from Revision 2 on
+    // 126 LeafNowhere, likely wrong (5.2.30.1): a leaf's ACPI Processor ID is no UID, and not all processors are of
+    // x86.
+    // Numbers: `at` is the leaf's offset, `point` is its ACPI Processor ID.
+    // "The leaf at {at} of the PPTT has the ACPI Processor ID {point:d}, which is no processor's UID."
+    // Applies if all processors are read. This row: from Revision 2 on.
     rule!(126 LeafNowhere, nowhere in PPTT_ENTRIES where
         OTHER_BEYOND_X86, OTHER_PROCESSORS_READ, OTHER_MADT_WHOLE, OTHER_MADT_LENGTHS, MARKED:
         LEAF_IDS

@@ -64,14 +64,20 @@ const OTHER_ITS_READ: Guard<'static> = guard!((none other MADT_ENTRIES: {
 
 /// Rules on the SRAT.
 pub static SRAT: [Row<'static>; 8] = [
-    // two enabled affinities of one UID place it in two domains (5.2.16.4)
+    // 117 TwoUidDomains, likely wrong (5.2.16.4): two affinities put the processor of one UID in two proximity domains.
+    // Numbers: `at` is the offset of the first affinity with this UID, `other` that of the one with another domain,
+    // `point` is the UID.
+    // "The affinities at {at} and {other} of the SRAT put the processor of UID {point:d} into two proximity domains."
+    // The affinities are enabled.
     rule!(117 TwoUidDomains, unlike_first in SRAT_ENTRIES: {
         GICC_AFFINITY if (GICC_AFFINITY_FLAGS & 0b1) != 0
             => at 0 shows GICC_AFFINITY_DOMAIN, GICC_AFFINITY_UID;
         RINTC_AFFINITY if (RINTC_AFFINITY_FLAGS & 0b1) != 0
             => at 0 shows RINTC_AFFINITY_DOMAIN, RINTC_AFFINITY_UID
     }),
-    // an entry of a type or length that neither `check` nor these rules read
+    // 128 SratUnread, not looked at (5.2.16): a structure of the SRAT of a type or length that is not read.
+    // Numbers: `at` is the offset of the first one, `other` its type.
+    // "The structure at {at} of the SRAT, of type {other:d}, is not looked at."
     rule!(128 SratUnread, given in SRAT_ENTRIES: {
         (any GICC_AFFINITY) if (length own) != 18 => at 0 shows TYPE, 0;
         (any ITS_AFFINITY) if (length own) != 12 => at 0 shows TYPE, 0;
@@ -80,7 +86,11 @@ pub static SRAT: [Row<'static>; 8] = [
         (any RINTC_AFFINITY) if (length own) != 20 => at 0 shows TYPE, 0;
         SRAT_FROM_8 => at 0 shows TYPE, 0
     }),
-    // an enabled affinity of a processor, and no enabled range of memory that has bytes (5.2.16.2)
+    // 173 NoMemoryRange, likely wrong (5.2.16.2): an SRAT with affinities has no enabled memory range of a length above
+    // 0.
+    // Numbers: all 0.
+    // "The SRAT has affinities of processors, and no enabled memory range of a length above 0."
+    // The affinities are enabled.
     rule!(173 NoMemoryRange, given in TABLE where
         (none table SRAT_ENTRIES: { MEMORY if (MEMORY_FLAGS & 0b1) != 0 && MEMORY_LENGTH != 0 }),
         (some table SRAT_ENTRIES: PROCESSOR_AFFINITIES),
@@ -88,15 +98,22 @@ pub static SRAT: [Row<'static>; 8] = [
     {
         WHOLE => at 0 shows 0, 0
     }),
-    // an enabled range of memory has no bytes
+    // 174 EmptyRange, likely wrong (5.2.16.2): an enabled memory range has the length 0.
+    // Numbers: `at` is the structure's offset, `point` is the Base Address.
+    // "The enabled memory range at {at} of the SRAT, from {point} on, has the length 0."
     rule!(174 EmptyRange, given in SRAT_ENTRIES: {
         MEMORY if (MEMORY_FLAGS & 0b1) != 0 && MEMORY_LENGTH == 0 => at 0 shows 0, MEMORY_BASE
     }),
-    // the affinity of a generic initiator is not enabled (5.2.16.6)
+    // 175 InitiatorOff, likely wrong (5.2.16.6): a Generic Initiator is not enabled.
+    // Numbers: `at` is the structure's offset, `point` is its domain.
+    // "The Generic Initiator at {at} of the SRAT, of domain {point:d}, is not enabled."
     rule!(175 InitiatorOff, given in SRAT_ENTRIES: {
         INITIATOR if (INITIATOR_FLAGS & 0b1) == 0 => at 0 shows 0, INITIATOR_DOMAIN
     }),
-    // a domain above 255 in an SRAT of a Revision below 2, in which domains of local APICs and of memory had one byte
+    // 176 DomainPastRevision, likely wrong (5.2.16): a domain above 255 is in an SRAT of a Revision below 2.
+    // Numbers: `at` is the structure's offset, `other` is the Revision, `point` is the domain.
+    // "The structure at {at} of the SRAT has the domain {point:d}, and the SRAT the Revision {other:d}."
+    // Below Revision 2 domains of local APICs and of memory have one byte.
     rule!(176 DomainPastRevision, given in SRAT_ENTRIES: {
         APIC_AFFINITY if (table REVISION) < 2 && (APIC_AFFINITY_FLAGS & 0b1) != 0
             && APIC_AFFINITY_DOMAIN_HIGH != 0
@@ -104,7 +121,12 @@ pub static SRAT: [Row<'static>; 8] = [
         MEMORY if (table REVISION) < 2 && (MEMORY_FLAGS & 0b1) != 0 && MEMORY_DOMAIN > 255
             => at 0 shows (table REVISION), MEMORY_DOMAIN
     }),
-    // the reserved number of the table is not 1
+    // 178 SratReserved, look at it (5.2.16): a field of the SRAT has a reserved value.
+    // Numbers: for the number `at` is 0x24 (36), `point` is the number. Otherwise `at` is the structure's offset,
+    // `other` the offset in it of the first field or byte that is wrong.
+    // If `at` is 0x24: "The number at {at} of the SRAT is {point}, not 1."
+    // "The structure at {at} of the SRAT has a reserved value at its offset {other:d}."
+    // This row: the number of the table.
     rule!(178 SratReserved, given in TABLE: {
         WHOLE if SRAT_RESERVED != 1 => at 36 shows 0, SRAT_RESERVED
     }),
@@ -138,7 +160,11 @@ pub static SRAT: [Row<'static>; 8] = [
 
 /// Rules on the SRAT with the MADT.
 pub static SRAT_WITH_MADT: [Row<'static>; 3] = [
-    // an enabled affinity is for an APIC ID that no processor has, and all are known
+    // 118 AffinityNowhere, likely wrong (5.2.16): the SRAT has a processor that the MADT does not have.
+    // Numbers: `at` is the affinity's offset, `point` is its APIC ID, X2APIC ID or UID.
+    // "The affinity at {at} of the SRAT is of the APIC ID, x2APIC ID or UID {point:d}, which no processor of the MADT
+    // has."
+    // This row: an enabled affinity of an APIC ID. Applies if all processors are read.
     rule!(118 AffinityNowhere, nowhere in SRAT_ENTRIES where
         OTHER_PROCESSORS_READ, OTHER_MADT_WHOLE, OTHER_MADT_LENGTHS: PLACED_APIC_IDS
         among other MADT_ENTRIES APIC_IDS),
@@ -146,7 +172,9 @@ pub static SRAT_WITH_MADT: [Row<'static>; 3] = [
     rule!(118 AffinityNowhere, nowhere in SRAT_ENTRIES where
         OTHER_PROCESSORS_READ, OTHER_MADT_WHOLE, OTHER_MADT_LENGTHS: PLACED_UIDS
         among other MADT_ENTRIES UIDS),
-    // an affinity is for an ITS that the MADT does not have (5.2.16.5)
+    // 177 ItsNowhere, likely wrong (5.2.16.5): the SRAT has an ITS that the MADT does not have.
+    // Numbers: `at` is the structure's offset in the SRAT, `point` is its ITS ID.
+    // "The affinity at {at} of the SRAT is of the ITS {point:d}, which the MADT does not have."
     rule!(177 ItsNowhere, nowhere in SRAT_ENTRIES where
         OTHER_ITS_READ, OTHER_MADT_WHOLE, OTHER_MADT_LENGTHS:
         {
@@ -159,7 +187,10 @@ pub static SRAT_WITH_MADT: [Row<'static>; 3] = [
 
 /// Rules on the SRAT with the SLIT, if that has a cell for each pair of localities and nothing else.
 pub static SRAT_WITH_SLIT: [Row<'static>; 1] = [
-    // an enabled affinity, or one of an ITS, is to a domain that is not one of the localities (5.2.17)
+    // 120 DomainPastSlit, likely wrong (5.2.17): a proximity domain of the SRAT is no locality of the SLIT.
+    // Numbers: `at` is the offset in the SRAT, `other` is N, `point` is the domain.
+    // "The structure at {at} of the SRAT has the proximity domain {point:d}, and the SLIT has {other:d} localities."
+    // Looked at are what is enabled, and the affinities of an ITS.
     rule!(120 DomainPastSlit, given in SRAT_ENTRIES where
         (some other TABLE: { WHOLE if (length own - 44) == (LOCALITIES * LOCALITIES) }):
     {

@@ -1,0 +1,1 @@
+"""What scripts/lists.py reads of the tree, and what it writes."""

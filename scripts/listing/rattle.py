@@ -1,0 +1,90 @@
+"""The parts of the crates that are written: the rules of acpi_lint, and the texts of acpi_c."""
+
+import re
+
+from .rules import SEVERITIES
+from .tree import CRATES, SCRIPT, Wrong, lines_of, named, quoted, replaced, wrapped
+
+RULE = CRATES / "acpi_lint/src/rule.rt"
+ROWS = CRATES / "acpi_lint/specs/Rules/Rows.antt"
+EXPLAINED = CRATES / "acpi_c/src/explained.rt"
+BEGIN, END = f"    // begin: rules, made by {SCRIPT}", "    // end: rules"
+WIDEST = 60  # characters between parentheses, beyond which `rt fmt` writes a line for each item
+
+
+TABLE = re.compile(r"^const ROWS: \[\(([^)]*)\); [^\]]*\] = \[\n", re.M)
+# What a row of this table has in a column of this type.
+COLUMNS = {
+    "Rule": lambda rule: f"Rule::{rule.name}",
+    "u16": lambda rule: str(rule.number),
+    "&str": lambda rule: quoted(rule.name),
+}
+
+
+def row_of(rule, columns):
+    items = [column(rule) for column in columns]
+    inside = ", ".join(items)
+    return [f"    ({inside}),"] if len(inside) <= WIDEST else ["    (", *(f"        {item}," for item in items), "    ),"]
+
+
+def columns_of(text):
+    """What the rows of the table ROWS have, by its type."""
+    table = TABLE.search(text)
+    types = table[1].split(", ") if table else []
+    if not types or not COLUMNS.keys() >= set(types):
+        raise Wrong(f"{named(RULE)}: no table ROWS whose columns are of the types {', '.join(COLUMNS)}")
+    return [COLUMNS[kind] for kind in types]
+
+
+def variants(rules):
+    for rule in rules:
+        yield from wrapped(rule.heading(), 120, "    /// ", "    /// ")
+        yield f"    {rule.name},"
+
+
+def rule_source(text, rules):
+    """What src/rule.rt of acpi_lint has to be."""
+    body = lines_of([BEGIN, *variants(rules), END])
+    text = replaced(r"(^pub enum Rule \{\n).*?(?=^\})", text, body, f"{named(RULE)}: the enum Rule")
+    columns = columns_of(text)
+    rows = lines_of([BEGIN, *(line for rule in rules for line in row_of(rule, columns)), END])
+    text = replaced(rf"({TABLE.pattern}).*?(?=^\];)", text, rows, f"{named(RULE)}: the table ROWS")
+    return replaced(r"(^    pub const COUNT: usize = )\d+(?=;$)", text, str(len(rules)), f"{named(RULE)}: the number of rules")
+
+
+def rule_rows(text, rules):
+    """What specs/Rules/Rows.antt of acpi_lint has to be."""
+    rows = lines_of(f'rule_row rule.{rule.name} = ({rule.number}, codes "{rule.name}")' for rule in rules)
+    text = replaced(r"(?:^rule_row rule\.\w+ = [^\n]*\n)+", text, rows, f"{named(ROWS)}: the rows of rule_row")
+    listed = lines_of(wrapped(" ∷ ".join([*(f"rule.{rule.name}" for rule in rules), "[]"]), 110, "    ", "    "))
+    return replaced(r"(^all_rules =\n).*?(?=^\n|\Z)", text, listed, f"{named(ROWS)}: the list all_rules")
+
+
+def explained(codes, rules, page):
+    """What src/explained.rt of acpi_c has to be."""
+    texts_of = {one.number: quoted(page.explained(one.number)) for one in (*codes, *rules)}
+    variants_of = {severity: severity.title().replace(" ", "") for severity in SEVERITIES}
+    return lines_of(
+        [
+            f"//! What docs/FAULTS.md says of the codes and the rules. {SCRIPT} writes this file.",
+            "",
+            "use crate::meaning::Severity;",
+            "use acpi_base::Code;",
+            "use acpi_lint::Rule;",
+            "",
+            "/// What is wrong and how it is mended, by the number of the code.",
+            "pub const CODES: [&str; Code::COUNT] = [",
+            *(f"    {texts_of[code.number]}," for code in codes),
+            "];",
+            "",
+            "/// What is found and how it is mended, by the number of the rule.",
+            "pub const RULES: [&str; Rule::COUNT] = [",
+            *(f"    {texts_of[rule.number]}," for rule in rules),
+            "];",
+            "",
+            "/// The severity of each rule, by its number.",
+            "pub const SEVERITIES: [Severity; Rule::COUNT] = [",
+            *(f"    Severity::{variants_of[rule.severity]}," for rule in rules),
+            "];",
+        ]
+    )
