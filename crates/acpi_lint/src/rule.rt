@@ -7,7 +7,8 @@ ghost use Rattle.acpi_lint.specs.Rules.Rows.{all_rules, rule_name, rule_named, r
 /// is Enabled or Online Capable. Sections are those of ACPI 6.5.
 #[derive(Clone, Copy, Debug, PartialEq, Eq)]
 pub enum Rule {
-    /// An address is listed twice (5.2.7).
+    // begin: rules, made by scripts/lists.py
+    /// An address is listed twice (5.2.7, 5.2.8).
     ListedTwice,
     /// A second table of a kind is listed, of which only the first is read (5.2).
     SecondTable,
@@ -63,7 +64,7 @@ pub enum Rule {
     MadtUnread,
     /// A structure of the SRAT of a type or length that is not read (5.2.16).
     SratUnread,
-    /// A slot of the root table is 0 (5.2.7).
+    /// A slot of the root table is 0 (5.2.7, 5.2.8).
     NullSlot,
     /// The RSDT and the XSDT list different numbers of tables with a signature (5.2.7).
     RsdtDiffers,
@@ -107,7 +108,7 @@ pub enum Rule {
     SecondOther,
     /// A usable local x2APIC and a usable local APIC both have an ID below 255 (5.2.12.12).
     X2ApicBelow255,
-    /// A usable processor has the ID of a broadcast (5.2.12.2).
+    /// A usable processor has the ID of a broadcast (5.2.12.2, 5.2.12.12).
     BroadcastId,
     /// A processor is Online Capable, which the FADT's version does not have (5.2.12.2, 5.2.12.12, 5.2.12.14).
     CapableTooEarly,
@@ -143,7 +144,7 @@ pub enum Rule {
     SameMsiFrame,
     /// Two structures of the GIC share an address (5.2.12.15).
     GicOverlap,
-    /// A processor names a redistributor, and ranges of redistributors are there (5.2.12.17).
+    /// A processor names a redistributor, and ranges of redistributors are there (5.2.12.14, 5.2.12.17).
     RedistributorTwice,
     /// There are several processors and neither PSCI nor a parking protocol (5.2.12.14).
     NoBootMethod,
@@ -175,10 +176,12 @@ pub enum Rule {
     CacheNumbers,
     /// A field of the PPTT has a reserved value (5.2.30).
     PpttReserved,
+    // end: rules
 }
 
 /// Each rule with its name, in the order of their numbers.
 const ROWS: [(Rule, &str); Rule::COUNT] = [
+    // begin: rules, made by scripts/lists.py
     (Rule::ListedTwice, "ListedTwice"),
     (Rule::SecondTable, "SecondTable"),
     (Rule::ListedApart, "ListedApart"),
@@ -263,6 +266,7 @@ const ROWS: [(Rule, &str); Rule::COUNT] = [
     (Rule::NoPackage, "NoPackage"),
     (Rule::CacheNumbers, "CacheNumbers"),
     (Rule::PpttReserved, "PpttReserved"),
+    // end: rules
 ];
 
 impl Rule {
