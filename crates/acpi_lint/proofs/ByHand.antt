@@ -41,7 +41,8 @@ module _ {X : Type 0} (Is : X → ℕ → ℕ → ℕ → ℕ → Type 0) (done 
         ];
       }
 
-  without_findings : ((number at other point : ℕ) → ¬ Is x number at other point) → AreFirsts (OfAny Is (x ∷ done)) found
+  without_findings : ((number at other point : ℕ) → ¬ Is x number at other point)
+      → AreFirsts (OfAny Is (x ∷ done)) found
   without_findings none =
       record {
         here = λ f within. let (y, listed, is) = before.here f within in (y, later_element x y done listed, is);

@@ -31,8 +31,8 @@ fn place_by_hand(found: &[Found], rule: Rule) -> Option<Place>
 
 /// The first finding of a rule, among those of the rows and of the rules that are none. The tables are those of the set.
 fn first_finding(rows: &[Found], by_hand: &[Found], rule: Rule) -> Option<Advice>
-    ensures { (m : Memory) (q : PolicyValue) (tables : CompleteTables) → AreCompleteTables m q.rsdp tables
-        → AreFirsts (OfAny (AreBroken tables) row_groups) rows.now
+    ensures { (m : Memory) (q : PolicyValue) (tables : CompleteTables)
+        → AreCompleteTables m q.rsdp tables → AreFirsts (OfAny (AreBroken tables) row_groups) rows.now
         → AreFoundByHand m q rules_by_hand by_hand.now → FindsFirstAdvice rule m q result }
 {
     let place = place_by_hand(by_hand, rule);

@@ -50,8 +50,8 @@ fn add_of_slots(
     tables: &CompleteTables<'_>,
     found: &mut Vec<Found>,
 ) -> Result<(), AllocError>
-    ensures { IfOk result (λ _. (m : Memory) (q : PolicyValue) → AreCompleteTables m q.rsdp tables.now
-        → Adds m q slot_rules found.old.items found.new.items) }
+    ensures { IfOk result (λ _. (m : Memory) (q : PolicyValue)
+        → AreCompleteTables m q.rsdp tables.now → Adds m q slot_rules found.old.items found.new.items) }
 {
     add(found, Rule::ListedTwice, listed_twice(alloc, tables)?)?;
     add(found, Rule::SecondTable, second_table(tables))?;
@@ -124,8 +124,8 @@ fn add_of_madt(
     tables: &CompleteTables<'_>,
     found: &mut Vec<Found>,
 ) -> Result<(), AllocError>
-    ensures { IfOk result (λ _. (m : Memory) (q : PolicyValue) → AreCompleteTables m q.rsdp tables.now
-        → Adds m q madt_rules found.old.items found.new.items) }
+    ensures { IfOk result (λ _. (m : Memory) (q : PolicyValue)
+        → AreCompleteTables m q.rsdp tables.now → Adds m q madt_rules found.old.items found.new.items) }
 {
     let Some(madt) = tables.madt() else {
         return Ok(());
@@ -137,8 +137,8 @@ fn add_of_madt(
 
 /// Adds what the rules on the SLIT find.
 fn add_of_slit(tables: &CompleteTables<'_>, found: &mut Vec<Found>) -> Result<(), AllocError>
-    ensures { IfOk result (λ _. (m : Memory) (q : PolicyValue) → AreCompleteTables m q.rsdp tables.now
-        → Adds m q slit_rules found.old.items found.new.items) }
+    ensures { IfOk result (λ _. (m : Memory) (q : PolicyValue)
+        → AreCompleteTables m q.rsdp tables.now → Adds m q slit_rules found.old.items found.new.items) }
 {
     let Some(slit) = tables.table(TableKind::Slit) else {
         return Ok(());
@@ -154,8 +154,8 @@ fn add_of_pptt(
     tables: &CompleteTables<'_>,
     found: &mut Vec<Found>,
 ) -> Result<(), AllocError>
-    ensures { IfOk result (λ _. (m : Memory) (q : PolicyValue) → AreCompleteTables m q.rsdp tables.now
-        → Adds m q pptt_rules found.old.items found.new.items) }
+    ensures { IfOk result (λ _. (m : Memory) (q : PolicyValue)
+        → AreCompleteTables m q.rsdp tables.now → Adds m q pptt_rules found.old.items found.new.items) }
 {
     let Some(pptt) = tables.pptt() else {
         return Ok(());

@@ -28,13 +28,17 @@ returns c =
     (λ _ last. λ q are. λ done before.
     let m = c.args.image.now in
     let lifts = fadt_lifts m q c.fadt.result are c.fadt.ensures in
-    last m q (there (OfFadt m q) (λ whole. whole) (IsFacsReserved m) c.facs_reserved.result lifts c.in-Some.is
+    last m q (there (OfFadt m q) (λ whole. whole) (IsFacsReserved m) c.facs_reserved.result
+    lifts c.in-Some.is
     c.facs_reserved.ensures) _
-    (c.in_ok-add-3.ensures m q (there (OfFadt m q) (λ whole. whole) (IsDsdtWrong m) c.dsdt_wrong.result lifts c.in-Some.is
+    (c.in_ok-add-3.ensures m q (there (OfFadt m q) (λ whole. whole) (IsDsdtWrong m) c.dsdt_wrong.result
+    lifts c.in-Some.is
     c.dsdt_wrong.ensures) _
-    (c.in_ok-add-2.ensures m q (there (OfFadt m q) (λ whole. whole) IsPortPastEnd c.port_past_end.result lifts c.in-Some.is
+    (c.in_ok-add-2.ensures m q (there (OfFadt m q) (λ whole. whole) IsPortPastEnd c.port_past_end.result
+    lifts c.in-Some.is
     c.port_past_end.ensures) _
-    (c.in_ok-add.ensures m q (there (OfFadt m q) (λ whole. whole) IsPortsOverlap c.in_ok-ports_overlap.field-0 lifts c.in-Some.is
+    (c.in_ok-add.ensures m q (there (OfFadt m q) (λ whole. whole) IsPortsOverlap c.in_ok-ports_overlap.field-0
+    lifts c.in-Some.is
     c.in_ok-ports_overlap.ensures) _
     before))))
     c.add-4.ensures

@@ -23,7 +23,9 @@ returns c =
     (λ _ last. λ m q are. λ done before.
     let lifts = slit_found m q c.table.result are c.table.ensures in
     last m q (there (HasListed m q.rsdp slit_signature) (λ whole. whole)
-    (λ whole. InSized IsRemoteAsLocal (slit_contents whole)) c.remote_as_local.result lifts c.in-Some.is c.remote_as_local.ensures) _
+    (λ whole. InSized IsRemoteAsLocal (slit_contents whole)) c.remote_as_local.result lifts c.in-Some.is
+    c.remote_as_local.ensures) _
     (c.in_ok-add.ensures m q (there (HasListed m q.rsdp slit_signature) (λ whole. whole)
-    (λ whole. InSized IsSlitDiffers (slit_contents whole)) c.slit_differs.result lifts c.in-Some.is c.slit_differs.ensures) _ before))
+    (λ whole. InSized IsSlitDiffers (slit_contents whole)) c.slit_differs.result lifts c.in-Some.is
+    c.slit_differs.ensures) _ before))
     c.add-2.ensures
