@@ -80,5 +80,6 @@ mod verdicts;
 mod well_formed;
 
 pub use findings::{Findings, lint};
+pub use rows::{RowGroup, row_groups};
 pub use rule::{Advice, Rule};
 pub use text::advice_text;

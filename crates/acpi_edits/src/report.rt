@@ -1,0 +1,263 @@
+//! The report on all edits.
+
+use crate::edits::{Edit, Reads, cases_of_kind, edited_cases, edits_of, row_with};
+use crate::lists::{Role, lists_of};
+use crate::near::kinds_near;
+use crate::pair::Pair;
+use crate::search::search;
+use crate::seeds::{Aim, Seed, seeds_of};
+use crate::sets::{Set, pairs_of};
+use crate::shared::{Shared, Use, shared_lists, table_of};
+use crate::text::{ClauseText, KindText, ValueText};
+use acpi_base::TableKind;
+use acpi_lint::RowGroup;
+use acpi_rules::{Case, Kind, Row};
+use std::alloc::{AllocError, Global};
+use std::io;
+
+/// The edits of a kind of structures of a table, and whether each is seen.
+#[derive(Debug, Drop)]
+struct KindEdits {
+    table: TableKind,
+    kind: Kind,
+    edits: Vec<Kind>,
+    seen: Vec<bool>,
+}
+
+/// How many edits were tried, and how many were not seen.
+#[derive(Clone, Copy, Debug)]
+struct Counts {
+    tried: usize,
+    unseen: usize,
+}
+
+/// Whether all of these are seen.
+fn are_all(seen: &[bool]) -> bool {
+    seen.iter().all(|is_seen| *is_seen)
+}
+
+/// Marks the edits of a case that are seen.
+fn mark_edits(
+    alloc: Global,
+    aim: &Aim,
+    cases: &'static [Case<'static>],
+    edits: &[Edit],
+    seeds: &[Seed],
+    seen: &mut [bool],
+) -> Result<(), AllocError> {
+    let mut rows = Vec::new(alloc);
+    for edit in edits {
+        let edited = edited_cases(alloc, cases, aim.case, edit)?;
+        rows.push(row_with(alloc, &aim.row, aim.list, edited)?)?;
+    }
+    search(alloc, &aim.row, &rows, seeds, seen)
+}
+
+/// A row with a kind in the place of another one, in its lists on a table.
+fn row_of_kind(
+    alloc: Global,
+    row: &Row<'static>,
+    group: &RowGroup<'static>,
+    of: &KindEdits,
+    to: Kind,
+) -> Result<Row<'static>, AllocError> {
+    let mut edited = *row;
+    for (index, list) in lists_of(alloc, row)?.iter().enumerate() {
+        if table_of(group, list.source) == of.table {
+            let cases = cases_of_kind(alloc, list.cases, of.kind, to)?;
+            edited = row_with(alloc, &edited, index, cases)?;
+        }
+    }
+    Ok(edited)
+}
+
+/// Marks the edits of a kind that are seen.
+fn mark_kinds(
+    alloc: Global,
+    aim: &Aim,
+    group: &RowGroup<'static>,
+    of: &mut KindEdits,
+    seeds: &[Seed],
+) -> Result<(), AllocError> {
+    let mut rows = Vec::new(alloc);
+    for to in of.edits.iter() {
+        rows.push(row_of_kind(alloc, &aim.row, group, of, *to)?)?;
+    }
+    search(alloc, &aim.row, &rows, seeds, &mut of.seen)
+}
+
+/// The index of the edits of a kind, which are added where they are not there yet.
+fn index_of_kind(
+    alloc: Global,
+    all: &mut Vec<KindEdits>,
+    table: TableKind,
+    kind: Kind,
+) -> Result<usize, AllocError> {
+    for (index, of) in all.iter().enumerate() {
+        if of.table == table && of.kind == kind {
+            return Ok(index);
+        }
+    }
+    let edits = kinds_near(alloc, &kind)?;
+    let seen = vec![in alloc; false; edits.len()]?;
+    all.push(KindEdits {
+        table,
+        kind,
+        edits,
+        seen,
+    })?;
+    Ok(all.len().saturating_sub(1))
+}
+
+/// What of the cases of a list is read in one of its uses.
+fn reads_of(shared: &Shared) -> Reads {
+    Reads {
+        place: shared
+            .uses
+            .iter()
+            .any(|used| used.role.reads_place(used.row.1)),
+        value: !shared.is_beside,
+        number: shared.uses.iter().any(|used| used.role.reads_number()),
+    }
+}
+
+/// The word for a list.
+fn role_word(role: Role) -> &'static str {
+    match role {
+        Role::Guard(_) => "guard",
+        Role::Given => "cases",
+        Role::Except => "except",
+        Role::Known => "among",
+        Role::KnownExcept => "among except",
+    }
+}
+
+/// Prints an edit of a case that is not seen.
+fn print_edit(
+    rt: &impl Print,
+    used: &Use,
+    index: usize,
+    case: &Case<'_>,
+    edit: &Edit,
+) -> io::Result<()> {
+    let Use {
+        group,
+        at,
+        list,
+        ..
+    } = *used;
+    let number = used.row.0;
+    let word = role_word(used.role);
+    print!(rt; "{number} row {group}.{at} {word} {list}.{index} ")?;
+    match edit {
+        Edit::Clause(clause, to) => match case.1.get(*clause) {
+            Some(from) => {
+                let from = ClauseText(from);
+                let to = ClauseText(to);
+                println!(rt; "clause {clause}: {from} -> {to}")
+            }
+            None => println!(rt; "clause {clause}"),
+        },
+        Edit::Place(to) => {
+            let from = case.2;
+            println!(rt; "place: {from} -> {to}")
+        }
+        Edit::Value(to) => {
+            let from = ValueText(&case.3);
+            let to = ValueText(to);
+            println!(rt; "value: {from} -> {to}")
+        }
+        Edit::Number(to) => {
+            let from = ValueText(&case.4);
+            let to = ValueText(to);
+            println!(rt; "number: {from} -> {to}")
+        }
+    }
+}
+
+/// Prints the edits of a kind that are not seen.
+fn print_kinds(rt: &impl Print, of: &KindEdits, counts: &mut Counts) -> io::Result<()> {
+    for (to, is_seen) in of.edits.iter().zip(of.seen.iter()) {
+        counts.tried = counts.tried.saturating_add(1);
+        if !*is_seen {
+            counts.unseen = counts.unseen.saturating_add(1);
+            let table = of.table;
+            let from = KindText(&of.kind);
+            let to = KindText(to);
+            println!(rt; "{table:?}: {from} -> {to}")?;
+        }
+    }
+    Ok(())
+}
+
+/// The report on the edits of a list of cases.
+fn report_list(
+    rt: &impl Print,
+    alloc: Global,
+    groups: &[RowGroup<'static>],
+    bases: &[Vec<Pair>],
+    shared: &Shared,
+    kinds: &mut Vec<KindEdits>,
+    counts: &mut Counts,
+) -> io::Result<()> {
+    let reads = reads_of(shared);
+    for (index, case) in shared.cases.iter().enumerate() {
+        let edits = edits_of(alloc, case, reads)?;
+        let mut seen = vec![in alloc; false; edits.len()]?;
+        let at = index_of_kind(alloc, kinds, shared.table, case.0)?;
+        for used in shared.uses.iter() {
+            let aim = Aim {
+                row: used.row,
+                list: used.list,
+                case: index,
+            };
+            if let Some(of) = kinds.get_mut(at)
+                && let Some(own) = bases.get(used.group)
+                && let Some(group) = groups.get(used.group)
+            {
+                if are_all(&seen) && are_all(&of.seen) {
+                    break;
+                }
+                let seeds = seeds_of(alloc, own, &aim)?;
+                mark_edits(alloc, &aim, shared.cases, &edits, &seeds, &mut seen)?;
+                mark_kinds(alloc, &aim, group, of, &seeds)?;
+            }
+        }
+        for (edit, is_seen) in edits.iter().zip(seen.iter()) {
+            counts.tried = counts.tried.saturating_add(1);
+            if !*is_seen {
+                counts.unseen = counts.unseen.saturating_add(1);
+                if let Some(used) = shared.uses.first() {
+                    print_edit(rt, used, index, case, edit)?;
+                }
+            }
+        }
+    }
+    Ok(())
+}
+
+/// Reports the edits of rows that are not seen on these sets, nor on what is built from them; last how many were tried.
+pub fn report(
+    rt: &impl Print,
+    alloc: Global,
+    groups: &[RowGroup<'static>],
+    sets: &[Set<'_>],
+) -> io::Result<()> {
+    let mut bases = Vec::new(alloc);
+    for group in groups {
+        bases.push(pairs_of(alloc, sets, group.0, group.1)?)?;
+    }
+    let mut counts = Counts {
+        tried: 0,
+        unseen: 0,
+    };
+    let mut kinds = Vec::new(alloc);
+    for shared in shared_lists(alloc, groups)? {
+        report_list(rt, alloc, groups, &bases, &shared, &mut kinds, &mut counts)?;
+    }
+    for of in kinds.iter() {
+        print_kinds(rt, of, &mut counts)?;
+    }
+    let Counts { tried, unseen } = counts;
+    println!(rt; "{tried} edits, {unseen} unseen")
+}

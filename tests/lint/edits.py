@@ -1,0 +1,95 @@
+#!/usr/bin/env python3
+"""Runs the program that edits the rules that are rows, crates/acpi_edits: it changes each number and each comparison of each row at run
+time, and looks for tables on which the edited row finds something else than the row as it is. It is given sets from which it builds more. The
+edits that none shows are those of unseen.txt, each with its reason, and at most 3 in 100.
+
+Edited rows are compared with the rows as they are, so no answer is expected here: near.py and second.py, whose sets these are made of, compare
+the rows as they are with a second program.
+
+usage: edits.py PROGRAM, which is crates/acpi_edits/out/acpi_edits; the last line is 'edits: N passed, M failed'."""
+
+from __future__ import annotations
+
+import re
+import subprocess
+import sys
+from itertools import product
+from pathlib import Path
+
+sys.path.insert(0, str(Path(__file__).resolve().parents[1]))
+
+from acpi_images.generated.near import (
+    APIC_AFFINITY, BESIDE_IN_MADT, BESIDE_IN_SRAT, CHILD, GICC_AFFINITY, NODES, PAIRS, blocks_fadt, madt, of_length, pptt, slit, srat,
+)  # fmt: skip
+from acpi_images.program import SECONDS, Cases, finish
+from acpi_images.tables import number, table
+
+UNSEEN = Path(__file__).with_name("unseen.txt")
+# How many edits of 100 may be unseen.
+MOST_IN_100 = 3
+# The order of the tables of a set.
+ORDER = (b"FACP", b"APIC", b"SRAT", b"SLIT", b"PPTT")
+
+
+def fadts():
+    yield table(b"FACP", bytes(240), 6)
+    yield from (bytes(blocks_fadt(flags)) for flags in (0, 1 << 20))
+    yield from (of_length(blocks_fadt(), *how) for how in ((116, 1), (132, 2), (244, 3), (268, 5), (276, 6)))
+
+
+def srats():
+    yield from (srat(revision=revision) for revision in (1, 2, 3))
+    yield from (srat(*beside) for beside in BESIDE_IN_SRAT)
+
+
+def pptts():
+    yield from (pptt(revision=revision) for revision in (1, 2, 3))
+    for revision, node, beside in product((1, 2, 3), NODES, ((), (CHILD,))):
+        yield pptt(node, *beside, revision=revision)
+
+
+def sets():
+    """The sets from which more are built: tables of each kind, alone and beside one of each other kind."""
+    madts = [madt(*beside) for beside in BESIDE_IN_MADT]
+    slits = [slit(count, count * count) for count in (0, 1, 2, 3)]
+    yield from product(fadts(), (madts[0], madts[3]))
+    yield from product(madts, (bytes(blocks_fadt()), srat(), pptt()))
+    yield from product(srats(), (*slits, madts[0]))
+    yield from product(pptts(), (madts[0], madts[3]))
+    for (one, affinity), beside in product(PAIRS, ((), (APIC_AFFINITY,), (GICC_AFFINITY,))):
+        yield madt(one), srat(*beside, affinity)
+
+
+def data_of(tables):
+    """A set as the program reads it: each table after its length, which is 0 where there is none."""
+    by_signature = {it[:4]: it for it in tables}
+    return b"".join(number(len(it), 4) + it for it in (by_signature.get(signature, b"") for signature in ORDER))
+
+
+def known():
+    """The edits of unseen.txt; a line that begins with '#' is the reason of those after it."""
+    lines = UNSEEN.read_text().splitlines()
+    return [line for line in lines if line and not line.startswith("#")]
+
+
+def main():
+    _, program = sys.argv
+    cases = Cases(program)
+    run = subprocess.run([program], input=b"".join(map(data_of, sets())), capture_output=True, timeout=SECONDS)
+    *unseen, last = run.stdout.decode().splitlines() or [""]
+    told = re.fullmatch(r"(\d+) edits, (\d+) unseen", last)
+    cases.count("status", "" if run.returncode == 0 and not run.stderr and told else f"{run.returncode}, {run.stderr}, {last}")
+    tried = int(told[1]) if told else 0
+    listed = known()
+    for edit in sorted({*unseen} - {*listed}):
+        cases.count(edit, "unseen, and not in unseen.txt")
+    for edit in listed:
+        cases.count(edit, "" if edit in unseen else "seen, though unseen.txt has it")
+    cases.same("edits that unseen.txt has twice", len({*listed}), len(listed))
+    cases.count("edits", "" if 100 * len(unseen) <= MOST_IN_100 * tried and tried > 0 else f"{len(unseen)} of {tried} are unseen")
+    print(f"{tried} edits, {len(unseen)} unseen")
+    finish("edits", cases)
+
+
+if __name__ == "__main__":
+    main()
