@@ -19,7 +19,7 @@ from pathlib import Path
 sys.path.insert(0, str(Path(__file__).resolve().parents[1]))
 
 from acpi_images.generated.near import (
-    APIC_AFFINITY, BESIDE_IN_MADT, BESIDE_IN_SRAT, CHILD, GICC_AFFINITY, NODES, PAIRS, blocks_fadt, madt, of_length, pptt, slit, srat,
+    APIC_AFFINITY, BESIDE_IN_MADT, BESIDE_IN_SRAT, CHILD, GICC, GICC_AFFINITY, NODES, PAIRS, blocks_fadt, entry, madt, of_length, pptt, slit, srat,
 )  # fmt: skip
 from acpi_images.program import SECONDS, Cases, finish
 from acpi_images.tables import number, table
@@ -32,9 +32,23 @@ ORDER = (b"FACP", b"APIC", b"SRAT", b"SLIT", b"PPTT")
 
 
 def fadts():
+    """FADTs with all fields, and such that end at a field or have another Revision; in one only one of two commands is written."""
     yield table(b"FACP", bytes(240), 6)
     yield from (bytes(blocks_fadt(flags)) for flags in (0, 1 << 20))
-    yield from (of_length(blocks_fadt(), *how) for how in ((116, 1), (132, 2), (244, 3), (268, 5), (276, 6)))
+    lengths = ((116, 1), (132, 2), (131, 5), (132, 5), (276, 5), (131, 6), (132, 6), (244, 3), (268, 5), (276, 6))
+    yield from (of_length(blocks_fadt(), *how) for how in lengths)
+    data = blocks_fadt()
+    data[52] = 0
+    yield bytes(data)
+
+
+def madts():
+    """MADTs with several entries: two I/O APICs with interrupts from another number on, and two GICs whose CPU interfaces differ."""
+    yield from (madt(*beside) for beside in BESIDE_IN_MADT)
+    yield madt(*(entry(1, 12, (2, 1, 7), (4, 4, 0xFEC00000), (8, 4, 0x18181818)) for _ in range(2)))
+    for version in (1, 2):
+        interfaces = (entry(11, 82, (12, 4, 1), (32, 8, base)) for base in (0x0807060504030201, 0x1817161514131211))
+        yield madt(entry(12, 24, (20, 1, version)), *interfaces)
 
 
 def srats():
@@ -50,12 +64,12 @@ def pptts():
 
 def sets():
     """The sets from which more are built: tables of each kind, alone and beside one of each other kind."""
-    madts = [madt(*beside) for beside in BESIDE_IN_MADT]
-    slits = [slit(count, count * count) for count in (0, 1, 2, 3)]
-    yield from product(fadts(), (madts[0], madts[3]))
-    yield from product(madts, (bytes(blocks_fadt()), srat(), pptt()))
-    yield from product(srats(), (*slits, madts[0]))
-    yield from product(pptts(), (madts[0], madts[3]))
+    slits = [slit(count, length) for count, length in ((1, 1), (2, 4), (3, 9), (0, 0), (2, 1), (1, 256))]
+    some_madts = (madt(), madt(GICC, GICC))
+    yield from product(fadts(), some_madts)
+    yield from product(madts(), (bytes(blocks_fadt()), srat(), pptt()))
+    yield from product(srats(), (*slits, madt()))
+    yield from product(pptts(), some_madts)
     for (one, affinity), beside in product(PAIRS, ((), (APIC_AFFINITY,), (GICC_AFFINITY,))):
         yield madt(one), srat(*beside, affinity)
 

@@ -7,6 +7,7 @@
 #![tactic(auto)]
 
 mod build;
+mod changes;
 mod edits;
 mod lists;
 mod near;

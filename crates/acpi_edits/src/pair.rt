@@ -36,8 +36,6 @@ pub enum Change {
         width: usize,
         /// The number.
         number: u64,
-        /// Whether these are the bytes of a field.
-        is_whole: bool,
     },
     /// A structure of a table, or the table, gets another length.
     Resize {
@@ -151,7 +149,6 @@ impl Pair {
                 at,
                 width,
                 number,
-                ..
             } => {
                 let bytes = self.bytes_mut(source);
                 for (index, byte) in number.to_le_bytes().iter().enumerate().take(width) {

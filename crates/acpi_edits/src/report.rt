@@ -1,17 +1,17 @@
 //! The report on all edits.
 
 use crate::edits::{Edit, Reads, cases_of_kind, edited_cases, edits_of, row_with};
-use crate::lists::{Role, lists_of};
+use crate::lists::{List, Role, lists_of};
 use crate::near::kinds_near;
 use crate::pair::Pair;
-use crate::search::search;
+use crate::search::{search, search_deep};
 use crate::seeds::{Aim, Seed, seeds_of};
 use crate::sets::{Set, pairs_of};
 use crate::shared::{Shared, Use, shared_lists, table_of};
 use crate::text::{ClauseText, KindText, ValueText};
 use acpi_base::TableKind;
 use acpi_lint::RowGroup;
-use acpi_rules::{Case, Kind, Row};
+use acpi_rules::{Case, Clause, Kind, Row};
 use std::alloc::{AllocError, Global};
 use std::io;
 
@@ -36,6 +36,25 @@ fn are_all(seen: &[bool]) -> bool {
     seen.iter().all(|is_seen| *is_seen)
 }
 
+/// Whether an edit is of the clause at an index.
+fn is_of_clause(edit: &Edit, index: usize) -> bool {
+    match edit {
+        Edit::Clause(at, _) => *at == index,
+        _ => false,
+    }
+}
+
+/// The row of an aim after an edit.
+fn edited_row(
+    alloc: Global,
+    aim: &Aim,
+    cases: &'static [Case<'static>],
+    edit: &Edit,
+) -> Result<Row<'static>, AllocError> {
+    let edited = edited_cases(alloc, cases, aim.case, edit)?;
+    row_with(alloc, &aim.row, aim.list, edited)
+}
+
 /// Marks the edits of a case that are seen.
 fn mark_edits(
     alloc: Global,
@@ -47,10 +66,60 @@ fn mark_edits(
 ) -> Result<(), AllocError> {
     let mut rows = Vec::new(alloc);
     for edit in edits {
-        let edited = edited_cases(alloc, cases, aim.case, edit)?;
-        rows.push(row_with(alloc, &aim.row, aim.list, edited)?)?;
+        rows.push(edited_row(alloc, aim, cases, edit)?)?;
     }
-    search(alloc, &aim.row, &rows, seeds, seen)
+    search(alloc, &aim.row, &rows, seeds, seen)?;
+    let lists = lists_of(alloc, &aim.row)?;
+    if let Some(list) = lists.get(aim.list)
+        && let Some(case) = cases.get(aim.case)
+    {
+        mark_clauses(alloc, aim, list, case, edits, seeds, seen)?;
+    }
+    Ok(())
+}
+
+/// Marks the edits of the clauses of a case that are seen only after two changes.
+fn mark_clauses(
+    alloc: Global,
+    aim: &Aim,
+    list: &List,
+    case: &Case<'static>,
+    edits: &[Edit],
+    seeds: &[Seed],
+    seen: &mut [bool],
+) -> Result<(), AllocError> {
+    let (_, clauses, ..) = *case;
+    for (index, clause) in clauses.iter().enumerate() {
+        mark_clause(alloc, aim, list, (index, clause), edits, seeds, seen)?;
+    }
+    Ok(())
+}
+
+/// Marks the edits of a clause that are seen only after two changes.
+fn mark_clause(
+    alloc: Global,
+    aim: &Aim,
+    list: &List,
+    (index, clause): (usize, &Clause),
+    edits: &[Edit],
+    seeds: &[Seed],
+    seen: &mut [bool],
+) -> Result<(), AllocError> {
+    let mut left = Vec::new(alloc);
+    for (edit, is_seen) in edits.iter().zip(seen.iter()) {
+        if !*is_seen && is_of_clause(edit, index) {
+            left.push(edited_row(alloc, aim, list.cases, edit)?)?;
+        }
+    }
+    let mut found = vec![in alloc; false; left.len()]?;
+    search_deep(alloc, &aim.row, &left, list, clause, seeds, &mut found)?;
+    let mut next = found.iter();
+    for (edit, is_seen) in edits.iter().zip(seen.iter_mut()) {
+        if !*is_seen && is_of_clause(edit, index) {
+            *is_seen = next.next().copied().unwrap_or(false);
+        }
+    }
+    Ok(())
 }
 
 /// A row with a kind in the place of another one, in its lists on a table.

@@ -1,8 +1,10 @@
 //! Which edited rows find something else than the unedited one.
 
+use crate::changes::{bytes_of_clause, changes_of_clause};
+use crate::lists::List;
 use crate::pair::{Change, Pair};
 use crate::seeds::Seed;
-use acpi_rules::{Row, first_finding};
+use acpi_rules::{Clause, Row, first_finding};
 use std::alloc::{AllocError, Global};
 
 /// Marks the edited rows that find something else in two tables, and returns how many are left without a mark.
@@ -47,10 +49,7 @@ fn mark_changed(
     Ok(left)
 }
 
-/// On how many seeds two changes are made.
-const DEEP_SEEDS: usize = 4;
-
-/// Marks the edited rows that find something else in the tables of a seed, as these are or with one or two changes.
+/// Marks the edited rows that find something else in the tables of a seed, as these are or with a change.
 pub fn search(
     alloc: Global,
     row: &Row<'static>,
@@ -60,14 +59,36 @@ pub fn search(
 ) -> Result<(), AllocError> {
     for seed in seeds {
         if mark_changed(alloc, row, edited, &seed.pair, &seed.changes, seen)? == 0 {
-            return Ok(());
+            break;
         }
     }
+    Ok(())
+}
+
+/// On how many seeds two changes are made.
+const DEEP_SEEDS: usize = 16;
+
+/// Marks the edited rows that find something else in the tables of a seed with two changes around the fields of a clause.
+pub fn search_deep(
+    alloc: Global,
+    row: &Row<'static>,
+    edited: &[Row<'static>],
+    list: &List,
+    clause: &Clause,
+    seeds: &[Seed],
+    seen: &mut [bool],
+) -> Result<(), AllocError> {
     for seed in seeds.iter().take(DEEP_SEEDS) {
-        for write in &seed.writes {
-            let pair = seed.pair.changed(alloc, write)?;
-            if mark_changed(alloc, row, edited, &pair, &seed.changes, seen)? == 0 {
-                return Ok(());
+        for of in seed.structures.iter() {
+            let bytes = bytes_of_clause(alloc, list, *of, clause)?;
+            let writes = changes_of_clause(alloc, &seed.pair, list, *of, clause)?;
+            for write in writes.iter() {
+                let pair = seed.pair.changed(alloc, write)?;
+                if mark_changed(alloc, row, edited, &pair, &writes, seen)? == 0
+                    || mark_changed(alloc, row, edited, &pair, &bytes, seen)? == 0
+                {
+                    return Ok(());
+                }
             }
         }
     }
