@@ -19,7 +19,8 @@ from pathlib import Path
 sys.path.insert(0, str(Path(__file__).resolve().parents[1]))
 
 from acpi_images.generated.near import (
-    APIC_AFFINITY, BESIDE_IN_MADT, BESIDE_IN_SRAT, CHILD, GICC, GICC_AFFINITY, NODES, PAIRS, blocks_fadt, entry, madt, of_length, pptt, slit, srat,
+    APIC_AFFINITY, BESIDE_IN_MADT, BESIDE_IN_SRAT, CACHES, CHILD, GICC, GICC_AFFINITY, MADT_LENGTHS, NODES, PAIRS, SRAT_LENGTHS, blocks_fadt,
+    entry, madt, of_length, pptt, slit, srat,
 )  # fmt: skip
 from acpi_images.program import SECONDS, Cases, finish
 from acpi_images.tables import number, table
@@ -43,21 +44,27 @@ def fadts():
 
 
 def madts():
-    """MADTs with several entries: two I/O APICs with interrupts from another number on, and two GICs whose CPU interfaces differ."""
+    """MADTs with several entries, or with one of each type: two I/O APICs with interrupts from another number on, GICs whose CPU interfaces
+    differ, and one whose CPU interface names a redistributor."""
     yield from (madt(*beside) for beside in BESIDE_IN_MADT)
     yield madt(*(entry(1, 12, (2, 1, 7), (4, 4, 0xFEC00000), (8, 4, 0x18181818)) for _ in range(2)))
     for version in (1, 2):
         interfaces = (entry(11, 82, (12, 4, 1), (32, 8, base)) for base in (0x0807060504030201, 0x1817161514131211))
         yield madt(entry(12, 24, (20, 1, version)), *interfaces)
+    yield madt(entry(11, 82, (12, 4, 1), (60, 8, 0x0102030405060708)), entry(14, 16, (4, 8, 0x1000), (12, 4, 0x1000)))
+    yield from (madt(entry(*how)) for how in MADT_LENGTHS.items())
 
 
 def srats():
     yield from (srat(revision=revision) for revision in (1, 2, 3))
     yield from (srat(*beside) for beside in BESIDE_IN_SRAT)
+    yield srat(entry(4, 12, (2, 4, 7)))
+    yield from (srat(entry(*how)) for how in SRAT_LENGTHS.items())
 
 
 def pptts():
     yield from (pptt(revision=revision) for revision in (1, 2, 3))
+    yield from (pptt(cache, revision=3) for cache in CACHES)
     for revision, node, beside in product((1, 2, 3), NODES, ((), (CHILD,))):
         yield pptt(node, *beside, revision=revision)
 
@@ -66,12 +73,14 @@ def sets():
     """The sets from which more are built: tables of each kind, alone and beside one of each other kind."""
     slits = [slit(count, length) for count, length in ((1, 1), (2, 4), (3, 9), (0, 0), (2, 1), (1, 256))]
     some_madts = (madt(), madt(GICC, GICC))
-    yield from product(fadts(), some_madts)
+    yield from product(fadts(), (*some_madts, madt(entry(0, 8, (4, 4, 2)), entry(9, 16, (8, 4, 2)))))
     yield from product(madts(), (bytes(blocks_fadt()), srat(), pptt()))
     yield from product(srats(), (*slits, madt()))
     yield from product(pptts(), some_madts)
     for (one, affinity), beside in product(PAIRS, ((), (APIC_AFFINITY,), (GICC_AFFINITY,))):
         yield madt(one), srat(*beside, affinity)
+    for count in (256, 257):
+        yield srat(entry(0, 16, (4, 4, 1), (9, 1, 1))), slit(count, count * count)
 
 
 def data_of(tables):

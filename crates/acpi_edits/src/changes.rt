@@ -2,6 +2,7 @@
 
 use crate::lists::List;
 use crate::pair::{Change, Pair, Structure};
+use acpi_base::TableKind;
 use acpi_rules::{Case, Clause, Field, Path, Source, Term, Value, Within};
 use std::alloc::{AllocError, Global};
 
@@ -100,6 +101,18 @@ fn push_numbers(value: &Value, numbers: &mut Vec<u64>) -> Result<(), AllocError>
     }
 }
 
+/// The fields that a case reads.
+pub fn fields_of_case(alloc: Global, case: &Case<'_>) -> Result<Vec<(Within, Field)>, AllocError> {
+    let mut fields = Vec::new(alloc);
+    for clause in case.1 {
+        push_fields(&clause.left, &mut fields)?;
+        push_fields(&clause.right, &mut fields)?;
+    }
+    push_fields(&case.3, &mut fields)?;
+    push_fields(&case.4, &mut fields)?;
+    each_once(alloc, &fields)
+}
+
 /// Whether a list is about entries.
 pub fn is_of_entries(list: &List) -> bool {
     matches!(list.path, Path::Entries(_))
@@ -131,20 +144,27 @@ fn each_once<T: Copy + PartialEq>(alloc: Global, all: &[T]) -> Result<Vec<T>, Al
 }
 
 impl Around {
-    /// No fields, and the numbers that are tried in all.
-    fn new(alloc: Global) -> Result<Around, AllocError> {
-        let mut numbers = vec![in alloc; 0, 1, 2, 4, 8, 16, 32, 64, 128, u64::MAX]?;
+    /// No fields and no numbers.
+    fn new(alloc: Global) -> Around {
+        Around {
+            fields: Vec::new(alloc),
+            numbers: Vec::new(alloc),
+            is_long: false,
+        }
+    }
+
+    /// Adds the numbers that are tried in all fields.
+    fn add_usual(&mut self) -> Result<(), AllocError> {
+        for number in [0, 1, 2, 4, 8, 16, 32, 64, 128, u64::MAX] {
+            self.numbers.push(number)?;
+        }
         let mut power: u64 = 1;
         for _ in 0..8 {
-            numbers.push(power)?;
-            numbers.push(power.wrapping_mul(0x80))?;
+            self.numbers.push(power)?;
+            self.numbers.push(power.wrapping_mul(0x80))?;
             power = power.wrapping_mul(256);
         }
-        Ok(Around {
-            fields: Vec::new(alloc),
-            numbers,
-            is_long: false,
-        })
+        Ok(())
     }
 
     /// Adds the fields and the numbers of a value.
@@ -199,8 +219,19 @@ impl Around {
 /// The lengths that are tried.
 const LONGEST: u64 = 512;
 
+/// The length of the fields that each table of a kind has: shorter ones are not read.
+fn least_length(table: &[u8]) -> u64 {
+    match TableKind::of(table) {
+        Some(TableKind::Fadt) => 116,
+        Some(TableKind::Madt | TableKind::Slit) => 44,
+        Some(TableKind::Srat) => 48,
+        Some(TableKind::Pptt) | None => 36,
+    }
+}
+
 /// Other lengths of a structure: the numbers, and those with which a field ends at its end.
 fn push_sizes(
+    alloc: Global,
     pair: &Pair,
     list: &List,
     of: Structure,
@@ -209,14 +240,25 @@ fn push_sizes(
 ) -> Result<(), AllocError> {
     let source = list.source;
     let is_entry = is_of_entries(list);
+    let least = if is_entry {
+        2
+    } else {
+        least_length(pair.bytes(source))
+    };
+    let mut sizes = Vec::new(alloc);
     for (_, field) in around.fields.iter() {
-        let size = usize::from(field.at).saturating_add(usize::from(field.width));
-        for size in [size, size.saturating_sub(1)] {
+        let size = u64::from(field.at).saturating_add(u64::from(field.width));
+        sizes.push(size)?;
+        sizes.push(size.saturating_sub(1))?;
+    }
+    sizes.extend_from_slice(&around.numbers)?;
+    for size in sizes.iter() {
+        if least <= *size && *size < LONGEST {
             changes.push(Change::Resize {
                 source,
                 of,
                 is_entry,
-                size,
+                size: *size as usize,
             })?;
         }
     }
@@ -226,23 +268,15 @@ fn push_sizes(
         size: pair.bytes(other).len(),
         kind: 0,
     };
+    let least = least_length(pair.bytes(other));
     for number in around.numbers.iter() {
-        if *number < LONGEST {
-            let size = *number as usize;
+        if around.is_long && least <= *number && *number < LONGEST {
             changes.push(Change::Resize {
-                source,
-                of,
-                is_entry,
-                size,
+                source: other,
+                of: whole,
+                is_entry: false,
+                size: *number as usize,
             })?;
-            if around.is_long {
-                changes.push(Change::Resize {
-                    source: other,
-                    of: whole,
-                    is_entry: false,
-                    size,
-                })?;
-            }
         }
     }
     Ok(())
@@ -303,12 +337,13 @@ pub fn changes_of_clause(
     of: Structure,
     clause: &Clause,
 ) -> Result<Vec<Change>, AllocError> {
-    let mut around = Around::new(alloc)?;
+    let mut around = Around::new(alloc);
     around.add_clause(clause)?;
+    around.add_usual()?;
     let around = around.complete(alloc, pair, list, of)?;
     let mut changes = Vec::new(alloc);
     push_writes(list, of, &around, &mut changes)?;
-    push_sizes(pair, list, of, &around, &mut changes)?;
+    push_sizes(alloc, pair, list, of, &around, &mut changes)?;
     Ok(changes)
 }
 
@@ -319,7 +354,7 @@ pub fn bytes_of_clause(
     of: Structure,
     clause: &Clause,
 ) -> Result<Vec<Change>, AllocError> {
-    let mut around = Around::new(alloc)?;
+    let mut around = Around::new(alloc);
     around.add_clause(clause)?;
     let mut changes = Vec::new(alloc);
     push_bytes(list, of, &around, &mut changes)?;
@@ -354,7 +389,7 @@ pub fn changes_of_case(
     of: Structure,
     case: &Case<'_>,
 ) -> Result<Vec<Change>, AllocError> {
-    let mut around = Around::new(alloc)?;
+    let mut around = Around::new(alloc);
     for clause in case.1 {
         around.add_clause(clause)?;
     }
@@ -363,10 +398,11 @@ pub fn changes_of_case(
     for number in [case.0.first, case.0.last, case.0.least, case.0.most] {
         around.add_number(number)?;
     }
+    around.add_usual()?;
     let around = around.complete(alloc, pair, list, of)?;
     let mut changes = Vec::new(alloc);
     push_writes(list, of, &around, &mut changes)?;
-    push_sizes(pair, list, of, &around, &mut changes)?;
+    push_sizes(alloc, pair, list, of, &around, &mut changes)?;
     push_bytes(list, of, &around, &mut changes)?;
     if is_of_entries(list) {
         push_kinds(list, of, case, &mut changes)?;

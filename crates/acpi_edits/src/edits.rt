@@ -2,7 +2,7 @@
 //! has the type of the rows themselves.
 
 use crate::near::{clauses_near, values_near};
-use acpi_rules::{Case, Clause, Guard, Kind, Row, Value};
+use acpi_rules::{Case, Clause, Field, Guard, Kind, Row, Term, Value, Within};
 use std::alloc::{AllocError, Global};
 
 /// A change of one number or one comparison of a case.
@@ -29,7 +29,7 @@ pub struct Reads {
     pub number: bool,
 }
 
-/// The edits of a case, but those of its kind.
+/// The edits of a case, but those of its kind and of fields.
 pub fn edits_of(alloc: Global, case: &Case<'_>, reads: Reads) -> Result<Vec<Edit>, AllocError> {
     let (_, clauses, place, value, number) = *case;
     let mut edits = Vec::new(alloc);
@@ -124,6 +124,105 @@ pub fn cases_of_kind(
     for (kind, clauses, place, value, number) in cases {
         let kind = if *kind == from { to } else { *kind };
         edited.push((kind, *clauses, *place, *value, *number))?;
+    }
+    Ok(kept_cases(edited))
+}
+
+/// Which fields are replaced in the cases of a list, and by what: those of the structures of a type, of the table in which
+/// the structures are, and of the other table.
+#[derive(Clone, Copy, Debug)]
+pub struct Swap {
+    /// The field.
+    pub from: Field,
+    /// The one that takes its place.
+    pub to: Field,
+    /// The type of the structures of which it is a field; none if it is not a field of the structures.
+    pub own: Option<u32>,
+    /// Whether it is a field of their table.
+    pub is_of_table: bool,
+    /// Whether it is a field of the other table.
+    pub is_of_other: bool,
+}
+
+impl Swap {
+    /// The field that a case about a kind of structures reads.
+    fn field(&self, kind: u32, within: Within, field: Field) -> Field {
+        let is_meant = match within {
+            Within::Own => self.own == Some(kind),
+            Within::Other => self.is_of_other,
+            _ => self.is_of_table,
+        };
+        if is_meant && field == self.from {
+            self.to
+        } else {
+            field
+        }
+    }
+
+    /// The term.
+    fn term(&self, kind: u32, term: Term) -> Term {
+        match term {
+            Term::Of(within, field) => Term::Of(within, self.field(kind, within, field)),
+            Term::Bits(within, field, mask) => {
+                Term::Bits(within, self.field(kind, within, field), mask)
+            }
+            _ => term,
+        }
+    }
+
+    /// The value.
+    fn value(&self, kind: u32, value: &Value) -> Value {
+        match *value {
+            Value::Only(term) => Value::Only(self.term(kind, term)),
+            Value::Sum(within, field, times, term) => Value::Sum(
+                within,
+                self.field(kind, within, field),
+                times,
+                self.term(kind, term),
+            ),
+            Value::Product(one, other, None) => Value::Product(
+                self.field(kind, Within::Own, one),
+                self.field(kind, Within::Own, other),
+                None,
+            ),
+            Value::Product(one, other, Some(third)) => Value::Product(
+                self.field(kind, Within::Own, one),
+                self.field(kind, Within::Own, other),
+                Some(self.field(kind, Within::Own, third)),
+            ),
+        }
+    }
+}
+
+/// A case in which a field is replaced.
+fn swapped_case(
+    alloc: Global,
+    case: &Case<'static>,
+    swap: &Swap,
+) -> Result<Case<'static>, AllocError> {
+    let (kind, clauses, place, value, number) = *case;
+    let of = kind.first;
+    let mut swapped = Vec::new(alloc);
+    for clause in clauses {
+        swapped.push(Clause {
+            left: swap.value(of, &clause.left),
+            test: clause.test,
+            right: swap.value(of, &clause.right),
+        })?;
+    }
+    let (value, number) = (swap.value(of, &value), swap.value(of, &number));
+    Ok((kind, kept_clauses(swapped), place, value, number))
+}
+
+/// Cases in which a field is replaced.
+pub fn swapped_cases(
+    alloc: Global,
+    cases: &'static [Case<'static>],
+    swap: &Swap,
+) -> Result<&'static [Case<'static>], AllocError> {
+    let mut edited = Vec::new(alloc);
+    for case in cases {
+        edited.push(swapped_case(alloc, case, swap)?)?;
     }
     Ok(kept_cases(edited))
 }

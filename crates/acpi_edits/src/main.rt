@@ -9,6 +9,7 @@
 mod build;
 mod changes;
 mod edits;
+mod fields;
 mod lists;
 mod near;
 mod pair;

@@ -4,7 +4,7 @@ use acpi_rules::{Clause, Field, Kind, Term, Test, Value, Within};
 use std::alloc::{AllocError, Global};
 
 /// A field at the next offsets and of the next widths, of those from 1 to 8 bytes.
-fn fields_near(alloc: Global, field: Field) -> Result<Vec<Field>, AllocError> {
+pub fn fields_near(alloc: Global, field: Field) -> Result<Vec<Field>, AllocError> {
     let Field { at, width } = field;
     let mut near = Vec::new(alloc);
     if let Some(at) = at.checked_sub(1) {
@@ -36,7 +36,7 @@ fn numbers_near(alloc: Global, number: u64) -> Result<Vec<u64>, AllocError> {
     Ok(near)
 }
 
-/// A term with each of its numbers changed.
+/// A term with each of its numbers changed, but those of its field.
 fn terms_near(alloc: Global, term: Term) -> Result<Vec<Term>, AllocError> {
     let mut near = Vec::new(alloc);
     match term {
@@ -45,15 +45,7 @@ fn terms_near(alloc: Global, term: Term) -> Result<Vec<Term>, AllocError> {
                 near.push(Term::Number(number))?;
             }
         }
-        Term::Of(within, field) => {
-            for field in fields_near(alloc, field)? {
-                near.push(Term::Of(within, field))?;
-            }
-        }
         Term::Bits(within, field, mask) => {
-            for field in fields_near(alloc, field)? {
-                near.push(Term::Bits(within, field, mask))?;
-            }
             for mask in numbers_near(alloc, mask)? {
                 near.push(Term::Bits(within, field, mask))?;
             }
@@ -63,12 +55,12 @@ fn terms_near(alloc: Global, term: Term) -> Result<Vec<Term>, AllocError> {
                 near.push(Term::Behind(within, offset))?;
             }
         }
-        Term::Length(_) | Term::Offset(_) => {}
+        Term::Of(..) | Term::Length(_) | Term::Offset(_) => {}
     }
     Ok(near)
 }
 
-/// A multiple of a field and a term, with each of its numbers changed.
+/// A multiple of a field and a term, with each of its numbers changed, but those of fields.
 fn sums_near(
     alloc: Global,
     within: Within,
@@ -77,9 +69,6 @@ fn sums_near(
     term: Term,
 ) -> Result<Vec<Value>, AllocError> {
     let mut near = Vec::new(alloc);
-    for field in fields_near(alloc, field)? {
-        near.push(Value::Sum(within, field, times, term))?;
-    }
     if let Some(times) = times.checked_sub(1) {
         near.push(Value::Sum(within, field, times, term))?;
     }
@@ -92,29 +81,7 @@ fn sums_near(
     Ok(near)
 }
 
-/// A product with each of its numbers changed.
-fn products_near(
-    alloc: Global,
-    one: Field,
-    other: Field,
-    third: Option<Field>,
-) -> Result<Vec<Value>, AllocError> {
-    let mut near = Vec::new(alloc);
-    for one in fields_near(alloc, one)? {
-        near.push(Value::Product(one, other, third))?;
-    }
-    for other in fields_near(alloc, other)? {
-        near.push(Value::Product(one, other, third))?;
-    }
-    if let Some(field) = third {
-        for third in fields_near(alloc, field)? {
-            near.push(Value::Product(one, other, Some(third)))?;
-        }
-    }
-    Ok(near)
-}
-
-/// A value with each of its numbers changed.
+/// A value with each of its numbers changed, but those of fields.
 pub fn values_near(alloc: Global, value: &Value) -> Result<Vec<Value>, AllocError> {
     match *value {
         Value::Only(term) => {
@@ -125,11 +92,11 @@ pub fn values_near(alloc: Global, value: &Value) -> Result<Vec<Value>, AllocErro
             Ok(near)
         }
         Value::Sum(within, field, times, term) => sums_near(alloc, within, field, times, term),
-        Value::Product(one, other, third) => products_near(alloc, one, other, third),
+        Value::Product(..) => Ok(Vec::new(alloc)),
     }
 }
 
-/// A comparison with each of its numbers changed, and each other comparison of its values.
+/// A comparison with each of its numbers changed, but those of fields, and each other comparison of its values.
 pub fn clauses_near(alloc: Global, clause: &Clause) -> Result<Vec<Clause>, AllocError> {
     let Clause { left, test, right } = *clause;
     let mut near = Vec::new(alloc);

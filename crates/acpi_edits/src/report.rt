@@ -1,6 +1,8 @@
 //! The report on all edits.
 
+use crate::changes::fields_of_case;
 use crate::edits::{Edit, Reads, cases_of_kind, edited_cases, edits_of, row_with};
+use crate::fields::{FieldEdits, Owner, index_of_field, mark_fields, owner_of};
 use crate::lists::{List, Role, lists_of};
 use crate::near::kinds_near;
 use crate::pair::Pair;
@@ -11,7 +13,7 @@ use crate::shared::{Shared, Use, shared_lists, table_of};
 use crate::text::{ClauseText, KindText, ValueText};
 use acpi_base::TableKind;
 use acpi_lint::RowGroup;
-use acpi_rules::{Case, Clause, Kind, Row};
+use acpi_rules::{Case, Clause, Field, Kind, Row};
 use std::alloc::{AllocError, Global};
 use std::io;
 
@@ -24,16 +26,18 @@ struct KindEdits {
     seen: Vec<bool>,
 }
 
+/// The edits of what rows share.
+#[derive(Debug, Drop)]
+struct EditsOfAll {
+    kinds: Vec<KindEdits>,
+    fields: Vec<FieldEdits>,
+}
+
 /// How many edits were tried, and how many were not seen.
 #[derive(Clone, Copy, Debug)]
 struct Counts {
     tried: usize,
     unseen: usize,
-}
-
-/// Whether all of these are seen.
-fn are_all(seen: &[bool]) -> bool {
-    seen.iter().all(|is_seen| *is_seen)
 }
 
 /// Whether an edit is of the clause at an index.
@@ -259,47 +263,105 @@ fn print_kinds(rt: &impl Print, of: &KindEdits, counts: &mut Counts) -> io::Resu
     Ok(())
 }
 
-/// The report on the edits of a list of cases.
-fn report_list(
+/// Marks the edits of the fields that a case reads.
+fn mark_fields_of(
+    alloc: Global,
+    aim: &Aim,
+    group: &RowGroup<'static>,
+    case: &Case<'static>,
+    seeds: &[Seed],
+    fields: &mut Vec<FieldEdits>,
+) -> Result<(), AllocError> {
+    let lists = lists_of(alloc, &aim.row)?;
+    let Some(list) = lists.get(aim.list) else {
+        return Ok(());
+    };
+    for (within, field) in fields_of_case(alloc, case)? {
+        let owner = owner_of(group, list, case.0.first, within);
+        let at = index_of_field(alloc, fields, owner, field)?;
+        if let Some(of) = fields.get_mut(at) {
+            mark_fields(alloc, aim, group, of, seeds)?;
+        }
+    }
+    Ok(())
+}
+
+/// Marks the edits of a case in one use of its list, and those of its kind and its fields, that are seen.
+fn mark_use(
+    alloc: Global,
+    (group, bases): (&RowGroup<'static>, &[Pair]),
+    shared: &Shared,
+    aim: &Aim,
+    edits: &[Edit],
+    all: &mut EditsOfAll,
+    seen: &mut [bool],
+) -> Result<(), AllocError> {
+    let Some(case) = shared.cases.get(aim.case) else {
+        return Ok(());
+    };
+    let seeds = seeds_of(alloc, bases, aim)?;
+    mark_edits(alloc, aim, shared.cases, edits, &seeds, seen)?;
+    let at = index_of_kind(alloc, &mut all.kinds, shared.table, case.0)?;
+    if let Some(of) = all.kinds.get_mut(at) {
+        mark_kinds(alloc, aim, group, of, &seeds)?;
+    }
+    mark_fields_of(alloc, aim, group, case, &seeds, &mut all.fields)
+}
+
+/// The report on the edits of a case of a list.
+fn report_case(
     rt: &impl Print,
     alloc: Global,
-    groups: &[RowGroup<'static>],
-    bases: &[Vec<Pair>],
+    (groups, bases): (&[RowGroup<'static>], &[Vec<Pair>]),
     shared: &Shared,
-    kinds: &mut Vec<KindEdits>,
+    index: usize,
+    all: &mut EditsOfAll,
     counts: &mut Counts,
 ) -> io::Result<()> {
-    let reads = reads_of(shared);
-    for (index, case) in shared.cases.iter().enumerate() {
-        let edits = edits_of(alloc, case, reads)?;
-        let mut seen = vec![in alloc; false; edits.len()]?;
-        let at = index_of_kind(alloc, kinds, shared.table, case.0)?;
-        for used in shared.uses.iter() {
-            let aim = Aim {
-                row: used.row,
-                list: used.list,
-                case: index,
-            };
-            if let Some(of) = kinds.get_mut(at)
-                && let Some(own) = bases.get(used.group)
-                && let Some(group) = groups.get(used.group)
-            {
-                if are_all(&seen) && are_all(&of.seen) {
-                    break;
-                }
-                let seeds = seeds_of(alloc, own, &aim)?;
-                mark_edits(alloc, &aim, shared.cases, &edits, &seeds, &mut seen)?;
-                mark_kinds(alloc, &aim, group, of, &seeds)?;
+    let Some(case) = shared.cases.get(index) else {
+        return Ok(());
+    };
+    let edits = edits_of(alloc, case, reads_of(shared))?;
+    let mut seen = vec![in alloc; false; edits.len()]?;
+    for used in shared.uses.iter() {
+        let aim = Aim {
+            row: used.row,
+            list: used.list,
+            case: index,
+        };
+        if let Some(own) = bases.get(used.group)
+            && let Some(group) = groups.get(used.group)
+        {
+            let both = (group, own.as_slice());
+            mark_use(alloc, both, shared, &aim, &edits, all, &mut seen)?;
+        }
+    }
+    for (edit, is_seen) in edits.iter().zip(seen.iter()) {
+        counts.tried = counts.tried.saturating_add(1);
+        if !*is_seen {
+            counts.unseen = counts.unseen.saturating_add(1);
+            if let Some(used) = shared.uses.first() {
+                print_edit(rt, used, index, case, edit)?;
             }
         }
-        for (edit, is_seen) in edits.iter().zip(seen.iter()) {
-            counts.tried = counts.tried.saturating_add(1);
-            if !*is_seen {
-                counts.unseen = counts.unseen.saturating_add(1);
-                if let Some(used) = shared.uses.first() {
-                    print_edit(rt, used, index, case, edit)?;
-                }
+    }
+    Ok(())
+}
+
+/// Prints the edits of a field that are not seen.
+fn print_fields(rt: &impl Print, of: &FieldEdits, counts: &mut Counts) -> io::Result<()> {
+    for (to, is_seen) in of.edits.iter().zip(of.seen.iter()) {
+        counts.tried = counts.tried.saturating_add(1);
+        if !*is_seen {
+            counts.unseen = counts.unseen.saturating_add(1);
+            let Owner { table, kind } = of.owner;
+            let Field { at, width } = of.field;
+            let (to_at, to_width) = (to.at, to.width);
+            match kind {
+                Some(kind) => print!(rt; "{table:?} type {kind} ")?,
+                None => print!(rt; "{table:?} ")?,
             }
+            println!(rt; "field: {at}:{width} -> {to_at}:{to_width}")?;
         }
     }
     Ok(())
@@ -320,12 +382,21 @@ pub fn report(
         tried: 0,
         unseen: 0,
     };
-    let mut kinds = Vec::new(alloc);
+    let mut all = EditsOfAll {
+        kinds: Vec::new(alloc),
+        fields: Vec::new(alloc),
+    };
     for shared in shared_lists(alloc, groups)? {
-        report_list(rt, alloc, groups, &bases, &shared, &mut kinds, &mut counts)?;
+        for index in 0..shared.cases.len() {
+            let both = (groups, bases.as_slice());
+            report_case(rt, alloc, both, &shared, index, &mut all, &mut counts)?;
+        }
     }
-    for of in kinds.iter() {
+    for of in all.kinds.iter() {
         print_kinds(rt, of, &mut counts)?;
+    }
+    for of in all.fields.iter() {
+        print_fields(rt, of, &mut counts)?;
     }
     let Counts { tried, unseen } = counts;
     println!(rt; "{tried} edits, {unseen} unseen")

@@ -54,6 +54,14 @@ pub fn table_of(group: &RowGroup<'_>, source: Source) -> TableKind {
     }
 }
 
+/// The other table of a list of a group; its own where there is none.
+pub fn other_table(group: &RowGroup<'_>, source: Source) -> TableKind {
+    match (source, group.1) {
+        (Source::Table, Some(other)) => other,
+        _ => group.0,
+    }
+}
+
 /// Adds a use of a list.
 fn add(
     alloc: Global,
