@@ -19,8 +19,8 @@ from pathlib import Path
 sys.path.insert(0, str(Path(__file__).resolve().parents[1]))
 
 from acpi_images.generated.near import (
-    APIC_AFFINITY, BESIDE_IN_MADT, BESIDE_IN_SRAT, CACHES, CHILD, GICC, GICC_AFFINITY, MADT_LENGTHS, NODES, PAIRS, SRAT_LENGTHS, blocks_fadt,
-    entry, madt, of_length, pptt, slit, srat,
+    APIC_AFFINITY, BESIDE_IN_MADT, BESIDE_IN_SRAT, CACHES, CHILD, GICC, GICC_AFFINITY, LAPIC, MADT_LENGTHS, NODES, OVERRIDE, PAIRS, SRAT_LENGTHS,
+    blocks_fadt, entry, madt, of_length, pptt, slit, srat,
 )  # fmt: skip
 from acpi_images.program import SECONDS, Cases, finish
 from acpi_images.tables import number, table
@@ -47,12 +47,14 @@ def madts():
     """MADTs with several entries, or with one of each type: two I/O APICs with interrupts from another number on, GICs whose CPU interfaces
     differ, and one whose CPU interface names a redistributor."""
     yield from (madt(*beside) for beside in BESIDE_IN_MADT)
-    yield madt(*(entry(1, 12, (2, 1, 7), (4, 4, 0xFEC00000), (8, 4, 0x18181818)) for _ in range(2)))
-    for version in (1, 2):
+    for address in (0, 0xFEC00000):
+        yield madt(*(entry(1, 12, (2, 1, 7), (4, 4, address), (8, 4, 0x18181818)) for _ in range(2)))
+    for version in (1, 2, 3):
         interfaces = (entry(11, 82, (12, 4, 1), (32, 8, base)) for base in (0x0807060504030201, 0x1817161514131211))
         yield madt(entry(12, 24, (20, 1, version)), *interfaces)
     yield madt(entry(11, 82, (12, 4, 1), (60, 8, 0x0102030405060708)), entry(14, 16, (4, 8, 0x1000), (12, 4, 0x1000)))
     yield from (madt(entry(*how)) for how in MADT_LENGTHS.items())
+    yield madt(LAPIC, OVERRIDE, entry(6, 12))
 
 
 def srats():

@@ -262,7 +262,17 @@ fn push_sizes(
             })?;
         }
     }
-    let other = source_of(Within::Other, source);
+    Ok(())
+}
+
+/// Other lengths of the other table, where its length is read.
+fn push_other_sizes(
+    pair: &Pair,
+    list: &List,
+    around: &Around,
+    changes: &mut Vec<Change>,
+) -> Result<(), AllocError> {
+    let other = source_of(Within::Other, list.source);
     let whole = Structure {
         at: 0,
         size: pair.bytes(other).len(),
@@ -344,6 +354,7 @@ pub fn changes_of_clause(
     let mut changes = Vec::new(alloc);
     push_writes(list, of, &around, &mut changes)?;
     push_sizes(alloc, pair, list, of, &around, &mut changes)?;
+    push_other_sizes(pair, list, &around, &mut changes)?;
     Ok(changes)
 }
 
@@ -403,6 +414,7 @@ pub fn changes_of_case(
     let mut changes = Vec::new(alloc);
     push_writes(list, of, &around, &mut changes)?;
     push_sizes(alloc, pair, list, of, &around, &mut changes)?;
+    push_other_sizes(pair, list, &around, &mut changes)?;
     push_bytes(list, of, &around, &mut changes)?;
     if is_of_entries(list) {
         push_kinds(list, of, case, &mut changes)?;

@@ -1,5 +1,5 @@
-//! The edits of a case, and rows with edited cases. What an edited row refers to is kept until the program ends, so that it
-//! has the type of the rows themselves.
+//! The edits of a case, and rows with edited cases. What an edited row refers to is kept until the program ends, so
+//! that it has the type of the rows themselves.
 
 use crate::near::{clauses_near, values_near};
 use acpi_rules::{Case, Clause, Field, Guard, Kind, Row, Term, Value, Within};
@@ -128,8 +128,8 @@ pub fn cases_of_kind(
     Ok(kept_cases(edited))
 }
 
-/// Which fields are replaced in the cases of a list, and by what: those of the structures of a type, of the table in which
-/// the structures are, and of the other table.
+/// Which fields are replaced in the cases of a list, and by what: those of the structures of a type, of the table in
+/// which the structures are, and of the other table.
 #[derive(Clone, Copy, Debug)]
 pub struct Swap {
     /// The field.

@@ -68,7 +68,8 @@ pub fn search(
 /// On how many seeds two changes are made.
 const DEEP_SEEDS: usize = 16;
 
-/// Marks the edited rows that find something else in the tables of a seed with two changes around the fields of a clause.
+/// Marks the edited rows that find something else in the tables of a seed with two changes around the fields of a
+/// clause.
 pub fn search_deep(
     alloc: Global,
     row: &Row<'static>,

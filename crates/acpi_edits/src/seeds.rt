@@ -33,7 +33,7 @@ pub struct Seed {
 /// How many tables there are at most on which the case decides what the row finds, and how many others.
 const MOST_DECIDED: usize = 60;
 
-const MOST_OTHERS: usize = 120;
+const MOST_OTHERS: usize = 200;
 
 const MOST_BUILT_OTHERS: usize = 12;
 
