@@ -27,6 +27,8 @@ PARTS = ("src", "specs", "proofs")
 ROOMS = TOP / "out" / "rooms"
 # The processor that the program and the library are built for: any x86-64. Without this flag `rt` builds for x86-64-v2, also in `rt ci`.
 CPU = "x86-64"
+# The program that users run; another one is a test.
+PRODUCT = "acpi_cli"
 # A check of one of these crates takes 1 to 4 GB.
 BYTES_OF_A_CHECK = 4_000_000_000
 # Minutes of one processor that a proof from nothing took; and that of a crate's tests, over the proof that is kept of the crate. The
@@ -126,6 +128,9 @@ class Crate:
 
     def is_program(self):
         return (self.folder / "src" / "main.rt").is_file()
+
+    def is_product(self):
+        return self.name == PRODUCT
 
     def lines(self):
         return sum(len(file.read_bytes().splitlines()) for part in PARTS for file in (self.folder / part).glob("**/*") if file.is_file())

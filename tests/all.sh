@@ -49,7 +49,7 @@ ran() {
   echo $? >"$log.status"
 }
 
-scripts=(recipes.sh tools/pythons.sh tools/run.py tools/growth.py limits.py lint/large.py refusals.py explain/run.py lint/run.py lint/near.py rows/many_slots.py lint/second.py fuzz/run.py rows/examples.py install.sh tools/fuzz.py rebuild/run.py lists.py documents.sh package.sh valgrind.sh rows/confirm.py program.sh rows/words.py show/run.py rows/texts.py scripts.sh refused_calls.py rows/run.py rows/unsorted.py rows/hints.py scratch.sh)
+scripts=(recipes.sh tools/pythons.sh tools/run.py tools/growth.py limits.py lint/large.py refusals.py explain/run.py lint/run.py lint/near.py lint/edits.py rows/many_slots.py lint/second.py fuzz/run.py rows/examples.py install.sh tools/fuzz.py rebuild/run.py lists.py documents.sh package.sh valgrind.sh rows/confirm.py program.sh rows/words.py show/run.py rows/texts.py scripts.sh refused_calls.py rows/run.py rows/unsorted.py rows/hints.py scratch.sh)
 # The library is tested if `make library` has left it.
 [ ! -e library/libacpiset.a ] || scripts=(library/run.py library/rust.sh library/python.sh "${scripts[@]}")
 [ -z "${TESTS_ONLY-}" ] || read -ra scripts <<<"$TESTS_ONLY"
@@ -61,6 +61,7 @@ for script in "${scripts[@]}"; do
     library/run.py) ran "$script" "$program" library & ;;
     library/rust.sh | library/python.sh) ran "$script" library & ;;
     refused_calls.py) ran "$script" "${tests[@]}" & ;;
+    lint/edits.py) ran "$script" crates/acpi_edits/out/acpi_edits & ;;
     *) ran "$script" "$program" & ;;
   esac
 done

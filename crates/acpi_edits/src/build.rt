@@ -1,0 +1,138 @@
+//! Tables built so that a case holds.
+
+use crate::changes::{changes_of_clause, is_of_entries};
+use crate::lists::List;
+use crate::pair::{Pair, Structure, structures};
+use acpi_rules::{Case, Clause, Form, Kind, Path, Row, Source, Tables, Term, Value, first_finding};
+use std::alloc::{AllocError, Global};
+
+/// The tables as a path through one of them sees them.
+fn seen(pair: &Pair, source: Source) -> Tables<'_> {
+    let Tables { table, other } = pair.tables();
+    match source {
+        Source::Table => Tables { table, other },
+        Source::Other => Tables {
+            table: other,
+            other: table,
+        },
+    }
+}
+
+/// The offset of the first structure of a kind for which clauses hold.
+pub fn first_with(
+    alloc: Global,
+    pair: &Pair,
+    list: &List,
+    kind: Kind,
+    clauses: &[Clause],
+) -> Result<Option<u64>, AllocError> {
+    let nothing = Value::Only(Term::Number(0));
+    let cases: [Case<'_>; 1] = [(kind, clauses, 0, nothing, nothing)];
+    let row: Row<'_> = (
+        0,
+        Form::Given,
+        &[],
+        (list.path, &cases, &[]),
+        Source::Table,
+        (Path::Table, &[], &[]),
+    );
+    let found = first_finding(alloc, &row, &seen(pair, list.source))?;
+    Ok(found.map(|place| place.at))
+}
+
+/// The structure of a list at an offset.
+fn structure_at(
+    alloc: Global,
+    pair: &Pair,
+    list: &List,
+    at: u64,
+) -> Result<Option<Structure>, AllocError> {
+    for structure in structures(alloc, &list.path, pair.bytes(list.source))? {
+        if structure.at as u64 == at {
+            return Ok(Some(structure));
+        }
+    }
+    Ok(None)
+}
+
+/// Changes one of two tables so that clauses hold for a structure, of which all but the last do; whether that was
+/// possible.
+fn make_hold(
+    alloc: Global,
+    pair: &mut Pair,
+    list: &List,
+    kind: Kind,
+    clauses: &[Clause],
+) -> Result<bool, AllocError> {
+    let Some((last, before)) = clauses.split_last() else {
+        return Ok(true);
+    };
+    let Some(at) = first_with(alloc, pair, list, kind, before)? else {
+        return Ok(false);
+    };
+    let Some(of) = structure_at(alloc, pair, list, at)? else {
+        return Ok(false);
+    };
+    for change in changes_of_clause(alloc, pair, list, of, last)? {
+        let changed = pair.changed(alloc, &change)?;
+        if first_with(alloc, &changed, list, kind, clauses)?.is_some() {
+            *pair = changed;
+            return Ok(true);
+        }
+    }
+    Ok(false)
+}
+
+/// An entry of a kind, of zeros.
+fn append_entry(alloc: Global, pair: &mut Pair, list: &List, kind: Kind) -> Result<(), AllocError> {
+    let (Ok(first), Ok(size)) = (u8::try_from(kind.first), u8::try_from(kind.least.max(2))) else {
+        return Ok(());
+    };
+    let mut entry = vec![in alloc; first, size]?;
+    for _ in 2..size {
+        entry.push(0)?;
+    }
+    pair.append(list.source, &entry)
+}
+
+/// Changes one of two tables so that a case holds for a structure of it; whether that was possible.
+pub fn satisfy(
+    alloc: Global,
+    pair: &mut Pair,
+    list: &List,
+    case: &Case<'_>,
+) -> Result<bool, AllocError> {
+    let (kind, clauses, ..) = *case;
+    if first_with(alloc, pair, list, kind, &[])?.is_none() && is_of_entries(list) {
+        append_entry(alloc, pair, list, kind)?;
+    }
+    for count in 1..=clauses.len() {
+        let some = &clauses[..count];
+        if first_with(alloc, pair, list, kind, some)?.is_none()
+            && !make_hold(alloc, pair, list, kind, some)?
+        {
+            return Ok(false);
+        }
+    }
+    Ok(true)
+}
+
+/// Adds a copy of the first structure for which a case holds.
+pub fn append_twin(
+    alloc: Global,
+    pair: &mut Pair,
+    list: &List,
+    case: &Case<'_>,
+) -> Result<(), AllocError> {
+    let Some(at) = first_with(alloc, pair, list, case.0, case.1)? else {
+        return Ok(());
+    };
+    let Some(of) = structure_at(alloc, pair, list, at)? else {
+        return Ok(());
+    };
+    let mut twin = Vec::new(alloc);
+    for byte in pair.bytes(list.source).iter().skip(of.at).take(of.size) {
+        twin.push(*byte)?;
+    }
+    pair.append(list.source, &twin)
+}

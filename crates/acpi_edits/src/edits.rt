@@ -1,0 +1,288 @@
+//! The edits of a case, and rows with edited cases. What an edited row refers to is kept until the program ends, so
+//! that it has the type of the rows themselves.
+
+use crate::near::{clauses_near, values_near};
+use acpi_rules::{Case, Clause, Field, Guard, Kind, Row, Term, Value, Within};
+use std::alloc::{AllocError, Global};
+
+/// A change of one number or one comparison of a case.
+#[derive(Clone, Copy, Debug)]
+pub enum Edit {
+    /// The clause at an index is another one.
+    Clause(usize, Clause),
+    /// The place is another one.
+    Place(u16),
+    /// The value is another one.
+    Value(Value),
+    /// The number is another one.
+    Number(Value),
+}
+
+/// What of a case is read beside its kind and its clauses.
+#[derive(Clone, Copy, Debug)]
+pub struct Reads {
+    /// The place.
+    pub place: bool,
+    /// The value.
+    pub value: bool,
+    /// The number.
+    pub number: bool,
+}
+
+/// The edits of a case, but those of its kind and of fields.
+pub fn edits_of(alloc: Global, case: &Case<'_>, reads: Reads) -> Result<Vec<Edit>, AllocError> {
+    let (_, clauses, place, value, number) = *case;
+    let mut edits = Vec::new(alloc);
+    for (index, clause) in clauses.iter().enumerate() {
+        for near in clauses_near(alloc, clause)? {
+            edits.push(Edit::Clause(index, near))?;
+        }
+    }
+    if reads.place {
+        if let Some(less) = place.checked_sub(1) {
+            edits.push(Edit::Place(less))?;
+        }
+        if let Some(more) = place.checked_add(1) {
+            edits.push(Edit::Place(more))?;
+        }
+    }
+    if reads.value {
+        for near in values_near(alloc, &value)? {
+            edits.push(Edit::Value(near))?;
+        }
+    }
+    if reads.number {
+        for near in values_near(alloc, &number)? {
+            edits.push(Edit::Number(near))?;
+        }
+    }
+    Ok(edits)
+}
+
+/// Clauses that stay: an edited row has references to them until the program ends.
+fn kept_clauses(clauses: Vec<Clause>) -> &'static [Clause] {
+    clauses.leak()
+}
+
+/// Cases that stay.
+fn kept_cases(cases: Vec<Case<'static>>) -> &'static [Case<'static>] {
+    cases.leak()
+}
+
+/// Conditions that stay.
+fn kept_guards(guards: Vec<Guard<'static>>) -> &'static [Guard<'static>] {
+    guards.leak()
+}
+
+/// A case after an edit.
+fn edited_case(
+    alloc: Global,
+    case: &Case<'static>,
+    edit: &Edit,
+) -> Result<Case<'static>, AllocError> {
+    let (kind, clauses, place, value, number) = *case;
+    match *edit {
+        Edit::Clause(index, near) => {
+            let mut edited = Vec::from_slice(alloc, clauses)?;
+            if let Some(clause) = edited.get_mut(index) {
+                *clause = near;
+            }
+            Ok((kind, kept_clauses(edited), place, value, number))
+        }
+        Edit::Place(near) => Ok((kind, clauses, near, value, number)),
+        Edit::Value(near) => Ok((kind, clauses, place, near, number)),
+        Edit::Number(near) => Ok((kind, clauses, place, value, near)),
+    }
+}
+
+/// Cases of which one is edited.
+pub fn edited_cases(
+    alloc: Global,
+    cases: &'static [Case<'static>],
+    index: usize,
+    edit: &Edit,
+) -> Result<&'static [Case<'static>], AllocError> {
+    let mut edited = Vec::new(alloc);
+    for (at, case) in cases.iter().enumerate() {
+        if at == index {
+            edited.push(edited_case(alloc, case, edit)?)?;
+        } else {
+            edited.push(*case)?;
+        }
+    }
+    Ok(kept_cases(edited))
+}
+
+/// Cases with a kind in the place of another one.
+pub fn cases_of_kind(
+    alloc: Global,
+    cases: &'static [Case<'static>],
+    from: Kind,
+    to: Kind,
+) -> Result<&'static [Case<'static>], AllocError> {
+    let mut edited = Vec::new(alloc);
+    for (kind, clauses, place, value, number) in cases {
+        let kind = if *kind == from { to } else { *kind };
+        edited.push((kind, *clauses, *place, *value, *number))?;
+    }
+    Ok(kept_cases(edited))
+}
+
+/// Which fields are replaced in the cases of a list, and by what: those of the structures of a type, of the table in
+/// which the structures are, and of the other table.
+#[derive(Clone, Copy, Debug)]
+pub struct Swap {
+    /// The field.
+    pub from: Field,
+    /// The one that takes its place.
+    pub to: Field,
+    /// The type of the structures of which it is a field; none if it is not a field of the structures.
+    pub own: Option<u32>,
+    /// Whether it is a field of their table.
+    pub is_of_table: bool,
+    /// Whether it is a field of the other table.
+    pub is_of_other: bool,
+}
+
+impl Swap {
+    /// The field that a case about a kind of structures reads.
+    fn field(&self, kind: u32, within: Within, field: Field) -> Field {
+        let is_meant = match within {
+            Within::Own => self.own == Some(kind),
+            Within::Other => self.is_of_other,
+            _ => self.is_of_table,
+        };
+        if is_meant && field == self.from {
+            self.to
+        } else {
+            field
+        }
+    }
+
+    /// The term.
+    fn term(&self, kind: u32, term: Term) -> Term {
+        match term {
+            Term::Of(within, field) => Term::Of(within, self.field(kind, within, field)),
+            Term::Bits(within, field, mask) => {
+                Term::Bits(within, self.field(kind, within, field), mask)
+            }
+            _ => term,
+        }
+    }
+
+    /// The value.
+    fn value(&self, kind: u32, value: &Value) -> Value {
+        match *value {
+            Value::Only(term) => Value::Only(self.term(kind, term)),
+            Value::Sum(within, field, times, term) => Value::Sum(
+                within,
+                self.field(kind, within, field),
+                times,
+                self.term(kind, term),
+            ),
+            Value::Product(one, other, None) => Value::Product(
+                self.field(kind, Within::Own, one),
+                self.field(kind, Within::Own, other),
+                None,
+            ),
+            Value::Product(one, other, Some(third)) => Value::Product(
+                self.field(kind, Within::Own, one),
+                self.field(kind, Within::Own, other),
+                Some(self.field(kind, Within::Own, third)),
+            ),
+        }
+    }
+}
+
+/// A case in which a field is replaced.
+fn swapped_case(
+    alloc: Global,
+    case: &Case<'static>,
+    swap: &Swap,
+) -> Result<Case<'static>, AllocError> {
+    let (kind, clauses, place, value, number) = *case;
+    let of = kind.first;
+    let mut swapped = Vec::new(alloc);
+    for clause in clauses {
+        swapped.push(Clause {
+            left: swap.value(of, &clause.left),
+            test: clause.test,
+            right: swap.value(of, &clause.right),
+        })?;
+    }
+    let (value, number) = (swap.value(of, &value), swap.value(of, &number));
+    Ok((kind, kept_clauses(swapped), place, value, number))
+}
+
+/// Cases in which a field is replaced.
+pub fn swapped_cases(
+    alloc: Global,
+    cases: &'static [Case<'static>],
+    swap: &Swap,
+) -> Result<&'static [Case<'static>], AllocError> {
+    let mut edited = Vec::new(alloc);
+    for case in cases {
+        edited.push(swapped_case(alloc, case, swap)?)?;
+    }
+    Ok(kept_cases(edited))
+}
+
+/// Cases without one of them.
+pub fn cases_without(
+    alloc: Global,
+    cases: &'static [Case<'static>],
+    index: usize,
+) -> Result<&'static [Case<'static>], AllocError> {
+    let mut left = Vec::new(alloc);
+    for (at, case) in cases.iter().enumerate() {
+        if at != index {
+            left.push(*case)?;
+        }
+    }
+    Ok(kept_cases(left))
+}
+
+/// Conditions of which one has other cases.
+fn guards_with(
+    alloc: Global,
+    guards: &'static [Guard<'static>],
+    index: usize,
+    cases: &'static [Case<'static>],
+) -> Result<&'static [Guard<'static>], AllocError> {
+    let mut edited = Vec::new(alloc);
+    for (at, guard) in guards.iter().enumerate() {
+        let (need, source, path, own) = *guard;
+        let cases = if at == index { cases } else { own };
+        edited.push((need, source, path, cases))?;
+    }
+    Ok(kept_guards(edited))
+}
+
+/// A row with other cases in one of its lists, which are counted as `lists_of` does.
+pub fn row_with(
+    alloc: Global,
+    row: &Row<'static>,
+    list: usize,
+    cases: &'static [Case<'static>],
+) -> Result<Row<'static>, AllocError> {
+    let (number, form, guards, numbers, source, known) = *row;
+    let (path, given, except) = numbers;
+    let (known_path, among, known_except) = known;
+    let count = guards.len();
+    if list < count {
+        let guards = guards_with(alloc, guards, list, cases)?;
+        return Ok((number, form, guards, numbers, source, known));
+    }
+    Ok(match list - count {
+        0 => (number, form, guards, (path, cases, except), source, known),
+        1 => (number, form, guards, (path, given, cases), source, known),
+        2 => {
+            let known = (known_path, cases, known_except);
+            (number, form, guards, numbers, source, known)
+        }
+        _ => {
+            let known = (known_path, among, cases);
+            (number, form, guards, numbers, source, known)
+        }
+    })
+}

@@ -1,0 +1,86 @@
+//! The sets of tables on standard input.
+
+use crate::pair::Pair;
+use acpi_base::TableKind;
+use std::alloc::{AllocError, Global};
+
+/// The tables of a set, in the order FADT, MADT, SRAT, SLIT, PPTT; one that the set does not have has no bytes.
+#[derive(Clone, Copy, Debug)]
+pub struct Set<'a> {
+    tables: [&'a [u8]; 5],
+}
+
+impl<'a> Set<'a> {
+    /// The table of a kind.
+    pub fn table(&self, kind: TableKind) -> &'a [u8] {
+        let [fadt, madt, srat, slit, pptt] = self.tables;
+        match kind {
+            TableKind::Fadt => fadt,
+            TableKind::Madt => madt,
+            TableKind::Srat => srat,
+            TableKind::Slit => slit,
+            TableKind::Pptt => pptt,
+        }
+    }
+}
+
+/// The table that some bytes begin with, after its length as a number of 32 bits, and the bytes after it.
+fn split_table(bytes: &[u8]) -> Option<(&[u8], &[u8])> {
+    let (length, rest) = bytes.split_at_checked(4)?;
+    let length = u32::from_le_bytes([
+        *length.first()?,
+        *length.get(1)?,
+        *length.get(2)?,
+        *length.get(3)?,
+    ]);
+    rest.split_at_checked(length as usize)
+}
+
+/// The set that some bytes begin with, and the bytes after it.
+fn split_set(bytes: &[u8]) -> Option<(Set<'_>, &[u8])> {
+    let (fadt, rest) = split_table(bytes)?;
+    let (madt, rest) = split_table(rest)?;
+    let (srat, rest) = split_table(rest)?;
+    let (slit, rest) = split_table(rest)?;
+    let (pptt, rest) = split_table(rest)?;
+    let tables = [fadt, madt, srat, slit, pptt];
+    Some((Set { tables }, rest))
+}
+
+/// The sets that bytes consist of, up to the first that is not complete.
+pub fn read_sets(alloc: Global, bytes: &[u8]) -> Result<Vec<Set<'_>>, AllocError> {
+    let mut sets = Vec::new(alloc);
+    let mut left = bytes;
+    for _ in 0..bytes.len() {
+        let Some((set, rest)) = split_set(left) else {
+            break;
+        };
+        sets.push(set)?;
+        left = rest;
+    }
+    Ok(sets)
+}
+
+/// The tables of these kinds, of each set that has them; each two once.
+pub fn pairs_of(
+    alloc: Global,
+    sets: &[Set<'_>],
+    table: TableKind,
+    other: Option<TableKind>,
+) -> Result<Vec<Pair>, AllocError> {
+    let mut pairs: Vec<Pair> = Vec::new(alloc);
+    for set in sets {
+        let bytes = set.table(table);
+        let beside: &[u8] = match other {
+            Some(kind) => set.table(kind),
+            None => &[],
+        };
+        let is_there = !bytes.is_empty() && (other.is_none() || !beside.is_empty());
+        let is_known = |pair: &Pair| pair.table.as_slice() == bytes
+            && pair.other.as_slice() == beside;
+        if is_there && !pairs.iter().any(is_known) {
+            pairs.push(Pair::new(alloc, bytes, beside)?)?;
+        }
+    }
+    Ok(pairs)
+}

@@ -1,0 +1,121 @@
+//! Parts of rows as text.
+
+use acpi_rules::{Clause, Field, Kind, Term, Test, Value, Within};
+use std::fmt;
+
+/// A value as text: fields as their structure, their offset and their width.
+#[derive(Clone, Copy)]
+pub struct ValueText<'a>(pub &'a Value);
+
+/// A clause as text.
+#[derive(Clone, Copy)]
+pub struct ClauseText<'a>(pub &'a Clause);
+
+/// A kind as text: its types and its lengths.
+#[derive(Clone, Copy)]
+pub struct KindText<'a>(pub &'a Kind);
+
+/// The word for a structure.
+fn within_word(within: Within) -> &'static str {
+    match within {
+        Within::Own => "own",
+        Within::Around => "around",
+        Within::Outer => "outer",
+        Within::Table => "table",
+        Within::Other => "other",
+    }
+}
+
+/// The sign of a comparison.
+fn test_sign(test: Test) -> &'static str {
+    match test {
+        Test::Is => "==",
+        Test::IsNot => "!=",
+        Test::Below => "<",
+        Test::UpTo => "<=",
+    }
+}
+
+/// Writes a field.
+fn write_field<W: fmt::Write>(
+    f: &mut fmt::Formatter<W>,
+    within: Within,
+    field: Field,
+) -> fmt::Result {
+    let word = within_word(within);
+    let Field { at, width } = field;
+    write!(f, "{word} {at}:{width}")
+}
+
+/// Writes a term.
+fn write_term<W: fmt::Write>(f: &mut fmt::Formatter<W>, term: Term) -> fmt::Result {
+    match term {
+        Term::Number(number) => write!(f, "{number:#x}"),
+        Term::Of(within, field) => write_field(f, within, field),
+        Term::Bits(within, field, mask) => {
+            write_field(f, within, field)?;
+            write!(f, " & {mask:#x}")
+        }
+        Term::Length(within) => {
+            let word = within_word(within);
+            write!(f, "length {word}")
+        }
+        Term::Behind(within, offset) => {
+            let word = within_word(within);
+            write!(f, "length {word} - {offset}")
+        }
+        Term::Offset(within) => {
+            let word = within_word(within);
+            write!(f, "offset {word}")
+        }
+    }
+}
+
+impl<'a> fmt::Display for ValueText<'a> {
+    fn fmt<W: fmt::Write>(&self, f: &mut fmt::Formatter<W>) -> fmt::Result {
+        match *self.0 {
+            Value::Only(term) => write_term(f, term),
+            Value::Sum(within, field, times, term) => {
+                write_term(f, term)?;
+                write!(f, " + {times} * ")?;
+                write_field(f, within, field)
+            }
+            Value::Product(one, other, third) => {
+                write_field(f, Within::Own, one)?;
+                write!(f, " * ")?;
+                write_field(f, Within::Own, other)?;
+                match third {
+                    Some(third) => {
+                        write!(f, " * ")?;
+                        write_field(f, Within::Own, third)
+                    }
+                    None => Ok(()),
+                }
+            }
+        }
+    }
+}
+
+impl<'a> fmt::Display for ClauseText<'a> {
+    fn fmt<W: fmt::Write>(&self, f: &mut fmt::Formatter<W>) -> fmt::Result {
+        let left = ValueText(&self.0.left);
+        let sign = test_sign(self.0.test);
+        let right = ValueText(&self.0.right);
+        write!(f, "{left} {sign} {right}")
+    }
+}
+
+impl<'a> fmt::Display for KindText<'a> {
+    fn fmt<W: fmt::Write>(&self, f: &mut fmt::Formatter<W>) -> fmt::Result {
+        let Kind {
+            first,
+            last,
+            least,
+            most,
+        } = *self.0;
+        write!(
+            f,
+            "types {first:#x} to {last:#x}, lengths {least:#x} to {most:#x}"
+        )
+    }
+}

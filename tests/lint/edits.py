@@ -1,0 +1,120 @@
+#!/usr/bin/env python3
+"""Runs the program that edits the rules that are rows, crates/acpi_edits: it changes each number and each comparison of each row at run
+time, and looks for tables on which the edited row finds something else than the row as it is. It is given sets from which it builds more. The
+edits that none shows are those of unseen.txt, each with its reason, and at most 3 in 100.
+
+Edited rows are compared with the rows as they are, so no answer is expected here: near.py and second.py, whose sets these are made of, compare
+the rows as they are with a second program.
+
+usage: edits.py PROGRAM, which is crates/acpi_edits/out/acpi_edits; the last line is 'edits: N passed, M failed'."""
+
+from __future__ import annotations
+
+import re
+import subprocess
+import sys
+from itertools import product
+from pathlib import Path
+
+sys.path.insert(0, str(Path(__file__).resolve().parents[1]))
+
+from acpi_images.generated.near import (
+    APIC_AFFINITY, BESIDE_IN_MADT, BESIDE_IN_SRAT, CACHES, CHILD, GICC, GICC_AFFINITY, LAPIC, MADT_LENGTHS, NODES, OVERRIDE, PAIRS, SRAT_LENGTHS,
+    blocks_fadt, entry, madt, of_length, pptt, slit, srat,
+)  # fmt: skip
+from acpi_images.program import SECONDS, Cases, finish
+from acpi_images.tables import number, table
+
+UNSEEN = Path(__file__).with_name("unseen.txt")
+# How many edits of 100 may be unseen.
+MOST_IN_100 = 3
+# The order of the tables of a set.
+ORDER = (b"FACP", b"APIC", b"SRAT", b"SLIT", b"PPTT")
+
+
+def fadts():
+    """FADTs with all fields, and such that end at a field or have another Revision; in one only one of two commands is written."""
+    yield table(b"FACP", bytes(240), 6)
+    yield from (bytes(blocks_fadt(flags)) for flags in (0, 1 << 20))
+    lengths = ((116, 1), (132, 2), (131, 5), (132, 5), (276, 5), (131, 6), (132, 6), (244, 3), (268, 5), (276, 6))
+    yield from (of_length(blocks_fadt(), *how) for how in lengths)
+    data = blocks_fadt()
+    data[52] = 0
+    yield bytes(data)
+
+
+def madts():
+    """MADTs with several entries, or with one of each type: two I/O APICs with interrupts from another number on, GICs whose CPU interfaces
+    differ, and one whose CPU interface names a redistributor."""
+    yield from (madt(*beside) for beside in BESIDE_IN_MADT)
+    for address in (0, 0xFEC00000):
+        yield madt(*(entry(1, 12, (2, 1, 7), (4, 4, address), (8, 4, 0x18181818)) for _ in range(2)))
+    for version in (1, 2, 3):
+        interfaces = (entry(11, 82, (12, 4, 1), (32, 8, base)) for base in (0x0807060504030201, 0x1817161514131211))
+        yield madt(entry(12, 24, (20, 1, version)), *interfaces)
+    yield madt(entry(11, 82, (12, 4, 1), (60, 8, 0x0102030405060708)), entry(14, 16, (4, 8, 0x1000), (12, 4, 0x1000)))
+    yield from (madt(entry(*how)) for how in MADT_LENGTHS.items())
+    yield madt(LAPIC, OVERRIDE, entry(6, 12))
+
+
+def srats():
+    yield from (srat(revision=revision) for revision in (1, 2, 3))
+    yield from (srat(*beside) for beside in BESIDE_IN_SRAT)
+    yield srat(entry(4, 12, (2, 4, 7)))
+    yield from (srat(entry(*how)) for how in SRAT_LENGTHS.items())
+
+
+def pptts():
+    yield from (pptt(revision=revision) for revision in (1, 2, 3))
+    yield from (pptt(cache, revision=3) for cache in CACHES)
+    for revision, node, beside in product((1, 2, 3), NODES, ((), (CHILD,))):
+        yield pptt(node, *beside, revision=revision)
+
+
+def sets():
+    """The sets from which more are built: tables of each kind, alone and beside one of each other kind."""
+    slits = [slit(count, length) for count, length in ((1, 1), (2, 4), (3, 9), (0, 0), (2, 1), (1, 256))]
+    some_madts = (madt(), madt(GICC, GICC))
+    yield from product(fadts(), (*some_madts, madt(entry(0, 8, (4, 4, 2)), entry(9, 16, (8, 4, 2)))))
+    yield from product(madts(), (bytes(blocks_fadt()), srat(), pptt()))
+    yield from product(srats(), (*slits, madt()))
+    yield from product(pptts(), some_madts)
+    for (one, affinity), beside in product(PAIRS, ((), (APIC_AFFINITY,), (GICC_AFFINITY,))):
+        yield madt(one), srat(*beside, affinity)
+    for count in (256, 257):
+        yield srat(entry(0, 16, (4, 4, 1), (9, 1, 1))), slit(count, count * count)
+
+
+def data_of(tables):
+    """A set as the program reads it: each table after its length, which is 0 where there is none."""
+    by_signature = {it[:4]: it for it in tables}
+    return b"".join(number(len(it), 4) + it for it in (by_signature.get(signature, b"") for signature in ORDER))
+
+
+def known():
+    """The edits of unseen.txt; a line that begins with '#' is the reason of those after it."""
+    lines = UNSEEN.read_text().splitlines()
+    return [line for line in lines if line and not line.startswith("#")]
+
+
+def main():
+    _, program = sys.argv
+    cases = Cases(program)
+    run = subprocess.run([program], input=b"".join(map(data_of, sets())), capture_output=True, timeout=SECONDS)
+    *unseen, last = run.stdout.decode().splitlines() or [""]
+    told = re.fullmatch(r"(\d+) edits, (\d+) unseen", last)
+    cases.count("status", "" if run.returncode == 0 and not run.stderr and told else f"{run.returncode}, {run.stderr}, {last}")
+    tried = int(told[1]) if told else 0
+    listed = known()
+    for edit in sorted({*unseen} - {*listed}):
+        cases.count(edit, "unseen, and not in unseen.txt")
+    for edit in listed:
+        cases.count(edit, "" if edit in unseen else "seen, though unseen.txt has it")
+    cases.same("edits that unseen.txt has twice", len({*listed}), len(listed))
+    cases.count("edits", "" if 100 * len(unseen) <= MOST_IN_100 * tried and tried > 0 else f"{len(unseen)} of {tried} are unseen")
+    print(f"{tried} edits, {len(unseen)} unseen")
+    finish("edits", cases)
+
+
+if __name__ == "__main__":
+    main()
