@@ -1,20 +1,19 @@
 -- Pieces that can be added one after another can be so in any order, and give the same image.
-use Rattle.std.proofs.Common.{◌≡◌, ℕ, zero, suc, ◌+◌, ◌^◌, ◌<◌, ◌≤◌, List, [], ◌∷◌, length, get_or, drop, Option, Some, None, IsSome, is_some, refl, sym, ap, subst, ◌∙◌, arith, drop-cons}
-use Rattle.std.specs.Prelude.{IfSome, Result, Ok, Err, nat_lt}
-use Rattle.std.specs.FinMap.{empty, get-empty}
+use Rattle.std.proofs.Common.{◌≡◌, ℕ, suc, ◌+◌, ◌^◌, ◌<◌, ◌≤◌, List, [], ◌∷◌, length, get_or, drop, Option, Some, None, IsSome, refl, sym, ap, subst, ◌∙◌, arith, drop-cons}
+use Rattle.std.specs.Prelude.{IfSome, Result, Ok, Err}
+use Rattle.std.specs.FinMap.{empty}
 use Rattle.std.specs.List.{AllByRecursion, sum_by}
 use Rattle.std.specs.List.Sorted.{IsPermutation}
 use Rattle.std.specs.Option.{option_or}
 use Rattle.std.specs.Result.{result_ok}
-use Rattle.std.specs.Ordering.{nat_cmp}
 use Rattle.std.proofs.lemmas.Bool.{le-ltb}
 use Rattle.std.proofs.lemmas.Bool.Decides.{nat_tests}
 use Rattle.std.proofs.lemmas.List.Elements.{All-from_recursion, recursion_from_All}
 use Rattle.std.proofs.lemmas.List.Sorted.{All-permutation, IsPermutation-sym, sum_by-IsPermutation}
 use Rattle.std.proofs.lemmas.List.Sums.{sum_by-cons}
 use Rattle.acpi_base.specs.Image.Adding.{add_refusal}
-use Rattle.acpi_base.specs.Image.Runs.{byte_in, run_at}
-use Rattle.acpi_base.specs.Memory.{Memory, byte_of, first_present, with_bytes}
+use Rattle.acpi_base.specs.Image.Runs.{run_at}
+use Rattle.acpi_base.specs.Memory.{Memory, byte_of, with_bytes}
 use Rattle.acpi_base.specs.declared.image.ImageFault.{ImageFault}
 use Rattle.acpi_base.proofs.Images.ByteRuns.{first_of_none}
 use Rattle.acpi_base.proofs.Images.RunBytes.{byte_of-with_bytes, present_inside, present_some}

@@ -1,269 +1,137 @@
 -- The examples of the rules that are rows, by computing.
-use Rattle.std.proofs.Common.{◌≡◌, ℕ, List, Option, refl, sym}
+use Rattle.std.proofs.Common.{◌≡◌, ◌∷◌, [], List, Option, ap, drop, get_or, inl, inr, map, refl, subst, sym}
+use Rattle.std.specs.Prelude.{Contains}
 use Rattle.acpi_base.specs.Number.{field, number_bytes}
+use Rattle.acpi_base.proofs.Elements.{first_or_later, no_element}
 use Rattle.acpi_rules.specs.Cases.{gives, in_case, is_kind}
 use Rattle.acpi_rules.specs.Clauses.{all_hold, holds, passes}
 use Rattle.acpi_rules.specs.Fields.{reading}
-use Rattle.acpi_rules.specs.Rows.{guard_holds}
+use Rattle.acpi_rules.specs.Rows.{Row, guard_holds}
 use Rattle.acpi_rules.specs.Series.{first_bytes, head_said, kind_in, most_of, said_in, size_in, start_of}
 use Rattle.acpi_rules.specs.Terms.{shown, term_number, value_number}
 use Rattle.acpi_rules.specs.Walks.{cut_from, structures_from}
 use Rattle.acpi_rules.proofs.Computed.{finds_broken, first_broken}
-use Rattle.acpi_rules.specs.Rows.{Row}
 use Rattle.acpi_rules.specs.declared.place.Place.{Place}
 use Rattle.acpi_lint.specs.RowGroups.{fadt_group, fadt_with_madt_group, gic_group, madt_group, madt_with_fadt_group, madt_with_pptt_group, madt_with_srat_group, pptt_group, pptt_with_madt_group, srat_group, srat_with_madt_group, srat_with_slit_group}
 use Rattle.acpi_lint.specs.Rules.Rows.{rule_number}
-use Rattle.acpi_lint.specs.declared.rule.Rule.{Rule}
-use Rattle.acpi_examples.specs.Rows.{Finds, AreMadtRows, AreMadtFadtRows, AreSratRows, AreSratSlitRows, AreMadtPpttRows, ArePpttRows, AreFadtRows, AreFadtMadtRows, AreRowsFound}
+use Rattle.acpi_examples.specs.Rows.{AreFound, AreRowsFound, Example, tables_of, fadt_examples, fadt_with_madt_examples, gic_examples, madt_examples, madt_with_fadt_examples, madt_with_pptt_examples, madt_with_srat_examples, pptt_examples, pptt_with_madt_examples, srat_examples, srat_with_madt_examples, srat_with_slit_examples}
 
-computed : {rows : List Row} {r : Rule} {table other : List ℕ} {found : Option Place}
-    → first_broken (rule_number r) rows (record { table = table; other = other }) ≡ found
-    → Finds rows r table other found
-computed {rows} {r} {table} {other} is =
-    record { first = rw (sym is) (finds_broken (rule_number r) rows (record { table = table; other = other })) }
+-- what two functions give for each element, if the lists are the same
+same_of : {X Y : Type 0} (f g : X → Y) (xs : List X) → map f xs ≡ map g xs → (x : X) → Contains xs x → f x ≡ g x
+same_of f g [] same x listed = absurd (no_element x listed)
+same_of {X} f g (u ∷ xs) same x listed =
+    elim (first_or_later u x xs listed) [
+      | inl is ↦ subst (λ (y : X). f y ≡ g y) is (ap (λ ys. get_or ys 0 (f u)) same)
+      | inr later ↦ same_of f g xs (ap (drop 1) same) x later
+    ]
 
-madt_rows_found : AreMadtRows
+-- what is computed for an example
+computed : List Row → Example → Option Place
+computed rows e = first_broken (rule_number e.rule) rows (tables_of e)
+
+all_computed : (rows : List Row) (examples : List Example) → map (computed rows) examples ≡ map (λ e. e.found) examples
+    → AreFound rows examples
+unfolding computed
+all_computed rows examples same = λ e listed.
+    rw (sym (same_of (computed rows) (λ x. x.found) examples same e listed))
+    (finds_broken (rule_number e.rule) rows (tables_of e))
+
+madt_found : AreFound madt_group.rows madt_examples
 unfolding field number_bytes gives in_case is_kind all_hold holds passes reading
     guard_holds first_bytes head_said kind_in most_of said_in size_in start_of
     shown term_number value_number cut_from structures_from
-    madt_group gic_group
-madt_rows_found = record {
-  same_uid = computed refl;
-  same_uid_kept = computed refl;
-  same_id = computed refl;
-  same_id_kept = computed refl;
-  at_zero = computed refl;
-  at_zero_kept = computed refl;
-  same_io_apic = computed refl;
-  same_io_apic_kept = computed refl;
-  same_address = computed refl;
-  same_address_kept = computed refl;
-  nmi_nowhere = computed refl;
-  nmi_nowhere_kept = computed refl;
-  second_gicd = computed refl;
-  second_gicd_kept = computed refl;
-  no_processor = computed refl;
-  no_processor_kept = computed refl;
-  unread = computed refl;
-  unread_kept = computed refl;
-  below_255 = computed refl;
-  below_255_kept = computed refl;
-  broadcast = computed refl;
-  broadcast_kept = computed refl;
-  both_flags = computed refl;
-  both_flags_kept = computed refl;
-  timer = computed refl;
-  timer_kept = computed refl;
-  two_sources = computed refl;
-  two_sources_kept = computed refl;
-  lint = computed refl;
-  lint_kept = computed refl;
-  no_io_apic = computed refl;
-  no_io_apic_kept = computed refl;
-  no_gicd = computed refl;
-  no_gicd_kept = computed refl;
-  same_mpidr = computed refl;
-  same_mpidr_kept = computed refl;
-  reserved_mpidr = computed refl;
-  reserved_mpidr_kept = computed refl;
-  empty_gicr = computed refl;
-  empty_gicr_kept = computed refl;
-  no_gicr = computed refl;
-  no_gicr_kept = computed refl;
-  own_gicr = computed refl;
-  base_differs = computed refl;
-  base_differs_kept = computed refl;
-  base_of_version_3 = computed refl;
-  gicr_twice = computed refl;
-  gicr_twice_kept = computed refl;
-  same_its = computed refl;
-  same_its_kept = computed refl;
-  same_frame = computed refl;
-  same_frame_kept = computed refl;
-  same_hart = computed refl;
-  same_hart_kept = computed refl;
-  table_flags = computed refl;
-  table_flags_kept = computed refl;
-  entry_flags = computed refl;
-  entry_flags_kept = computed refl;
-}
+    computed madt_group
+madt_found = all_computed madt_group.rows madt_examples refl
 
-madt_fadt_rows_found : AreMadtFadtRows
+gic_found : AreFound gic_group.rows gic_examples
 unfolding field number_bytes gives in_case is_kind all_hold holds passes reading
     guard_holds first_bytes head_said kind_in most_of said_in size_in start_of
     shown term_number value_number cut_from structures_from
-    madt_with_fadt_group fadt_with_madt_group
-madt_fadt_rows_found = record {
-  early = computed refl;
-  early_kept = computed refl;
-  past_isa = computed refl;
-  past_isa_kept = computed refl;
-  old = computed refl;
-  old_kept = computed refl;
-  not_reduced = computed refl;
-  not_reduced_kept = computed refl;
-}
+    computed gic_group
+gic_found = all_computed gic_group.rows gic_examples refl
 
-srat_rows_found : AreSratRows
+madt_with_fadt_found : AreFound madt_with_fadt_group.rows madt_with_fadt_examples
 unfolding field number_bytes gives in_case is_kind all_hold holds passes reading
     guard_holds first_bytes head_said kind_in most_of said_in size_in start_of
     shown term_number value_number cut_from structures_from
-    srat_group srat_with_madt_group madt_with_srat_group
-srat_rows_found = record {
-  no_domain = computed refl;
-  no_domain_kept = computed refl;
-  no_uid_domain = computed refl;
-  no_uid_domain_kept = computed refl;
-  nowhere = computed refl;
-  nowhere_kept = computed refl;
-  uid_nowhere = computed refl;
-  uid_nowhere_kept = computed refl;
-  its_nowhere = computed refl;
-  its_nowhere_kept = computed refl;
-  two_domains = computed refl;
-  two_domains_kept = computed refl;
-  srat_unread = computed refl;
-  srat_unread_kept = computed refl;
-  no_memory = computed refl;
-  no_memory_kept = computed refl;
-  empty_range = computed refl;
-  empty_range_kept = computed refl;
-  initiator_off = computed refl;
-  initiator_off_kept = computed refl;
-  wide_domain = computed refl;
-  wide_domain_kept = computed refl;
-  wide_apic_domain = computed refl;
-  wide_apic_domain_kept = computed refl;
-  number_not_1 = computed refl;
-  number_not_1_kept = computed refl;
-  affinity_flags = computed refl;
-  affinity_flags_kept = computed refl;
-}
+    computed madt_with_fadt_group
+madt_with_fadt_found = all_computed madt_with_fadt_group.rows madt_with_fadt_examples refl
 
-srat_slit_rows_found : AreSratSlitRows
+fadt_with_madt_found : AreFound fadt_with_madt_group.rows fadt_with_madt_examples
 unfolding field number_bytes gives in_case is_kind all_hold holds passes reading
     guard_holds first_bytes head_said kind_in most_of said_in size_in start_of
     shown term_number value_number cut_from structures_from
-    srat_with_slit_group
-srat_slit_rows_found = record {
-  past_slit = computed refl;
-  past_slit_kept = computed refl;
-  past_slit_high = computed refl;
-  past_short_slit = computed refl;
-}
+    computed fadt_with_madt_group
+fadt_with_madt_found = all_computed fadt_with_madt_group.rows fadt_with_madt_examples refl
 
-madt_pptt_rows_found : AreMadtPpttRows
+madt_with_srat_found : AreFound madt_with_srat_group.rows madt_with_srat_examples
 unfolding field number_bytes gives in_case is_kind all_hold holds passes reading
     guard_holds first_bytes head_said kind_in most_of said_in size_in start_of
     shown term_number value_number cut_from structures_from
-    madt_with_pptt_group pptt_with_madt_group
-madt_pptt_rows_found = record {
-  no_leaf = computed refl;
-  no_leaf_kept = computed refl;
-  no_old_leaf = computed refl;
-  no_old_leaf_kept = computed refl;
-  leaf_nowhere = computed refl;
-  leaf_nowhere_kept = computed refl;
-  leaf_of_x86 = computed refl;
-  old_leaf_nowhere = computed refl;
-  old_leaf_nowhere_kept = computed refl;
-}
+    computed madt_with_srat_group
+madt_with_srat_found = all_computed madt_with_srat_group.rows madt_with_srat_examples refl
 
-fadt_madt_rows_found : AreFadtMadtRows
+srat_with_madt_found : AreFound srat_with_madt_group.rows srat_with_madt_examples
 unfolding field number_bytes gives in_case is_kind all_hold holds passes reading
     guard_holds first_bytes head_said kind_in most_of said_in size_in start_of
     shown term_number value_number cut_from structures_from
-    fadt_with_madt_group
-fadt_madt_rows_found = record {
-  no_boot = computed refl;
-  no_boot_kept = computed refl;
-  one_interface = computed refl;
-  psci = computed refl;
-  no_psci_field = computed refl;
-}
+    computed srat_with_madt_group
+srat_with_madt_found = all_computed srat_with_madt_group.rows srat_with_madt_examples refl
 
-pptt_rows_found : ArePpttRows
+srat_found : AreFound srat_group.rows srat_examples
 unfolding field number_bytes gives in_case is_kind all_hold holds passes reading
     guard_holds first_bytes head_said kind_in most_of said_in size_in start_of
     shown term_number value_number cut_from structures_from
-    pptt_group
-pptt_rows_found = record {
-  same_leaf = computed refl;
-  same_leaf_kept = computed refl;
-  same_old_leaf = computed refl;
-  same_old_leaf_kept = computed refl;
-  same_old_leaf_cut = computed refl;
-  unflagged = computed refl;
-  unflagged_kept = computed refl;
-  unflagged_old = computed refl;
-  parent = computed refl;
-  parent_kept = computed refl;
-  parent_elsewhere = computed refl;
-  no_ways = computed refl;
-  no_size = computed refl;
-  size_differs = computed refl;
-  size_differs_kept = computed refl;
-  size_not_valid = computed refl;
-  shape = computed refl;
-  shape_kept = computed refl;
-  same_cache = computed refl;
-  same_cache_kept = computed refl;
-  node_flags = computed refl;
-  node_flags_kept = computed refl;
-}
+    computed srat_group
+srat_found = all_computed srat_group.rows srat_examples refl
 
-fadt_rows_found : AreFadtRows
+srat_with_slit_found : AreFound srat_with_slit_group.rows srat_with_slit_examples
 unfolding field number_bytes gives in_case is_kind all_hold holds passes reading
     guard_holds first_bytes head_said kind_in most_of said_in size_in start_of
     shown term_number value_number cut_from structures_from
-    fadt_group
-fadt_rows_found = record {
-  short = computed refl;
-  short_kept = computed refl;
-  facs = computed refl;
-  facs_kept = computed refl;
-  dsdt = computed refl;
-  dsdt_kept = computed refl;
-  block = computed refl;
-  block_kept = computed refl;
-  no_dsdt = computed refl;
-  no_dsdt_kept = computed refl;
-  no_pm1 = computed refl;
-  no_pm1_kept = computed refl;
-  width = computed refl;
-  width_kept = computed refl;
-  half = computed refl;
-  half_kept = computed refl;
-  half_length = computed refl;
-  half_length_kept = computed refl;
-  events = computed refl;
-  events_kept = computed refl;
-  smi = computed refl;
-  smi_kept = computed refl;
-  command = computed refl;
-  command_kept = computed refl;
-  sci = computed refl;
-  sci_kept = computed refl;
-  reset = computed refl;
-  reset_kept = computed refl;
-  sleep = computed refl;
-  sleep_kept = computed refl;
-  left_out = computed refl;
-  left_out_kept = computed refl;
-  profile = computed refl;
-  profile_kept = computed refl;
-  caches = computed refl;
-  caches_kept = computed refl;
-}
+    computed srat_with_slit_group
+srat_with_slit_found = all_computed srat_with_slit_group.rows srat_with_slit_examples refl
+
+madt_with_pptt_found : AreFound madt_with_pptt_group.rows madt_with_pptt_examples
+unfolding field number_bytes gives in_case is_kind all_hold holds passes reading
+    guard_holds first_bytes head_said kind_in most_of said_in size_in start_of
+    shown term_number value_number cut_from structures_from
+    computed madt_with_pptt_group
+madt_with_pptt_found = all_computed madt_with_pptt_group.rows madt_with_pptt_examples refl
+
+pptt_with_madt_found : AreFound pptt_with_madt_group.rows pptt_with_madt_examples
+unfolding field number_bytes gives in_case is_kind all_hold holds passes reading
+    guard_holds first_bytes head_said kind_in most_of said_in size_in start_of
+    shown term_number value_number cut_from structures_from
+    computed pptt_with_madt_group
+pptt_with_madt_found = all_computed pptt_with_madt_group.rows pptt_with_madt_examples refl
+
+pptt_found : AreFound pptt_group.rows pptt_examples
+unfolding field number_bytes gives in_case is_kind all_hold holds passes reading
+    guard_holds first_bytes head_said kind_in most_of said_in size_in start_of
+    shown term_number value_number cut_from structures_from
+    computed pptt_group
+pptt_found = all_computed pptt_group.rows pptt_examples refl
+
+fadt_found : AreFound fadt_group.rows fadt_examples
+unfolding field number_bytes gives in_case is_kind all_hold holds passes reading
+    guard_holds first_bytes head_said kind_in most_of said_in size_in start_of
+    shown term_number value_number cut_from structures_from
+    computed fadt_group
+fadt_found = all_computed fadt_group.rows fadt_examples refl
 
 pub rows_found : AreRowsFound
 rows_found = record {
-  madt = madt_rows_found;
-  madt_fadt = madt_fadt_rows_found;
-  srat = srat_rows_found;
-  srat_slit = srat_slit_rows_found;
-  madt_pptt = madt_pptt_rows_found;
-  pptt = pptt_rows_found;
-  fadt = fadt_rows_found;
-  fadt_madt = fadt_madt_rows_found;
+  madt = madt_found;
+  gic = gic_found;
+  madt_with_fadt = madt_with_fadt_found;
+  fadt_with_madt = fadt_with_madt_found;
+  madt_with_srat = madt_with_srat_found;
+  srat_with_madt = srat_with_madt_found;
+  srat = srat_found;
+  srat_with_slit = srat_with_slit_found;
+  madt_with_pptt = madt_with_pptt_found;
+  pptt_with_madt = pptt_with_madt_found;
+  pptt = pptt_found;
+  fadt = fadt_found;
 }
