@@ -25,6 +25,7 @@ PLACE = re.compile(r"\{(at|other|point)(?::[ds])?\}")
 COMMENT = re.compile(r" *///? ?(.*)")
 ROW = re.compile(r" *rule!\((\d+) (\w+),")
 FUNCTION = re.compile(r"(?:pub )?fn \w+")
+ROWS = re.compile(r"(?:pub )?static (\w+): \[Row<")
 
 
 @dataclass(frozen=True)
@@ -38,7 +39,8 @@ class Told:
 
 @dataclass(frozen=True)
 class Rule:
-    """`sentence` is what it finds, as a part of a sentence; `sections` may be none; the last of `told` has no condition."""
+    """`sentence` is what it finds, as a part of a sentence; `sections` may be none; the last of `told` has no condition. `rows` is the
+    list that its first row is in, or nothing."""
 
     number: int
     name: str
@@ -47,6 +49,7 @@ class Rule:
     sentence: str
     numbers: str
     told: tuple
+    rows: str
 
     def heading(self):
         """What it finds, with the sections."""
@@ -79,7 +82,7 @@ def told_of(texts, numbers):
     return tuple(Told(one[3], one[1] or "", int(one[2] or "0", 0)) for one in told)
 
 
-def rule_of(lines):
+def rule_of(lines, rows):
     head, *rest = paragraphs(lines)
     found = HEAD.fullmatch(head)
     if not found:
@@ -87,19 +90,20 @@ def rule_of(lines):
     if not rest or not re.fullmatch(r"Numbers: .+\.", rest[0]):
         raise Wrong("the line after its first sentence is not: Numbers: SENTENCE.")
     numbers = rest[0].partition(" ")[2]
-    return Rule(int(found[1]), found[2], found[3], found[4] or "", found[5], numbers, told_of(rest[1:], numbers))
+    return Rule(int(found[1]), found[2], found[3], found[4] or "", found[5], numbers, told_of(rest[1:], numbers), rows)
 
 
 def rules_in(lines):
     """The rules of a source file. A rule's comment is at its row, or at a function."""
-    place = 0
+    place, rows = 0, ""
     for is_comment, group in groupby(lines, lambda line: bool(COMMENT.fullmatch(line))):
         group = list(group)
         place += len(group)
         texts = [COMMENT.fullmatch(line)[1] for line in group] if is_comment else []
+        rows = next((found[1].lower() for found in map(ROWS.match, reversed(group)) if found), rows)
         first = next((at for at, text in enumerate(texts) if re.match(r"\d+ [A-Z]\w*, ", text)), None)
         if first is not None:
-            rule = rule_of(texts[first:])
+            rule = rule_of(texts[first:], rows)
             below = next((line for line in lines[place:] if not line.startswith("#[")), "")
             row = ROW.match(below)
             if row.groups() != (str(rule.number), rule.name) if row else not FUNCTION.match(below):

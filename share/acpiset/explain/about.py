@@ -3,21 +3,32 @@
 from . import entries, fadt, fixed
 from .document import FIRST_RULE
 from .report import Report
+from .sentences import ROWS
 
-# What says more of a fault's structures, by its stage, and of those of a finding of advice, by its number.
+# What says more of a fault's structures, by its stage, and of those of a finding of advice, by the tables that its rule is a row on, or by
+# its number if it is no row.
 OF_STAGES = {entries.madt: (6, 7, 8, 17), entries.srat: (9, 10, 16), entries.pptt: (12, 13, 14, 15, 18)}
-OF_RULES = {
+OF_ROWS = {
+    fadt.fadt_advice: ("fadt",),
+    entries.fadt_madt: ("fadt_with_madt",),
+    entries.madt: ("madt", "gic", "madt_with_fadt", "madt_with_srat", "madt_with_pptt"),
+    entries.srat: ("srat", "srat_with_madt", "srat_with_slit"),
+    entries.pptt: ("pptt", "pptt_with_madt"),
+}
+BY_HAND = {
     fixed.listed: (101, 102, 103, 148, 149),
     fixed.root_advice: (129, 130, 131),
-    fadt.fadt_advice: (104, 105, 106, 107, *range(132, 143), 144, 145),
-    entries.fadt_madt: (108, 143, 170),
+    fadt.fadt_advice: (133, 137, 138),
+    entries.fadt_madt: (108,),
     fadt.facs_advice: (146,),
     fixed.rsdp_advice: (147,),
-    entries.madt: (*range(109, 117), 119, 125, 127, *range(150, 170), 171, 172),
-    entries.srat: (117, 118, 120, 128, *range(173, 179)),
+    entries.madt: (161, 168),
     fixed.slit_advice: (121, 179),
-    entries.pptt: (122, 123, 124, 126, *range(180, 185)),
+    entries.pptt: (182,),
 }
+OF_RULES = {**BY_HAND}
+for explain, lists in OF_ROWS.items():
+    OF_RULES[explain] = (*BY_HAND.get(explain, ()), *(number for rows in lists for number in ROWS[rows]))
 
 
 def about(line, tables, settings):

@@ -1,4 +1,4 @@
-"""What a line of advice says, with places for its numbers."""
+"""What a line of advice says, with places for its numbers, and which rules are rows on which tables."""
 
 # Written by scripts/lists.py from the comments at the rules: change those, and run it again.
 
@@ -184,4 +184,20 @@ SENTENCES = {
     182: ("NoPackage", {}, "The leaf at {at} of the PPTT, of ACPI Processor ID {point:d}, is in no package."),
     183: ("CacheNumbers", {}, "The cache at {at} of the PPTT has the size {other:d}, and its sets * ways * line size are {point:d}."),
     184: ("PpttReserved", {}, "The structure at {at} of the PPTT has a reserved value at its offset {other:d}."),
+}
+
+# The rules that are rows, by the list that has them: rows on a table, or on one with another.
+ROWS = {
+    "fadt": (104, 105, 106, 107, 132, 134, 135, 136, 139, 140, 141, 142, 144, 145),
+    "fadt_with_madt": (143, 170),
+    "gic": (115, 159, 160, 162, 163, 164, 165, 166, 167, 169),
+    "madt": (109, 110, 111, 112, 113, 114, 116, 127, 150, 151, 153, 155, 156, 157, 158, 171, 172),
+    "madt_with_fadt": (152, 154),
+    "madt_with_pptt": (125,),
+    "madt_with_srat": (119,),
+    "pptt": (122, 123, 124, 180, 181, 183, 184),
+    "pptt_with_madt": (126,),
+    "srat": (117, 128, 173, 174, 175, 176, 178),
+    "srat_with_madt": (118, 177),
+    "srat_with_slit": (120,),
 }
