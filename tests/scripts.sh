@@ -470,7 +470,8 @@ END
 # Each script in Python gives SIGCHLD its default, whatever its caller did, by what it imports; except those that start no others.
 modules='acpi_images|crates|measure|preloaded|worst'
 mapfile -t scripts < <(find scripts tests bench -path '*/target' -prune -o -type f -perm -u+x -exec grep -l '^#!/usr/bin/env python3' {} + | LC_ALL=C sort)
-same 'scripts that import nothing which gives SIGCHLD its default' "$(grep -LE "^(import|from) ($modules)\\b|SIGCHLD, signal.SIG_DFL" "${scripts[@]}")" 'scripts/parts
+same 'scripts that import nothing which gives SIGCHLD its default' "$(grep -LE "^(import|from) ($modules)\\b|SIGCHLD, signal.SIG_DFL" "${scripts[@]}")" 'scripts/lists.py
+scripts/parts
 tests/definitions.py
 tests/links.py
 tests/manual.py'
