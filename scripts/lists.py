@@ -26,56 +26,59 @@ sys.dont_write_bytecode = True  # nothing but the lists is written into the tree
 from listing import header, pages, python_package, rattle, rust_crate, sentences  # noqa: E402
 from listing.crates import read_crates  # noqa: E402
 from listing.rules import read_rules  # noqa: E402
-from listing.tree import FAULTS, HEADER, TOP, Wrong, named  # noqa: E402
+from listing.tree import FAULTS, HEADER, TOP, Wrong, named, text_of  # noqa: E402
 
 TABLES = TOP / "docs/TABLES.md"
 
 
-def text_of(path):
-    return path.read_text() if path.exists() else ""
+def text_there(path):
+    return text_of(path) if path.exists() else ""
 
 
 def due(crates, rules, header_at):
     """What each file has to be, by its path."""
-    faults = pages.faults_page(FAULTS.read_text(), crates.codes, rules)
+    faults = pages.faults_page(text_of(FAULTS), crates.codes, rules)
     page = pages.Page(faults, [*crates.codes, *rules])
     return {
-        rattle.RULE: rattle.rule_source(rattle.RULE.read_text(), rules),
-        rattle.ROWS: rattle.rule_rows(rattle.ROWS.read_text(), rules),
+        rattle.RULE: rattle.rule_source(text_of(rattle.RULE), rules),
+        rattle.ROWS: rattle.rule_rows(text_of(rattle.ROWS), rules),
         rattle.EXPLAINED: rattle.explained(crates.codes, rules, page),
-        header_at: header.header(header_at.read_text(), crates, rules),
+        header_at: header.header(text_of(header_at), crates, rules),
         python_package.LISTS: python_package.lists(crates.codes, rules, page),
         rust_crate.LISTS: rust_crate.lists(crates, rules, page),
         sentences.SENTENCES: sentences.sentences(rules),
         FAULTS: faults,
-        TABLES: pages.tables_page(TABLES.read_text(), rules),
+        TABLES: pages.tables_page(text_of(TABLES), rules),
     }
 
 
 def differences(path, text):
     """What differs in a file, with its name."""
-    lines = list(difflib.unified_diff(text_of(path).splitlines(), text.splitlines(), lineterm="", n=0))
-    return [f"{named(path)} is not what {Path(sys.argv[0]).name} writes:", *lines[2:]] if lines or text_of(path) != text else []
+    lines = list(difflib.unified_diff(text_there(path).splitlines(), text.splitlines(), lineterm="", n=0))
+    return [f"{named(path)} is not what {Path(sys.argv[0]).name} writes:", *lines[2:]] if lines or text_there(path) != text else []
 
 
 def by_hand(crates, rules, header_at):
     """What differs in what is written by hand."""
-    text = header_at.read_text()
+    text = text_of(header_at)
     yield from header.by_hand(text, crates, rules)
     yield from python_package.differences(text)
     yield from rust_crate.differences(text, crates.kinds)
+    yield from sentences.unexplained(rules)
 
 
 def run(is_check, header_at):
     """Writes or compares all; what is wrong, in lines."""
     crates, rules = read_crates(), read_rules()
     files = due(crates, rules, header_at)
+    if header_at != HEADER:
+        files = {header_at: files[header_at]}
     told = []
     for path, text in files.items():
         if is_check:
             told += differences(path, text)
-        elif text_of(path) != text:
-            path.write_text(text)
+        elif text_there(path) != text:
+            path.write_text(text, encoding="utf-8")
     return [*told, *by_hand(crates, rules, header_at)]
 
 

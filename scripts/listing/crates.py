@@ -3,7 +3,7 @@
 import re
 from dataclasses import dataclass
 
-from .tree import CRATES, Wrong, found, named
+from .tree import CRATES, Wrong, found, named, text_of
 
 CODES = CRATES / "acpi_base/specs/Codes.antt"
 BASE = CRATES / "acpi_base/src"
@@ -69,6 +69,8 @@ def laid_out(fields):
     parts = []
     for name, kind in fields:
         # a slice is a pointer and a length
+        if not kind.startswith("&") and kind not in SIZES:
+            raise Wrong(f"{named(CRATE)}: the size of a field of {kind} is not known")
         parts += [(name, 8), ("length", 8)] if kind.startswith("&") else [(name, SIZES[kind])]
     end, placed = 0, []
     for name, size in parts:
@@ -82,7 +84,7 @@ def laid_out(fields):
 def read_structs():
     structs = {}
     for path in sorted((CRATE / "src").glob("**/*.rt")):
-        for name, body in STRUCT.findall(path.read_text()):
+        for name, body in STRUCT.findall(text_of(path)):
             structs[name] = laid_out(re.findall(r"^    pub (\w+): (.*),$", body, re.M))
     if structs.keys() != STRUCTS.keys():
         raise Wrong(f"the structs of {named(CRATE)} are {', '.join(structs)}, not {', '.join(STRUCTS)}")
@@ -99,11 +101,15 @@ def read_codes(stages):
     rows = found(r'^code_row code\.(\w+) = \((\d+), stage\.(\w+), codes "\1"\)$', CODES, "row of code_row")
     by_name = {stage.name: stage for stage in stages}
     told = headings("code", {name for name, _, _ in rows})
+    for name in sorted({stage for _, _, stage in rows} - by_name.keys()):
+        raise Wrong(f"{named(CODES)}: {name} is no stage")
     return [Code(int(number), name, by_name[stage], sentence_of(told[name])) for name, number, stage in rows]
 
 
 def read_crates():
     stages = read_stages()
-    abi = re.search(r"fn acpiset_abi\(\) -> u32\n.*?\n\{\n    (\d+)\n\}", (CRATE / "src/lib.rt").read_text(), re.S)
+    abi = re.search(r"fn acpiset_abi\(\) -> u32\n.*?\n\{\n    (\d+)\n\}", text_of(CRATE / "src/lib.rt"), re.S)
+    if not abi:
+        raise Wrong(f"{named(CRATE)}: no acpiset_abi")
     kinds = {name: int(number) for name, number in clauses(KINDS, "kind_number", r"(\d+)").items()}
     return Crates(stages, read_codes(stages), kinds, read_structs(), int(abi[1]))

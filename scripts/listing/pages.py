@@ -21,7 +21,11 @@ ROW = re.compile(r"^(\| (\d+) ([A-Z]\w*) \|.*\|)([\d., ]*\|)$", re.M)
 
 def points_of(page):
     """What the parts say, by their numbers: their names, and texts by the words that they begin with."""
-    parts = {int(number): (name, body) for number, name, body in PART.findall(page)}
+    found = PART.findall(page)
+    parts = {int(number): (name, body) for number, name, body in found}
+    for place, (number, name, _) in enumerate(found):
+        if number in (before for before, _, _ in found[:place]):
+            raise Wrong(f"{named(FAULTS)}: the part of {number} {name} has the number of an earlier one")
     return {number: (name, {word: " ".join(text.split()) for word, text in POINT.findall(body)}) for number, (name, body) in parts.items()}
 
 
@@ -157,10 +161,14 @@ def faults_page(page, codes, rules):
 
 def tables_page(page, rules):
     """What docs/TABLES.md has to be: the sections of each rule, and the rules of each severity."""
-    rows = {(found[2], found[3]) for found in ROW.finditer(page)}
-    for rule in rules:
-        if (str(rule.number), rule.name) not in rows:
-            raise Wrong(f"docs/TABLES.md: no row of {rule.number} {rule.name}, with the sections last")
+    rows = sorted((int(found[2]), found[3]) for found in ROW.finditer(page) if int(found[2]) >= rules[0].number)
+    due = [(rule.number, rule.name) for rule in rules]
+    for number, name in sorted({*due} - {*rows}):
+        raise Wrong(f"docs/TABLES.md: no row of {number} {name}, with the sections last")
+    for number, name in sorted({*rows} - {*due}):
+        raise Wrong(f"docs/TABLES.md: a row of {number} {name}, which is no rule")
+    if len(rows) != len(rules):
+        raise Wrong("docs/TABLES.md: two rows of one rule")
     known = {str(rule.number): f" {rule.sections} |" if rule.sections else " |" for rule in rules}
     page = ROW.sub(lambda found: found[1] + known.get(found[2], found[4]), page)
     for severity in SEVERITIES:

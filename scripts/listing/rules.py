@@ -15,7 +15,7 @@ import re
 from dataclasses import dataclass
 from itertools import groupby
 
-from .tree import CRATES, Wrong, capital, named
+from .tree import CRATES, Wrong, capital, named, text_of
 
 SOURCE = CRATES / "acpi_lint" / "src"
 SEVERITIES = ("not looked at", "look at it", "likely wrong")
@@ -77,7 +77,7 @@ def told_of(texts, numbers):
         raise Wrong('its sentences are not: If `NUMBER` is VALUE: "SENTENCE." for some values, and "SENTENCE." for all others')
     for one in told:
         places = PLACE.findall(one[3])
-        if one[3].count("{") != len(places) or any(f"`{place}`" not in numbers for place in places):
+        if not one[3].count("{") == one[3].count("}") == len(places) or any(f"`{place}`" not in numbers for place in places):
             raise Wrong(f"a place of {one[3]} is none of its numbers")
     return tuple(Told(one[3], one[1] or "", int(one[2] or "0", 0)) for one in told)
 
@@ -103,9 +103,9 @@ def rules_in(lines):
         rows = next((found[1].lower() for found in map(ROWS.match, reversed(group)) if found), rows)
         first = next((at for at, text in enumerate(texts) if re.match(r"\d+ [A-Z]\w*, ", text)), None)
         if first is not None:
-            rule = rule_of(texts[first:], rows)
             below = next((line for line in lines[place:] if not line.startswith("#[")), "")
             row = ROW.match(below)
+            rule = rule_of(texts[first:], rows if row else "")
             if row.groups() != (str(rule.number), rule.name) if row else not FUNCTION.match(below):
                 raise Wrong(f"the comment of {rule.number} {rule.name} is at neither its row nor a function")
             yield rule
@@ -115,7 +115,7 @@ def read_rules():
     """All rules, by number."""
     rules, rows = [], {}
     for path in sorted(SOURCE.glob("**/*.rt")):
-        lines = path.read_text().split("\n")
+        lines = text_of(path).split("\n")
         try:
             rules += rules_in(lines)
         except Wrong as wrong:

@@ -5,7 +5,7 @@ from itertools import groupby
 
 from .header import PARAMETER, functions, version, without_comments
 from .rules import SEVERITIES
-from .tree import SCRIPT, TOP, capital, lines_of, wrapped
+from .tree import SCRIPT, TOP, capital, lines_of, text_of, wrapped
 
 CRATE = TOP / "bindings/rust/src"
 LISTS = CRATE / "lists.rs"
@@ -122,7 +122,7 @@ OWN = {"acpiset_stage", "acpiset_severity", "acpiset_name"}
 
 def kinds_told():
     """The kinds of refusals and their numbers, as src/refusal.rs reads them."""
-    text = (CRATE / "refusal.rs").read_text()
+    text = text_of(CRATE / "refusal.rs")
     found = {name: int(number) for number, name in re.findall(r"^ +(\d+) => Refusal::(\w+)", text, re.M)}
     answers = {name: int(number) for number, name in re.findall(r"^ +(\d+) => return Ok\((\w+)\)", text, re.M)}
     return {"true": 0, "false": 1, **answers, **found}
@@ -139,7 +139,7 @@ def declared_in_c(header):
 
 
 def declared_in_rust():
-    text = re.sub(r"//.*", "", (CRATE / "sys.rs").read_text() + (CRATE / "settings.rs").read_text())
+    text = re.sub(r"//.*", "", text_of(CRATE / "sys.rs") + text_of(CRATE / "settings.rs"))
     for name, body in re.findall(r"#\[repr\(C\)\]\n(?:#\[[^\n]*\n)*pub struct (\w+)(?:<'a>)? \{(.*?)^\}", text, re.M | re.S):
         yield name.lower(), re.findall(r"(\w+: (?!PhantomData)[\w*' <>]+),", body)
     for name, parameters, result in re.findall(r"^    fn (acpiset_\w+)\(([^)]*)\) -> (\w+);", text, re.M):

@@ -17,6 +17,14 @@ class Wrong(Exception):
     """What is wrong with a file that is read."""
 
 
+def text_of(path):
+    """The text of a file, whatever the locale."""
+    try:
+        return path.read_text(encoding="utf-8")
+    except (OSError, UnicodeDecodeError) as error:
+        raise Wrong(f"{named(path)}: {error}") from None
+
+
 def named(path):
     """A path as it is told."""
     return path.relative_to(TOP) if TOP in path.parents else path
@@ -24,7 +32,7 @@ def named(path):
 
 def found(pattern, path, what):
     """All that a pattern finds in a file, which has to be something."""
-    every = re.findall(pattern, path.read_text(), re.M)
+    every = re.findall(pattern, text_of(path), re.M)
     if not every:
         raise Wrong(f"{named(path)}: no {what}")
     return every

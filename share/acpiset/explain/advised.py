@@ -9,9 +9,9 @@ class Number(int):
     """A number of a line, as a sentence has it: in hexadecimal, with `d` in decimal, with `s` as the characters of a signature."""
 
     def __format__(self, form):
-        text = self.to_bytes(8, "little").rstrip(b"\0").decode("latin-1")
-        if form == "s" and text.isascii() and text.isprintable():
-            return text
+        text = self.to_bytes(8, "little").rstrip(b"\0")
+        if form == "s" and len(text) == 4 and all(0x21 <= byte <= 0x7E for byte in text):
+            return text.decode("ascii")
         return f"{int(self):d}" if form == "d" else f"{int(self):#x}"
 
 
