@@ -2,7 +2,7 @@
 //! same on all tables that are tried.
 #![tactic(auto)]
 
-use acpi_edits::{read_sets, report};
+use acpi_edits::{read_sets, report_unseen};
 use acpi_lint::row_groups;
 use std::io;
 use std::io::Read;
@@ -17,5 +17,5 @@ fn main(rt: HostRuntime) -> io::Result<()> {
         return println!(rt; "no sets");
     }
     let groups = row_groups();
-    report(&rt, alloc, &groups, &sets)
+    report_unseen(&rt, alloc, &groups, &sets)
 }

@@ -11,7 +11,7 @@
 //!     return println!(rt; "no sets");
 //! }
 //! let groups = row_groups();
-//! report(&rt, alloc, &groups, &sets)
+//! report_unseen(&rt, alloc, &groups, &sets)
 //! ```
 #![tactic(auto)]
 
@@ -29,5 +29,5 @@ mod sets;
 mod shared;
 mod text;
 
-pub use report::report;
+pub use report::report_unseen;
 pub use sets::{Set, read_sets};
