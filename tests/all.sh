@@ -61,7 +61,7 @@ for script in "${scripts[@]}"; do
     library/run.py) ran "$script" "$program" library & ;;
     library/rust.sh | library/python.sh) ran "$script" library & ;;
     refused_calls.py) ran "$script" "${tests[@]}" & ;;
-    lint/edits.py) ran "$script" crates/acpi_edits/out/acpi_edits & ;;
+    lint/edits.py) ran "$script" crates/acpi_edit_rows/out/acpi_edit_rows & ;;
     *) ran "$script" "$program" & ;;
   esac
 done

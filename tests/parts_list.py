@@ -100,7 +100,7 @@ def of_parts(document, folder):
     """Parts of crates.txt that are missing, and licences without a text."""
     packages = {it["name"]: it for it in document["packages"]}
     crates, libraries = names_in_crates_txt()
-    crates -= {"acpi_edits", "acpi_examples", "acpi_tests"}  # They are in no product.
+    crates -= {"acpi_edit_rows", "acpi_edits", "acpi_examples", "acpi_tests"}  # They are in no product.
     if not (folder / "lib" / "libacpiset.a").exists():
         crates -= {"acpi_c"}
     for name in sorted({*crates, *libraries, "acpiset", "rattle-std", "glibc"} - {*packages}):

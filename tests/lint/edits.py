@@ -1,12 +1,12 @@
 #!/usr/bin/env python3
-"""Runs the program that edits the rules that are rows, crates/acpi_edits: it changes each number and each comparison of each row at run
+"""Runs the program that edits the rules that are rows, acpi_edit_rows: it changes each number and each comparison of each row at run
 time, and looks for tables on which the edited row finds something else than the row as it is. It is given sets from which it builds
 more. The edits that none shows are those of unseen.txt, each with its reason, and at most 3 in 100.
 
 Edited rows are compared with the rows as they are, so no answer is expected here: near.py and second.py, whose sets these are made of,
 compare the rows as they are with a second program.
 
-usage: edits.py PROGRAM, which is crates/acpi_edits/out/acpi_edits; the last line is 'edits: N passed, M failed'."""
+usage: edits.py PROGRAM, which is crates/acpi_edit_rows/out/acpi_edit_rows; the last line is 'edits: N passed, M failed'."""
 
 from __future__ import annotations
 

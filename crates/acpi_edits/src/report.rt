@@ -368,7 +368,7 @@ fn print_fields(rt: &impl Print, of: &FieldEdits, counts: &mut Counts) -> io::Re
 }
 
 /// Reports the edits of rows that are not seen on these sets, nor on what is built from them; last how many were tried.
-pub fn report(
+pub fn report_unseen(
     rt: &impl Print,
     alloc: Global,
     groups: &[RowGroup<'static>],
