@@ -12,7 +12,7 @@ from large import many_entries, many_slots
 from measure import Program, run_in_turn
 from rows import Limit
 
-LIMITED = ((Limit(4, 0.1), many_entries()), (Limit(8, 0.05), itertools.islice(many_slots(), 1)))
+LIMITED = ((Limit(4, 0.1), many_entries()), (Limit(2, 0.05), itertools.islice(many_slots(), 1)))
 
 
 def report(program):
