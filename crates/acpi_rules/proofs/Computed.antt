@@ -25,42 +25,10 @@ use Rattle.acpi_rules.specs.declared.row.Form.{Form}
 use Rattle.acpi_rules.specs.declared.row.Form.TheVariants as form
 use Rattle.acpi_rules.specs.declared.series.Path.{Path}
 use Rattle.acpi_rules.specs.declared.structures.Cut.{Cut}
+use Rattle.acpi_rules.proofs.ComputedLists.{IsAmong, decides_all, decides_any, decides_no_later, no_later, over, over_from, over_has}
+use Rattle.acpi_rules.proofs.ComputedOverlaps.{overlaps, overlaps_from, overlaps_has}
 use Rattle.acpi_rules.proofs.Elements.{kept_from, kept_has}
 use Rattle.acpi_rules.proofs.LeastPlaces.{least_as, not_after_itself, not_after_trans}
-
--- ---- tests of all elements
-
-decides_all : {X : Type 0} (p : X → Bool) (P : X → Type 0) → ((x : X) → Decides (p x) (P x)) → (xs : List X)
-    → Decides (list_all p xs) ((x : X) → Contains xs x → P x)
-decides_all p P each [] = (λ passes x listed. absurd (no_element x listed), λ all. refl)
-decides_all {X} p P each (u ∷ xs) =
-    let rest = decides_all p P each xs in
-    let both = Decides-and (p u) (list_all p xs) (each u) rest in (
-      λ passes x listed.
-          let parts = both.0 passes in
-          elim (first_or_later u x xs listed) [
-            | inl same ↦ subst P same parts.0
-            | inr later ↦ parts.1 x later
-          ],
-      λ all. both.1 (all u (first_element u xs), λ x later. all x (later_element u x xs later)),
-    )
-
-decides_any : {X : Type 0} (p : X → Bool) (P : X → Type 0) → ((x : X) → Decides (p x) (P x)) → (xs : List X)
-    → Decides (list_any p xs) ((x : X) × Contains xs x × P x)
-decides_any p P each [] = (λ passes. absurd cc, λ (x, listed, is). absurd (no_element x listed))
-decides_any {X} p P each (u ∷ xs) =
-    let rest = decides_any p P each xs in
-    let either = Decides-or (p u) (list_any p xs) (each u) rest in (
-      λ passes. elim (either.0 passes) [
-        | inl here ↦ (u, first_element u xs, here)
-        | inr (x, listed, is) ↦ (x, later_element u x xs listed, is)
-      ],
-      λ (x, listed, is). either.1
-          (elim (first_or_later u x xs listed) [
-            | inl same ↦ inl (subst P (sym same) is)
-            | inr later ↦ inr (x, later, is)
-          ]),
-    )
 
 -- ---- the lowest of some places
 
@@ -84,10 +52,6 @@ lower p (Some q) = if not_after p q then p else q
 abbrev pub lowest : List Place → Option Place
 lowest [] = None
 lowest (p ∷ ps) = Some (lower p (lowest ps))
-
--- this place is among these
-abbrev IsAmong : List Place → ℕ → ℕ → ℕ → Type 0
-IsAmong ps at other point = Contains ps (record { at = at; other = other; point = point })
 
 finds_lowest : (ps : List Place) → FindsLeast (IsAmong ps) (lowest ps)
 finds_lowest [] = λ at other point listed. no_element _ listed
@@ -129,32 +93,6 @@ finds_lowest (p ∷ ps) = by (lowest ps) (finds_lowest ps)
           least = of_first p (itself p) (λ at other point listed. absurd (none at other point listed));
         }
     by (Some q) found = either q (not_after p q) (decides_not_after p q) found
-
--- ---- lists for each element
-
-abbrev over : {X Y : Type 0} → (X → List Y) → List X → List Y
-over f [] = []
-over f (x ∷ xs) = f x ++ over f xs
-
-over_has : {X Y : Type 0} (f : X → List Y) (xs : List X) (x : X) (y : Y) → Contains xs x → Contains (f x) y
-    → Contains (over f xs) y
-over_has f [] x y listed within = absurd (no_element x listed)
-over_has {X} f (u ∷ xs) x y listed within =
-    elim (first_or_later u x xs listed) [
-      | inl same ↦
-          Contains-append_left (f u) (over f xs) y (subst (λ (z : X). Contains (f z) y) (sym same) within)
-      | inr later ↦ Contains-append_right (f u) (over f xs) y (over_has f xs x y later within)
-    ]
-
-over_from : {X Y : Type 0} (f : X → List Y) (xs : List X) (y : Y) → Contains (over f xs) y
-    → (x : X) × Contains xs x × Contains (f x) y
-over_from f [] y listed = absurd (no_element y listed)
-over_from f (u ∷ xs) y listed =
-    elim (Contains-append_cases (f u) (over f xs) y listed) [
-      | inl here ↦ (u, first_element u xs, here)
-      | inr later ↦
-          let (x, rest, within) = over_from f xs y later in (x, later_element u x xs rest, within)
-    ]
 
 -- ---- what each form finds
 
@@ -261,14 +199,6 @@ passed_from test P each all at other point among =
     of g listed false decides is = cc
 
 -- ---- numbers that occur again
-
-abbrev no_later : Numbered → Numbered → Bool
-no_later f h = nat_lt f.at h.at || ((f.at == h.at) && nat_le f.value h.value)
-
-decides_no_later : (f h : Numbered) → Decides (no_later f h) (IsNoLater f h)
-decides_no_later f h =
-    Decides-or (nat_lt f.at h.at) _ (Decides-ltb f.at h.at)
-    (Decides-and (f.at == h.at) _ (Decides-eqb f.at h.at) (leb-true f.value h.value, le-leb f.value h.value))
 
 abbrev is_first : List Numbered → Numbered → Bool
 is_first all f = list_all (λ h. not (h.number == f.number) || no_later f h) all
@@ -476,6 +406,7 @@ abbrev places : Form → Row → TwoTables → List Place
 places form.Given row t = filter_map (passed (λ g. true)) (counted t row.numbers)
 places (form.Repeated r) row t = repeats r (counted t row.numbers)
 places (form.LookedUp l) row t = looked_up l row t
+places (form.Overlap r) row t = overlaps r (counted t row.numbers)
 places form.Cut row t = cut_place (first_cut row.numbers.path t.table)
 
 always : (g : Numbered) → Decides true (Unit {0})
@@ -508,6 +439,9 @@ in_form_has (form.Repeated r) row t at other point is =
     repeats_has r (counted t row.numbers) (Counts t row.numbers) (counted_has t row.numbers)
     (counted_from t row.numbers) at other point is
 in_form_has (form.LookedUp l) row t at other point is = looked_up_has l row t at other point is
+in_form_has (form.Overlap r) row t at other point is =
+    overlaps_has r (counted t row.numbers) (Counts t row.numbers) (counted_has t row.numbers)
+    (counted_from t row.numbers) at other point is
 in_form_has form.Cut row t at other point is = rw is (first_element _ [])
 
 in_form_from : (f : Form) (row : Row) (t : TwoTables) (at other point : ℕ) → IsAmong (places f row t) at other point
@@ -519,6 +453,9 @@ in_form_from (form.Repeated r) row t at other point among =
     repeats_from r (counted t row.numbers) (Counts t row.numbers) (counted_has t row.numbers)
     (counted_from t row.numbers) at other point among
 in_form_from (form.LookedUp l) row t at other point among = looked_up_from l row t at other point among
+in_form_from (form.Overlap r) row t at other point among =
+    overlaps_from r (counted t row.numbers) (Counts t row.numbers) (counted_has t row.numbers)
+    (counted_from t row.numbers) at other point among
 in_form_from form.Cut row t at other point among = of (first_cut row.numbers.path t.table) among
   where
     of : (o : Option Cut) → IsAmong (cut_place o) at other point

@@ -1,12 +1,15 @@
 -- Proofs about rows, and about walks.
 pub mod CasesOfType
 pub mod Computed
+mod ComputedLists
+mod ComputedOverlaps
 mod Elements
 pub mod Following
 mod FormFindings
 mod GivenNumbers
 mod KnownNumbers
 pub mod LeastPlaces
+mod OverlappingNumbers
 pub mod Reached
 pub mod RepeatedNumbers
 mod SortedNumbers

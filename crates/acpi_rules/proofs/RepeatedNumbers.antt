@@ -36,7 +36,7 @@ pub record IsStanding (sorted : List Numbered) (i : ℕ) (f : Numbered) : Type 0
   pub before : (k : ℕ) (d : Numbered) → k < i → (get_or sorted k d).number ≤ f.number
   pub behind : (k : ℕ) (d : Numbered) → i ≤ k → k < length sorted → f.number ≤ (get_or sorted k d).number
 
-number_upto : (a b : Numbered) → IsNotAbove a b → a.number ≤ b.number
+pub number_upto : (a b : Numbered) → IsNotAbove a b → a.number ≤ b.number
 number_upto a b (inl less) = omega arith
 number_upto a b (inr (same, rest)) = omega (arith, same)
 
@@ -49,7 +49,7 @@ never_falls sorted order i j d least within =
       | inr (inr more) ↦ absurd (omega arith)
     ]
 
-itself_no_later : (f : Numbered) → IsNoLater f f
+pub itself_no_later : (f : Numbered) → IsNoLater f f
 itself_no_later f = inr (refl, omega arith)
 
 first_from : (sorted : List Numbered) → AllPairs IsNotAbove sorted → (i j : ℕ) (d : Numbered) → i ≤ j
@@ -154,7 +154,7 @@ pub none_so_far : (r : Repeat) (sorted : List Numbered) → FindsLeast (IsRepeat
 none_so_far r sorted at other point (g, f, (k, below, here), repeats, is) = omega arith
 
 -- those that were passed at i + 1 were at i, but for the one that is at i
-passed_next : {X : Type 0} (xs : List X) (i : ℕ) (h g : X) → i < length xs → get_or xs i h ≡ h → IsPassed xs (i + 1) g
+pub passed_next : {X : Type 0} (xs : List X) (i : ℕ) (h g : X) → i < length xs → get_or xs i h ≡ h → IsPassed xs (i + 1) g
     → IsPassed xs i g ⊎ (g ≡ h)
 passed_next xs i h g within here (k, below, is) =
     elim (cases_lt k i) [
@@ -164,7 +164,7 @@ passed_next xs i h g within here (k, below, is) =
           inr (sym is ∙ ap (λ (n : ℕ). get_or xs n g) same ∙ get_or_default xs i g h within ∙ here)
     ]
 
-passed_still : {X : Type 0} (xs : List X) (i : ℕ) (g : X) → IsPassed xs i g → IsPassed xs (i + 1) g
+pub passed_still : {X : Type 0} (xs : List X) (i : ℕ) (g : X) → IsPassed xs i g → IsPassed xs (i + 1) g
 passed_still xs i g (k, below, is) = (k, omega arith, is)
 
 still : (r : Repeat) (sorted : List Numbered) (i at other point : ℕ) → IsRepeatedSoFar r sorted i at other point

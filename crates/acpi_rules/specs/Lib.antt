@@ -8,6 +8,7 @@ pub mod Known
 pub mod Laws
 pub mod Numbered
 pub mod Numbers
+pub mod Overlaps
 pub mod Places
 pub mod Rows
 pub mod Series

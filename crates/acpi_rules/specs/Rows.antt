@@ -6,6 +6,7 @@ use denote.Ref.{Bor}
 use Rattle.acpi_rules.specs.Cases.{BorCase, Case, Said, SaidCase, case_said, case_value, first_some, gives}
 use Rattle.acpi_rules.specs.Numbered.{IsFirst, IsRepeated}
 use Rattle.acpi_rules.specs.Numbers.{BorNumbers, Counts, Numbers, SaidNumbers, gives_any, has_except, numbers_said, numbers_value}
+use Rattle.acpi_rules.specs.Overlaps.{IsOverlap}
 use Rattle.acpi_rules.specs.Sites.{first_cut, sites_of}
 use Rattle.acpi_rules.specs.Terms.{TwoTables}
 use Rattle.acpi_rules.specs.declared.known.LookUp.{LookUp}
@@ -89,6 +90,7 @@ abbrev pub InForm : Form → Row → TwoTables → ℕ → ℕ → ℕ → Type 
 InForm form.Given row t at other point = Counts t row.numbers (reported at other point)
 InForm (form.Repeated r) row t at other point = IsRepeated r (Counts t row.numbers) at other point
 InForm (form.LookedUp l) row t at other point = IsLookedUp l row t at other point
+InForm (form.Overlap r) row t at other point = IsOverlap r (Counts t row.numbers) at other point
 InForm form.Cut row t at other point = IsCut row.numbers.path t.table at other point
 
 -- the tables break the rule, with these numbers
@@ -96,11 +98,12 @@ pub record IsBroken (row : Row) (t : TwoTables) (at other point : ℕ) : Type 0 
   pub about : list_all (guard_holds t) row.guards ≡ true
   pub broken : InForm row.form row t at other point
 
--- whether a rule of this form keeps numbers: those that may occur again, or those among which numbers are looked up
+-- whether a rule of this form keeps numbers: those that may occur again or overlap, or those among which numbers are looked up
 abbrev pub keeps_numbers : Form → Bool
 keeps_numbers form.Given = false
 keeps_numbers (form.Repeated r) = true
 keeps_numbers (form.LookedUp l) = true
+keeps_numbers (form.Overlap r) = true
 keeps_numbers form.Cut = false
 
 -- whether a rule keeps numbers: by its form, or to know at which places none counts

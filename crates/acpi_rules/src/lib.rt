@@ -37,6 +37,7 @@ mod known;
 pub mod laws;
 mod numbered;
 mod numbers;
+mod overlap;
 mod passes;
 mod place;
 mod row;
@@ -56,6 +57,7 @@ pub use indexed_table::IndexedTable;
 pub use known::LookUp;
 pub use numbered::{Numbered, Repeat, first_repeated, lesser, sort_numbers};
 pub use numbers::Numbers;
+pub use overlap::{Range, first_overlap};
 pub use place::Place;
 pub use row::{Form, Guard, Need, Row, Source, first_finding};
 pub use series::{

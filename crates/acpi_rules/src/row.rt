@@ -16,6 +16,7 @@ use crate::indexed_table::IndexedTable;
 use crate::known::LookUp;
 use crate::numbered::{Repeat, first_repeated, sort_numbers};
 use crate::numbers::{Numbers, counted, excepted};
+use crate::overlap::{Range, first_overlap};
 use crate::passes::{first_told, gives_any};
 use crate::place::Place;
 use crate::series::Path;
@@ -59,6 +60,8 @@ pub enum Form {
     Repeated(Repeat),
     /// Those that are looked up, by whether they are found.
     LookedUp(LookUp),
+    /// Two whose ranges overlap.
+    Overlap(Range),
     /// None. The first cut of the walks that find the structures is: where it is, the length that is said there, and the
     /// end of what encloses it.
     Cut,
@@ -232,14 +235,15 @@ fn first_in_form(
         Form::Given => first_given(alloc, numbers, tables),
         Form::Repeated(repeat) => first_repeated(counted(alloc, numbers, tables)?, repeat),
         Form::LookedUp(look_up) => first_looked_up(alloc, look_up, row, tables),
+        Form::Overlap(range) => first_overlap(counted(alloc, numbers, tables)?, range),
         Form::Cut => Ok(cut_place(&numbers.0, tables.table.bytes)),
     }
 }
 
 /// The lowest place at which tables break a rule.
 ///
-/// Refuses with `AllocError` if out of memory: it allocates for the numbers of a rule on such as occur again, for those
-/// among which numbers are looked up, and for places that are excepted; other rules are not refused.
+/// Refuses with `AllocError` if out of memory: it allocates for the numbers of a rule on such as occur again or have
+/// ranges, for those among which numbers are looked up, and for places that are excepted; other rules are not refused.
 pub fn first_finding(
     alloc: Global,
     row: &Row<'_>,
