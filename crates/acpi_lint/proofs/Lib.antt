@@ -1,11 +1,9 @@
 -- Proofs about the finders, and the number of a rule, which other crates cite.
-mod BlockRanges
 mod ByHand
 mod CollectedNumbers
 mod Differences
 mod EitherPlace
 mod EntryFaults
-mod EntryRanges
 mod FacsSets
 mod FadtBlocks
 mod FadtSets
@@ -27,8 +25,6 @@ mod OneAdvice
 mod OneCodes
 mod OuterChains
 mod OuterNodes
-mod RangeLists
-mod RangeOverlaps
 mod RemoteCells
 mod Reported
 mod RisingLists
@@ -44,7 +40,6 @@ mod ShortTables
 mod SlitFaults
 mod SomeEntries
 mod StageVerdicts
-mod StartOverlaps
 mod StructureRanges
 mod TablesAt
 mod WellFormedTables

@@ -44,7 +44,7 @@ abbrev pub fadt_madt_rules : List Rule
 fadt_madt_rules = rule.SciNowhere ∷ []
 
 abbrev pub madt_rules : List Rule
-madt_rules = rule.GicOverlap ∷ rule.GicrTooSmall ∷ []
+madt_rules = rule.GicrTooSmall ∷ []
 
 abbrev pub slit_rules : List Rule
 slit_rules = rule.RemoteAsLocal ∷ rule.SlitDiffers ∷ []

@@ -12,7 +12,6 @@ pub mod MadtNumbers
 pub mod Numbered
 pub mod Overrides
 pub mod Places
-pub mod Ranges
 pub mod References
 pub mod RowFindings
 pub mod RowGroups

@@ -7,12 +7,10 @@ pub mod Findings
 pub mod FixedFields
 pub mod Gic
 pub mod GicAdvice
-pub mod GicRanges
 pub mod HeaderAdvice
 pub mod Hierarchy
 pub mod NamedAdvice
 pub mod Numbered
-pub mod Overlaps
 pub mod Ports
 pub mod Processors
 pub mod RootAdvice

@@ -10,13 +10,11 @@ ghost use Rattle.acpi_lint.specs.CompleteTables.{AreCompleteTables};
 ghost use Rattle.acpi_lint.specs.Rules.Broken.{IsBrokenByHand};
 
 use crate::complete_tables::CompleteTables;
-use crate::fadt_blocks::port_past_end;
+use crate::fadt_blocks::{port_past_end, ports_overlap};
 use crate::fadt_memory::{dsdt_wrong, facs_reserved};
-use crate::gic_overlap::gic_overlap;
 use crate::header_advice::{header_text, second_other};
 use crate::madt_advice::gicr_too_small;
 use crate::packages::no_package;
-use crate::port_overlap::ports_overlap;
 use crate::root_advice::{null_slot, rsdt_differs};
 use crate::row_findings::Found;
 use crate::rsdp_advice::rsdp_reserved;
@@ -130,9 +128,7 @@ fn add_of_madt(
     let Some(madt) = tables.madt() else {
         return Ok(());
     };
-    let small = gicr_too_small(alloc, policy, &madt)?;
-    add(found, Rule::GicrTooSmall, small)?;
-    add(found, Rule::GicOverlap, gic_overlap(alloc, &madt)?)
+    add(found, Rule::GicrTooSmall, gicr_too_small(alloc, policy, &madt)?)
 }
 
 /// Adds what the rules on the SLIT find.
@@ -164,7 +160,7 @@ fn add_of_pptt(
 }
 
 /// The first finding of each rule that is not a row. The tables are those of the set. Allocates for each finding, for
-/// each slot of the root table, each structure of the GIC and each node of the PPTT.
+/// each slot of the root table, each structure of a GIC and each node of the PPTT.
 pub fn found_by_hand(
     alloc: Global,
     image: &LentImage<'_>,

@@ -1,14 +1,16 @@
 //! Advice on the register blocks of a FADT, and on ports that it names (ACPI 6.5, 5.2.9).
 
-ghost use Rattle.std.specs.Prelude.{◌≡◌, ◌<◌, ◌+◌, ◌*◌, ◌↔◌, IsTrue};
+ghost use Rattle.std.specs.Prelude.{◌≡◌, ◌<◌, ◌+◌, ◌*◌, ◌↔◌, IfOk, IsTrue};
 ghost use Rattle.acpi_lint.specs.FadtPlaces.{IsOfBlock};
 ghost use Rattle.acpi_rules.specs.Places.{FindsLeast};
 ghost use Rattle.acpi_lint.specs.Rules.FadtBlocks.{block_at, block_address, block_length, port_count, port_bytes, IsPastEndAt, IsSmiPastEnd, IsBlockPastEnd, IsFixedPastEnd, IsResetPort, IsResetPastEnd, HasResetRegister, IsPortPastEnd, OnBlock};
+ghost use Rattle.acpi_lint.specs.Rules.Ports.{block_range, IsPortsOverlap};
 ghost use Rattle.acpi_read.specs.Fadts.{block_view_value};
 
 use acpi_base::field::{u8_at, u32_at, u64_at};
 use acpi_read::{BLOCK_LENGTHS, Block, Fadt, RESET_REG_SUP, has_flag};
-use acpi_rules::Place;
+use acpi_rules::{Numbered, Place, Range, first_overlap};
+use std::alloc::{AllocError, Global};
 
 /// System I/O, an address space.
 const SYSTEM_IO: u8 = 1;
@@ -19,7 +21,7 @@ const PORTS: u64 = 0x1_0000;
 // ---- what a block is
 
 /// The address of register block k; 0 for none.
-pub fn block_address(fadt: &Fadt<'_>, k: u8) -> u64
+fn block_address(fadt: &Fadt<'_>, k: u8) -> u64
     requires { k < 8 }
     ensures { result ≡ block_address fadt.now k }
 {
@@ -51,7 +53,7 @@ fn port_count(length: u8, block: Block) -> u8
 }
 
 /// How many bytes register block k has of system I/O, from its address on.
-pub fn port_bytes(fadt: &Fadt<'_>, k: u8) -> u8
+fn port_bytes(fadt: &Fadt<'_>, k: u8) -> u8
     requires { k < 8 }
     ensures { result ≡ port_bytes fadt.now k }
 {
@@ -59,10 +61,10 @@ pub fn port_bytes(fadt: &Fadt<'_>, k: u8) -> u8
 }
 
 /// The offset of the 4-byte field of register block k.
-pub fn block_offset(k: u8) -> u32
+fn block_offset(k: u8) -> u64
     ensures { result ≡ block_at k }
 {
-    56 + 4 * u32::from(k)
+    56 + 4 * u64::from(k)
 }
 
 // ---- ports past the last one
@@ -95,7 +97,7 @@ fn past_end_at(fadt: &Fadt<'_>, k: u8) -> Option<Place>
     ensures { FindsLeast (IsOfBlock (IsBlockPastEnd fadt.now) k) result }
 {
     past_end(
-        u64::from(block_offset(k)),
+        block_offset(k),
         block_address(fadt, k),
         port_bytes(fadt, k),
     )
@@ -168,4 +170,38 @@ pub fn port_past_end(fadt: &Fadt<'_>) -> Option<Place>
         return fixed;
     }
     reset_past_end(fadt)
+}
+
+// ---- ports that two blocks have
+
+/// What register block k has of system I/O, from its first port on, at the offset of its 4-byte field.
+fn block_range(fadt: &Fadt<'_>, k: u8) -> Numbered
+    requires { k < 8 }
+    ensures { result ≡ block_range fadt.now k }
+{
+    Numbered {
+        number: block_address(fadt, k),
+        at: block_offset(k),
+        value: u64::from(port_bytes(fadt, k)),
+    }
+}
+
+/// 137 PortsOverlap, likely wrong (5.2.9): two register blocks share an I/O port.
+/// Numbers: `at` and `other` are the offsets of the 4-byte fields of two such blocks, first the one at the lower port,
+/// `point` is the lowest port at which two blocks overlap.
+/// "The register blocks at {at} and {other} of the FADT share the I/O port {point}."
+///
+/// The lowest port that two register blocks have, and the first two that have it, if the hardware
+/// is not reduced. Allocates for each block.
+pub fn ports_overlap(alloc: Global, fadt: &Fadt<'_>) -> Result<Option<Place>, AllocError>
+    ensures { IfOk result (FindsLeast (IsPortsOverlap fadt.now)) }
+{
+    if fadt.reduced() {
+        return Ok(None);
+    }
+    let mut ranges = Vec::new(alloc);
+    for k in 0..8 {
+        ranges.push(block_range(fadt, k))?;
+    }
+    first_overlap(ranges, Range::Count)
 }

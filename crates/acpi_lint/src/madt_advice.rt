@@ -5,7 +5,6 @@ ghost use Rattle.acpi_base.specs.Madt.{madt_contents};
 ghost use Rattle.acpi_rules.specs.Places.{FindsLeast};
 ghost use Rattle.acpi_lint.specs.Rules.GicAdvice.{AreGicrsKnown, IsGicrTooSmall, HasVersion};
 
-use crate::gic_overlap::gic_overlap;
 use crate::madt_numbers::{MadtNumber, all_numbers, first_number, has_number};
 use crate::well_formed::is_madt_well_formed;
 use acpi_base::Policy;

@@ -258,6 +258,9 @@ macro_rules! form {
     (somewhere) => {
         Form::LookedUp(LookUp::Somewhere)
     };
+    (overlap) => {
+        Form::Overlap(Range::Count)
+    };
 }
 
 /// The numbers that structures of a path give by cases, but those at places that they give by others.

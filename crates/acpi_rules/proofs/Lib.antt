@@ -1,7 +1,7 @@
 -- Proofs about rows, and about walks.
 pub mod CasesOfType
 pub mod Computed
-mod ComputedLists
+pub mod ComputedLists
 mod ComputedOverlaps
 mod Elements
 pub mod Following
@@ -9,7 +9,7 @@ mod FormFindings
 mod GivenNumbers
 mod KnownNumbers
 pub mod LeastPlaces
-mod OverlappingNumbers
+pub mod OverlappingNumbers
 pub mod Reached
 pub mod RepeatedNumbers
 mod SortedNumbers

@@ -11,7 +11,6 @@ use Rattle.acpi_lint.specs.Rules.Slots.{IsListedTwice, IsSecondTable, IsListedAp
 use Rattle.acpi_lint.specs.Rules.FadtAdvice.{IsSciNowhere}
 use Rattle.acpi_lint.specs.Rules.FadtBlocks.{IsPortPastEnd}
 use Rattle.acpi_lint.specs.Rules.SlitAdvice.{IsSlitDiffers, IsRemoteAsLocal}
-use Rattle.acpi_lint.specs.Rules.GicRanges.{IsGicOverlap}
 use Rattle.acpi_lint.specs.Rules.Ports.{IsPortsOverlap}
 use Rattle.acpi_lint.specs.Rules.Structures.{OfNamingFadt, IsTablesOverlap}
 use Rattle.acpi_lint.specs.Rules.Hierarchy.{IsNoPackage}
@@ -71,7 +70,6 @@ condition rule.RsdpReserved = Set IsRsdpReserved
 condition rule.HeaderText = Slots IsHeaderText
 condition rule.SecondOther = Slots IsSecondOther
 condition rule.GicrTooSmall = Madt IsGicrTooSmall
-condition rule.GicOverlap = Madt IsGicOverlap
 condition rule.RemoteAsLocal = Slit IsRemoteAsLocal
 condition rule.NoPackage = Pptt IsNoPackage
 condition _ = Rows

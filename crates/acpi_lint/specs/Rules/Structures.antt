@@ -7,7 +7,9 @@ use Rattle.acpi_base.specs.Memory.{Memory, bytes_at}
 use Rattle.acpi_base.specs.Root.{IsRoot, IsRootTable, IsSlot}
 use Rattle.acpi_base.specs.Rsdp.{revision_of}
 use Rattle.acpi_base.specs.Tables.{IsTable, IsSigned}
-use Rattle.acpi_lint.specs.Rules.Overlaps.{IsRangeOverlap}
+use Rattle.acpi_rules.specs.Overlaps.{IsOverlap}
+use Rattle.acpi_rules.specs.declared.numbered.Numbered.{Numbered}
+use Rattle.acpi_rules.specs.declared.overlap.Range.TheVariants as range
 use Rattle.acpi_lint.specs.Rules.Slots.{dsdt_signature}
 
 -- ---- each structure: it is at s and has n bytes
@@ -54,14 +56,14 @@ IsStructure m p o s n =
     ⊎ ((o ≡ 3) × OfNamingFadt m p (λ fadt. IsDsdtRange m fadt s n))
     ⊎ ((o ≡ 4) × ((k : ℕ) × IsSlot m p k s) × IsTableRange m s n)
 
--- the first structure, by kind, that begins at s has n bytes; its start is its name
-pub record IsFirstStructure (m : Memory) (p name s n : ℕ) : Type 0 where
-  pub named : name ≡ s
+-- the first structure, by kind, that begins where g does has the numbers of g, whose place is their start
+pub record IsFirstStructure (m : Memory) (p : ℕ) (g : Numbered) : Type 0 where
+  pub named : g.at ≡ g.number
   pub o : ℕ
-  pub here : IsStructure m p o s n
-  pub first : (k c : ℕ) → IsStructure m p k s c → o ≤ k
+  pub here : IsStructure m p o g.number g.value
+  pub first : (k c : ℕ) → IsStructure m p k g.number c → o ≤ k
 
 -- two structures overlap: they begin at `at` and at `other`, and `point` is the lowest address that is in two; of structures
 -- that begin at one address only the first is compared
 abbrev pub IsTablesOverlap : Memory → ℕ → ℕ → ℕ → ℕ → Type 0
-IsTablesOverlap m p = IsRangeOverlap (IsFirstStructure m p)
+IsTablesOverlap m p = IsOverlap range.Count (IsFirstStructure m p)

@@ -13,8 +13,7 @@ use crate::rows::srat::{
 use crate::rows::srat_fields::SRAT_ENTRIES;
 use crate::rows::table_fields::{REVISION, TABLE, TYPE, WHOLE};
 use acpi_rules::{
-    Case, Clause, Form, Guard, Kind, LookUp, Need, Path, Repeat, Row, Source, Term, Test, Value,
-    Within,
+    Case, Clause, Form, Guard, Kind, LookUp, Need, Path, Range, Repeat, Row, Source, Term, Test, Value, Within,
 };
 
 // ---- what entries give
@@ -286,7 +285,7 @@ pub static MADT: [Row<'static>; 18] = [
 ];
 
 /// Rules on the parts of a GIC in it (5.2.12.14 to 5.2.12.18).
-pub static GIC: [Row<'static>; 10] = [
+pub static GIC: [Row<'static>; 11] = [
     // 115 SecondGicd, likely wrong (5.2.12.15): there is a second GIC Distributor.
     // Numbers: `at` is the structure's offset, `other` that of the first one.
     // "The GIC Distributor at {at} of the MADT is not the only one: the first is at {other}."
@@ -357,6 +356,19 @@ pub static GIC: [Row<'static>; 10] = [
     // "The GIC MSI frame at {at} of the MADT has the ID {point:d}, as the one at {other} does."
     rule!(167 SameMsiFrame, repeated in MADT_ENTRIES: {
         MSI_FRAME => at 0 shows MSI_FRAME_ID, MSI_FRAME_ID
+    }),
+    // 168 GicOverlap, likely wrong (5.2.12.15): two structures of the GIC share an address.
+    // Numbers: `at` and `other` are the offsets of two such structures, first the one with the lower address, `point`
+    // is the lowest address at which two overlap.
+    // "The structures of the GIC at {at} and {other} of the MADT share the address {point}."
+    // The bytes of an MSI frame, an ITS and a distributor, which has more from version 3 on, are given by the GIC's
+    // architecture.
+    rule!(168 GicOverlap, overlap in MADT_ENTRIES: {
+        GICR => at 0 shows GICR_LENGTH, GICR_BASE;
+        ITS => at 0 shows 0x2_0000, ITS_BASE;
+        MSI_FRAME => at 0 shows 0x1000, MSI_FRAME_BASE;
+        GICD if GICD_VERSION >= 3 && GICD_VERSION <= 4 => at 0 shows 0x1_0000, GICD_BASE;
+        GICD => at 0 shows 0x1000, GICD_BASE
     }),
     // 169 RedistributorTwice, likely wrong (5.2.12.14, 5.2.12.17): a processor names a redistributor, and ranges of
     // redistributors are there.

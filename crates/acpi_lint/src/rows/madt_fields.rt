@@ -113,6 +113,8 @@ pub const GICC_MPIDR: Field = field!(68, 8);
 /// GIC Distributor, GICD (5.2.12.15).
 pub const GICD: Kind = kind!(12, 24);
 
+pub const GICD_BASE: Field = field!(8, 8);
+
 pub const GICD_RESERVED: Field = field!(16, 1);
 
 pub const GICD_RESERVED_1: Field = field!(17, 1);
@@ -128,6 +130,8 @@ pub const MSI_FRAME: Kind = kind!(13, 24);
 
 pub const MSI_FRAME_ID: Field = field!(4, 4);
 
+pub const MSI_FRAME_BASE: Field = field!(8, 8);
+
 /// GIC Redistributor, GICR (5.2.12.17).
 pub const GICR: Kind = kind!(14, 16);
 
@@ -139,6 +143,8 @@ pub const GICR_LENGTH: Field = field!(12, 4);
 pub const ITS: Kind = kind!(15, 20);
 
 pub const ITS_ID: Field = field!(4, 4);
+
+pub const ITS_BASE: Field = field!(8, 8);
 
 /// Core Programmable Interrupt Controller, CORE PIC (5.2.12.20).
 pub const CORE_PIC: Kind = kind!(17, 15);

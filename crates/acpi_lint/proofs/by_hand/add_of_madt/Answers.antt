@@ -1,7 +1,6 @@
 use Rattle.acpi_base.specs.Madt.{madt_contents}
 use Rattle.acpi_lint.specs.Rules.Broken.{OfMadt}
 use Rattle.acpi_lint.specs.Rules.GicAdvice.{IsGicrTooSmall}
-use Rattle.acpi_lint.specs.Rules.GicRanges.{IsGicOverlap}
 use Rattle.acpi_lint.specs.declared.rule.Rule.TheVariants as rule
 use Rattle.acpi_lint.proofs.ByHand.{none_added}
 use Rattle.acpi_lint.proofs.CollectedNumbers.{each_ok}
@@ -12,19 +11,15 @@ pub returns-in_default : goal.returns-in_default
 returns-in_default c = λ m q are. λ done before.
     let found = c.args.found.now.items in
     let lifts = madt_lifts m q c.madt.result are c.madt.ensures in
-    none_added m q rule.GicOverlap found (not_there (OfMadt m q) madt_contents IsGicOverlap lifts c.in_default.is) _
-    (none_added m q rule.GicrTooSmall found (not_there (OfMadt m q) madt_contents IsGicrTooSmall lifts c.in_default.is)
-    done before)
+    none_added m q rule.GicrTooSmall found (not_there (OfMadt m q) madt_contents IsGicrTooSmall lifts c.in_default.is)
+    done before
 
 pub returns : goal.returns
 returns c =
-    each_ok c.add-2.result
+    each_ok c.add.result
     (λ _ last. λ m q are. λ done before.
     let lifts = madt_lifts m q c.madt.result are c.madt.ensures in
     last m q
-    (there (OfMadt m q) madt_contents IsGicOverlap c.in_ok-gic_overlap.field-0 lifts c.in-Some.is
-    c.in_ok-gic_overlap.ensures) _
-    (c.in_ok-add.ensures m q
-    (there (OfMadt m q) madt_contents IsGicrTooSmall c.in_ok-small.small lifts c.in-Some.is c.in_ok-small.ensures) _
-    before))
-    c.add-2.ensures
+    (there (OfMadt m q) madt_contents IsGicrTooSmall c.in_ok-gicr_too_small.field-0 lifts c.in-Some.is
+    c.in_ok-gicr_too_small.ensures) _ before)
+    c.add.ensures
