@@ -2,18 +2,15 @@
 use Rattle.std.proofs.Common.{◌≡◌, ℕ, List, Option, Some, None, Result, Ok, Err, Vec, Global, refl, sym, ◌∙◌, ap, subst}
 use Rattle.std.specs.Prelude.{◌↔◌, ◌<◌, AllPairs, Contains, IfOk, option_map}
 use Rattle.std.specs.List.{filter_map}
-use Rattle.std.proofs.lemmas.List.{map-id}
 use Rattle.std.proofs.lemmas.Option.{same_Some}
 use denote.Ref.{Bor}
 use Rattle.acpi_base.specs.Entries.{PlacedEntry}
-use Rattle.acpi_base.specs.Madt.{MadtEntry}
-use Rattle.acpi_lint.specs.Rules.Numbered.{NamesAt, IsLater, numbers_of}
+use Rattle.acpi_lint.specs.Rules.Numbered.{NamesAt, IsLater}
 use Rattle.acpi_read.specs.Entries.{entry_at_value}
 use Rattle.acpi_read.specs.declared.typed_entries.EntryAt.{EntryAt}
 use Rattle.acpi_check.specs.CollectedValues.{Picks, Collects}
-use Rattle.acpi_check.proofs.EntryPasses.Collecting.{are_collected, gathered_same, itself}
+use Rattle.acpi_check.proofs.EntryPasses.Collecting.{gathered_same}
 use Rattle.acpi_check.proofs.EntryPasses.Kept.{AreRising, kept_has, kept_from, keys_rise}
-use Rattle.acpi_lint.specs.MadtNumbers.{Makes}
 use Rattle.acpi_lint.specs.Numbered.{at_place, HasAt, AreNumbersAt}
 use Rattle.acpi_rules.specs.Places.{FindsLeast}
 use Rattle.acpi_rules.specs.declared.numbered.Numbered.{Numbered}
@@ -89,13 +86,6 @@ gathered_numbers value read StandsAt low {entries = entries} r rises stands foun
     gathered_same value (λ s. option_map (at_place s.offset) (read s)) (AreNumbersAt StandsAt) r found same each
     (λ given is. are_numbers read StandsAt low entries given rises is stands)
 
-pub collected_same : {S T : Type 0} {Gives : S → Option T → Type 0} (h : S → Option T) (all : List S) (found : List T)
-    → Collects Gives all found → ((s : S) (picked : Option T) → Gives s picked → picked ≡ h s)
-    → found ≡ filter_map h all
-collected_same h all found collects each =
-    sym (map-id found)
-    ∙ are_collected (λ x. x) h all found collects (λ s picked here gives. itself picked ∙ each s picked gives)
-
 pub numbers_as : {A B : ℕ → ℕ → Type 0} (given : List Numbered) → ((at n : ℕ) → A at n ↔ B at n)
     → AreNumbersAt A given → AreNumbersAt B given
 numbers_as given same are =
@@ -105,36 +95,9 @@ numbers_as given same are =
       all = λ at n. (λ has. (same at n).0 ((are.all at n).0 has), λ stands. (are.all at n).1 ((same at n).1 stands));
     }
 
--- ---- what is made of the numbers of a MADT's entries
-
 pub each_ok : {A X : Type 0} {P Q : A → Type 0} (r : Result A X) → ((a : A) → P a → Q a) → IfOk r P → IfOk r Q
 each_ok (Ok a) follows holds = follows a holds
 each_ok (Err e) follows holds = tt
-
-none_mapped : (at : ℕ) (number : Option ℕ) → None ≡ option_map (at_place at) number → number ≡ None
-none_mapped at None is = refl
-none_mapped at (Some n) is = absurd cc
-
-pub makes_none : {T : Type 0} (Answers : Numbered → T → Type 0) (read : MadtEntry → Option ℕ)
-    (s : PlacedEntry MadtEntry) → None ≡ option_map (at_place s.offset) (read s.entry) → Makes read Answers s None
-makes_none Answers read s is = none_mapped s.offset (read s.entry) is
-
-number_made : {Answers : Numbered → ℕ → Type 0} (read : MadtEntry → Option ℕ) (s : PlacedEntry MadtEntry)
-    (picked : Option ℕ) → ((g : Numbered) (n : ℕ) → Answers g n → n ≡ g.number) → Makes read Answers s picked
-    → picked ≡ read s.entry
-number_made read s None each makes = sym makes
-number_made read s (Some n) each (g, is, answers) =
-    ap Some (each g n answers) ∙ sym (at_its_place s.offset (read s.entry) g is).2
-
--- if the number itself is made of each, those of all entries are made
-pub numbers_made : {X : Type 0} {Answers : Numbered → ℕ → Type 0} (read : MadtEntry → Option ℕ)
-    (entries : List (PlacedEntry MadtEntry)) (r : Result (Vec ℕ Global) X)
-    → IfOk r (λ v. Collects (Makes read Answers) entries v.items)
-    → ((g : Numbered) (n : ℕ) → Answers g n → n ≡ g.number) → IfOk r (λ v. v.items ≡ numbers_of read entries)
-numbers_made read entries r made each =
-    each_ok r
-    (λ v collects. collected_same (λ s. read s.entry) entries v.items collects
-    (λ s picked makes. number_made read s picked each makes)) made
 
 -- ---- the first number that occurs twice
 

@@ -8,7 +8,6 @@ mod FacsSets
 mod FadtBlocks
 mod FadtSets
 mod FirstEntries
-mod FirstNumbers
 mod FirstOfCodes
 mod FirstPlaces
 mod FirstSlots

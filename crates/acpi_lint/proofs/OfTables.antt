@@ -3,6 +3,7 @@ use Rattle.std.proofs.Common.{◌≡◌, ℕ, ◌≤◌, List, length, Option, S
 use Rattle.std.specs.Prelude.{◌↔◌, IfOk, MatchOption}
 use Rattle.std.proofs.lemmas.Option.{same_Some}
 use Rattle.acpi_base.specs.Contents.{HasPptt}
+use Rattle.acpi_lint.specs.RowGroups.{OfKind}
 use Rattle.acpi_lint.specs.Rules.Broken.{OfFadt, OfMadt}
 use Rattle.acpi_base.specs.Listed.{fadt_signature, madt_signature, srat_signature, slit_signature, pptt_signature, HasListed, IsListedTable}
 use Rattle.acpi_base.specs.Madt.{madt_contents}
@@ -124,6 +125,13 @@ madt_lifts m q {tables = tables} view are long =
     read_lifts (λ P. HasListed m q.rsdp madt_signature (λ whole. (44 ≤ length whole) × P whole)) madt_contents view
     (long_lifts (HasListed m q.rsdp madt_signature) 44 tables.madt view
     (listed_lifts m q.rsdp madt_signature tables.madt (are.listed kind.Madt)) long)
+
+pub madt_bytes_lift : (m : Memory) (q : PolicyValue) {tables : CompleteTables} (view : Option (List ℕ))
+    → AreCompleteTables m q.rsdp tables → IsLong 44 tables.madt view
+    → Lifts (OfKind kind.Madt m q) (λ whole. whole) view
+madt_bytes_lift m q {tables = tables} view are long =
+    long_lifts (HasListed m q.rsdp madt_signature) 44 tables.madt view
+    (listed_lifts m q.rsdp madt_signature tables.madt (are.listed kind.Madt)) long
 
 pub pptt_lifts : (m : Memory) (q : PolicyValue) {tables : CompleteTables} (view : Option (List ℕ))
     → AreCompleteTables m q.rsdp tables → view ≡ tables.pptt → Lifts (HasPptt m q) pptt_contents view

@@ -8,7 +8,6 @@ pub mod Headers
 pub mod HeldStages
 pub mod Hierarchy
 pub mod Leaves
-pub mod MadtNumbers
 pub mod Numbered
 pub mod Overrides
 pub mod Places

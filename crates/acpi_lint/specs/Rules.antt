@@ -5,7 +5,6 @@ pub mod FadtAdvice
 pub mod FadtBlocks
 pub mod Findings
 pub mod FixedFields
-pub mod Gic
 pub mod GicAdvice
 pub mod HeaderAdvice
 pub mod Hierarchy

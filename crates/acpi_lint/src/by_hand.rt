@@ -118,7 +118,6 @@ fn add_of_fadt_madt(
 /// Adds what the rules on the MADT find.
 fn add_of_madt(
     alloc: Global,
-    policy: &Policy,
     tables: &CompleteTables<'_>,
     found: &mut Vec<Found>,
 ) -> Result<(), AllocError>
@@ -128,7 +127,7 @@ fn add_of_madt(
     let Some(madt) = tables.madt() else {
         return Ok(());
     };
-    add(found, Rule::GicrTooSmall, gicr_too_small(alloc, policy, &madt)?)
+    add(found, Rule::GicrTooSmall, gicr_too_small(alloc, &madt)?)
 }
 
 /// Adds what the rules on the SLIT find.
@@ -175,7 +174,7 @@ pub fn found_by_hand(
     add_of_memory(alloc, image, policy.rsdp(), tables, &mut found)?;
     add_of_fadt(alloc, image, tables, &mut found)?;
     add_of_fadt_madt(policy, tables, &mut found)?;
-    add_of_madt(alloc, policy, tables, &mut found)?;
+    add_of_madt(alloc, tables, &mut found)?;
     add_of_slit(tables, &mut found)?;
     add_of_pptt(alloc, policy, tables, &mut found)?;
     Ok(found)

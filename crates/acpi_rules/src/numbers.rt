@@ -1,16 +1,20 @@
 //! The numbers that a rule is about.
 
-ghost use Rattle.std.specs.Prelude.{◌↔◌, AllPairs, Contains, IfOk, IsTrue, OnErr, map};
+ghost use Rattle.std.specs.Prelude.{◌≡◌, ◌↔◌, AllPairs, Contains, IfOk, IsTrue, OnErr, map};
 ghost use Rattle.acpi_rules.specs.Cases.{case_value};
+ghost use Rattle.acpi_rules.specs.Given.{all_given};
 ghost use Rattle.acpi_rules.specs.Numbered.{IsNotAbove};
 ghost use Rattle.acpi_rules.specs.Numbers.{AreExcepted, Counts, GivenIn, has_except, numbers_value};
+ghost use Rattle.acpi_rules.specs.Sites.{sites_of};
 ghost use Rattle.acpi_rules.specs.Terms.{tables_value};
 ghost use Rattle.acpi_rules.specs.declared.numbered.Numbered.{Numbered};
 
 use crate::case::Case;
+use crate::given::first_walked;
 use crate::numbered::{Numbered, sort_numbers};
 use crate::passes::{all_given, gives_any};
 use crate::series::Path;
+use crate::sites::WalkedSites;
 use crate::term::Tables;
 use std::alloc::{AllocError, Global};
 
@@ -68,4 +72,23 @@ pub(crate) fn counted(
     let except = excepted(alloc, numbers, tables)?;
     let (path, cases, ..) = numbers;
     all_given(alloc, path, cases, tables, &except)
+}
+
+/// The numbers that structures give, in the order of these. For a rule that no row says. Refuses if out of memory.
+pub fn numbers_in_order(
+    alloc: Global,
+    path: &Path,
+    cases: &[Case<'_>],
+    tables: &Tables<'_>,
+) -> Result<Vec<Numbered>, AllocError>
+    ensures { IfOk result (λ all. all.items
+        ≡ all_given (tables_value tables.now) (map case_value cases.now)
+        (sites_of path.now (tables_value tables.now).table)) }
+{
+    let mut all = Vec::new(alloc);
+    let mut walked = WalkedSites::along(path, tables.table.bytes);
+    while let Some(given) = first_walked(cases, tables, &mut walked) {
+        all.push(given)?;
+    }
+    Ok(all)
 }

@@ -145,7 +145,7 @@ fn guard_holds(guard: &Guard<'_>, tables: &Tables<'_>) -> bool
 }
 
 /// Whether all these conditions hold.
-fn all_guards_hold(guards: &[Guard<'_>], tables: &Tables<'_>) -> bool
+pub fn all_guards_hold(guards: &[Guard<'_>], tables: &Tables<'_>) -> bool
     ensures { result
         ≡ list_all (guard_holds (tables_value tables.now)) (map guard_value guards.now) }
 {

@@ -18,7 +18,8 @@ use Rattle.acpi_lint.specs.Rules.RootAdvice.{IsNullSlot, IsRsdtDiffers}
 use Rattle.acpi_lint.specs.Rules.RsdpAdvice.{IsRsdpReserved}
 use Rattle.acpi_lint.specs.Rules.HeaderAdvice.{IsHeaderText, IsSecondOther}
 use Rattle.acpi_lint.specs.Rules.NamedAdvice.{IsDsdtWrong, IsFacsReserved}
-use Rattle.acpi_lint.specs.RowGroups.{IsRowBroken}
+use Rattle.acpi_base.specs.declared.table_kind.TableKind.TheVariants as kind
+use Rattle.acpi_lint.specs.RowGroups.{IsRowBroken, OfKind}
 use Rattle.acpi_lint.specs.Rules.Rows.{rule_number}
 use Rattle.acpi_lint.specs.declared.rule.Rule.{Rule}
 use Rattle.acpi_lint.specs.declared.rule.Rule.TheVariants as rule
@@ -48,7 +49,7 @@ pub data Condition : Type 1 where
   Fadt : (List ℕ → ℕ → ℕ → ℕ → Type 0) → Condition
   FadtMemory : (Memory → List ℕ → ℕ → ℕ → ℕ → Type 0) → Condition  -- what the FADT names in memory
   FadtMadt : (PolicyValue → List ℕ → MadtContents → ℕ → ℕ → ℕ → Type 0) → Condition
-  Madt : (MadtContents → ℕ → ℕ → ℕ → Type 0) → Condition
+  Madt : (List ℕ → ℕ → ℕ → ℕ → Type 0) → Condition
   Slit : (SlitContents → ℕ → ℕ → ℕ → Type 0) → Condition
   Pptt : (PpttContents → ℕ → ℕ → ℕ → Type 0) → Condition
 
@@ -82,7 +83,7 @@ HoldsAt (Set P) m q at other point = P m q.rsdp at other point
 HoldsAt (Fadt P) m q at other point = OfFadt m q (λ fadt. P fadt at other point)
 HoldsAt (FadtMemory P) m q at other point = OfFadt m q (λ fadt. P m fadt at other point)
 HoldsAt (FadtMadt P) m q at other point = OfFadt m q (λ fadt. OfMadt m q (λ madt. P q fadt madt at other point))
-HoldsAt (Madt P) m q at other point = OfMadt m q (λ madt. P madt at other point)
+HoldsAt (Madt P) m q at other point = OfKind kind.Madt m q (λ madt. P madt at other point)
 HoldsAt (Slit P) m q at other point = OfSlit m q (λ slit. P slit at other point)
 HoldsAt (Pptt P) m q at other point = HasPptt m q (λ pptt. P pptt at other point)
 

@@ -1,41 +1,35 @@
--- Advice on the parts of a GIC in the MADT (ACPI 6.5, 5.2.12.14 to 5.2.12.18). `at` is an entry's offset in the table.
-use Rattle.std.specs.Prelude.{◌≡◌, ℕ, ◌/◌, ◌<◌, ◌⊎◌, length, slice_index, Option, Some, None, sum_by, not, ◌==◌, ◌&&◌, if◌then◌else◌}
-use Rattle.acpi_base.specs.Madt.{MadtEntry, Opaque, MadtContents}
-use Rattle.acpi_lint.specs.Rules.Gic.{usable_gicc_uid, gicd_version, gicr_length}
-use Rattle.acpi_lint.specs.Rules.Numbered.{IsNamed, IsFirstNamed, numbers_of}
-use Rattle.acpi_lint.specs.Rules.WellFormed.{IsWellFormedMadt}
+-- Advice on the redistributors of a GIC (ACPI 6.5, 5.2.12.17), of the bytes of a MADT.
+use Rattle.std.specs.Prelude.{◌≡◌, ℕ, ◌/◌, ◌<◌, List, [], length, map, sum_by, true, Some}
+use Rattle.std.specs.List.{list_all, slice_get}
+use Rattle.acpi_rules.specs.Cases.{SaidCase, Said, case_said}
+use Rattle.acpi_rules.specs.Given.{all_given}
+use Rattle.acpi_rules.specs.Rows.{guard_holds, guard_said}
+use Rattle.acpi_rules.specs.Sites.{sites_of}
+use Rattle.acpi_rules.specs.Terms.{TwoTables}
+use Rattle.acpi_rules.specs.declared.numbered.Numbered.{Numbered}
+use Rattle.acpi_lint.specs.declared.rows.madt.TheConstants.{GICR_LENGTHS, GICRS_COUNT, USABLE_GICCS}
+use Rattle.acpi_lint.specs.declared.rows.madt_fields.TheConstants.{MADT_ENTRIES}
 
--- ---- the GIC's version
+abbrev pub alone : List ℕ → TwoTables
+alone madt = record { table = madt; other = [] }
 
--- the GIC's version, which is that of the first distributor, is one of these two (5.2.12.15)
-abbrev pub HasVersion : MadtContents → ℕ → ℕ → Type 0
-HasVersion c low high = (o v : ℕ) × IsFirstNamed gicd_version c.entries o v × ((v ≡ low) ⊎ (v ≡ high))
+-- what its entries give in these cases, in their order
+abbrev pub entries_give : Said SaidCase → List ℕ → List Numbered
+entries_give cases madt = all_given (alone madt) (map case_said cases.now) (sites_of MADT_ENTRIES madt)
 
--- ---- redistributors
-
--- an entry of the type of a range of redistributors that has another length
-abbrev pub other_gicr : MadtEntry → Option ℕ
-other_gicr (Opaque e) = if (slice_index e 0 == 14) && not (length e == 16) then Some (length e) else None
-other_gicr _ = None
-
--- the GIC has redistributors by its version, and all ranges of them are known
-pub record AreGicrsKnown (c : MadtContents) : Type 0 where
-  pub versioned : HasVersion c 3 4
-  pub read : (n : ℕ) → ¬ IsNamed other_gicr c.entries n
-  pub well_formed : IsWellFormedMadt c
-
--- how many redistributors all ranges have: one takes 128 KiB (5.2.12.17)
-abbrev pub redistributor_count : MadtContents → ℕ
-redistributor_count c = sum_by (λ size. size / 0x20000) (numbers_of gicr_length c.entries)
+-- how many redistributors all ranges have: one takes 128 KiB
+abbrev pub redistributor_count : List ℕ → ℕ
+redistributor_count madt = sum_by (λ g. g.number / 0x20000) (entries_give GICR_LENGTHS madt)
 
 -- how many CPU interfaces are usable
-abbrev pub interface_count : MadtContents → ℕ
-interface_count c = length (numbers_of usable_gicc_uid c.entries)
+abbrev pub interface_count : List ℕ → ℕ
+interface_count madt = length (entries_give USABLE_GICCS madt)
 
--- the ranges, the first at `at`, have `other` redistributors, fewer than `point`, the number of usable CPU interfaces
-pub record IsGicrTooSmall (c : MadtContents) (at other point : ℕ) : Type 0 where
-  pub known : AreGicrsKnown c
-  pub first : (size : ℕ) × IsFirstNamed gicr_length c.entries at size
-  pub count : other ≡ redistributor_count c
-  pub due : point ≡ interface_count c
+-- the ranges, the first at `at`, have `other` redistributors, fewer than `point`, the number of usable CPU interfaces; all ranges
+-- are known
+pub record IsGicrTooSmall (madt : List ℕ) (at other point : ℕ) : Type 0 where
+  pub known : list_all (guard_holds (alone madt)) (map guard_said GICRS_COUNT.now) ≡ true
+  pub first : (g : Numbered) × (slice_get (entries_give GICR_LENGTHS madt) 0 ≡ Some g) × (g.at ≡ at)
+  pub count : other ≡ redistributor_count madt
+  pub due : point ≡ interface_count madt
   pub fewer : other < point

@@ -1,16 +1,11 @@
 -- Rules on the entries of a table: on one by itself, and on numbers at places, which are the offsets of entries, or slots.
 -- A relation `HasAt at x` says that the number x is at the place `at`.
 use Rattle.std.specs.Prelude.{◌≡◌, ℕ, ◌<◌, ◌≤◌, List, Option, Some}
-use Rattle.std.specs.List.{filter_map}
 use Rattle.acpi_base.specs.Entries.{PlacedEntry, StandsWith}
 
 -- an entry is at o of which `read` gives the number n
 abbrev pub NamesAt : {E : Type 0} → (E → Option ℕ) → List (PlacedEntry E) → ℕ → ℕ → Type 0
 NamesAt read entries o n = StandsWith entries o (λ e. read e ≡ Some n)
-
--- there is an entry of which `read` gives the number n
-abbrev pub IsNamed : {E : Type 0} → (E → Option ℕ) → List (PlacedEntry E) → ℕ → Type 0
-IsNamed read entries n = (o : ℕ) × NamesAt read entries o n
 
 -- the number x is at `at`, and before it at `other`, which is its first place
 pub record IsLater (HasAt : ℕ → ℕ → Type 0) (at other x : ℕ) : Type 0 where
@@ -18,11 +13,3 @@ pub record IsLater (HasAt : ℕ → ℕ → Type 0) (at other x : ℕ) : Type 0 
   pub earlier : HasAt other x
   pub before : other < at
   pub first : (p : ℕ) → HasAt p x → other ≤ p
-
--- n is the number that `read` gives of the entry at o, the first of which it gives one
-abbrev pub IsFirstNamed : {E : Type 0} → (E → Option ℕ) → List (PlacedEntry E) → ℕ → ℕ → Type 0
-IsFirstNamed read entries o n = NamesAt read entries o n × ((p m : ℕ) → NamesAt read entries p m → o ≤ p)
-
--- the numbers that `read` gives of entries, in their order
-abbrev pub numbers_of : {E : Type 0} → (E → Option ℕ) → List (PlacedEntry E) → List ℕ
-numbers_of read entries = filter_map (λ s. read s.entry) entries

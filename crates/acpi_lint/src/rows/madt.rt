@@ -114,6 +114,22 @@ const UNREAD_PROCESSORS: &[Case<'static>] = any!({
     (any RINTC) if (length own) < 20
 });
 
+// ---- of a rule that is no row
+
+/// When redistributors are counted: the GIC has some by its version, and all ranges of them are read (5.2.12.17).
+pub const GICRS_COUNT: &[Guard<'static>] = &[
+    HAS_REDISTRIBUTORS,
+    guard!((none table MADT_ENTRIES: { (any GICR) if (length own) != 16 })),
+    MADT_WHOLE,
+    MADT_LENGTHS,
+];
+
+/// The length of each range of redistributors.
+pub const GICR_LENGTHS: &[Case<'static>] = cases!({ GICR => at 0 shows 0, GICR_LENGTH });
+
+/// Each usable CPU interface.
+pub const USABLE_GICCS: &[Case<'static>] = any!({ GICC if (GICC_FLAGS & 0b1001) != 0 });
+
 // ---- the rules
 
 /// Rules on the MADT, but for those on the parts of a GIC.
