@@ -9,7 +9,7 @@ usage: scripts/lists.py [--header FILE]          writes what differs
 With --header the C header is FILE, not bindings/c/acpiset.h. What the header and the packages for Python and Rust declare by hand is
 compared too. Written are:
 
-  crates/acpi_lint/src/rule.rt            the variants of Rule, the table ROWS, Rule::COUNT
+  crates/acpi_lint/src/rule.rt            the variants of Rule, the table ROWS, COUNT, FIRST, LAST
   crates/acpi_lint/specs/Rules/Rows.antt  rule_row and all_rules
   crates/acpi_c/src/explained.rt          the texts of the library
   bindings                                parts of c/acpiset.h, python/acpiset/_lists.py, rust/src/lists.rs

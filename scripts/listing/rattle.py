@@ -49,12 +49,15 @@ def rule_source(text, rules):
     columns = columns_of(text)
     rows = lines_of([BEGIN, *(line for rule in rules for line in row_of(rule, columns)), END])
     text = replaced(rf"({TABLE.pattern}).*?(?=^\];)", text, rows, f"{named(RULE)}: the table ROWS")
-    return replaced(r"(^    pub const COUNT: usize = )\d+(?=;$)", text, str(len(rules)), f"{named(RULE)}: the number of rules")
+    for constant, kind, value in (("COUNT", "usize", len(rules)), ("FIRST", "u16", rules[0].number), ("LAST", "u16", rules[-1].number)):
+        where = rf"(^    pub const {constant}: {kind} = )\d+(?=;$)"
+        text = replaced(where, text, str(value), f"{named(RULE)}: the constant {constant}")
+    return text
 
 
 def rule_rows(text, rules):
     """What specs/Rules/Rows.antt of acpi_lint has to be."""
-    rows = lines_of(f'rule_row rule.{rule.name} = ({rule.number}, codes "{rule.name}")' for rule in rules)
+    rows = lines_of(f'rule_row rule.{rule.name} = ({place}, {rule.number}, codes "{rule.name}")' for place, rule in enumerate(rules))
     text = replaced(r"(?:^rule_row rule\.\w+ = [^\n]*\n)+", text, rows, f"{named(ROWS)}: the rows of rule_row")
     listed = lines_of(wrapped(" ∷ ".join([*(f"rule.{rule.name}" for rule in rules), "[]"]), 110, "    ", "    "))
     return replaced(r"(^all_rules =\n).*?(?=^\n|\Z)", text, listed, f"{named(ROWS)}: the list all_rules")

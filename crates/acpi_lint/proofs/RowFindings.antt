@@ -444,14 +444,11 @@ first_of_rule m q tables rule place found lowest are least firsts is =
     least (rows_of_set q tables are found firsts) is
 
 -- as an advice
-pub no_advice : (m : Memory) (q : PolicyValue) (rule : Rule) → FindsLeast (IsBroken rule m q) None
-    → FindsFirstAdvice rule m q None
-no_advice m q rule none = λ a same first. none a.at a.other a.point (rw same at first.broken)
-
-pub some_advice : (m : Memory) (q : PolicyValue) (rule : Rule) (p : Place) → FindsLeast (IsBroken rule m q) (Some p)
-    → FindsFirstAdvice rule m q (Some (record { rule = rule; at = p.at; other = p.other; point = p.point }))
-some_advice m q rule p least = (
-  refl,
+pub some_advice : (m : Memory) (q : PolicyValue) (rule : Rule) (number : ℕ) (p : Place) → rule_number rule ≡ number
+    → FindsLeast (IsBroken rule m q) (Some p)
+    → FindsFirstAdvice number m q (Some (record { rule = rule; at = p.at; other = p.other; point = p.point }))
+some_advice m q rule number p is least = (
+  is,
   record {
     broken = least.here;
     least = λ b same broken. least.least b.at b.other b.point (rw same at broken);

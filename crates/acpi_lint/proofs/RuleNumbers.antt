@@ -1,56 +1,160 @@
--- A rule is the only one with its number, and is found by its name.
-use Rattle.std.proofs.Common.{◌≡◌, ◌+◌, ◌-◌, ◌<◌, ◌≤◌, ℕ, List, ◌∷◌, Bor, length, drop, true, false, Option, Some, refl, sym, ap, subst, ◌∙◌, arith}
-use Rattle.std.specs.Prelude.{find}
+-- The rules by their numbers, their names and their places among all of them.
+use Rattle.std.proofs.Common.{◌≡◌, ◌+◌, ◌<◌, ◌≤◌, ℕ, List, [], ◌∷◌, Bool, length, drop, get_or, map, zero, suc, true, false, Option, Some, None, refl, sym, ap, ◌∙◌, inl, inr, arith}
+use Rattle.std.specs.Prelude.{find, ◌==◌, ◌&&◌, if◌then◌else◌, option_map}
 use Rattle.std.specs.Str.{bytes_eq}
-use Rattle.std.specs.List.{slice_get}
+use Rattle.std.specs.List.{list_all, slice_get}
+use Rattle.std.proofs.lemmas.Bool.{and_parts, eqb-true}
+use Rattle.std.proofs.lemmas.Bool.Decides.{eqb_tells}
+use Rattle.std.proofs.lemmas.List.{at_drop_more}
 use Rattle.std.proofs.lemmas.Option.{same_Some}
-use Rattle.acpi_lint.specs.Rules.Rows.{all_rules, rule_name, rule_number}
+use Rattle.std.proofs.lemmas.Slice.Eq.{bytes_eq-Decides}
+use Rattle.acpi_lint.specs.Rules.Rows.{AreRows, BorRule, all_rules, is_row, rule_name, rule_named, rule_number, rule_numbered, rule_place}
 use Rattle.acpi_lint.specs.declared.rule.Rule.{Rule}
 use Rattle.acpi_lint.specs.declared.rule.Rule.TheVariants as rule
 
--- a rule with its name
-abbrev pub Row : Type 0
-Row = Rule × Bor (List ℕ)
+rule_found : (r : Rule) → rule_numbered (rule_number r) ≡ Some r
+unfolding rule_numbered
+rule_found rule.ListedTwice = refl
+rule_found _ = refl
 
-abbrev pub number_in : Row → ℕ
-number_in row = rule_number row.0
-
-rule_at_number : (r : Rule) → slice_get all_rules (rule_number r - 101) ≡ Some r
-rule_at_number rule.ListedTwice = refl
-rule_at_number _ = refl
+rule_at_place : (r : Rule) → slice_get all_rules (rule_place r) ≡ Some r
+rule_at_place rule.ListedTwice = refl
+rule_at_place _ = refl
 
 pub rule_from : (r : Rule) → 101 ≤ rule_number r
 rule_from rule.ListedTwice = omega arith
 rule_from _ = omega arith
 
-pub rule_below : (r : Rule) → rule_number r < 101 + length all_rules
-rule_below rule.ListedTwice = omega arith
-rule_below _ = omega arith
+pub rule_upto : (r : Rule) → rule_number r ≤ 184
+rule_upto rule.ListedTwice = omega arith
+rule_upto _ = omega arith
+
+pub place_below : (r : Rule) → rule_place r < length all_rules
+place_below rule.ListedTwice = omega arith
+place_below _ = omega arith
 
 pub same_rule : (r s : Rule) → rule_number r ≡ rule_number s → r ≡ s
-same_rule r s same =
-    same_Some r s
-    (sym (rule_at_number r) ∙ ap (λ (n : ℕ). slice_get all_rules (n - 101)) same ∙ rule_at_number s)
+same_rule r s same = same_Some r s (sym (rule_found r) ∙ ap rule_numbered same ∙ rule_found s)
 
--- the rules from one on
-rules_from : (r : Rule) → drop (rule_number r - 101) all_rules ≡ r ∷ drop (rule_number r + 1 - 101) all_rules
-rules_from rule.ListedTwice = refl
-rules_from _ = refl
+-- ---- the table of the rules
 
--- the first of the rules from this number on that has the name
-abbrev pub named_from : List ℕ → ℕ → Option Rule
-named_from name n = find (λ r. bytes_eq (rule_name r) name) (drop (n - 101) all_rules)
+pub has_number : (row : BorRule) → is_row row ≡ true → row.1 ≡ rule_number row.0
+has_number row is =
+    eqb-true row.1 (rule_number row.0) (and_parts (row.1 == rule_number row.0) (bytes_eq row.2.now (rule_name row.0)) is).0
 
--- if the rule with the number has another name, it is among those after it
-pub named_after : (name : List ℕ) (r : Rule) (n : ℕ) (found : Option Rule) → rule_number r ≡ n
-    → bytes_eq (rule_name r) name ≡ false → named_from name n ≡ found → named_from name (n + 1) ≡ found
-named_after name r n found is other =
-    subst (λ (k : ℕ). named_from name k ≡ found → named_from name (k + 1) ≡ found) is
-    (λ was. sym (ap (find (λ r. bytes_eq (rule_name r) name)) (rules_from r) ∙ rw other refl) ∙ was)
+pub has_name : (row : BorRule) → is_row row ≡ true → row.2.now ≡ rule_name row.0
+has_name row is =
+    (bytes_eq-Decides row.2.now (rule_name row.0)).0
+    (and_parts (row.1 == rule_number row.0) (bytes_eq row.2.now (rule_name row.0)) is).1
 
--- otherwise it is this one
-pub named_here : (name : List ℕ) (r : Rule) (n : ℕ) (found : Option Rule) → rule_number r ≡ n
-    → bytes_eq (rule_name r) name ≡ true → named_from name n ≡ found → Some r ≡ found
-named_here name r n found is here =
-    subst (λ (k : ℕ). named_from name k ≡ found → Some r ≡ found) is
-    (λ was. sym (ap (find (λ r. bytes_eq (rule_name r) name)) (rules_from r) ∙ rw here refl) ∙ was)
+row_at : (rows : List BorRule) (rules : List Rule) (k : ℕ) (d : BorRule) (r : Rule) → map (λ row. row.0) rows ≡ rules
+    → list_all is_row rows ≡ true → slice_get rules k ≡ Some r
+    → ((get_or rows k d).0 ≡ r) × (is_row (get_or rows k d) ≡ true)
+row_at rows rules k d r all each at = by rows k (ap (λ rs. slice_get rs k) all ∙ at) each
+  where
+    by : (rows : List BorRule) (k : ℕ) → slice_get (map (λ row. row.0) rows) k ≡ Some r → list_all is_row rows ≡ true
+        → ((get_or rows k d).0 ≡ r) × (is_row (get_or rows k d) ≡ true)
+    by [] k at each = absurd cc
+    by (row ∷ rows) zero at each = (same_Some row.0 r at, (and_parts (is_row row) (list_all is_row rows) each).0)
+    by (row ∷ rows) (suc k) at each = by rows k at (and_parts (is_row row) (list_all is_row rows) each).1
+
+-- the row at the place of a rule is that of the rule
+pub row_of : (rows : List BorRule) (d : BorRule) (r : Rule) → AreRows rows
+    → ((get_or rows (rule_place r) d).0 ≡ r) × (is_row (get_or rows (rule_place r) d) ≡ true)
+row_of rows d r are = row_at rows all_rules (rule_place r) d r are.all are.each (rule_at_place r)
+
+-- ---- the first row of which a test holds
+
+abbrev pub rule_by : (BorRule → Bool) → List BorRule → Option Rule
+rule_by test rows = option_map (λ row. row.0) (find test rows)
+
+rule_as : (test : BorRule → Bool) (of : Rule → Bool) (rows : List BorRule)
+    → ((row : BorRule) → is_row row ≡ true → test row ≡ of row.0) → list_all is_row rows ≡ true
+    → rule_by test rows ≡ find of (map (λ row. row.0) rows)
+rule_as test of [] same each = refl
+rule_as test of (row ∷ rows) same each =
+    let parts = and_parts (is_row row) (list_all is_row rows) each in
+    go (test row) (of row.0) (same row parts.0) (rule_as test of rows same parts.1)
+  where
+    go : (b c : Bool) → b ≡ c → rule_by test rows ≡ find of (map (λ row. row.0) rows)
+        → option_map (λ row. row.0) (if b then Some row else find test rows)
+        ≡ (if c then Some row.0 else find of (map (λ row. row.0) rows))
+    go true true is left = refl
+    go false false is left = left
+    go true false is left = absurd cc
+    go false true is left = absurd cc
+
+pub numbered_rows : (number : ℕ) (rows : List BorRule) → AreRows rows
+    → rule_by (λ row. row.1 == number) rows ≡ rule_numbered number
+unfolding rule_numbered
+numbered_rows number rows are =
+    rule_as (λ row. row.1 == number) (λ r. rule_number r == number) rows
+    (λ row is. ap (λ n. n == number) (has_number row is)) are.each
+    ∙ ap (find (λ r. rule_number r == number)) are.all
+
+pub named_rows : (name : List ℕ) (rows : List BorRule) → AreRows rows
+    → rule_by (λ row. bytes_eq row.2.now name) rows ≡ rule_named name
+unfolding rule_named
+named_rows name rows are =
+    rule_as (λ row. bytes_eq row.2.now name) (λ r. bytes_eq (rule_name r) name) rows
+    (λ row is. ap (λ own. bytes_eq own name) (has_name row is)) are.each
+    ∙ ap (find (λ r. bytes_eq (rule_name r) name)) are.all
+
+-- if the test does not hold of the row at the index, it is a later one
+pub row_after : (test : BorRule → Bool) (rows : List BorRule) (i : ℕ) (d : BorRule) (found : Option Rule)
+    → i < length rows → rule_by test (drop i rows) ≡ found → test (get_or rows i d) ≡ false
+    → rule_by test (drop (i + 1) rows) ≡ found
+row_after test rows i d found within before is =
+    let step : rule_by test (drop i rows) ≡ rule_by test (drop (i + 1) rows) =
+    at_drop_more (rule_by test) rows i d within ∙ rw is refl in
+    sym step ∙ before
+
+pub row_here : (test : BorRule → Bool) (rows : List BorRule) (i : ℕ) (d : BorRule) (found : Option Rule)
+    → i < length rows → rule_by test (drop i rows) ≡ found → test (get_or rows i d) ≡ true
+    → Some (get_or rows i d).0 ≡ found
+row_here test rows i d found within before is =
+    let step : rule_by test (drop i rows) ≡ Some (get_or rows i d).0 =
+    at_drop_more (rule_by test) rows i d within ∙ rw is refl in
+    sym step ∙ before
+
+-- the same for the test of a number
+pub number_after : (rows : List BorRule) (i : ℕ) (d : BorRule) (number : ℕ) (found : Option Rule) → i < length rows
+    → rule_by (λ row. row.1 == number) (drop i rows) ≡ found → ¬ ((get_or rows i d).1 ≡ number)
+    → rule_by (λ row. row.1 == number) (drop (i + 1) rows) ≡ found
+number_after rows i d number found within before differ =
+    row_after (λ row. row.1 == number) rows i d found within before
+    (elim (eqb_tells (get_or rows i d).1 number) [
+      | inl (test, same) ↦ absurd (differ same)
+      | inr (test, other) ↦ test
+    ])
+
+pub number_here : (rows : List BorRule) (i : ℕ) (d : BorRule) (number : ℕ) (found : Option Rule) → i < length rows
+    → rule_by (λ row. row.1 == number) (drop i rows) ≡ found → (get_or rows i d).1 ≡ number
+    → Some (get_or rows i d).0 ≡ found
+number_here rows i d number found within before is =
+    row_here (λ row. row.1 == number) rows i d found within before
+    (elim (eqb_tells (get_or rows i d).1 number) [
+      | inl (test, same) ↦ test
+      | inr (test, differ) ↦ absurd (differ is)
+    ])
+
+-- ---- the rule with a number
+
+first_is : (number : ℕ) (r : Rule) (rules : List Rule) → find (λ s. rule_number s == number) rules ≡ Some r
+    → rule_number r ≡ number
+first_is number r [] is = absurd cc
+first_is number r (s ∷ rules) is = go (rule_number s == number) refl (first_is number r rules) is
+  where
+    go : (b : Bool) → (rule_number s == number) ≡ b
+        → (find (λ s. rule_number s == number) rules ≡ Some r → rule_number r ≡ number)
+        → (if b then Some s else find (λ s. rule_number s == number) rules) ≡ Some r → rule_number r ≡ number
+    go true here left is = rw (← same_Some s r is) (eqb-true (rule_number s) number here)
+    go false here left is = left is
+
+pub has_its_number : (number : ℕ) (r : Rule) → rule_numbered number ≡ Some r → rule_number r ≡ number
+unfolding rule_numbered
+has_its_number number r is = first_is number r all_rules is
+
+pub no_rule : (number : ℕ) (r : Rule) → rule_numbered number ≡ None → ¬ (rule_number r ≡ number)
+no_rule number r none is =
+    let no : None ≡ Some r = sym none ∙ ap rule_numbered (sym is) ∙ rule_found r in cc

@@ -4,9 +4,9 @@ use Rattle.acpi_base.specs.Memory.{Memory}
 use Rattle.acpi_base.specs.Policy.{PolicyValue}
 use Rattle.acpi_base.specs.Faults.{FaultCondition}
 use Rattle.acpi_lint.specs.Rules.Advice.{IsFirstAdvice}
+use Rattle.acpi_lint.specs.Rules.Rows.{rule_number}
 use Rattle.acpi_base.specs.FirstOfCode.{FindsFirstOfCode}
 use Rattle.acpi_lint.specs.declared.rule.Advice.{Advice}
-use Rattle.acpi_lint.specs.declared.rule.Rule.{Rule}
 use Rattle.acpi_base.specs.declared.code.Code.{Code}
 use Rattle.acpi_base.specs.declared.stage.Stage.{Stage}
 use Rattle.acpi_base.specs.declared.witness.Witness.{Witness}
@@ -33,7 +33,7 @@ fault_at fault p = record { code = fault; at = p.at; other = p.other; point = p.
 abbrev pub FindsFirstAt : Code → Memory → PolicyValue → Option Place → Type 0
 FindsFirstAt fault m q found = FindsFirstOfCode fault m q (option_map (fault_at fault) found)
 
--- the rule is kept, or this is its first finding
-abbrev pub FindsFirstAdvice : Rule → Memory → PolicyValue → Option Advice → Type 0
-FindsFirstAdvice rule m q None = (a : Advice) → a.rule ≡ rule → ¬ IsFirstAdvice m q a
-FindsFirstAdvice rule m q (Some a) = (a.rule ≡ rule) × IsFirstAdvice m q a
+-- the rule with this number is kept, or there is none, or this is its first finding
+abbrev pub FindsFirstAdvice : ℕ → Memory → PolicyValue → Option Advice → Type 0
+FindsFirstAdvice number m q None = (a : Advice) → rule_number a.rule ≡ number → ¬ IsFirstAdvice m q a
+FindsFirstAdvice number m q (Some a) = (rule_number a.rule ≡ number) × IsFirstAdvice m q a

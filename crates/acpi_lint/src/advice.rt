@@ -1,6 +1,6 @@
 //! The first finding of each rule of advice.
 
-ghost use Rattle.std.specs.Prelude.{IfOk};
+ghost use Rattle.std.specs.Prelude.{◌≡◌, IfOk};
 ghost use Rattle.acpi_base.specs.Memory.{Memory};
 ghost use Rattle.acpi_base.specs.Policy.{PolicyValue};
 ghost use Rattle.acpi_rules.specs.Places.{FindsLeast};
@@ -10,8 +10,10 @@ ghost use Rattle.acpi_lint.specs.RowFindings.{AreBroken, AreFirsts};
 ghost use Rattle.acpi_lint.specs.RowGroups.{OfAny, row_groups};
 ghost use Rattle.acpi_lint.specs.Rules.Broken.{IsBrokenByHand};
 ghost use Rattle.acpi_lint.specs.Rules.Findings.{AreFirstAdvice};
+ghost use Rattle.acpi_lint.specs.Rules.Rows.{rule_number};
 ghost use Rattle.acpi_lint.specs.StageFaults.{FindsFirstAdvice};
 ghost use Rattle.acpi_lint.specs.declared.complete_tables.CompleteTables.{CompleteTables};
+ghost use Rattle.acpi_lint.specs.declared.rule.Rule.{Rule};
 
 use crate::by_hand::found_by_hand;
 use crate::complete_tables::CompleteTables;
@@ -21,24 +23,24 @@ use acpi_base::{LentImage, Policy};
 use acpi_rules::Place;
 use std::alloc::{AllocError, Global};
 
-/// The place of the first finding of a rule, if it is not a row. The tables are those of the set.
-fn place_by_hand(found: &[Found], rule: Rule) -> Option<Place>
+/// The place of the first finding of the rule with a number, if it is not a row. The tables are those of the set.
+fn place_by_hand(found: &[Found], number: u16) -> Option<Place>
     ensures { (m : Memory) (q : PolicyValue) → AreFoundByHand m q rules_by_hand found.now
-        → FindsLeast (IsBrokenByHand rule m q) result }
+        → (rule : Rule) → rule_number rule ≡ number → FindsLeast (IsBrokenByHand rule m q) result }
 {
-    lowest_of(None, found, rule.number())
+    lowest_of(None, found, number)
 }
 
-/// The first finding of a rule, among those of the rows and of the rules that are none. The tables are those of the set.
-fn first_finding(rows: &[Found], by_hand: &[Found], rule: Rule) -> Option<Advice>
+/// The first finding of the rule with a number, among those of the rows and of the rules that are none. The tables are
+/// those of the set. None if there is no such rule.
+fn first_finding(rows: &[Found], by_hand: &[Found], number: u16) -> Option<Advice>
     ensures { (m : Memory) (q : PolicyValue) (tables : CompleteTables)
         → AreCompleteTables m q.rsdp tables → AreFirsts (OfAny (AreBroken tables) row_groups) rows.now
-        → AreFoundByHand m q rules_by_hand by_hand.now → FindsFirstAdvice rule m q result }
+        → AreFoundByHand m q rules_by_hand by_hand.now → FindsFirstAdvice number m q result }
 {
-    let place = place_by_hand(by_hand, rule);
-    let Some(Place { at, other, point }) = lowest_of(place, rows, rule.number()) else {
-        return None;
-    };
+    let place = place_by_hand(by_hand, number);
+    let Place { at, other, point } = lowest_of(place, rows, number)?;
+    let rule = Rule::new(number)?;
     Some(Advice {
         rule,
         at,
@@ -60,12 +62,10 @@ pub fn first_advice(
     let rows = row_findings(alloc, tables)?;
     let by_hand = found_by_hand(alloc, image, tables, policy)?;
     let mut advice = Vec::new(alloc);
-    let mut number = Rule::FIRST;
-    while let Some(rule) = Rule::new(number) {
-        if let Some(finding) = first_finding(&rows, &by_hand, rule) {
+    for number in Rule::FIRST..=Rule::LAST {
+        if let Some(finding) = first_finding(&rows, &by_hand, number) {
             advice.push(finding)?;
         }
-        number += 1;
     }
     Ok(advice)
 }

@@ -1,7 +1,8 @@
 //! Advice: what breaks none of the statements, but is probably wrong.
 
-ghost use Rattle.std.specs.Prelude.{◌≡◌, ◌+◌, ◌<◌, ◌≤◌, ◌↔◌, length, IsSome, IfSome};
-ghost use Rattle.acpi_lint.specs.Rules.Rows.{all_rules, rule_name, rule_named, rule_number};
+ghost use Rattle.std.specs.Prelude.{◌≡◌, ◌≢◌, IsNone, IfSome};
+ghost use Rattle.acpi_lint.specs.Rules.Rows.{AreRows, rule_name, rule_named, rule_number, rule_numbered, rule_place};
+ghost use Rattle.acpi_lint.specs.declared.rule.Rule.{Rule};
 
 /// A rule of advice. A set of tables may have a reason to break a rule, so none is a fault. A processor is usable if it
 /// is Enabled or Online Capable. Sections are those of ACPI 6.5.
@@ -179,95 +180,102 @@ pub enum Rule {
     // end: rules
 }
 
-/// Each rule with its name, in the order of their numbers.
-const ROWS: [(Rule, &str); Rule::COUNT] = [
+/// Each rule with its number and its name, in the order of their numbers.
+const ROWS: [(Rule, u16, &str); Rule::COUNT] = [
     // begin: rules, made by scripts/lists.py
-    (Rule::ListedTwice, "ListedTwice"),
-    (Rule::SecondTable, "SecondTable"),
-    (Rule::ListedApart, "ListedApart"),
-    (Rule::FadtOfRevision, "FadtOfRevision"),
-    (Rule::FacsDiffers, "FacsDiffers"),
-    (Rule::DsdtDiffers, "DsdtDiffers"),
-    (Rule::BlockDiffers, "BlockDiffers"),
-    (Rule::SciNowhere, "SciNowhere"),
-    (Rule::SameUid, "SameUid"),
-    (Rule::SameApicId, "SameApicId"),
-    (Rule::IoApicAtZero, "IoApicAtZero"),
-    (Rule::SameIoApicId, "SameIoApicId"),
-    (Rule::SameIoApicAddress, "SameIoApicAddress"),
-    (Rule::NmiNowhere, "NmiNowhere"),
-    (Rule::SecondGicd, "SecondGicd"),
-    (Rule::NoProcessor, "NoProcessor"),
-    (Rule::TwoUidDomains, "TwoUidDomains"),
-    (Rule::AffinityNowhere, "AffinityNowhere"),
-    (Rule::NoDomain, "NoDomain"),
-    (Rule::DomainPastSlit, "DomainPastSlit"),
-    (Rule::SlitDiffers, "SlitDiffers"),
-    (Rule::SameLeaf, "SameLeaf"),
-    (Rule::CacheShape, "CacheShape"),
-    (Rule::SameCacheId, "SameCacheId"),
-    (Rule::NoLeaf, "NoLeaf"),
-    (Rule::LeafNowhere, "LeafNowhere"),
-    (Rule::MadtUnread, "MadtUnread"),
-    (Rule::SratUnread, "SratUnread"),
-    (Rule::NullSlot, "NullSlot"),
-    (Rule::RsdtDiffers, "RsdtDiffers"),
-    (Rule::TablesOverlap, "TablesOverlap"),
-    (Rule::NoDsdt, "NoDsdt"),
-    (Rule::DsdtWrong, "DsdtWrong"),
-    (Rule::NoPm1Block, "NoPm1Block"),
-    (Rule::BlockWidth, "BlockWidth"),
-    (Rule::HalfBlock, "HalfBlock"),
-    (Rule::PortsOverlap, "PortsOverlap"),
-    (Rule::PortPastEnd, "PortPastEnd"),
-    (Rule::GpeOverlap, "GpeOverlap"),
-    (Rule::SmiHalf, "SmiHalf"),
-    (Rule::SciZero, "SciZero"),
-    (Rule::ResetNowhere, "ResetNowhere"),
-    (Rule::FadtForArch, "FadtForArch"),
-    (Rule::SleepRegister, "SleepRegister"),
-    (Rule::FadtReserved, "FadtReserved"),
-    (Rule::FacsReserved, "FacsReserved"),
-    (Rule::RsdpReserved, "RsdpReserved"),
-    (Rule::HeaderText, "HeaderText"),
-    (Rule::SecondOther, "SecondOther"),
-    (Rule::X2ApicBelow255, "X2ApicBelow255"),
-    (Rule::BroadcastId, "BroadcastId"),
-    (Rule::CapableTooEarly, "CapableTooEarly"),
-    (Rule::EnabledAndCapable, "EnabledAndCapable"),
-    (Rule::OverridePastIsa, "OverridePastIsa"),
-    (Rule::TimerLevel, "TimerLevel"),
-    (Rule::TwoSourcesOneGsi, "TwoSourcesOneGsi"),
-    (Rule::LintNotOne, "LintNotOne"),
-    (Rule::NoIoApic, "NoIoApic"),
-    (Rule::NoDistributor, "NoDistributor"),
-    (Rule::NoRedistributor, "NoRedistributor"),
-    (Rule::GicrTooSmall, "GicrTooSmall"),
-    (Rule::GiccBaseDiffers, "GiccBaseDiffers"),
-    (Rule::SameMpidr, "SameMpidr"),
-    (Rule::MpidrReserved, "MpidrReserved"),
-    (Rule::GicrEmpty, "GicrEmpty"),
-    (Rule::SameIts, "SameIts"),
-    (Rule::SameMsiFrame, "SameMsiFrame"),
-    (Rule::GicOverlap, "GicOverlap"),
-    (Rule::RedistributorTwice, "RedistributorTwice"),
-    (Rule::NoBootMethod, "NoBootMethod"),
-    (Rule::SameHart, "SameHart"),
-    (Rule::MadtReserved, "MadtReserved"),
-    (Rule::NoMemoryRange, "NoMemoryRange"),
-    (Rule::EmptyRange, "EmptyRange"),
-    (Rule::InitiatorOff, "InitiatorOff"),
-    (Rule::DomainPastRevision, "DomainPastRevision"),
-    (Rule::ItsNowhere, "ItsNowhere"),
-    (Rule::SratReserved, "SratReserved"),
-    (Rule::RemoteAsLocal, "RemoteAsLocal"),
-    (Rule::LeafUnflagged, "LeafUnflagged"),
-    (Rule::LeafAsParent, "LeafAsParent"),
-    (Rule::NoPackage, "NoPackage"),
-    (Rule::CacheNumbers, "CacheNumbers"),
-    (Rule::PpttReserved, "PpttReserved"),
+    (Rule::ListedTwice, 101, "ListedTwice"),
+    (Rule::SecondTable, 102, "SecondTable"),
+    (Rule::ListedApart, 103, "ListedApart"),
+    (Rule::FadtOfRevision, 104, "FadtOfRevision"),
+    (Rule::FacsDiffers, 105, "FacsDiffers"),
+    (Rule::DsdtDiffers, 106, "DsdtDiffers"),
+    (Rule::BlockDiffers, 107, "BlockDiffers"),
+    (Rule::SciNowhere, 108, "SciNowhere"),
+    (Rule::SameUid, 109, "SameUid"),
+    (Rule::SameApicId, 110, "SameApicId"),
+    (Rule::IoApicAtZero, 111, "IoApicAtZero"),
+    (Rule::SameIoApicId, 112, "SameIoApicId"),
+    (Rule::SameIoApicAddress, 113, "SameIoApicAddress"),
+    (Rule::NmiNowhere, 114, "NmiNowhere"),
+    (Rule::SecondGicd, 115, "SecondGicd"),
+    (Rule::NoProcessor, 116, "NoProcessor"),
+    (Rule::TwoUidDomains, 117, "TwoUidDomains"),
+    (Rule::AffinityNowhere, 118, "AffinityNowhere"),
+    (Rule::NoDomain, 119, "NoDomain"),
+    (Rule::DomainPastSlit, 120, "DomainPastSlit"),
+    (Rule::SlitDiffers, 121, "SlitDiffers"),
+    (Rule::SameLeaf, 122, "SameLeaf"),
+    (Rule::CacheShape, 123, "CacheShape"),
+    (Rule::SameCacheId, 124, "SameCacheId"),
+    (Rule::NoLeaf, 125, "NoLeaf"),
+    (Rule::LeafNowhere, 126, "LeafNowhere"),
+    (Rule::MadtUnread, 127, "MadtUnread"),
+    (Rule::SratUnread, 128, "SratUnread"),
+    (Rule::NullSlot, 129, "NullSlot"),
+    (Rule::RsdtDiffers, 130, "RsdtDiffers"),
+    (Rule::TablesOverlap, 131, "TablesOverlap"),
+    (Rule::NoDsdt, 132, "NoDsdt"),
+    (Rule::DsdtWrong, 133, "DsdtWrong"),
+    (Rule::NoPm1Block, 134, "NoPm1Block"),
+    (Rule::BlockWidth, 135, "BlockWidth"),
+    (Rule::HalfBlock, 136, "HalfBlock"),
+    (Rule::PortsOverlap, 137, "PortsOverlap"),
+    (Rule::PortPastEnd, 138, "PortPastEnd"),
+    (Rule::GpeOverlap, 139, "GpeOverlap"),
+    (Rule::SmiHalf, 140, "SmiHalf"),
+    (Rule::SciZero, 141, "SciZero"),
+    (Rule::ResetNowhere, 142, "ResetNowhere"),
+    (Rule::FadtForArch, 143, "FadtForArch"),
+    (Rule::SleepRegister, 144, "SleepRegister"),
+    (Rule::FadtReserved, 145, "FadtReserved"),
+    (Rule::FacsReserved, 146, "FacsReserved"),
+    (Rule::RsdpReserved, 147, "RsdpReserved"),
+    (Rule::HeaderText, 148, "HeaderText"),
+    (Rule::SecondOther, 149, "SecondOther"),
+    (Rule::X2ApicBelow255, 150, "X2ApicBelow255"),
+    (Rule::BroadcastId, 151, "BroadcastId"),
+    (Rule::CapableTooEarly, 152, "CapableTooEarly"),
+    (Rule::EnabledAndCapable, 153, "EnabledAndCapable"),
+    (Rule::OverridePastIsa, 154, "OverridePastIsa"),
+    (Rule::TimerLevel, 155, "TimerLevel"),
+    (Rule::TwoSourcesOneGsi, 156, "TwoSourcesOneGsi"),
+    (Rule::LintNotOne, 157, "LintNotOne"),
+    (Rule::NoIoApic, 158, "NoIoApic"),
+    (Rule::NoDistributor, 159, "NoDistributor"),
+    (Rule::NoRedistributor, 160, "NoRedistributor"),
+    (Rule::GicrTooSmall, 161, "GicrTooSmall"),
+    (Rule::GiccBaseDiffers, 162, "GiccBaseDiffers"),
+    (Rule::SameMpidr, 163, "SameMpidr"),
+    (Rule::MpidrReserved, 164, "MpidrReserved"),
+    (Rule::GicrEmpty, 165, "GicrEmpty"),
+    (Rule::SameIts, 166, "SameIts"),
+    (Rule::SameMsiFrame, 167, "SameMsiFrame"),
+    (Rule::GicOverlap, 168, "GicOverlap"),
+    (Rule::RedistributorTwice, 169, "RedistributorTwice"),
+    (Rule::NoBootMethod, 170, "NoBootMethod"),
+    (Rule::SameHart, 171, "SameHart"),
+    (Rule::MadtReserved, 172, "MadtReserved"),
+    (Rule::NoMemoryRange, 173, "NoMemoryRange"),
+    (Rule::EmptyRange, 174, "EmptyRange"),
+    (Rule::InitiatorOff, 175, "InitiatorOff"),
+    (Rule::DomainPastRevision, 176, "DomainPastRevision"),
+    (Rule::ItsNowhere, 177, "ItsNowhere"),
+    (Rule::SratReserved, 178, "SratReserved"),
+    (Rule::RemoteAsLocal, 179, "RemoteAsLocal"),
+    (Rule::LeafUnflagged, 180, "LeafUnflagged"),
+    (Rule::LeafAsParent, 181, "LeafAsParent"),
+    (Rule::NoPackage, 182, "NoPackage"),
+    (Rule::CacheNumbers, 183, "CacheNumbers"),
+    (Rule::PpttReserved, 184, "PpttReserved"),
     // end: rules
 ];
+
+/// The same as a slice.
+fn rows() -> &'static [(Rule, u16, &'static str)]
+    ensures { AreRows result.now }
+{
+    ROWS.as_slice()
+}
 
 impl Rule {
     /// How many rules there are.
@@ -276,47 +284,54 @@ impl Rule {
     /// The lowest number of a rule.
     pub const FIRST: u16 = 101;
 
-    /// The highest number of a rule.
+    /// The highest number of a rule. Not each number up to it is that of a rule.
     pub const LAST: u16 = 184;
 
-    /// The rule with this number, from 101 on.
+    /// The rule with this number.
     pub fn new(number: u16) -> Option<Rule>
-        ensures some { IsSome result ↔ ((101 ≤ number) × (number < 101 + length all_rules)) }
+        ensures found { result ≡ rule_numbered number }
         ensures same { IfSome result (λ rule. rule_number rule ≡ number) }
+        ensures none { IsNone result → (rule : Rule) → rule_number rule ≢ number }
     {
-        let index = number.checked_sub(Rule::FIRST)?;
-        let rows = ROWS.as_slice();
-        let (rule, _) = rows.get(usize::from(index))?;
-        Some(*rule)
+        for row in rows() {
+            if row.1 == number {
+                return Some(row.0);
+            }
+        }
+        None
     }
 
     /// The rule with this name, as `name` returns it. Upper and lower case differ.
     pub fn from_name(name: &str) -> Option<Rule>
         ensures { result ≡ rule_named name.now }
     {
-        let mut number = Rule::FIRST;
-        while let Some(rule) = Rule::new(number) {
-            if rule.name() == name {
-                return Some(rule);
+        for row in rows() {
+            if row.2 == name {
+                return Some(row.0);
             }
-            number += 1;
         }
         None
+    }
+
+    /// The rule's place among all of them, in the order of their numbers, from 0 on.
+    pub fn place(self) -> usize
+        ensures { result ≡ rule_place self }
+    {
+        self as usize
     }
 
     /// The rule's number, from 101 on.
     pub fn number(self) -> u16
         ensures { result ≡ rule_number self }
     {
-        self as u16 + Rule::FIRST
+        rows()[self.place()].1
     }
 
     /// The rule's name, as in a line of advice.
     pub fn name(self) -> &'static str
         ensures { result.now ≡ rule_name self }
     {
-        let rows = ROWS.as_slice();
-        rows[usize::from(self.number() - Rule::FIRST)].1
+        rows()[self.place()].2
     }
 }
 

@@ -1,30 +1,24 @@
-use Rattle.std.proofs.Common.{◌≤◌, ◌-◌, ◌∙◌, length, refl, sym, ap, arith, rules, tests}
-use Rattle.std.specs.Prelude.{find}
+use Rattle.std.proofs.Common.{rules, ◌∙◌, sym, ap}
 use Rattle.std.specs.Str.{bytes_eq}
-use Rattle.std.proofs.lemmas.List.{drop_all}
-use Rattle.acpi_lint.specs.Rules.Rows.{all_rules, rule_name, rule_named}
-use Rattle.acpi_lint.proofs.RuleNumbers.{named_after, named_here}
+use Rattle.std.proofs.Math.ListN.{drop_of_length-le}
+use Rattle.acpi_lint.specs.Rules.Rows.{rule_named}
+use Rattle.acpi_lint.proofs.RuleNumbers.{named_rows, row_after, row_here, rule_by}
 use Rattle.acpi_lint.proofs.rule.Rule.from_name.Goals as goal
 
-pub loop-rule-init : goal.loop-rule-init
-unfolding rule_named
-loop-rule-init c = (omega arith, refl)
+pub loop-row-init : goal.loop-row-init
+loop-row-init c = named_rows c.args.name.now c.rows-row-items.result.now c.rows-row-items.ensures
 
-pub loop-rule-preserved : goal.loop-rule-preserved
-loop-rule-preserved c = (
-  omega arith,
-  named_after c.args.name.now c.in-Some.rule c.loop-rule.number _ c.in-Some.ensures.same (search (rules, tests))
-      c.loop-rule.invariant.1,
-)
+pub loop-row-preserved : goal.loop-row-preserved
+loop-row-preserved c =
+    row_after (λ row. bytes_eq row.2.now c.args.name.now) c.rows-row-items.result.now c.loop-row.row-index _ (rule_named c.args.name.now)
+    c.loop-row-test.true c.loop-row.invariant (sym c.eq.ensures ∙ c.if-eq.false)
 
 pub returns-then-eq : goal.returns-then-eq
 returns-then-eq c =
-    named_here c.args.name.now c.in-Some.rule c.loop-rule.number _ c.in-Some.ensures.same (search (rules, tests))
-    c.loop-rule.invariant.1
+    row_here (λ row. bytes_eq row.2.now c.args.name.now) c.rows-row-items.result.now c.loop-row.row-index _ (rule_named c.args.name.now)
+    c.loop-row-test.true c.loop-row.invariant (sym c.eq.ensures ∙ c.if-eq.true)
 
 pub returns : goal.returns
 returns c =
-    let past : length all_rules ≤ c.loop-rule.number - 101 =
-    grind (arith, c.loop-rule.invariant.0, c.in_default.ensures.some) in
-    sym (ap (find (λ r. bytes_eq (rule_name r) c.args.name.now)) (drop_all (c.loop-rule.number - 101) all_rules past))
-    ∙ c.loop-rule.invariant.1
+    sym (ap (rule_by (λ row. bytes_eq row.2.now c.args.name.now)) (drop_of_length-le c.rows-row-items.result.now {i = c.loop-row.row-index} c.loop-row-test.false))
+    ∙ c.loop-row.invariant

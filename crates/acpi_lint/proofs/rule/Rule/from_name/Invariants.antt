@@ -1,11 +1,9 @@
-use Rattle.std.proofs.Common.{◌≡◌, ◌-◌, ◌≤◌}
+use Rattle.std.proofs.Common.{◌≡◌, drop}
+use Rattle.std.specs.Str.{bytes_eq}
 use Rattle.acpi_lint.specs.Rules.Rows.{rule_named}
-use Rattle.acpi_lint.proofs.RuleNumbers.{named_from}
+use Rattle.acpi_lint.proofs.RuleNumbers.{rule_by}
 use Rattle.acpi_lint.proofs.rule.Rule.from_name.Given as goal
 
--- the rule is among those from this number on
-abbrev pub invariant-loop-rule : goal.invariant-loop-rule
-invariant-loop-rule l = (101 ≤ l.number) × (named_from l.name l.number ≡ rule_named l.name)
-
-abbrev pub decreases-loop-rule : goal.decreases-loop-rule
-decreases-loop-rule l = 256 - l.number
+-- it is none of the rows before
+abbrev pub invariant-loop-row : goal.invariant-loop-row
+invariant-loop-row l = rule_by (λ row. bytes_eq row.2.now l.name) (drop l.row-index l.row-items) ≡ rule_named l.name

@@ -1,15 +1,27 @@
-use Rattle.std.proofs.Common.{◌<◌, length, ap, ◌∙◌, arith}
-use Rattle.std.proofs.lemmas.Bool.Decides.{nat_tests}
-use Rattle.acpi_base.proofs.Faults.Rows.{are_numbered, numbered_at}
-use Rattle.acpi_lint.proofs.RuleNumbers.{number_in}
+use Rattle.std.proofs.Common.{rules, ◌∙◌, sym, ap}
+use Rattle.std.specs.Prelude.{◌==◌}
+use Rattle.std.proofs.Math.ListN.{drop_of_length-le}
+use Rattle.acpi_lint.specs.Rules.Rows.{rule_numbered}
+use Rattle.acpi_lint.proofs.RuleNumbers.{no_rule, number_after, number_here, numbered_rows, rule_by}
 use Rattle.acpi_lint.proofs.rule.Rule.new.Goals as goal
 
-pub returns-clause-same : goal.returns-clause-same
-unfolding are_numbered
-returns-clause-same c =
-    let rows = c.as_slice-rows.result.now in
-    let found = c.in_ok-rule.ensures.lookup in
-    let within : c.from.result < length rows = grind (arith, nat_tests, found.0) in
-    numbered_at number_in 101 rows c.from.result _ c.in_ok-rule.field-0.now within found.1
-    (ap (are_numbered number_in 101) c.as_slice-rows.ensures)
-    ∙ omega arith
+pub loop-row-init : goal.loop-row-init
+loop-row-init c = numbered_rows c.args.number c.rows-row-items.result.now c.rows-row-items.ensures
+
+pub loop-row-preserved : goal.loop-row-preserved
+loop-row-preserved c =
+    number_after c.rows-row-items.result.now c.loop-row.row-index _ c.args.number (rule_numbered c.args.number)
+    c.loop-row-test.true c.loop-row.invariant c.if-row-number.false
+
+pub returns-then-row-number-clause-found : goal.returns-then-row-number-clause-found
+returns-then-row-number-clause-found c =
+    number_here c.rows-row-items.result.now c.loop-row.row-index _ c.args.number (rule_numbered c.args.number)
+    c.loop-row-test.true c.loop-row.invariant c.if-row-number.true
+
+pub returns-clause-found : goal.returns-clause-found
+returns-clause-found c =
+    sym (ap (rule_by (λ row. row.1 == c.args.number)) (drop_of_length-le c.rows-row-items.result.now {i = c.loop-row.row-index} c.loop-row-test.false))
+    ∙ c.loop-row.invariant
+
+pub returns-clause-none : goal.returns-clause-none
+returns-clause-none c none r is = no_rule c.args.number r (sym (returns-clause-found c)) is

@@ -1,0 +1,9 @@
+use Rattle.std.proofs.Common.{◌∙◌, ap, get_or}
+use Rattle.acpi_lint.specs.Rules.Rows.{BorRule, rule_number}
+use Rattle.acpi_lint.proofs.RuleNumbers.{has_number, row_of}
+use Rattle.acpi_lint.proofs.rule.Rule.number.Goals as goal
+
+pub returns : goal.returns
+returns c =
+    let (own, is) = row_of c.rows.result.now _ c.args.self c.rows.ensures in
+    rw c.place.ensures (has_number (get_or c.rows.result.now _ _) is ∙ ap rule_number own)
