@@ -1,5 +1,5 @@
 -- The first overlap of ranges, by computing, for examples.
-use Rattle.std.proofs.Common.{◌≡◌, ◌≢◌, ℕ, List, Option, Some, None, Bool, true, false, ap, arith, inl, inr, refl, sym, subst, ◌∙◌}
+use Rattle.std.proofs.Common.{◌≡◌, ◌≢◌, ℕ, List, Option, Some, None, Bool, true, false, ap, arith, inl, inr, refl, sym, subst}
 use Rattle.std.specs.Prelude.{◌⊎◌, ◌<◌, ◌≤◌, ◌==◌, ◌&&◌, ◌||◌, Contains, not, nat_lt, nat_le, if◌then◌else◌}
 use Rattle.std.specs.Bool.{Decides}
 use Rattle.std.specs.List.{filter_map, list_all}
@@ -244,7 +244,7 @@ overlaps_from r all Has there back at other point among =
           g,
           f,
           subst (λ x. IsFirstShared r Has g f x) (ap (λ (p : Place). p.point) same)
-          (first_as r g f f.number (λ n. (back n, there n)) first),
+              (first_as r g f f.number (λ n. (back n, there n)) first),
           sym (ap (λ (p : Place). p.at) same),
           sym (ap (λ (p : Place). p.other) same),
         )

@@ -3,8 +3,9 @@
 ghost use Rattle.acpi_rules.specs.Indexes.{IsIndexOf};
 
 use crate::{
-    Case, Extent, Field, Form, Head, Index, IndexedTable, Kind, Path, Place, Repeat, Row, Series,
-    Shape, Source, Start, Tables, Term, Value, Within, first_finding,
+    Case, Extent, Field, Form, Head, Index, IndexedTable, Kind, Numbered, Path, Place, Range,
+    Repeat, Row, Series, Shape, Source, Start, Tables, Term, Value, Within, first_finding,
+    first_overlap,
 };
 use std::alloc::{AllocError, Global};
 use std::test::*;
@@ -92,5 +93,58 @@ fn an_index_changes_nothing(rt: HostRuntime) -> Result<(), Fail> {
         None => None,
     };
     assert_eq!(rt; found, Some(SECOND));
+    Ok(())
+}
+
+/// The first overlap of two ranges: the first one is at 8, the second one at 4. Each is told by its first number and a
+/// value.
+fn overlap_of(
+    alloc: Global,
+    range: Range,
+    first: (u64, u64),
+    second: (u64, u64),
+) -> Result<Option<Place>, AllocError> {
+    let mut given = Vec::new(alloc);
+    for (at, (number, value)) in [(8, first), (4, second)] {
+        given.push(Numbered { number, at, value })?;
+    }
+    first_overlap(given, range)
+}
+
+#[test]
+fn ranges_overlap_by_counts(rt: HostRuntime) -> Result<(), Fail> {
+    let alloc = rt.alloc();
+    let found = overlap_of(alloc, Range::Count, (0x1000, 0x11), (0x1010, 1))?;
+    let place = Place {
+        at: 8,
+        other: 4,
+        point: 0x1010,
+    };
+    assert_eq!(rt; found, Some(place));
+    let found = overlap_of(alloc, Range::Count, (0x1000, 0x10), (0x1010, 1))?;
+    assert_eq!(rt; found, None);
+    // An empty range holds nothing, and a range may end at 2^64.
+    let found = overlap_of(alloc, Range::Count, (0x1000, 0x11), (0x1010, 0))?;
+    assert_eq!(rt; found, None);
+    let found = overlap_of(alloc, Range::Count, (u64::MAX, 1), (0, u64::MAX))?;
+    assert_eq!(rt; found, None);
+    Ok(())
+}
+
+#[test]
+fn ranges_overlap_by_their_last_numbers(rt: HostRuntime) -> Result<(), Fail> {
+    let alloc = rt.alloc();
+    let found = overlap_of(alloc, Range::Last, (5, 9), (5, 5))?;
+    let place = Place {
+        at: 4,
+        other: 8,
+        point: 5,
+    };
+    assert_eq!(rt; found, Some(place));
+    let found = overlap_of(alloc, Range::Last, (0, 4), (5, u64::MAX))?;
+    assert_eq!(rt; found, None);
+    // One whose last number is below the first one is empty.
+    let found = overlap_of(alloc, Range::Last, (0, 9), (5, 4))?;
+    assert_eq!(rt; found, None);
     Ok(())
 }
