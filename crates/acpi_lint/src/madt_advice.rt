@@ -43,13 +43,10 @@ pub fn gicr_too_small(alloc: Global, madt: &Table<'_>) -> Result<Option<Place>, 
     let Some(first) = lengths.first() else {
         return Ok(None);
     };
-    if !all_guards_hold(GICRS_COUNT, &tables) {
-        return Ok(None);
-    }
     let interfaces = numbers_in_order(alloc, &MADT_ENTRIES, USABLE_GICCS, &tables)?;
     let count = redistributors(&lengths);
     let due = interfaces.len() as u128;
-    if count >= due {
+    if count >= due || !all_guards_hold(GICRS_COUNT, &tables) {
         return Ok(None);
     }
     Ok(Some(Place {
