@@ -1,7 +1,7 @@
 //! What the rules that are not rows find in a set. A rule on a table finds nothing if the set lists no complete one with
 //! all its fields.
 
-ghost use Rattle.std.specs.Prelude.{◌≡◌, ◌∷◌, [], IfOk};
+ghost use Rattle.std.specs.Prelude.{◌≡◌, ◌∷◌, [], IfOk, IsSome, OnErr};
 ghost use Rattle.acpi_base.specs.Memory.{Memory};
 ghost use Rattle.acpi_base.specs.Policy.{PolicyValue};
 ghost use Rattle.acpi_rules.specs.Places.{FindsLeast};
@@ -29,9 +29,10 @@ use std::alloc::{AllocError, Global};
 
 /// Adds the place where a rule is broken, if it is. Allocates for it.
 fn add(found: &mut Vec<Found>, rule: Rule, place: Option<Place>) -> Result<(), AllocError>
-    ensures { IfOk result (λ _. (m : Memory) (q : PolicyValue)
+    ensures adds { IfOk result (λ _. (m : Memory) (q : PolicyValue)
         → FindsLeast (IsBrokenByHand rule m q) place
         → Adds m q (rule ∷ []) found.old.items found.new.items) }
+    ensures refuses { OnErr result (IsSome place) }
 {
     if let Some(place) = place {
         found.push(Found {
@@ -85,8 +86,9 @@ fn add_of_fadt(
     tables: &CompleteTables<'_>,
     found: &mut Vec<Found>,
 ) -> Result<(), AllocError>
-    ensures { IfOk result (λ _. (q : PolicyValue) → AreCompleteTables image.now q.rsdp tables.now
+    ensures adds { IfOk result (λ _. (q : PolicyValue) → AreCompleteTables image.now q.rsdp tables.now
         → Adds image.now q fadt_rules found.old.items found.new.items) }
+    ensures refuses { OnErr result (IsSome tables.now.fadt) }
 {
     let Some(fadt) = tables.fadt() else {
         return Ok(());
@@ -103,8 +105,9 @@ fn add_of_fadt_madt(
     tables: &CompleteTables<'_>,
     found: &mut Vec<Found>,
 ) -> Result<(), AllocError>
-    ensures { IfOk result (λ _. (m : Memory) → AreCompleteTables m policy.now.rsdp tables.now
+    ensures adds { IfOk result (λ _. (m : Memory) → AreCompleteTables m policy.now.rsdp tables.now
         → Adds m policy.now fadt_madt_rules found.old.items found.new.items) }
+    ensures refuses { OnErr result (IsSome tables.now.fadt × IsSome tables.now.madt) }
 {
     let Some(fadt) = tables.fadt() else {
         return Ok(());
@@ -121,8 +124,9 @@ fn add_of_madt(
     tables: &CompleteTables<'_>,
     found: &mut Vec<Found>,
 ) -> Result<(), AllocError>
-    ensures { IfOk result (λ _. (m : Memory) (q : PolicyValue)
+    ensures adds { IfOk result (λ _. (m : Memory) (q : PolicyValue)
         → AreCompleteTables m q.rsdp tables.now → Adds m q madt_rules found.old.items found.new.items) }
+    ensures refuses { OnErr result (IsSome tables.now.madt) }
 {
     let Some(madt) = tables.madt() else {
         return Ok(());
@@ -132,8 +136,9 @@ fn add_of_madt(
 
 /// Adds what the rules on the SLIT find.
 fn add_of_slit(tables: &CompleteTables<'_>, found: &mut Vec<Found>) -> Result<(), AllocError>
-    ensures { IfOk result (λ _. (m : Memory) (q : PolicyValue)
+    ensures adds { IfOk result (λ _. (m : Memory) (q : PolicyValue)
         → AreCompleteTables m q.rsdp tables.now → Adds m q slit_rules found.old.items found.new.items) }
+    ensures refuses { OnErr result (IsSome tables.now.slit) }
 {
     let Some(slit) = tables.table(TableKind::Slit) else {
         return Ok(());
@@ -149,8 +154,9 @@ fn add_of_pptt(
     tables: &CompleteTables<'_>,
     found: &mut Vec<Found>,
 ) -> Result<(), AllocError>
-    ensures { IfOk result (λ _. (m : Memory) (q : PolicyValue)
+    ensures adds { IfOk result (λ _. (m : Memory) (q : PolicyValue)
         → AreCompleteTables m q.rsdp tables.now → Adds m q pptt_rules found.old.items found.new.items) }
+    ensures refuses { OnErr result (IsSome tables.now.pptt) }
 {
     let Some(pptt) = tables.pptt() else {
         return Ok(());

@@ -8,8 +8,8 @@ use Rattle.acpi_lint.proofs.CollectedNumbers.{each_ok}
 use Rattle.acpi_lint.proofs.OfTables.{fadt_lifts, not_there, there}
 use Rattle.acpi_lint.proofs.by_hand.add_of_fadt.Goals as goal
 
-pub returns-in_default : goal.returns-in_default
-returns-in_default c = λ q are. λ done before.
+pub returns-in_default-clause-adds : goal.returns-in_default-clause-adds
+returns-in_default-clause-adds c = λ q are. λ done before.
     let m = c.args.image.now in
     let found = c.args.found.now.items in
     let lifts = fadt_lifts m q c.fadt.result are c.fadt.ensures in
@@ -22,8 +22,8 @@ returns-in_default c = λ q are. λ done before.
     (none_added m q rule.PortsOverlap found
     (not_there (OfFadt m q) (λ whole. whole) IsPortsOverlap lifts c.in_default.is) done before)))
 
-pub returns : goal.returns
-returns c =
+pub returns-clause-adds : goal.returns-clause-adds
+returns-clause-adds c =
     each_ok c.add-4.result
     (λ _ last. λ q are. λ done before.
     let m = c.args.image.now in
@@ -31,14 +31,14 @@ returns c =
     last m q (there (OfFadt m q) (λ whole. whole) (IsFacsReserved m) c.facs_reserved.result
     lifts c.in-Some.is
     c.facs_reserved.ensures) _
-    (c.in_ok-add-3.ensures m q (there (OfFadt m q) (λ whole. whole) (IsDsdtWrong m) c.dsdt_wrong.result
+    (c.in_ok-add-3.ensures.adds m q (there (OfFadt m q) (λ whole. whole) (IsDsdtWrong m) c.dsdt_wrong.result
     lifts c.in-Some.is
     c.dsdt_wrong.ensures) _
-    (c.in_ok-add-2.ensures m q (there (OfFadt m q) (λ whole. whole) IsPortPastEnd c.port_past_end.result
+    (c.in_ok-add-2.ensures.adds m q (there (OfFadt m q) (λ whole. whole) IsPortPastEnd c.port_past_end.result
     lifts c.in-Some.is
     c.port_past_end.ensures) _
-    (c.in_ok-add.ensures m q (there (OfFadt m q) (λ whole. whole) IsPortsOverlap c.in_ok-ports_overlap.field-0
+    (c.in_ok-add.ensures.adds m q (there (OfFadt m q) (λ whole. whole) IsPortsOverlap c.in_ok-ports_overlap.field-0
     lifts c.in-Some.is
     c.in_ok-ports_overlap.ensures) _
     before))))
-    c.add-4.ensures
+    c.add-4.ensures.adds

@@ -7,6 +7,6 @@ returns c =
     (λ _ last. λ q is. λ done before.
     let m = c.args.image.now in
     last m q (rw is c.rsdp_reserved.ensures) _
-    (c.in_ok-add-2.ensures m q (rw is c.in_ok-overlaps.ensures) _
-    (c.in_ok-add.ensures m q (rw is c.in_ok-differs.ensures) _ before)))
-    c.add-3.ensures
+    (c.in_ok-add-2.ensures.adds m q (rw is c.in_ok-overlaps.ensures) _
+    (c.in_ok-add.ensures.adds m q (rw is c.in_ok-differs.ensures) _ before)))
+    c.add-3.ensures.adds

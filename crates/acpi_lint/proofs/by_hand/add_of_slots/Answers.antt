@@ -8,9 +8,9 @@ returns c =
     let twice = rw c.in_ok-listed_twice.was at (c.listed_twice.ensures m q.rsdp are) in
     let other = rw c.in_ok-second_other.was at (c.second_other.ensures m q.rsdp are) in
     last m q other _
-    (c.in_ok-add-5.ensures m q (c.header_text.ensures m q.rsdp are) _
-    (c.in_ok-add-4.ensures m q (c.null_slot.ensures m q.rsdp are) _
-    (c.in_ok-add-3.ensures m q (c.listed_apart.ensures m q.rsdp are) _
-    (c.in_ok-add-2.ensures m q (c.second_table.ensures m q.rsdp are) _
-    (c.in_ok-add.ensures m q twice _ before))))))
-    c.add-6.ensures
+    (c.in_ok-add-5.ensures.adds m q (c.header_text.ensures m q.rsdp are) _
+    (c.in_ok-add-4.ensures.adds m q (c.null_slot.ensures m q.rsdp are) _
+    (c.in_ok-add-3.ensures.adds m q (c.listed_apart.ensures m q.rsdp are) _
+    (c.in_ok-add-2.ensures.adds m q (c.second_table.ensures m q.rsdp are) _
+    (c.in_ok-add.ensures.adds m q twice _ before))))))
+    c.add-6.ensures.adds
