@@ -96,11 +96,7 @@ fn past_end_at(fadt: &Fadt<'_>, k: u8) -> Option<Place>
     requires { k < 8 }
     ensures { FindsLeast (IsOfBlock (IsBlockPastEnd fadt.now) k) result }
 {
-    past_end(
-        block_offset(k),
-        block_address(fadt, k),
-        port_bytes(fadt, k),
-    )
+    past_end(block_offset(k), block_address(fadt, k), port_bytes(fadt, k))
 }
 
 /// The first register block that ends past the last port.
@@ -158,7 +154,8 @@ fn fixed_past_end(fadt: &Fadt<'_>) -> Option<Place>
 /// 138 PortPastEnd, likely wrong (5.2.9): a register is at an I/O port above 0xffff.
 /// Numbers: `at` is the offset of the block's 4-byte field, of SMI_CMD, 0x30 (48), or of RESET_REG, 0x74 (116), `other`
 /// is the number of bytes, `point` is the address.
-/// "The register at {at} of the FADT has its last port above 0xffff: it has {other:d} bytes from {point} on."
+/// "The register at {at} of the FADT has its last port above 0xffff: it begins at {point}, and its length in bytes is
+/// {other:d}."
 ///
 /// SMI_CMD or the first register block that ends past the last port, if the hardware is not
 /// reduced; or else RESET_REG, if it is past the last port.

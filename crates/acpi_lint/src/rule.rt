@@ -27,7 +27,7 @@ pub enum Rule {
     SciNowhere,
     /// Two usable processors have the same UID (5.2.12).
     SameUid,
-    /// Two usable processors have the same APIC ID, x2APIC ID or core ID (5.2.12).
+    /// Two usable processors have the same APIC ID, X2APIC ID or core ID (5.2.12).
     SameApicId,
     /// An I/O APIC has the address 0 (5.2.12.3).
     IoApicAtZero,
@@ -35,7 +35,7 @@ pub enum Rule {
     SameIoApicId,
     /// Two I/O APICs have the same address (5.2.12.3).
     SameIoApicAddress,
-    /// A Local APIC NMI names a UID that no processor has (5.2.12.7, 5.2.12.13).
+    /// A Local APIC NMI or Local x2APIC NMI names a UID that no processor has (5.2.12.7, 5.2.12.13).
     NmiNowhere,
     /// There is a second GIC Distributor (5.2.12.15).
     SecondGicd,
@@ -45,7 +45,7 @@ pub enum Rule {
     TwoUidDomains,
     /// The SRAT has a processor that the MADT does not have (5.2.16).
     AffinityNowhere,
-    /// A usable processor is not in the SRAT, and others are (5.2.16).
+    /// A usable processor is not in the SRAT, which has affinities (5.2.16).
     NoDomain,
     /// A proximity domain of the SRAT is no locality of the SLIT (5.2.17).
     DomainPastSlit,

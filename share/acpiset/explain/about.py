@@ -22,7 +22,7 @@ BY_HAND = {
     entries.fadt_madt: (108,),
     fadt.facs_advice: (146,),
     fixed.rsdp_advice: (147,),
-    entries.madt: (161, 168),
+    entries.madt: (161,),
     fixed.slit_advice: (121, 179),
     entries.pptt: (182,),
 }

@@ -16,12 +16,12 @@ SENTENCES = {
     110: (
         "SameApicId",
         {},
-        "The usable processor at {at} of the MADT has the APIC ID, x2APIC ID or core ID {point:d}, as the one at {other} does.",
+        "The usable processor at {at} of the MADT has the APIC ID, X2APIC ID or core ID {point:d}, as the one at {other} does.",
     ),
     111: ("IoApicAtZero", {}, "The I/O APIC at {at} of the MADT has the address 0."),
     112: ("SameIoApicId", {}, "The I/O APIC at {at} of the MADT has the ID {point:d}, as the one at {other} does."),
     113: ("SameIoApicAddress", {}, "The I/O APIC at {at} of the MADT has the address {point}, as the one at {other} does."),
-    114: ("NmiNowhere", {}, "The Local APIC NMI at {at} of the MADT names the UID {point:d}, which no processor has."),
+    114: ("NmiNowhere", {}, "The NMI at {at} of the MADT names the UID {point:d}, which no processor has."),
     115: ("SecondGicd", {}, "The GIC Distributor at {at} of the MADT is not the only one: the first is at {other}."),
     116: ("NoProcessor", {}, "No processor of the MADT is usable."),
     117: (
@@ -32,17 +32,17 @@ SENTENCES = {
     118: (
         "AffinityNowhere",
         {},
-        "The affinity at {at} of the SRAT is of the APIC ID, x2APIC ID or UID {point:d}, which no processor of the MADT has.",
+        "The affinity at {at} of the SRAT is of the APIC ID, X2APIC ID or UID {point:d}, which no processor of the MADT has.",
     ),
     119: (
         "NoDomain",
         {},
-        "The usable processor at {at} of the MADT, of the ID or UID {point:d}, has no affinity in the SRAT, and others have.",
+        "The usable processor at {at} of the MADT, of the ID or UID {point:d}, has no affinity in the SRAT, which has others.",
     ),
     120: (
         "DomainPastSlit",
         {},
-        "The structure at {at} of the SRAT has the proximity domain {point:d}, and the SLIT has {other:d} localities.",
+        "The structure at {at} of the SRAT has the proximity domain {point:d}, and the number of localities of the SLIT is {other:d}.",
     ),
     121: ("SlitDiffers", {}, "The distance at {at} of the SLIT is not that at {other}, of the other direction."),
     122: ("SameLeaf", {}, "The leaf at {at} of the PPTT has the ACPI Processor ID {point:d}, as the one at {other} does."),
@@ -50,8 +50,8 @@ SENTENCES = {
     124: ("SameCacheId", {}, "The cache at {at} of the PPTT has the Cache ID {point:d}, as the one at {other} does."),
     125: ("NoLeaf", {}, "The usable processor at {at} of the MADT has the UID {point:d}, which no leaf of the PPTT has."),
     126: ("LeafNowhere", {}, "The leaf at {at} of the PPTT has the ACPI Processor ID {point:d}, which is no processor's UID."),
-    127: ("MadtUnread", {}, "The structure at {at} of the MADT, of type {other:d}, is not looked at."),
-    128: ("SratUnread", {}, "The structure at {at} of the SRAT, of type {other:d}, is not looked at."),
+    127: ("MadtUnread", {}, "The structure at {at} of the MADT, of type {other:d}, is the first that is not looked at."),
+    128: ("SratUnread", {}, "The structure at {at} of the SRAT, of type {other:d}, is the first that is not looked at."),
     129: ("NullSlot", {}, "Slot {at:d} is 0."),
     130: (
         "RsdtDiffers",
@@ -77,7 +77,11 @@ SENTENCES = {
         "The register block at {at} of the FADT has the length {other:d}, and no address.",
     ),
     137: ("PortsOverlap", {}, "The register blocks at {at} and {other} of the FADT share the I/O port {point}."),
-    138: ("PortPastEnd", {}, "The register at {at} of the FADT has its last port above 0xffff: it has {other:d} bytes from {point} on."),
+    138: (
+        "PortPastEnd",
+        {},
+        "The register at {at} of the FADT has its last port above 0xffff: it begins at {point}, and its length in bytes is {other:d}.",
+    ),
     139: ("GpeOverlap", {}, "GPE1_BASE, at {at} of the FADT, is {point:d}, and the GPE0 block has the events below {other:d}."),
     140: (
         "SmiHalf",
@@ -94,7 +98,7 @@ SENTENCES = {
     144: (
         "SleepRegister",
         {("other", 0x0): "The sleep register at {at} of the FADT has no address, or the bit width 0."},
-        "The sleep register at {at} of the FADT has {other:d} bits from bit {point:d} on, not 8 from bit 0 on.",
+        "The sleep register at {at} of the FADT has the bit width {other:d} and the bit offset {point:d}, not 8 and 0.",
     ),
     145: ("FadtReserved", {}, "The field at {at} of the FADT has the value {point}, which is reserved."),
     146: ("FacsReserved", {}, "The field at {at} of the FACS has the value {point}, which is reserved."),
@@ -182,7 +186,11 @@ SENTENCES = {
     ),
     181: ("LeafAsParent", {}, "The leaf at {at} of the PPTT is the Parent of the node at {other}."),
     182: ("NoPackage", {}, "The leaf at {at} of the PPTT, of ACPI Processor ID {point:d}, is in no package."),
-    183: ("CacheNumbers", {}, "The cache at {at} of the PPTT has the size {other:d}, and its sets * ways * line size are {point:d}."),
+    183: (
+        "CacheNumbers",
+        {("point", 0x0): "The cache at {at} of the PPTT has the size {other:d}, and its associativity, number of sets or line size is 0."},
+        "The cache at {at} of the PPTT has the size {other:d}, and its sets * ways * line size is {point:d}.",
+    ),
     184: ("PpttReserved", {}, "The structure at {at} of the PPTT has a reserved value at its offset {other:d}."),
 }
 

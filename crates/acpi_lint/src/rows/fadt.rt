@@ -204,7 +204,7 @@ pub static FADT: [Row<'static>; 14] = [
     // Numbers: `at` is the register's offset, 0xf4 (244) or 0x100 (256). For a width or an offset `other` is the bit
     // width, `point` is the bit offset; for a register without an address both are 0.
     // If `other` is 0: "The sleep register at {at} of the FADT has no address, or the bit width 0."
-    // "The sleep register at {at} of the FADT has {other:d} bits from bit {point:d} on, not 8 from bit 0 on."
+    // "The sleep register at {at} of the FADT has the bit width {other:d} and the bit offset {point:d}, not 8 and 0."
     // A register without an address is found if the other one has one.
     rule!(144 SleepRegister, given in TABLE where REDUCED: {
         WHOLE if SLEEP_CONTROL_ADDRESS != 0 && SLEEP_CONTROL_WIDTH != 8

@@ -13,7 +13,8 @@ use crate::rows::srat::{
 use crate::rows::srat_fields::SRAT_ENTRIES;
 use crate::rows::table_fields::{REVISION, TABLE, TYPE, WHOLE};
 use acpi_rules::{
-    Case, Clause, Form, Guard, Kind, LookUp, Need, Path, Range, Repeat, Row, Source, Term, Test, Value, Within,
+    Case, Clause, Form, Guard, Kind, LookUp, Need, Path, Range, Repeat, Row, Source, Term, Test,
+    Value, Within,
 };
 
 // ---- what entries give
@@ -138,9 +139,9 @@ pub static MADT: [Row<'static>; 18] = [
     // Numbers: `at` is the structure's offset, `other` that of the first usable one with this UID, `point` is the UID.
     // "The usable processor at {at} of the MADT has the UID {point:d}, as the one at {other} does."
     rule!(109 SameUid, repeated in MADT_ENTRIES: USABLE_UIDS),
-    // 110 SameApicId, likely wrong (5.2.12): two usable processors have the same APIC ID, x2APIC ID or core ID.
+    // 110 SameApicId, likely wrong (5.2.12): two usable processors have the same APIC ID, X2APIC ID or core ID.
     // Numbers: `at` is the structure's offset, `other` that of the first usable one with this ID, `point` is the ID.
-    // "The usable processor at {at} of the MADT has the APIC ID, x2APIC ID or core ID {point:d}, as the one at {other}
+    // "The usable processor at {at} of the MADT has the APIC ID, X2APIC ID or core ID {point:d}, as the one at {other}
     // does."
     rule!(110 SameApicId, repeated in MADT_ENTRIES: USABLE_APIC_IDS),
     // 111 IoApicAtZero, likely wrong (5.2.12.3): an I/O APIC has the address 0.
@@ -163,9 +164,10 @@ pub static MADT: [Row<'static>; 18] = [
     rule!(113 SameIoApicAddress, repeated in MADT_ENTRIES: {
         IO_APIC if IO_APIC_ADDRESS != 0 => at 0 shows IO_APIC_ADDRESS, IO_APIC_ADDRESS
     }),
-    // 114 NmiNowhere, likely wrong (5.2.12.7, 5.2.12.13): a Local APIC NMI names a UID that no processor has.
+    // 114 NmiNowhere, likely wrong (5.2.12.7, 5.2.12.13): a Local APIC NMI or Local x2APIC NMI names a UID that no
+    // processor has.
     // Numbers: `at` is the structure's offset, `point` is the UID.
-    // "The Local APIC NMI at {at} of the MADT names the UID {point:d}, which no processor has."
+    // "The NMI at {at} of the MADT names the UID {point:d}, which no processor has."
     // A UID of all ones means all processors.
     rule!(114 NmiNowhere, nowhere in MADT_ENTRIES where PROCESSORS_READ, MADT_WHOLE, MADT_LENGTHS: {
         LOCAL_NMI if LOCAL_NMI_UID != 0xff => at 0 shows 0, LOCAL_NMI_UID;
@@ -182,7 +184,7 @@ pub static MADT: [Row<'static>; 18] = [
     }),
     // 127 MadtUnread, not looked at (5.2.12): a structure of the MADT of a type or length that is not read.
     // Numbers: `at` is the offset of the first one, `other` its type.
-    // "The structure at {at} of the MADT, of type {other:d}, is not looked at."
+    // "The structure at {at} of the MADT, of type {other:d}, is the first that is not looked at."
     rule!(127 MadtUnread, given in MADT_ENTRIES: {
         UNREAD_6_TO_8 => at 0 shows TYPE, 0;
         (any GICC) if (length own) < 40 => at 0 shows TYPE, 0;
@@ -454,11 +456,11 @@ pub static MADT_WITH_PPTT: [Row<'static>; 2] = [
 
 /// Rules on the MADT with the SRAT.
 pub static MADT_WITH_SRAT: [Row<'static>; 2] = [
-    // 119 NoDomain, likely wrong (5.2.16): a usable processor is not in the SRAT, and others are.
+    // 119 NoDomain, likely wrong (5.2.16): a usable processor is not in the SRAT, which has affinities.
     // Numbers: `at` is the processor's offset in the MADT, `point` is its APIC ID, X2APIC ID or core ID, of a GICC or
     // an RINTC its UID.
-    // "The usable processor at {at} of the MADT, of the ID or UID {point:d}, has no affinity in the SRAT, and others
-    // have."
+    // "The usable processor at {at} of the MADT, of the ID or UID {point:d}, has no affinity in the SRAT, which has
+    // others."
     // This row: a processor with an APIC ID. Applies if the SRAT is well-formed.
     rule!(119 NoDomain, nowhere in MADT_ENTRIES where
         PROCESSORS_READ, OTHER_SRAT_WHOLE, OTHER_SRAT_LENGTHS, PLACED_PROCESSORS:

@@ -129,7 +129,9 @@ pub static PPTT: [Row<'static>; 8] = [
     // line size.
     // Numbers: `at` is the cache's offset, `other` is its Size, `point` is Number of Sets * Associativity * Line Size,
     // as these fields are.
-    // "The cache at {at} of the PPTT has the size {other:d}, and its sets * ways * line size are {point:d}."
+    // If `point` is 0: "The cache at {at} of the PPTT has the size {other:d}, and its associativity, number of sets or
+    // line size is 0."
+    // "The cache at {at} of the PPTT has the size {other:d}, and its sets * ways * line size is {point:d}."
     // The numbers are valid.
     rule!(183 CacheNumbers, given in PPTT_ENTRIES: {
         CACHE_24 if (CACHE_FLAGS & 0b100) != 0 && CACHE_ASSOCIATIVITY == 0

@@ -77,7 +77,7 @@ pub static SRAT: [Row<'static>; 8] = [
     }),
     // 128 SratUnread, not looked at (5.2.16): a structure of the SRAT of a type or length that is not read.
     // Numbers: `at` is the offset of the first one, `other` its type.
-    // "The structure at {at} of the SRAT, of type {other:d}, is not looked at."
+    // "The structure at {at} of the SRAT, of type {other:d}, is the first that is not looked at."
     rule!(128 SratUnread, given in SRAT_ENTRIES: {
         (any GICC_AFFINITY) if (length own) != 18 => at 0 shows TYPE, 0;
         (any ITS_AFFINITY) if (length own) != 12 => at 0 shows TYPE, 0;
@@ -162,7 +162,7 @@ pub static SRAT: [Row<'static>; 8] = [
 pub static SRAT_WITH_MADT: [Row<'static>; 3] = [
     // 118 AffinityNowhere, likely wrong (5.2.16): the SRAT has a processor that the MADT does not have.
     // Numbers: `at` is the affinity's offset, `point` is its APIC ID, X2APIC ID or UID.
-    // "The affinity at {at} of the SRAT is of the APIC ID, x2APIC ID or UID {point:d}, which no processor of the MADT
+    // "The affinity at {at} of the SRAT is of the APIC ID, X2APIC ID or UID {point:d}, which no processor of the MADT
     // has."
     // This row: an enabled affinity of an APIC ID. Applies if all processors are read.
     rule!(118 AffinityNowhere, nowhere in SRAT_ENTRIES where
@@ -189,7 +189,8 @@ pub static SRAT_WITH_MADT: [Row<'static>; 3] = [
 pub static SRAT_WITH_SLIT: [Row<'static>; 1] = [
     // 120 DomainPastSlit, likely wrong (5.2.17): a proximity domain of the SRAT is no locality of the SLIT.
     // Numbers: `at` is the offset in the SRAT, `other` is N, `point` is the domain.
-    // "The structure at {at} of the SRAT has the proximity domain {point:d}, and the SLIT has {other:d} localities."
+    // "The structure at {at} of the SRAT has the proximity domain {point:d}, and the number of localities of the
+    // SLIT is {other:d}."
     // Looked at are what is enabled, and the affinities of an ITS.
     rule!(120 DomainPastSlit, given in SRAT_ENTRIES where
         (some other TABLE: { WHOLE if (length own - 44) == (LOCALITIES * LOCALITIES) }):
