@@ -7,7 +7,7 @@ use Rattle.acpi_base.specs.Chains.{IsChain}
 use Rattle.acpi_base.specs.Number.{has_bit}
 use Rattle.acpi_base.specs.Pptt.{Node, PpttContents, Says}
 use Rattle.acpi_lint.specs.Rules.Hierarchy.{outer_parent, EndsOutside}
-use Rattle.acpi_lint.specs.Rules.Processors.{IsLeafAt}
+use Rattle.acpi_lint.specs.Rules.Hierarchy.{IsLeafAt}
 use Rattle.acpi_examples.specs.AdviceHierarchy.{nodes, AreNoPackages, IsHierarchyAdvised}
 use Rattle.acpi_examples.proofs.NamedEntries.{each_entry, none_stands}
 

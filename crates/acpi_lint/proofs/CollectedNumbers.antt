@@ -1,5 +1,5 @@
 -- Numbers that are collected from the entries of a table, each with its place as its value.
-use Rattle.std.proofs.Common.{◌≡◌, ℕ, List, Option, Some, None, Result, Ok, Err, Vec, Global, refl, sym, ◌∙◌, ap, subst}
+use Rattle.std.proofs.Common.{◌≡◌, ℕ, List, Option, Some, None, Result, Ok, Err, Vec, Global, refl, sym, ap, subst}
 use Rattle.std.specs.Prelude.{◌↔◌, ◌<◌, AllPairs, Contains, IfOk, option_map}
 use Rattle.std.specs.List.{filter_map}
 use Rattle.std.proofs.lemmas.Option.{same_Some}

@@ -9,7 +9,7 @@ use Rattle.std.proofs.lemmas.Option.{cond_some}
 use Rattle.acpi_base.specs.Entries.{PlacedEntry}
 use Rattle.acpi_base.proofs.Elements.{no_element}
 use Rattle.acpi_lint.specs.Rules.Numbered.{NamesAt}
-use Rattle.acpi_lint.specs.Rules.Processors.{IsParent, IsLeafAt}
+use Rattle.acpi_lint.specs.Rules.Hierarchy.{IsParent, IsLeafAt}
 use Rattle.acpi_lint.specs.Rules.WellFormed.{IsWellFormedPptt}
 use Rattle.acpi_base.specs.Number.{has_bit}
 use Rattle.acpi_base.specs.Pptt.{PpttEntry, Node, Cache, Opaque, NodeValue, PpttContents, parent_of}

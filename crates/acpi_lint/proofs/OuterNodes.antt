@@ -11,7 +11,7 @@ use Rattle.acpi_lint.specs.Numbered.{at_place, HasAt, AreNumbersAt}
 use Rattle.acpi_rules.specs.Places.{FindsLeast}
 use Rattle.acpi_lint.specs.Rules.Hierarchy.{outer_parent, IsNoPackage}
 use Rattle.acpi_lint.specs.Rules.Numbered.{NamesAt}
-use Rattle.acpi_lint.specs.Rules.Processors.{IsLeafAt}
+use Rattle.acpi_lint.specs.Rules.Hierarchy.{IsLeafAt}
 use Rattle.acpi_rules.specs.declared.numbered.Numbered.{Numbered}
 use Rattle.acpi_rules.specs.declared.place.Place.{Place}
 use Rattle.acpi_rules.proofs.LeastPlaces.{least_as}

@@ -68,16 +68,6 @@ one_next {X} {P} {key} {n} {xs} y before holds next one =
       rise = rise_more key xs y before.rise (λ x here. omega (arith, (before.listed x here).1, next));
     }
 
-pub one_of_key : {X : Type 0} (key : X → ℕ) (xs : List X) → AllPairs (λ x y. key x < key y) xs → (a b : X)
-    → Contains xs a → Contains xs b → key a ≡ key b → a ≡ b
-one_of_key {X} key xs rise a b (i, inside, is) (j, within, other) same =
-    let there : get_or xs j a ≡ b = get_or_default xs j a b within ∙ other in
-    elim (cases_order i j) [
-      | inl equal ↦ sym is ∙ ap (λ (k : ℕ). get_or xs k a) equal ∙ there
-      | inr (inl before) ↦ absurd (omega (arith, rise i j a before within, ap key is, ap key there, same))
-      | inr (inr behind) ↦ absurd (omega (arith, rise j i a behind inside, ap key is, ap key there, same))
-    ]
-
 -- ---- the first with P
 
 -- if none before i has P, one with P is the one at i, or has a greater key

@@ -1,6 +1,6 @@
 -- The rules by their numbers, their names and their places among all of them.
 use Rattle.std.proofs.Common.{◌≡◌, ◌+◌, ◌<◌, ◌≤◌, ℕ, List, [], ◌∷◌, Bool, length, drop, get_or, map, zero, suc, true, false, Option, Some, None, refl, sym, ap, ◌∙◌, inl, inr, arith}
-use Rattle.std.specs.Prelude.{find, ◌==◌, ◌&&◌, if◌then◌else◌, option_map}
+use Rattle.std.specs.Prelude.{find, ◌==◌, if◌then◌else◌, option_map}
 use Rattle.std.specs.Str.{bytes_eq}
 use Rattle.std.specs.List.{list_all, slice_get}
 use Rattle.std.proofs.lemmas.Bool.{and_parts, eqb-true}
@@ -139,21 +139,6 @@ number_here rows i d number found within before is =
     ])
 
 -- ---- the rule with a number
-
-first_is : (number : ℕ) (r : Rule) (rules : List Rule) → find (λ s. rule_number s == number) rules ≡ Some r
-    → rule_number r ≡ number
-first_is number r [] is = absurd cc
-first_is number r (s ∷ rules) is = go (rule_number s == number) refl (first_is number r rules) is
-  where
-    go : (b : Bool) → (rule_number s == number) ≡ b
-        → (find (λ s. rule_number s == number) rules ≡ Some r → rule_number r ≡ number)
-        → (if b then Some s else find (λ s. rule_number s == number) rules) ≡ Some r → rule_number r ≡ number
-    go true here left is = rw (← same_Some s r is) (eqb-true (rule_number s) number here)
-    go false here left is = left is
-
-pub has_its_number : (number : ℕ) (r : Rule) → rule_numbered number ≡ Some r → rule_number r ≡ number
-unfolding rule_numbered
-has_its_number number r is = first_is number r all_rules is
 
 pub no_rule : (number : ℕ) (r : Rule) → rule_numbered number ≡ None → ¬ (rule_number r ≡ number)
 no_rule number r none is =

@@ -11,7 +11,6 @@ use Rattle.acpi_base.specs.Policy.{new_policy}
 use Rattle.acpi_base.specs.Root.{IsSlot}
 use Rattle.acpi_base.specs.Signature.{has_signature}
 use Rattle.acpi_base.proofs.Elements.{element_of_map, no_element}
-use Rattle.acpi_base.proofs.Frames.{one_frame}
 use Rattle.acpi_base.proofs.Root.Named.{one_root, one_root_table}
 use Rattle.acpi_check.proofs.EntryPasses.Kept.{map_has}
 use Rattle.acpi_read.specs.Roots.{RootValue, IsCompleteRoot}
@@ -165,10 +164,6 @@ dsdt_signed m fadt address header found named some present signed =
       here,
     ))
     (λ s n (_, is, _, here). (is ∙ sym named, here))
-
-one_length : {m : Memory} {a n c : ℕ} → IsTableRange m a n → IsTableRange m a c → n ≡ c
-one_length (header, whole, table, count) (also, other, same, size) =
-    count ∙ ap (λ (bytes : List ℕ). length bytes) (one_frame table same) ∙ sym size
 
 -- ---- each of them among all
 

@@ -2,7 +2,7 @@
 use Rattle.std.specs.Prelude.{ℕ, Option, Some, None, List, ◌==◌, if◌then◌else◌}
 use Rattle.std.specs.List.{list_any}
 use Rattle.acpi_lint.specs.Rules.Numbered.{NamesAt}
-use Rattle.acpi_lint.specs.Rules.Processors.{IsParent}
+use Rattle.acpi_lint.specs.Rules.Hierarchy.{IsParent}
 use Rattle.acpi_base.specs.Number.{has_bit}
 use Rattle.acpi_base.specs.Pptt.{PpttEntry, Node, PpttContents}
 

@@ -11,7 +11,6 @@ pub mod Hierarchy
 pub mod NamedAdvice
 pub mod Numbered
 pub mod Ports
-pub mod Processors
 pub mod RootAdvice
 pub mod Rows
 pub mod RsdpAdvice

@@ -2,14 +2,14 @@
 
 ghost use Rattle.std.specs.Prelude.{◌≡◌, ◌<◌, ◌↔◌, ℕ, AllPairs, Contains, IfOk, option_map};
 ghost use Rattle.acpi_lint.specs.Rules.Numbered.{NamesAt};
-ghost use Rattle.acpi_lint.specs.Rules.Processors.{IsLeafAt, IsParent};
+ghost use Rattle.acpi_lint.specs.Rules.Hierarchy.{IsLeafAt, IsParent};
 ghost use Rattle.acpi_base.specs.Pptt.{pptt_contents, parent_of};
 ghost use Rattle.acpi_read.specs.Pptts.{pptt_value};
 ghost use Rattle.acpi_lint.specs.Leaves.{valid_id, said_leaf_id, unnamed_id, IsUnnamedAt};
 ghost use Rattle.acpi_lint.specs.Numbered.{at_place, AreNumbersAt};
 
+use crate::flags::is_set;
 use crate::numbered::at_place;
-use crate::processors::is_set;
 use crate::well_formed::is_pptt_well_formed;
 use acpi_base::Policy;
 use acpi_check::{HAS_LEAVES, binary_search, collected, sorted_unique};

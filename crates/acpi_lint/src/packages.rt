@@ -10,9 +10,9 @@ ghost use Rattle.acpi_rules.specs.Places.{FindsLeast};
 ghost use Rattle.acpi_lint.specs.Rules.Hierarchy.{outer_parent, IsNoPackage};
 ghost use Rattle.acpi_lint.specs.Rules.Numbered.{NamesAt};
 
+use crate::flags::is_set;
 use crate::leaves::leaves_of;
 use crate::numbered::at_place;
-use crate::processors::is_set;
 use acpi_base::Policy;
 use acpi_check::{binary_search, collected};
 use acpi_read::{EntryAt, PpttEntry, Table};

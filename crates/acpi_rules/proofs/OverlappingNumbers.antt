@@ -292,13 +292,6 @@ none_overlaps r sorted i high end highest at other point (g, f, is, one, two) =
     passed : (g : Numbered) → Contains sorted g → IsPassed sorted i g
     passed g (k, within, is) = (k, omega arith, is)
 
--- without numbers nothing overlaps
-pub nothing_overlaps : (r : Range) (sorted : List Numbered) → length sorted ≡ 0
-    → FindsLeast (IsOverlap r (λ g. Contains sorted g)) None
-nothing_overlaps r sorted none at other point (g, f, is, one, two) =
-    let (k, within, here) = is.shared.one in
-    omega (arith, none, within)
-
 -- ---- for another relation that says the same
 
 shared_as : (r : Range) {P Q : Numbered → Type 0} (g f : Numbered) (x : ℕ) → ((n : Numbered) → P n → Q n)

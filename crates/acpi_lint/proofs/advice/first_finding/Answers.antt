@@ -1,5 +1,4 @@
-use Rattle.std.proofs.Common.{◌≡◌, None, Some, refl, rules, sym, ◌∙◌}
-use Rattle.acpi_rules.specs.declared.place.Place.{Place}
+use Rattle.std.proofs.Common.{◌≡◌, None, Some, rules, sym, ◌∙◌}
 use Rattle.acpi_lint.proofs.RowFindings.{first_of_rule, some_advice}
 use Rattle.acpi_lint.proofs.RuleNumbers.{no_rule}
 use Rattle.acpi_lint.proofs.advice.first_finding.Goals as goal

@@ -1,4 +1,4 @@
-use Rattle.std.proofs.Common.{rules, ◌≡◌, get_or, None, Some}
+use Rattle.std.proofs.Common.{rules, ◌≡◌, None, Some}
 use Rattle.acpi_read.specs.Roots.{RootValue, IsCompleteRoot}
 use Rattle.acpi_lint.proofs.StructureRanges.{AreFirstBelow, all_below, all_passed, are_further, dsdt_found, facs_found, next_kind, no_table, no_tables_yet, none_below, none_named, root_found, rootless, rsdp_range, table_passed}
 use Rattle.acpi_lint.proofs.structures.structures.Goals as goal

@@ -1,5 +1,5 @@
 use Rattle.std.proofs.Common.{◌∙◌, ap, get_or}
-use Rattle.acpi_lint.specs.Rules.Rows.{BorRule, rule_name}
+use Rattle.acpi_lint.specs.Rules.Rows.{rule_name}
 use Rattle.acpi_lint.proofs.RuleNumbers.{has_name, row_of}
 use Rattle.acpi_lint.proofs.rule.Rule.name.Goals as goal
 

@@ -1,5 +1,5 @@
 use Rattle.std.proofs.Common.{◌∙◌, ap, get_or}
-use Rattle.acpi_lint.specs.Rules.Rows.{BorRule, rule_number}
+use Rattle.acpi_lint.specs.Rules.Rows.{rule_number}
 use Rattle.acpi_lint.proofs.RuleNumbers.{has_number, row_of}
 use Rattle.acpi_lint.proofs.rule.Rule.number.Goals as goal
 
