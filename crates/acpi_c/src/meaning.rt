@@ -87,7 +87,7 @@ pub extern "C" fn acpiset_severity(number: u32) -> u32
 /// The severity of a rule.
 fn rule_severity(rule: Rule) -> Severity {
     let rows = SEVERITIES.as_slice();
-    match rows.get(usize::from(rule.number() - Rule::FIRST)) {
+    match rows.get(rule.place()) {
         Some(severity) => *severity,
         None => Severity::LikelyWrong,
     }
@@ -105,7 +105,7 @@ fn code_text(code: Code) -> &'static str {
 /// The text that explains a rule.
 fn rule_text(rule: Rule) -> &'static str {
     let rows = RULES.as_slice();
-    match rows.get(usize::from(rule.number() - Rule::FIRST)) {
+    match rows.get(rule.place()) {
         Some(text) => *text,
         None => "",
     }
