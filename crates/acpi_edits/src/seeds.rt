@@ -141,12 +141,12 @@ fn built_from(
         decided: Vec::new(alloc),
         others: Vec::new(alloc),
     };
-    let is_repeated = matches!(aim.row.1, Form::Repeated(_));
+    let is_compared = matches!(aim.row.1, Form::Repeated(_) | Form::Overlap(_));
     let mains = if list.role == Role::Given { 1 } else { MAINS };
     for main in 0..mains {
         for base in bases {
             let once = built(alloc, base, aim, main, false)?;
-            let twice = if is_repeated {
+            let twice = if is_compared {
                 built(alloc, base, aim, main, true)?
             } else {
                 None
