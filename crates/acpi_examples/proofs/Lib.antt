@@ -13,7 +13,6 @@ pub mod ExampleSet
 pub mod Madts
 pub mod NamedEntries
 pub mod NestedTables
-pub mod OwnNumbers
 pub mod Pptts
 pub mod RebuiltSets
 pub mod Rows

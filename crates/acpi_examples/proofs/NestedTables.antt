@@ -15,10 +15,11 @@ use Rattle.acpi_base.proofs.Options.{same_value}
 use Rattle.acpi_base.proofs.Images.RunBytes.{byte_of_memory_of}
 use Rattle.acpi_base.proofs.Root.Named.{one_root, one_root_table}
 use Rattle.acpi_base.proofs.Root.Slots.{one_slot, root_slot, slot_of_root}
+use Rattle.acpi_rules.proofs.RepeatedNumbers.{same_numbered}
 use Rattle.acpi_lint.specs.Rules.Structures.{IsStructure, IsFirstStructure}
 use Rattle.acpi_examples.specs.AdviceRanges.{near_bytes, inner_bytes, nested_bytes, nested_set, AreStructuresOverlapping}
 use Rattle.acpi_examples.specs.Sets.{rsdp_at, rsdp_bytes}
-use Rattle.acpi_examples.proofs.TwoRanges.{range, AreTwoRanges, two_overlap, two_apart}
+use Rattle.acpi_examples.proofs.TwoRanges.{AreTwoRanges, range_of, two_overlap, two_apart}
 
 -- ---- the image
 
@@ -159,18 +160,20 @@ structures size whole are o s n (inr (inr (inr (inr (is, (k, slot), (header, byt
 
 -- each begins elsewhere
 nested_ranges : (size : ℕ) (whole : List ℕ) → AreNested size whole
-    → AreTwoRanges (IsFirstStructure (nested_set size) rsdp_at) 0x1000 (range 0x2000 0x2000 size)
-    (range 0x2024 0x2024 36) rsdp_at
-nested_ranges size whole are o s n is =
-    elim (structures size whole are is.o s n is.here) [
+    → AreTwoRanges (IsFirstStructure (nested_set size) rsdp_at) 0x1000 (range_of 0x2000 0x2000 size)
+    (range_of 0x2024 0x2024 36) rsdp_at
+nested_ranges size whole are g is =
+    elim (structures size whole are is.o g.number g.value is.here) [
       | inl begin ↦ inr (inr (inr (inl (is.named ∙ begin, omega (arith, begin)))))
       | inr (inl (begin, count)) ↦ inr (inr (inl (is.named ∙ begin, omega (arith, begin, count))))
-      | inr (inr (inl (_, begin, count))) ↦ inl (is.named ∙ begin, begin, count)
-      | inr (inr (inr (_, begin, count))) ↦ inr (inl (is.named ∙ begin, begin, count))
+      | inr (inr (inl (_, begin, count))) ↦
+          inl (same_numbered g (range_of 0x2000 0x2000 size) begin (is.named ∙ begin) count)
+      | inr (inr (inr (_, begin, count))) ↦
+          inr (inl (same_numbered g (range_of 0x2024 0x2024 36) begin (is.named ∙ begin) count))
     ]
 
 outer_first : (size : ℕ) (whole : List ℕ) → AreNested size whole
-    → IsFirstStructure (nested_set size) rsdp_at 0x2000 0x2000 size
+    → IsFirstStructure (nested_set size) rsdp_at (range_of 0x2000 0x2000 size)
 outer_first size whole are =
     record {
       named = refl;
@@ -189,7 +192,7 @@ outer_first size whole are =
     }
 
 inner_first : (size : ℕ) (whole : List ℕ) → AreNested size whole
-    → IsFirstStructure (nested_set size) rsdp_at 0x2024 0x2024 36
+    → IsFirstStructure (nested_set size) rsdp_at (range_of 0x2024 0x2024 36)
 inner_first size whole are =
     record {
       named = refl;
@@ -210,10 +213,10 @@ inner_first size whole are =
 pub structures_overlapping : AreStructuresOverlapping
 structures_overlapping =
     record {
-      shared = two_overlap (IsFirstStructure (nested_set 72) rsdp_at) 0x1000 (range 0x2000 0x2000 72)
-          (range 0x2024 0x2024 36) rsdp_at (nested_ranges 72 (nested_bytes 72) inside_tables)
+      shared = two_overlap (IsFirstStructure (nested_set 72) rsdp_at) 0x1000 (range_of 0x2000 0x2000 72)
+          (range_of 0x2024 0x2024 36) rsdp_at (nested_ranges 72 (nested_bytes 72) inside_tables)
           (outer_first 72 (nested_bytes 72) inside_tables) (inner_first 72 (nested_bytes 72) inside_tables)
           (λ same. omega arith) (omega arith) (omega arith) (omega arith);
-      apart = two_apart (IsFirstStructure (nested_set 36) rsdp_at) 0x1000 (range 0x2000 0x2000 36)
-          (range 0x2024 0x2024 36) rsdp_at (nested_ranges 36 (take 36 (nested_bytes 36)) behind_tables) (omega arith);
+      apart = two_apart (IsFirstStructure (nested_set 36) rsdp_at) 0x1000 (range_of 0x2000 0x2000 36)
+          (range_of 0x2024 0x2024 36) rsdp_at (nested_ranges 36 (take 36 (nested_bytes 36)) behind_tables) (omega arith);
     }

@@ -112,6 +112,10 @@ gicr base size = 14 ∷ 16 ∷ 0 ∷ 0 ∷ base ∷ replicate 7 0 ++ size ∷ re
 abbrev pub its : ℕ → List ℕ
 its id = 15 ∷ 20 ∷ 0 ∷ 0 ∷ id ∷ replicate 15 0
 
+-- one with this base address
+abbrev pub its_at : ℕ → List ℕ
+its_at address = patched 8 (number_bytes 8 address) (its 5)
+
 abbrev pub rintc : ℕ → ℕ → ℕ → List ℕ
 rintc flags hart uid = 24 ∷ 20 ∷ 0 ∷ 0 ∷ flags ∷ 0 ∷ 0 ∷ 0 ∷ hart ∷ replicate 7 0 ++ uid ∷ replicate 3 0
 
@@ -216,6 +220,11 @@ gic_examples =
     ∷ keeps rule.SameIts (madt (its 5 ∷ its 6 ∷ [])) []
     ∷ breaks rule.SameMsiFrame (madt (msi_frame 5 ∷ msi_frame 5 ∷ [])) [] 68 44 5
     ∷ keeps rule.SameMsiFrame (madt (msi_frame 5 ∷ msi_frame 6 ∷ [])) []
+    ∷ breaks rule.GicOverlap (madt (its_at 0xffff ∷ gicd 3 ∷ [])) [] 64 44 0xffff
+    ∷ keeps rule.GicOverlap (madt (its_at 0x10000 ∷ gicd 4 ∷ [])) []
+    ∷ breaks rule.GicOverlap (madt (its_at 0xfff ∷ gicd 2 ∷ [])) [] 64 44 0xfff
+    ∷ keeps rule.GicOverlap (madt (its_at 0x1000 ∷ gicd 2 ∷ gicr 0 0 ∷ [])) []
+    ∷ breaks rule.GicOverlap (madt (gicr 1 5 ∷ msi_frame 5 ∷ [])) [] 60 44 1
     ∷ []
 
 -- the MADT with the FADT
