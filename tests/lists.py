@@ -36,7 +36,7 @@ COMPARED = [
     (RULE, "timer, is level-triggered", "timer, is edge-triggered", [RULE]),
     (RULE, '"TimerLevel"),', '"TimerEdge"),', [RULE]),
     (RULE, "COUNT: usize = ", "COUNT: usize = 1", [RULE]),
-    (ROWS, "rule_row rule.TimerLevel = (155", "rule_row rule.TimerLevel = (156", [ROWS]),
+    (ROWS, "rule_row rule.TimerLevel = (54, 155", "rule_row rule.TimerLevel = (54, 156", [ROWS]),
     (ROWS, "rule.TimerLevel ∷ rule.TwoSourcesOneGsi", "rule.TwoSourcesOneGsi ∷ rule.TimerLevel", [ROWS]),
     (SENTENCES, "its Flags are {point}", "its Flags are {other}", [SENTENCES]),
     (FAULTS, "| 10 | 45 [Overlap](#45-overlap) |", "| 9 | 45 [Overlap](#45-overlap) |", [FAULTS]),
@@ -178,7 +178,7 @@ def large_number(lists):
     lists.is_silent("a number beyond 255, after a gap, that is written")
     lists.is_silent("a number beyond 255, after a gap", "--check")
     for name, text in (
-        (RULE, '"PpttReserved"),\n    // end: rules'), (ROWS, '(1000, codes "PpttReserved")'), (HEADER, "ACPISET_PPTT_RESERVED = 1000"),
+        (RULE, '1000, "PpttReserved"),\n    // end: rules'), (ROWS, '(83, 1000, codes "PpttReserved")'), (HEADER, "ACPISET_PPTT_RESERVED = 1000"),
         (PYTHON, "    PpttReserved = 1000  #"), (RUST, "        PpttReserved = 1000,"), (SENTENCES, "    1000: ("), (FAULTS, "1000 [PpttReserved](#1000-pp"),
     ):
         lists.count(f"a number beyond 255 in {name}", "" if text in (lists.top / name).read_text() else "it is not there")
