@@ -9,14 +9,15 @@ usage: scripts/lists.py [--header FILE]          writes what differs
 With --header the C header is FILE, not bindings/c/acpiset.h. What the header and the packages for Python and Rust declare by hand is
 compared too. Written are:
 
-  crates/acpi_lint/src/rule.rt            the variants of Rule, the table ROWS, COUNT, FIRST, LAST
-  crates/acpi_lint/specs/Rules/Rows.antt  rule_row and all_rules
-  crates/acpi_c/src/explained.rt          the texts of the library
-  bindings                                parts of c/acpiset.h, python/acpiset/_lists.py, rust/src/lists.rs
-  share/acpiset/explain/sentences.py      what lines of advice say
-  docs/FAULTS.md                          its indexes, the faults of a stage, the rules of a severity, and of each rule the points Numbers
-                                          and Severity
-  docs/TABLES.md                          the sections of the rules, and the rules of a severity"""
+  crates/acpi_lint/src/rule.rt              the variants of Rule, the table ROWS, COUNT, FIRST, LAST
+  crates/acpi_lint/specs/Rules/Rows.antt    rule_row and all_rules
+  crates/acpi_lint/proofs/RuleNumbers.antt  the lowest and the highest number of a rule
+  crates/acpi_c/src/explained.rt            the texts of the library
+  bindings                                  parts of c/acpiset.h, python/acpiset/_lists.py, rust/src/lists.rs
+  share/acpiset/explain/sentences.py        what lines of advice say
+  docs/FAULTS.md                            its indexes, the faults of a stage, the rules of a severity, and of each rule the points
+                                            Numbers and Severity
+  docs/TABLES.md                            the sections of the rules, and the rules of a severity"""
 
 import difflib
 import sys
@@ -42,6 +43,7 @@ def due(crates, rules, header_at):
     return {
         rattle.RULE: rattle.rule_source(text_of(rattle.RULE), rules),
         rattle.ROWS: rattle.rule_rows(text_of(rattle.ROWS), rules),
+        rattle.RULE_NUMBERS: rattle.rule_bounds(text_of(rattle.RULE_NUMBERS), rules),
         rattle.EXPLAINED: rattle.explained(crates.codes, rules, page),
         header_at: header.header(text_of(header_at), crates, rules),
         python_package.LISTS: python_package.lists(crates.codes, rules, page),

@@ -20,6 +20,7 @@ HEADER = "bindings/c/acpiset.h"
 PYTHON, RUST = "bindings/python/acpiset/_lists.py", "bindings/rust/src/lists.rs"
 EXPLAINED = "crates/acpi_c/src/explained.rt"
 RULE, ROWS = "crates/acpi_lint/src/rule.rt", "crates/acpi_lint/specs/Rules/Rows.antt"
+BOUNDS = "crates/acpi_lint/proofs/RuleNumbers.antt"
 SENTENCES = "share/acpiset/explain/sentences.py"
 FAULTS, TABLES = "docs/FAULTS.md", "docs/TABLES.md"
 MADT, PPTT, SLOTS = "crates/acpi_lint/src/rows/madt.rt", "crates/acpi_lint/src/rows/pptt.rt", "crates/acpi_lint/src/slot_advice.rt"
@@ -36,6 +37,10 @@ COMPARED = [
     (RULE, "timer, is level-triggered", "timer, is edge-triggered", [RULE]),
     (RULE, '"TimerLevel"),', '"TimerEdge"),', [RULE]),
     (RULE, "COUNT: usize = ", "COUNT: usize = 1", [RULE]),
+    (RULE, "FIRST: u16 = 101", "FIRST: u16 = 100", [RULE]),
+    (RULE, "LAST: u16 = ", "LAST: u16 = 1", [RULE]),
+    (BOUNDS, "101 ≤ rule_number r", "100 ≤ rule_number r", [BOUNDS]),
+    (BOUNDS, "rule_number r ≤ ", "rule_number r ≤ 1", [BOUNDS]),
     (ROWS, "rule_row rule.TimerLevel = (54, 155", "rule_row rule.TimerLevel = (54, 156", [ROWS]),
     (ROWS, "rule.TimerLevel ∷ rule.TwoSourcesOneGsi", "rule.TwoSourcesOneGsi ∷ rule.TimerLevel", [ROWS]),
     (SENTENCES, "its Flags are {point}", "its Flags are {other}", [SENTENCES]),

@@ -7,6 +7,7 @@ from .tree import CRATES, SCRIPT, Wrong, lines_of, named, quoted, replaced, wrap
 
 RULE = CRATES / "acpi_lint/src/rule.rt"
 ROWS = CRATES / "acpi_lint/specs/Rules/Rows.antt"
+RULE_NUMBERS = CRATES / "acpi_lint/proofs/RuleNumbers.antt"
 EXPLAINED = CRATES / "acpi_c/src/explained.rt"
 BEGIN, END = f"    // begin: rules, made by {SCRIPT}", "    // end: rules"
 WIDEST = 60  # characters between parentheses, beyond which `rt fmt` writes a line for each item
@@ -61,6 +62,14 @@ def rule_rows(text, rules):
     text = replaced(r"(?:^rule_row rule\.\w+ = [^\n]*\n)+", text, rows, f"{named(ROWS)}: the rows of rule_row")
     listed = lines_of(wrapped(" ∷ ".join([*(f"rule.{rule.name}" for rule in rules), "[]"]), 110, "    ", "    "))
     return replaced(r"(^all_rules =\n).*?(?=^\n|\Z)", text, listed, f"{named(ROWS)}: the list all_rules")
+
+
+def rule_bounds(text, rules):
+    """What proofs/RuleNumbers.antt of acpi_lint has to be."""
+    lowest = r"(^pub rule_from : \(r : Rule\) → )\d+(?= ≤ rule_number r$)"
+    text = replaced(lowest, text, str(rules[0].number), f"{named(RULE_NUMBERS)}: the lowest number of a rule")
+    highest = r"(^pub rule_upto : \(r : Rule\) → rule_number r ≤ )\d+(?=$)"
+    return replaced(highest, text, str(rules[-1].number), f"{named(RULE_NUMBERS)}: the highest number of a rule")
 
 
 def explained(codes, rules, page):

@@ -77,7 +77,7 @@ SENTENCES = [
     ("FadtForArch 0x70 0x0 0x0", "..Flags, at 0x70 of the FADT, do not say that the hardware is reduced."),
     ("FadtForArch 0x8 0x5 0x0", "The MADT is of Arm, and the FADT, of version 5.0, is older than 5.1."),
     ("SleepRegister 0x100 0x0 0x0", "The sleep register at 0x100 of the FADT has no address, or the bit width 0."),
-    ("SleepRegister 0xf4 0x10 0x1", "The sleep register at 0xf4 of the FADT has 16 bits from bit 1 on, not 8 from bit 0 on."),
+    ("SleepRegister 0xf4 0x10 0x1", "The sleep register at 0xf4 of the FADT has the bit width 16 and the bit offset 1, not 8 and 0."),
     ("MadtReserved 0x28 0x0 0x3", "Flags, at 0x28 of the MADT, are 0x3, in which a reserved bit is set."),
     ("MadtReserved 0x3c 0x3 0x0", "The structure at 0x3c of the MADT has a reserved value at its offset 3."),
     ("SratReserved 0x24 0x0 0x2", "The number at 0x24 of the SRAT is 0x2, not 1."),

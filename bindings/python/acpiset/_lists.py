@@ -756,8 +756,8 @@ TEXT_OF: Dict[int, str] = {
         "structure or, if that is missing or 0, at its 4-byte address. It has as many ports as its length byte says. If the "
         "length byte is 0, a block at its X_ address has its bit width / 8 ports, rounded up, and one at its 4-byte address has "
         "none.\n"
-        "Numbers: `at` and `other` are the offsets of the 4-byte fields of two such blocks, first the one at the lower port, "
-        "`point` is the lowest port at which two blocks overlap.\n"
+        "Numbers: `at` and `other` are the offsets of the 4-byte fields of two such blocks, first the one that begins lower, and "
+        "of two that begin together the one at the lower offset; `point` is the lowest port at which two blocks overlap.\n"
         "Fix: correct the addresses and lengths by the hardware's manual."
     ),
     138: (
@@ -944,8 +944,8 @@ TEXT_OF: Dict[int, str] = {
     168: (
         "Two structures of the GIC share an address (5.2.12.15). A GICR has as many bytes as its Discovery Range Length says, an "
         "ITS 0x20000, an MSI frame 0x1000, and a GICD 0x10000 if its version is 3 or 4 and 0x1000 otherwise.\n"
-        "Numbers: `at` and `other` are the offsets of two such structures, first the one with the lower address, `point` is the "
-        "lowest address at which two overlap.\n"
+        "Numbers: `at` and `other` are the offsets of two such structures, first the one that begins lower, and of two that begin "
+        "together the one at the lower offset; `point` is the lowest address at which two overlap.\n"
         "Fix: correct the addresses, and the length of the GICR, by the hardware's manual."
     ),
     169: (

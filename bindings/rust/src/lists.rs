@@ -594,8 +594,9 @@ numbered! {
         /// byte says. If the length byte is 0, a block at its X_ address has its bit width / 8 ports, rounded up, and
         /// one at its 4-byte address has none.
         ///
-        /// Numbers: `at` and `other` are the offsets of the 4-byte fields of two such blocks, first the one at the
-        /// lower port, `point` is the lowest port at which two blocks overlap.
+        /// Numbers: `at` and `other` are the offsets of the 4-byte fields of two such blocks, first the one that begins
+        /// lower, and of two that begin together the one at the lower offset; `point` is the lowest port at which two
+        /// blocks overlap.
         PortsOverlap = 137,
         /// A register in system I/O is at a port above 0xffff. Checked are the last port of each register block and
         /// SMI_CMD, unless the hardware is reduced, and RESET_REG in system I/O, if RESET_REG_SUP is set and Length is
@@ -755,8 +756,8 @@ numbered! {
         /// Length says, an ITS 0x20000, an MSI frame 0x1000, and a GICD 0x10000 if its version is 3 or 4 and 0x1000
         /// otherwise.
         ///
-        /// Numbers: `at` and `other` are the offsets of two such structures, first the one with the lower address,
-        /// `point` is the lowest address at which two overlap.
+        /// Numbers: `at` and `other` are the offsets of two such structures, first the one that begins lower, and of
+        /// two that begin together the one at the lower offset; `point` is the lowest address at which two overlap.
         GicOverlap = 168,
         /// There is a GICR, and a usable GICC also has a GICR Base Address other than 0 (5.2.12.14, 5.2.12.17).
         ///

@@ -1,89 +1,153 @@
 -- The examples of advice on the packages of a PPTT, by computing.
-use Rattle.std.proofs.Common.{◌≡◌, ◌≢◌, ℕ, List, [], ◌∷◌, refl, sym, subst, arith}
-use Rattle.std.specs.Prelude.{Some, true, false}
+use Rattle.std.proofs.Common.{◌≡◌, ◌<◌, ◌∙◌, ℕ, List, [], ◌∷◌, Some, ap, arith, false, inl, inr, map, refl, subst, sym}
+use Rattle.std.specs.Prelude.{Contains}
+use Rattle.std.specs.List.{AllByRecursion, list_all}
 use Rattle.std.proofs.lemmas.Bool.{both_ways}
+use Rattle.std.proofs.lemmas.List.Elements.{All-contains, All-from_recursion}
 use Rattle.std.proofs.lemmas.Option.{none-some, same_Some}
-use Rattle.acpi_base.specs.Chains.{IsChain}
-use Rattle.acpi_base.specs.Number.{has_bit}
-use Rattle.acpi_base.specs.Pptt.{Node, PpttContents, Says}
-use Rattle.acpi_lint.specs.Rules.Hierarchy.{outer_parent, EndsOutside}
-use Rattle.acpi_lint.specs.Rules.Hierarchy.{IsLeafAt}
+use Rattle.acpi_base.specs.Chains.{Ends, IsChain}
+use Rattle.acpi_base.specs.Number.{field, number_bytes}
+use Rattle.acpi_rules.specs.Cases.{case_said, gives, in_case, is_kind}
+use Rattle.acpi_rules.specs.Clauses.{all_hold, holds, passes}
+use Rattle.acpi_rules.specs.Fields.{reading}
+use Rattle.acpi_rules.specs.Numbered.{IsFirst, IsNoLater}
+use Rattle.acpi_rules.specs.Rows.{guard_holds, row_said}
+use Rattle.acpi_rules.specs.Series.{first_bytes, head_said, kind_in, most_of, said_in, size_in, start_of}
+use Rattle.acpi_rules.specs.Sites.{SiteValue, sites_of}
+use Rattle.acpi_rules.specs.Terms.{shown, term_number, value_number}
+use Rattle.acpi_rules.specs.Walks.{cut_from, structures_from}
+use Rattle.acpi_rules.specs.declared.numbered.Numbered.{Numbered}
+use Rattle.acpi_lint.specs.Rules.Entries.{alone}
+use Rattle.acpi_lint.specs.Rules.Hierarchy.{HasParent, IsLeafAt, outer_nodes}
+use Rattle.acpi_lint.specs.declared.rows.pptt.TheConstants.{MARKED_LEAVES, UNMARKED_LEAVES}
 use Rattle.acpi_examples.specs.AdviceHierarchy.{nodes, AreNoPackages, IsHierarchyAdvised}
-use Rattle.acpi_examples.proofs.NamedEntries.{each_entry, none_stands}
 
--- only the second node is a leaf
-second_leaf : (flags parent other_flags other_parent o id : ℕ) → has_bit flags 3 ≡ false
-    → IsLeafAt (nodes 2 flags parent other_flags other_parent) o id → o ≡ 56
-second_leaf flags parent other_flags other_parent o id off (e, stands, (v, is, same, valid, new, old)) =
-    each_entry (nodes 2 flags parent other_flags other_parent).entries (λ o e. e ≡ Node v → o ≡ 56)
-    ((λ is. absurd (none is)), ((λ _. refl), tt)) o e stands is
+-- a node at an offset with a Parent
+abbrev outer : ℕ → ℕ → Numbered
+outer offset parent = record { number = offset; at = offset; value = parent }
+
+-- of the nodes at 36 and 56 each is the first one at its offset
+both : List Numbered
+both = outer 36 0 ∷ outer 56 36 ∷ []
+
+first_node : IsFirst (λ g. Contains both g) (outer 36 0)
+unfolding both
+first_node = record {
+  here = (0, omega arith, refl);
+  least = λ g listed.
+      All-contains (λ (g : Numbered). g.number ≡ 36 → IsNoLater (outer 36 0) g) both g
+      (All-from_recursion (λ (g : Numbered). g.number ≡ 36 → IsNoLater (outer 36 0) g) both
+      ((λ _. inr (refl, omega arith)), ((λ is. absurd (omega (arith, is))), tt))) listed;
+}
+
+second_node : IsFirst (λ g. Contains both g) (outer 56 36)
+unfolding both
+second_node = record {
+  here = (1, omega arith, refl);
+  least = λ g listed.
+      All-contains (λ (g : Numbered). g.number ≡ 56 → IsNoLater (outer 56 36) g) both g
+      (All-from_recursion (λ (g : Numbered). g.number ≡ 56 → IsNoLater (outer 56 36) g) both
+      ((λ is. absurd (omega (arith, is))), ((λ _. inr (refl, omega arith)), tt))) listed;
+}
+
+ends : Ends (HasParent both) 56
+ends = (
+  36 ∷ [],
+  (
+    record {
+      names = (outer 56 36, second_node, refl, refl);
+      some = λ is. omega (arith, is);
+      there = (0, (outer 36 0, first_node, refl, refl));
+    },
+    (outer 36 0, first_node, refl, refl),
+  ),
+)
+
+-- no chain ends if no node has the Parent 0
+no_root : (nodes : List Numbered) → AllByRecursion (λ (g : Numbered). ¬ (g.value ≡ 0)) nodes → (rest : List ℕ) (o : ℕ)
+    → ¬ IsChain (HasParent nodes) o rest
+no_root nodes none [] o (g, first, here, is) =
+    All-contains (λ (g : Numbered). ¬ (g.value ≡ 0)) nodes g
+    (All-from_recursion (λ (g : Numbered). ¬ (g.value ≡ 0)) nodes none) first.here is
+no_root nodes none (p ∷ rest) o (step, chain) = no_root nodes none rest p chain
+
+-- nor does one that begins where no node is, or that leads there
+none_begins : (nodes : List Numbered) (o : ℕ) → AllByRecursion (λ (g : Numbered). ¬ (g.number ≡ o)) nodes
+    → (p : ℕ) → ¬ HasParent nodes o p
+none_begins nodes o none p (g, first, here, is) =
+    All-contains (λ (g : Numbered). ¬ (g.number ≡ o)) nodes g
+    (All-from_recursion (λ (g : Numbered). ¬ (g.number ≡ o)) nodes none) first.here here
+
+no_chain : (nodes : List Numbered) (o : ℕ) → ((p : ℕ) → ¬ HasParent nodes o p) → ¬ Ends (HasParent nodes) o
+no_chain nodes o none ([], names) = none 0 names
+no_chain nodes o none (p ∷ rest, (step, chain)) = none p step.names
+
+-- nor one that leads from where the nodes have another Parent to it, where no node is
+leads_nowhere : (nodes : List Numbered) (o next : ℕ)
+    → AllByRecursion (λ (g : Numbered). g.number ≡ o → g.value ≡ next) nodes → ¬ (next ≡ 0)
+    → AllByRecursion (λ (g : Numbered). ¬ (g.number ≡ next)) nodes → ¬ Ends (HasParent nodes) o
+leads_nowhere nodes o next all some none (rest, chain) = by rest chain
   where
-    none : ¬ (Node (record { flags = flags; parent = parent; id = 7; resources = [] }) ≡ Node v)
-    none is =
-        let same : v.flags ≡ flags = cc in
-        both_ways _ off (subst (λ (x : ℕ). has_bit x 3 ≡ true) same (new (omega arith)))
+    named : (p : ℕ) → HasParent nodes o p → p ≡ next
+    named p (g, first, here, is) =
+        sym is
+        ∙ All-contains (λ (g : Numbered). g.number ≡ o → g.value ≡ next) nodes g
+        (All-from_recursion (λ (g : Numbered). g.number ≡ o → g.value ≡ next) nodes all) first.here here
 
--- the first node is a package, or names the second one
-in_package : (rest : List ℕ) (o : ℕ) → ¬ IsChain (Says outer_parent (nodes 2 1 0 10 36)) o rest
-unfolding has_bit
-in_package [] o names =
-    none_stands (nodes 2 1 0 10 36).entries o (λ o e. outer_parent e ≡ Some 0)
-    (none-some 0, ((λ is. omega (arith, same_Some 36 0 is)), tt)) names
-in_package (p ∷ rest) o (step, chain) = in_package rest p chain
+    by : (rest : List ℕ) → ¬ IsChain (HasParent nodes) o rest
+    by [] names = some (sym (named 0 names))
+    by (p ∷ rest) (step, chain) =
+        let (q, there) = step.there in
+        none_begins nodes next none q (subst (λ (n : ℕ). HasParent nodes n q) (named p step.names) there)
 
-in_cycle : (rest : List ℕ) (o : ℕ) → ¬ IsChain (Says outer_parent (nodes 2 0 56 10 36)) o rest
-unfolding has_bit
-in_cycle [] o names =
-    none_stands (nodes 2 0 56 10 36).entries o (λ o e. outer_parent e ≡ Some 0)
-    ((λ is. omega (arith, same_Some 56 0 is)), ((λ is. omega (arith, same_Some 36 0 is)), tt)) names
-in_cycle (p ∷ rest) o (step, chain) = in_cycle rest p chain
-
--- no chain begins where no such node is
-none_begins : (c : PpttContents) (o : ℕ) → ((p : ℕ) → ¬ Says outer_parent c o p) → ¬ EndsOutside c o
-none_begins c o none ([], names) = none 0 names
-none_begins c o none (p ∷ rest, (step, chain)) = none p step.names
-
-to_nowhere : (rest : List ℕ) (o : ℕ) → o ≡ 56 → ¬ IsChain (Says outer_parent (nodes 2 0 0 10 37)) o rest
-unfolding has_bit
-to_nowhere [] o is (e, stands, names) =
-    each_entry (nodes 2 0 0 10 37).entries (λ o e. o ≡ 56 → outer_parent e ≡ Some 0 → ⊥)
-    ((λ here. absurd (omega (arith, here))), ((λ _ names. omega (arith, same_Some 37 0 names)), tt)) o e stands is names
-to_nowhere (p ∷ rest) o is (step, chain) =
-    let (e, stands, names) = step.names in
-    let past : p ≡ 37 =
-    each_entry (nodes 2 0 0 10 37).entries (λ o e. o ≡ 56 → outer_parent e ≡ Some p → p ≡ 37)
-    ((λ here. absurd (omega (arith, here))), ((λ _ names. sym (same_Some 37 p names)), tt)) o e stands is names in
-    let (q, (f, there, _)) = step.there in
-    each_entry (nodes 2 0 0 10 37).entries (λ o e. o ≢ 37)
-    ((λ here. omega (arith, here)), ((λ here. omega (arith, here)), tt)) p f there past
+-- the only leaf is at 56, if no other entry gives one by its marks
+leaf_there : (pptt : List ℕ) (at id : ℕ)
+    → AllByRecursion (λ (s : SiteValue). (g : Numbered)
+    → gives (alone pptt) (row_said MARKED_LEAVES).numbers.cases s ≡ Some g → g.at ≡ 56)
+    (sites_of (row_said MARKED_LEAVES).numbers.path pptt)
+    → list_all (guard_holds (alone pptt)) (row_said UNMARKED_LEAVES).guards ≡ false → IsLeafAt pptt at id → at ≡ 56
+leaf_there pptt at id each off (other, inl broken) =
+    let ((s, listed, given), _) = broken.broken in
+    All-contains
+    (λ (s : SiteValue). (g : Numbered)
+    → gives (alone pptt) (row_said MARKED_LEAVES).numbers.cases s ≡ Some g → g.at ≡ 56)
+    (sites_of (row_said MARKED_LEAVES).numbers.path pptt) s
+    (All-from_recursion
+    (λ (s : SiteValue). (g : Numbered)
+    → gives (alone pptt) (row_said MARKED_LEAVES).numbers.cases s ≡ Some g → g.at ≡ 56)
+    (sites_of (row_said MARKED_LEAVES).numbers.path pptt) each) listed _ given
+leaf_there pptt at id each off (other, inr broken) = absurd (both_ways _ off broken.about)
 
 no_packages : AreNoPackages
-unfolding has_bit
+unfolding field number_bytes gives in_case is_kind all_hold holds passes reading
+    guard_holds first_bytes head_said kind_in most_of said_in size_in start_of
+    shown term_number value_number cut_from structures_from both
 no_packages = record {
   none = (
-    (_, (1, omega arith, refl), (_, refl, refl, refl, (λ _. refl), (λ old. absurd (omega arith)))),
     (
-      36 ∷ [],
-      (
-        record {
-          names = (_, (1, omega arith, refl), refl);
-          some = λ is. omega (arith, is);
-          there = (0, (_, (0, omega arith, refl), refl));
-        },
-        (_, (0, omega arith, refl), refl),
-      ),
+      0,
+      inl (record {
+        about = refl;
+        broken = ((_, (1, omega arith, refl), refl), λ (g, (s, listed, given), here). none-some _ given);
+      }),
     ),
+    ends,
     refl,
   );
-  inside = λ at other point (_, (rest, chain), _). in_package rest at chain;
+  inside = λ at other point (_, (rest, chain), _). no_root (outer_nodes (nodes 1 0 10 36)) ((λ is. omega (arith, is)), tt) rest at chain;
   itself = λ at other point (leaf, ends, _).
-      none_begins (nodes 2 0 0 11 36) at
-      (λ p (e, stands, names). each_entry (nodes 2 0 0 11 36).entries (λ o e. o ≡ 56 → outer_parent e ≡ Some p → ⊥)
-      ((λ here. absurd (omega (arith, here))), ((λ _ names. none-some p names), tt)) at e stands
-      (second_leaf 0 0 11 36 at point refl leaf) names) ends;
-  dangling = λ at other point (leaf, (rest, chain), _).
-      to_nowhere rest at (second_leaf 0 0 10 37 at point refl leaf) chain;
-  cycle = λ at other point (_, (rest, chain), _). in_cycle rest at chain;
+      no_chain (outer_nodes (nodes 0 0 11 36)) 56 (none_begins (outer_nodes (nodes 0 0 11 36)) 56 ((λ is. omega (arith, is)), tt))
+      (subst (Ends (HasParent (outer_nodes (nodes 0 0 11 36))))
+      (leaf_there (nodes 0 0 11 36) at point
+      ((λ g is. absurd (none-some _ is)), ((λ g is. ap (λ (n : Numbered). n.at) (sym (same_Some _ g is))), tt)) refl leaf) ends);
+  dangling = λ at other point (leaf, ends, _).
+      leads_nowhere (outer_nodes (nodes 0 0 10 37)) 56 37 ((λ is. absurd (omega (arith, is))), ((λ _. refl), tt)) (λ is. omega (arith, is))
+      ((λ is. omega (arith, is)), ((λ is. omega (arith, is)), tt))
+      (subst (Ends (HasParent (outer_nodes (nodes 0 0 10 37))))
+      (leaf_there (nodes 0 0 10 37) at point
+      ((λ g is. absurd (none-some _ is)), ((λ g is. ap (λ (n : Numbered). n.at) (sym (same_Some _ g is))), tt)) refl leaf) ends);
+  cycle = λ at other point (_, (rest, chain), _).
+      no_root (outer_nodes (nodes 0 56 10 36)) ((λ is. omega (arith, is)), ((λ is. omega (arith, is)), tt)) rest at chain;
 }
 
 pub hierarchy_advised : IsHierarchyAdvised

@@ -13,7 +13,6 @@ mod FirstPlaces
 mod FirstSlots
 mod HeaderTexts
 mod HeldStages
-mod LeafNumbers
 mod LeastPlaces
 mod ListedSlots
 mod NamedPlaces
@@ -23,6 +22,7 @@ mod OnceTables
 mod OneAdvice
 mod OneCodes
 mod OuterChains
+mod LeafEntries
 mod OuterNodes
 mod RemoteCells
 mod Reported

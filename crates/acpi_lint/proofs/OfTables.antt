@@ -4,6 +4,7 @@ use Rattle.std.specs.Prelude.{◌↔◌, IfOk, MatchOption}
 use Rattle.std.proofs.lemmas.Option.{same_Some}
 use Rattle.acpi_base.specs.Contents.{HasPptt}
 use Rattle.acpi_lint.specs.RowGroups.{OfKind}
+use Rattle.acpi_lint.specs.TableLengths.{least_length}
 use Rattle.acpi_lint.specs.Rules.Broken.{OfFadt, OfMadt}
 use Rattle.acpi_base.specs.Listed.{fadt_signature, madt_signature, srat_signature, slit_signature, pptt_signature, HasListed, IsListedTable}
 use Rattle.acpi_base.specs.Madt.{madt_contents}
@@ -126,18 +127,19 @@ madt_lifts m q {tables = tables} view are long =
     (long_lifts (HasListed m q.rsdp madt_signature) 44 tables.madt view
     (listed_lifts m q.rsdp madt_signature tables.madt (are.listed kind.Madt)) long)
 
-pub madt_bytes_lift : (m : Memory) (q : PolicyValue) {tables : CompleteTables} (view : Option (List ℕ))
-    → AreCompleteTables m q.rsdp tables → IsLong 44 tables.madt view
-    → Lifts (OfKind kind.Madt m q) (λ whole. whole) view
-madt_bytes_lift m q {tables = tables} view are long =
-    long_lifts (HasListed m q.rsdp madt_signature) 44 tables.madt view
-    (listed_lifts m q.rsdp madt_signature tables.madt (are.listed kind.Madt)) long
-
 pub pptt_lifts : (m : Memory) (q : PolicyValue) {tables : CompleteTables} (view : Option (List ℕ))
     → AreCompleteTables m q.rsdp tables → view ≡ tables.pptt → Lifts (HasPptt m q) pptt_contents view
 pptt_lifts m q {tables = tables} view are is =
     read_lifts (HasListed m q.rsdp pptt_signature) pptt_contents view
     (rw is (listed_lifts m q.rsdp pptt_signature tables.pptt (are.listed kind.Pptt)))
+
+-- the bytes of a table that has all its fields
+pub kind_lifts : (kind : TableKind) (m : Memory) (q : PolicyValue) {tables : CompleteTables} (view : Option (List ℕ))
+    → AreCompleteTables m q.rsdp tables → IsLong (least_length kind) (table_of tables kind) view
+    → Lifts (OfKind kind m q) (λ whole. whole) view
+kind_lifts kind m q {tables = tables} view are long =
+    long_lifts (HasListed m q.rsdp (signature_of kind)) (least_length kind) (table_of tables kind) view
+    (listed_lifts m q.rsdp (signature_of kind) (table_of tables kind) (are.listed kind)) long
 
 -- ---- what is found in one table
 

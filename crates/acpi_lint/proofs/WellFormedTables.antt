@@ -1,4 +1,4 @@
--- A table of entries is well-formed exactly if it has no fault of the cut, and none of an entry's length.
+-- A MADT is well-formed exactly if it has no fault of the cut, and none of an entry's length.
 use Rattle.std.proofs.Common.{◌≡◌, ℕ, List, Option, Some, refl, sym, ◌∙◌, inl, inr}
 use Rattle.std.specs.Prelude.{◌↔◌}
 use Rattle.std.proofs.lemmas.Option.{none-some}
@@ -6,10 +6,9 @@ use Rattle.acpi_base.proofs.Options.{cases_Option}
 use Rattle.acpi_base.specs.Entries.{PlacedEntry, StandsWith, AreUnused}
 use Rattle.acpi_base.specs.Madt as madt
 use Rattle.acpi_base.specs.Policy.{PolicyValue}
-use Rattle.acpi_base.specs.Pptt as pptt
 use Rattle.acpi_base.specs.declared.code.Code.TheVariants as code
 use Rattle.acpi_rules.specs.Places.{HasNone}
-use Rattle.acpi_lint.specs.Rules.WellFormed.{IsWellFormed, IsWellFormedMadt, IsWellFormedPptt, HasOtherMadtLength}
+use Rattle.acpi_lint.specs.Rules.WellFormed.{IsWellFormed, IsWellFormedMadt, HasOtherMadtLength}
 
 module _ {E : Type 0} (IsOther IsWrong : E → Type 0) (to : (e : E) → IsOther e → IsWrong e)
     (from : (e : E) → IsWrong e → IsOther e) (entries : List (PlacedEntry E)) (cut : Option ℕ) where
@@ -34,8 +33,6 @@ module _ {E : Type 0} (IsOther IsWrong : E → Type 0) (to : (e : E) → IsOther
     ),
   )
 
--- ---- each table
-
 madt_to : (q : PolicyValue) (e : madt.MadtEntry) → HasOtherMadtLength e
     → madt.MadtEntryFault q code.MadtEntryLength e
 madt_to q (madt.Opaque e) is = is
@@ -52,21 +49,3 @@ pub madt_well_formed : (q : PolicyValue) (c : madt.MadtContents)
 madt_well_formed q c =
     well_formed HasOtherMadtLength (madt.MadtEntryFault q code.MadtEntryLength) (madt_to q) (madt_from q)
     c.entries c.cut
-
-pub pptt_well_formed : (c : pptt.PpttContents)
-    → (HasNone (pptt.PpttFault c code.PpttEntryCut) × HasNone (pptt.PpttFault c code.PpttEntryLength))
-    ↔ IsWellFormedPptt c
-pptt_well_formed c =
-    let same =
-    well_formed pptt.HasOtherPpttLength (pptt.PpttEntryFault code.PpttEntryLength) (λ e is. is) (λ e is. is) c.entries
-    c.cut
-    in (
-      λ (no_cut, none). same.0 (
-        λ at other point (is, (o, p)). no_cut at other point (is, o, p),
-        λ at other point (is, (o, p)). none at other point (is, o, p),
-      ),
-      λ is. let (no_cut, none) = same.1 is in (
-        λ at other point (cut, o, p). no_cut at other point (cut, (o, p)),
-        λ at other point (wrong, o, p). none at other point (wrong, (o, p)),
-      ),
-    )

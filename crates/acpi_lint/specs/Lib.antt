@@ -7,7 +7,6 @@ pub mod FadtPlaces
 pub mod Headers
 pub mod HeldStages
 pub mod Hierarchy
-pub mod Leaves
 pub mod Numbered
 pub mod Overrides
 pub mod Places

@@ -150,7 +150,6 @@ fn add_of_slit(tables: &CompleteTables<'_>, found: &mut Vec<Found>) -> Result<()
 /// Adds what the rule on the PPTT finds.
 fn add_of_pptt(
     alloc: Global,
-    policy: &Policy,
     tables: &CompleteTables<'_>,
     found: &mut Vec<Found>,
 ) -> Result<(), AllocError>
@@ -158,14 +157,15 @@ fn add_of_pptt(
         → AreCompleteTables m q.rsdp tables.now → Adds m q pptt_rules found.old.items found.new.items) }
     ensures refuses { OnErr result (IsSome tables.now.pptt) }
 {
-    let Some(pptt) = tables.pptt() else {
+    let Some(pptt) = tables.long(TableKind::Pptt) else {
         return Ok(());
     };
-    add(found, Rule::NoPackage, no_package(alloc, policy, &pptt)?)
+    add(found, Rule::NoPackage, no_package(alloc, &pptt)?)
 }
 
-/// The first finding of each rule that is not a row. The tables are those of the set. Allocates for each finding, for
-/// each slot of the root table, each structure of a GIC and each node of the PPTT.
+/// The first finding of each rule that is not a row. The tables are those of the set. Allocates for each finding, each
+/// slot of the root table, each structure in memory, each register block of the FADT, each range of redistributors, each
+/// usable CPU interface of a GIC, and each node of the PPTT.
 pub fn found_by_hand(
     alloc: Global,
     image: &LentImage<'_>,
@@ -182,6 +182,6 @@ pub fn found_by_hand(
     add_of_fadt_madt(policy, tables, &mut found)?;
     add_of_madt(alloc, tables, &mut found)?;
     add_of_slit(tables, &mut found)?;
-    add_of_pptt(alloc, policy, tables, &mut found)?;
+    add_of_pptt(alloc, tables, &mut found)?;
     Ok(found)
 }

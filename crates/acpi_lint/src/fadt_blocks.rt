@@ -184,8 +184,8 @@ fn block_range(fadt: &Fadt<'_>, k: u8) -> Numbered
 }
 
 /// 137 PortsOverlap, likely wrong (5.2.9): two register blocks share an I/O port.
-/// Numbers: `at` and `other` are the offsets of the 4-byte fields of two such blocks, first the one at the lower port,
-/// `point` is the lowest port at which two blocks overlap.
+/// Numbers: `at` and `other` are the offsets of the 4-byte fields of two such blocks, first the one that begins lower,
+/// and of two that begin together the one at the lower offset; `point` is the lowest port at which two blocks overlap.
 /// "The register blocks at {at} and {other} of the FADT share the I/O port {point}."
 ///
 /// The lowest port that two register blocks have, and the first two that have it, if the hardware

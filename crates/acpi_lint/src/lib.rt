@@ -46,7 +46,6 @@ mod flags;
 mod header_advice;
 mod held_stages;
 pub mod laws;
-mod leaves;
 mod limits;
 mod listed_slots;
 mod madt_advice;

@@ -4,7 +4,7 @@ ghost use Rattle.std.specs.Prelude.{◌≡◌, ◌/◌, IfOk, sum_by};
 ghost use Rattle.acpi_rules.specs.Places.{FindsLeast};
 ghost use Rattle.acpi_lint.specs.Rules.GicAdvice.{IsGicrTooSmall};
 
-use crate::rows::{GICR_LENGTHS, GICRS_COUNT, MADT_ENTRIES, USABLE_GICCS};
+use crate::rows::{GICR_LENGTHS, GICRS_ARE_KNOWN, MADT_ENTRIES, USABLE_GICCS};
 use acpi_read::Table;
 use acpi_rules::{IndexedTable, Numbered, Place, Tables, all_guards_hold, numbers_in_order};
 use std::alloc::{AllocError, Global};
@@ -29,8 +29,8 @@ fn redistributors(lengths: &[Numbered]) -> u128
 /// "The ranges of redistributors, the first at {at} of the MADT, have room for {other:d}, and {point:d} processors are
 /// usable."
 ///
-/// The first range of redistributors, with how many there are as `other`, and with how many CPU interfaces are usable
-/// as `point`, if these are more, and all ranges are known. Allocates for each of both.
+/// The first range of redistributors, with for how many there is room as `other`, and with how many CPU interfaces are
+/// usable as `point`, if these are more, and all ranges are known. Allocates for each range and each usable interface.
 // No row: it compares a sum with a count.
 pub fn gicr_too_small(alloc: Global, madt: &Table<'_>) -> Result<Option<Place>, AllocError>
     ensures { IfOk result (FindsLeast (IsGicrTooSmall madt.now)) }
@@ -46,7 +46,7 @@ pub fn gicr_too_small(alloc: Global, madt: &Table<'_>) -> Result<Option<Place>, 
     let interfaces = numbers_in_order(alloc, &MADT_ENTRIES, USABLE_GICCS, &tables)?;
     let count = redistributors(&lengths);
     let due = interfaces.len() as u128;
-    if count >= due || !all_guards_hold(GICRS_COUNT, &tables) {
+    if count >= due || !all_guards_hold(GICRS_ARE_KNOWN, &tables) {
         return Ok(None);
     }
     Ok(Some(Place {

@@ -9,18 +9,6 @@ ghost use Rattle.acpi_rules.specs.Places.{FindsLeast};
 use acpi_rules::{Numbered, Place, Repeat, first_repeated};
 use std::alloc::AllocError;
 
-/// The number at a place, with that place as its value.
-pub fn at_place(at: u64, number: Option<u32>) -> Option<Numbered>
-    ensures { result ≡ option_map (at_place at) number }
-{
-    let number = number?;
-    Some(Numbered {
-        number: u64::from(number),
-        at,
-        value: at,
-    })
-}
-
 /// If places rise: the first place of a number that also occurs at an earlier one; `other` is the first of these, and
 /// `point` the number. The value that is given to a number is its place. Refuses if out of memory: it allocates while it
 /// sorts more than 20 that are not in order.

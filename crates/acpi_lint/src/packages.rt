@@ -1,79 +1,101 @@
 //! Leaves of a PPTT that are in no physical package (ACPI 6.5, 5.2.30.1).
 
-ghost use Rattle.std.specs.Prelude.{◌≡◌, ◌<◌, AllPairs, Contains, IfOk, IsTrue, false, map, option_map};
+ghost use Rattle.std.specs.Prelude.{◌≡◌, ◌≢◌, ◌<◌, ◌⊎◌, ◌↔◌, ℕ, AllPairs, Contains, IfOk, IsTrue, MatchOption, OnOk, ◌++◌, false, get_or, length, map};
 ghost use Rattle.acpi_base.specs.Chains.{Ends};
-ghost use Rattle.acpi_base.specs.Pptt.{pptt_contents};
-ghost use Rattle.acpi_read.specs.Pptts.{pptt_value};
-ghost use Rattle.acpi_lint.specs.Hierarchy.{AreNoneOutside, IsOutsideAt};
-ghost use Rattle.acpi_lint.specs.Numbered.{at_place, HasAt, AreNumbersAt};
+ghost use Rattle.acpi_lint.specs.Hierarchy.{AreNoneOutside, IsOutsideAt, none};
+ghost use Rattle.acpi_rules.specs.Numbered.{IsFirst, IsNotAbove};
 ghost use Rattle.acpi_rules.specs.Places.{FindsLeast};
-ghost use Rattle.acpi_lint.specs.Rules.Hierarchy.{outer_parent, IsNoPackage};
-ghost use Rattle.acpi_lint.specs.Rules.Numbered.{NamesAt};
+ghost use Rattle.acpi_lint.specs.Rules.Hierarchy.{HasParent, IsLeafAt, IsNoPackage, by_place, outer_nodes};
+ghost use Rattle.acpi_rules.specs.declared.numbered.Numbered.{Numbered};
 
-use crate::flags::is_set;
-use crate::leaves::leaves_of;
-use crate::numbered::at_place;
-use acpi_base::Policy;
-use acpi_check::{binary_search, collected};
-use acpi_read::{EntryAt, PpttEntry, Table};
-use acpi_rules::{Numbered, Place};
+use crate::rows::{MARKED_LEAVES, OUTER_PARENTS, PPTT_ENTRIES, UNMARKED_LEAVES};
+use acpi_read::Table;
+use acpi_rules::{
+    IndexedTable, Numbered, Place, Tables, given_by_row, numbers_in_order, sort_numbers,
+};
 use std::alloc::{AllocError, Global};
 
-/// The Parent of a node that is not a physical package, by bit 0 of its flags.
-fn outer_parent(entry: &PpttEntry<'_>) -> Option<u32>
-    ensures { result ≡ outer_parent (pptt_value entry.now) }
+/// Adds numbers at places as these places, each with its number as its value.
+fn push_by_places(given: &[Numbered], all: &mut Vec<Numbered>) -> Result<(), AllocError>
+    ensures { OnOk result (all.new.items ≡ all.old.items ++ map by_place given.now) }
 {
-    match entry {
-        PpttEntry::Node(head, _) if !is_set(head.flags, 0) => Some(head.parent),
-        _ => None,
+    for one in given {
+        all.push(Numbered {
+            number: one.at,
+            at: one.at,
+            value: one.number,
+        })?;
     }
+    Ok(())
 }
 
-/// The same at the node's offset.
-fn outer_node(at: &EntryAt<PpttEntry<'_>>) -> Option<Numbered>
-    ensures { result
-        ≡ option_map (at_place at.now.offset) (outer_parent (pptt_value at.now.entry)) }
+/// The offsets of the leaves, in order, each with its ID as its value. Allocates for each leaf, and below Revision 2 for
+/// each node.
+fn leaves(alloc: Global, pptt: &Table<'_>) -> Result<Vec<Numbered>, AllocError>
+    ensures order { IfOk result (λ leaves. AllPairs IsNotAbove leaves.items) }
+    ensures placed { IfOk result (λ leaves. (g : Numbered) → Contains leaves.items g → g.at ≡ g.number) }
+    ensures all { IfOk result (λ leaves. (at id : ℕ) → IsLeafAt pptt.now at id
+        ↔ ((g : Numbered) × Contains leaves.items g × (g.number ≡ at) × (g.value ≡ id))) }
 {
-    at_place(at.offset, outer_parent(&at.entry))
+    let tables = Tables {
+        table: IndexedTable::new(pptt.bytes()),
+        other: IndexedTable::new(&[]),
+    };
+    let mut all = Vec::new(alloc);
+    push_by_places(&given_by_row(alloc, &MARKED_LEAVES, &tables)?, &mut all)?;
+    push_by_places(&given_by_row(alloc, &UNMARKED_LEAVES, &tables)?, &mut all)?;
+    sort_numbers(&mut all)?;
+    Ok(all)
 }
 
-/// The nodes that are not physical packages, by their Parents.
-fn outer_nodes(alloc: Global, pptt: &Table<'_>) -> Result<Vec<Numbered>, AllocError>
-    ensures { IfOk result (λ nodes. AreNumbersAt
-        (NamesAt outer_parent (pptt_contents pptt.now).entries) nodes.items) }
+/// The offsets of the nodes that are no physical packages, in order, each with its Parent as its value. Allocates for each.
+fn nodes(alloc: Global, pptt: &Table<'_>) -> Result<Vec<Numbered>, AllocError>
+    ensures order { IfOk result (λ nodes. AllPairs IsNotAbove nodes.items) }
+    ensures same { IfOk result (λ nodes. (g : Numbered) → Contains nodes.items g
+        ↔ Contains (outer_nodes pptt.now) g) }
 {
-    collected(alloc, pptt.entries::<PpttEntry<'_>>(), outer_node)
+    let tables = Tables {
+        table: IndexedTable::new(pptt.bytes()),
+        other: IndexedTable::new(&[]),
+    };
+    let mut all = Vec::new(alloc);
+    let parents = numbers_in_order(alloc, &PPTT_ENTRIES, OUTER_PARENTS, &tables)?;
+    push_by_places(&parents, &mut all)?;
+    sort_numbers(&mut all)?;
+    Ok(all)
 }
 
-/// Only the places of numbers.
-fn places_of(alloc: Global, given: &[Numbered]) -> Result<Vec<u64>, AllocError>
-    ensures { IfOk result (λ places. places.items ≡ map (λ g. g.at) given.now) }
+/// The index of the first node at an offset. The nodes are in order.
+fn index_of(nodes: &[Numbered], offset: u64) -> Option<usize>
+    requires { AllPairs IsNotAbove nodes.now }
+    ensures { MatchOption result
+        ((g : Numbered) → Contains nodes.now g → g.number ≢ offset)
+        (λ i. (i < length nodes.now) × IsFirst (λ g. Contains nodes.now g) (get_or nodes.now i none)
+        × ((get_or nodes.now i none).number ≡ offset)) }
 {
-    let mut places = Vec::new(alloc);
-    for numbered in given {
-        places.push(numbered.at)?;
+    let before = nodes.partition_point(|node| node.number < offset);
+    if before < nodes.len() && nodes[before].number == offset {
+        return Some(before);
     }
-    Ok(places)
+    None
 }
 
 /// Whether the chain of Parents from an offset on leads over these nodes to one whose Parent is 0. The nodes that it
 /// leads over become visited; from one that was visited before, no chain leads there.
-fn ends_outside(nodes: &[Numbered], offsets: &[u64], visited: &mut [bool], start: u64) -> bool
-    requires rise { AllPairs (λ o p. o < p) offsets.now }
-    requires offsets { offsets.now ≡ map (λ g. g.at) nodes.now }
-    requires placed { (g : Numbered) → Contains nodes.now g → g.value ≡ g.at }
-    requires visited { AreNoneOutside nodes.now offsets.now visited.old }
-    ensures found { IsTrue result → Ends (HasAt nodes.now) start }
-    ensures not { result ≡ false → ¬ Ends (HasAt nodes.now) start }
-    ensures visited { result ≡ false → AreNoneOutside nodes.now offsets.now visited.new }
+fn ends_outside(nodes: &[Numbered], visited: &mut [bool], start: u64) -> bool
+    requires order { AllPairs IsNotAbove nodes.now }
+    requires visited { AreNoneOutside nodes.now visited.old }
+    ensures found { IsTrue result → Ends (HasParent nodes.now) start }
+    ensures not { result ≡ false → ¬ Ends (HasParent nodes.now) start }
+    ensures visited { result ≡ false → AreNoneOutside nodes.now visited.new }
 {
     let mut offset = start;
-    while let Some(index) = binary_search(offsets, offset) {
+    while let Some(index) = index_of(nodes, offset) {
         if visited[index] {
             return false;
         }
         visited[index] = true;
-        offset = nodes[index].number;
+        offset = nodes[index].value;
         if offset == 0 {
             return true;
         }
@@ -82,25 +104,19 @@ fn ends_outside(nodes: &[Numbered], offsets: &[u64], visited: &mut [bool], start
 }
 
 /// The place of the first of these leaves whose chain of Parents leads over these nodes to one whose Parent is 0.
-fn first_outside(
-    nodes: &[Numbered],
-    offsets: &[u64],
-    visited: &mut [bool],
-    leaves: &[Numbered],
-) -> Option<Place>
-    requires rise { AllPairs (λ o p. o < p) offsets.now }
-    requires offsets { offsets.now ≡ map (λ g. g.at) nodes.now }
-    requires placed { (g : Numbered) → Contains nodes.now g → g.value ≡ g.at }
-    requires visited { AreNoneOutside nodes.now offsets.now visited.old }
-    requires leaves { AllPairs (λ a b. a.at < b.at) leaves.now }
+fn first_outside(nodes: &[Numbered], visited: &mut [bool], leaves: &[Numbered]) -> Option<Place>
+    requires order { AllPairs IsNotAbove nodes.now }
+    requires visited { AreNoneOutside nodes.now visited.old }
+    requires leaves { AllPairs IsNotAbove leaves.now }
+    requires placed { (g : Numbered) → Contains leaves.now g → g.at ≡ g.number }
     ensures { FindsLeast (IsOutsideAt nodes.now leaves.now) result }
 {
     for leaf in leaves {
-        if ends_outside(nodes, offsets, visited, leaf.at) {
+        if ends_outside(nodes, visited, leaf.number) {
             return Some(Place {
-                at: leaf.at,
+                at: leaf.number,
                 other: 0,
-                point: leaf.number,
+                point: leaf.value,
             });
         }
     }
@@ -113,16 +129,12 @@ fn first_outside(
 ///
 /// The first leaf with an ID, `point`, whose chain of Parents ends and has no physical package. Allocates for each leaf
 /// and for each node.
-pub fn no_package(
-    alloc: Global,
-    policy: &Policy,
-    pptt: &Table<'_>,
-) -> Result<Option<Place>, AllocError>
-    ensures { IfOk result (FindsLeast (IsNoPackage (pptt_contents pptt.now))) }
+// No row: it follows chains.
+pub fn no_package(alloc: Global, pptt: &Table<'_>) -> Result<Option<Place>, AllocError>
+    ensures { IfOk result (FindsLeast (IsNoPackage pptt.now)) }
 {
-    let leaves = leaves_of(alloc, policy, pptt)?;
-    let nodes = outer_nodes(alloc, pptt)?;
-    let offsets = places_of(alloc, &nodes)?;
-    let mut visited = vec![in alloc; false; offsets.len()]?;
-    Ok(first_outside(&nodes, &offsets, &mut visited, &leaves))
+    let leaves = leaves(alloc, pptt)?;
+    let nodes = nodes(alloc, pptt)?;
+    let mut visited = vec![in alloc; false; nodes.len()]?;
+    Ok(first_outside(&nodes, &mut visited, &leaves))
 }

@@ -167,7 +167,9 @@ macro_rules! clause {
 
 /// What structures give, by cases: `{KIND if CLAUSE && CLAUSE => at OFFSET shows VALUE, NUMBER; ..}`, or a list of
 /// cases with a name. A finding has the offset in the table as `at`, VALUE as `other` and NUMBER as `point`, but those of
-/// numbers that occur again or are found elsewhere: their `other` is the place of the first one.
+/// numbers that occur again or are found elsewhere: their `other` is the place of the first one. In a row `overlap`
+/// NUMBER is where a range begins and VALUE how many numbers it has; `at` and `other` are the places of the two, and
+/// `point` is the lowest number in both.
 macro_rules! cases {
     ({$(
         $kind:tt $(if $($left:tt $test:tt $right:tt)&&+)?
@@ -319,11 +321,12 @@ mod table_fields;
 use acpi_base::TableKind;
 use acpi_rules::Row;
 use fadt::{FADT, FADT_WITH_MADT};
-pub use madt::{GICR_LENGTHS, GICRS_COUNT, USABLE_GICCS};
+pub use madt::{GICR_LENGTHS, GICRS_ARE_KNOWN, USABLE_GICCS};
 use madt::{GIC, MADT, MADT_WITH_FADT, MADT_WITH_PPTT, MADT_WITH_SRAT};
 pub use madt_fields::{MADT_ENTRIES, MADT_SERIES};
+pub use pptt::{MARKED_LEAVES, OUTER_PARENTS, UNMARKED_LEAVES};
 use pptt::{PPTT, PPTT_WITH_MADT};
-pub use pptt_fields::PPTT_SERIES;
+pub use pptt_fields::{PPTT_ENTRIES, PPTT_SERIES};
 use srat::{SRAT, SRAT_WITH_MADT, SRAT_WITH_SLIT};
 pub use srat_fields::SRAT_SERIES;
 

@@ -284,7 +284,7 @@ impl Rule {
     /// The lowest number of a rule.
     pub const FIRST: u16 = 101;
 
-    /// The highest number of a rule. Not each number up to it is that of a rule.
+    /// The highest number of a rule. Numbers between the lowest and the highest may be unused.
     pub const LAST: u16 = 184;
 
     /// The rule with this number.

@@ -1,24 +1,16 @@
-//! Whether a MADT, an SRAT or a PPTT is well-formed: only then is it known what is not in it.
+//! Whether a MADT is well-formed: only then is it known what is not in it.
 
 ghost use Rattle.std.specs.Prelude.{◌↔◌, IsTrue};
 ghost use Rattle.acpi_base.specs.Madt.{madt_contents};
-ghost use Rattle.acpi_base.specs.Pptt.{pptt_contents};
-ghost use Rattle.acpi_lint.specs.Rules.WellFormed.{IsWellFormedMadt, IsWellFormedPptt};
+ghost use Rattle.acpi_lint.specs.Rules.WellFormed.{IsWellFormedMadt};
 
 use crate::passes::is_well_formed;
 use acpi_base::{Code, Policy};
-use acpi_read::{MadtEntry, PpttEntry, Table};
+use acpi_read::{MadtEntry, Table};
 
 /// Whether a MADT is well-formed.
 pub fn is_madt_well_formed(policy: &Policy, madt: &Table<'_>) -> bool
     ensures { IsTrue result ↔ IsWellFormedMadt (madt_contents madt.now) }
 {
     is_well_formed::<MadtEntry<'_>>(policy, Code::MadtEntryCut, Code::MadtEntryLength, madt)
-}
-
-/// Whether a PPTT is well-formed.
-pub fn is_pptt_well_formed(policy: &Policy, pptt: &Table<'_>) -> bool
-    ensures { IsTrue result ↔ IsWellFormedPptt (pptt_contents pptt.now) }
-{
-    is_well_formed::<PpttEntry<'_>>(policy, Code::PpttEntryCut, Code::PpttEntryLength, pptt)
 }

@@ -7,7 +7,7 @@ mod Elements
 pub mod Following
 mod FormFindings
 mod GivenNumbers
-mod KnownNumbers
+pub mod KnownNumbers
 pub mod LeastPlaces
 pub mod OverlappingNumbers
 pub mod Reached

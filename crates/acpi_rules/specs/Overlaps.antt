@@ -5,7 +5,7 @@ use Rattle.acpi_rules.specs.declared.numbered.Numbered.{Numbered}
 use Rattle.acpi_rules.specs.declared.overlap.Range.{Range}
 use Rattle.acpi_rules.specs.declared.overlap.Range.TheVariants as range
 
--- the number behind the range of g, which is empty if that is not above the first one
+-- the number after the range of g, which is empty if that is not above the first one
 abbrev pub range_end : Range → Numbered → ℕ
 range_end range.Count g = g.number + g.value
 range_end range.Last g = g.value + 1

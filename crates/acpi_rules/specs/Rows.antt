@@ -98,6 +98,10 @@ pub record IsBroken (row : Row) (t : TwoTables) (at other point : ℕ) : Type 0 
   pub about : list_all (guard_holds t) row.guards ≡ true
   pub broken : InForm row.form row t at other point
 
+-- the conditions hold, and the number counts, whatever is reported
+abbrev pub IsGivenByRow : Row → TwoTables → Numbered → Type 0
+IsGivenByRow row t g = (list_all (guard_holds t) row.guards ≡ true) × Counts t row.numbers g
+
 -- whether a rule of this form keeps numbers: those that may occur again or overlap, or those among which numbers are looked up
 abbrev pub keeps_numbers : Form → Bool
 keeps_numbers form.Given = false

@@ -59,7 +59,7 @@ pub use numbered::{Numbered, Repeat, first_repeated, lesser, sort_numbers};
 pub use numbers::{Numbers, numbers_in_order};
 pub use overlap::{Range, first_overlap};
 pub use place::Place;
-pub use row::{Form, Guard, Need, Row, Source, all_guards_hold, first_finding};
+pub use row::{Form, Guard, Need, Row, Source, all_guards_hold, first_finding, given_by_row};
 pub use series::{
     Extent, Head, Inner, LengthRows, Multiple, Path, Series, Shape, Start, Sum, Types,
 };

@@ -9,7 +9,8 @@ use crate::numbered::{Numbered, sort_numbers};
 use crate::place::Place;
 use std::alloc::AllocError;
 
-/// What the value of a number says of the range that begins with the number.
+/// What the value of a number says of the range that begins with the number. A number from 2^64 on is given as 2^64 - 1,
+/// so a case has to leave out structures whose ranges may begin there.
 #[derive(Clone, Copy, Debug, PartialEq, Eq)]
 pub enum Range {
     /// How many numbers are in it.
@@ -19,7 +20,7 @@ pub enum Range {
 }
 
 impl Range {
-    /// The number behind the range.
+    /// The number after the range.
     fn end(self, given: &Numbered) -> u128
         ensures { result ≡ range_end self given.now }
     {
@@ -30,8 +31,8 @@ impl Range {
     }
 }
 
-/// The first overlap of ranges that are in order. No two of those that were passed overlap, so none of them ends behind
-/// the one with the highest end, and that one alone can overlap the next one.
+/// The first overlap of ranges that are in order. No two at different places that were passed overlap. So if one of them
+/// reaches the next range, which is at another place, the one that ends last does.
 fn first_in_order(sorted: &[Numbered], range: Range) -> Option<Place>
     ensures { AllPairs IsNotAbove sorted.now
         → FindsLeast (IsOverlap range (λ g. Contains sorted.now g)) result }

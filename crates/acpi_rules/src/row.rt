@@ -1,20 +1,21 @@
 //! Rules as rows, and the finding of each.
 
-ghost use Rattle.std.specs.Prelude.{◌≡◌, false, IfOk, IsTrue, OnErr, map};
+ghost use Rattle.std.specs.Prelude.{◌≡◌, ◌↔◌, false, Contains, IfOk, IsTrue, OnErr, map};
 ghost use Rattle.std.specs.List.{list_all};
 ghost use Rattle.std.specs.Option.{is_none};
 ghost use Rattle.acpi_rules.specs.Cases.{case_value};
 ghost use Rattle.acpi_rules.specs.Numbers.{Counts, has_except, numbers_value};
 ghost use Rattle.acpi_rules.specs.Places.{FindsLeast};
-ghost use Rattle.acpi_rules.specs.Rows.{InForm, IsBroken, IsCut, IsLookedUp, first_is_some, gives_two, guard_holds, guard_value, needs_memory, of_source, reported, row_value};
+ghost use Rattle.acpi_rules.specs.Rows.{InForm, IsBroken, IsCut, IsGivenByRow, IsLookedUp, first_is_some, gives_two, guard_holds, guard_value, needs_memory, of_source, reported, row_value};
 ghost use Rattle.acpi_rules.specs.Sites.{first_cut};
 ghost use Rattle.acpi_rules.specs.Terms.{tables_value};
+ghost use Rattle.acpi_rules.specs.declared.numbered.Numbered.{Numbered};
 
 use crate::case::Case;
 use crate::given::first_walked;
 use crate::indexed_table::IndexedTable;
 use crate::known::LookUp;
-use crate::numbered::{Repeat, first_repeated, sort_numbers};
+use crate::numbered::{Numbered, Repeat, first_repeated, sort_numbers};
 use crate::numbers::{Numbers, counted, excepted};
 use crate::overlap::{Range, first_overlap};
 use crate::passes::{first_told, gives_any};
@@ -155,6 +156,22 @@ pub fn all_guards_hold(guards: &[Guard<'_>], tables: &Tables<'_>) -> bool
         }
     }
     true
+}
+
+/// The numbers that a row is about, if its conditions hold; none if not. For a rule that no row says. Refuses if out of
+/// memory.
+pub fn given_by_row(
+    alloc: Global,
+    row: &Row<'_>,
+    tables: &Tables<'_>,
+) -> Result<Vec<Numbered>, AllocError>
+    ensures { IfOk result (λ all. (g : Numbered) → Contains all.items g
+        ↔ IsGivenByRow (row_value row.now) (tables_value tables.now) g) }
+{
+    if !all_guards_hold(row.2, tables) {
+        return Ok(Vec::new(alloc));
+    }
+    counted(alloc, &row.3, tables)
 }
 
 /// Whether those of these conditions hold that are quick to decide.

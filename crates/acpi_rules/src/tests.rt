@@ -123,7 +123,7 @@ fn ranges_overlap_by_counts(rt: HostRuntime) -> Result<(), Fail> {
     assert_eq!(rt; found, Some(place));
     let found = overlap_of(alloc, Range::Count, (0x1000, 0x10), (0x1010, 1))?;
     assert_eq!(rt; found, None);
-    // An empty range holds nothing, and a range may end at 2^64.
+    // An empty range contains nothing, and a range may end at 2^64.
     let found = overlap_of(alloc, Range::Count, (0x1000, 0x11), (0x1010, 0))?;
     assert_eq!(rt; found, None);
     let found = overlap_of(alloc, Range::Count, (u64::MAX, 1), (0, u64::MAX))?;

@@ -37,7 +37,7 @@ SENTENCES = {
     119: (
         "NoDomain",
         {},
-        "The usable processor at {at} of the MADT, of the ID or UID {point:d}, has no affinity in the SRAT, which has others.",
+        "The usable processor at {at} of the MADT, of the ID or UID {point:d}, has no enabled affinity in the SRAT, which has others.",
     ),
     120: (
         "DomainPastSlit",

@@ -2,10 +2,10 @@
 use Rattle.std.specs.Prelude.{ℕ, ◌≤◌, ◌⊎◌, List}
 use Rattle.acpi_base.specs.Memory.{Memory}
 use Rattle.acpi_base.specs.Policy.{PolicyValue}
-use Rattle.acpi_base.specs.Contents.{HasMadt, HasSlit, HasPptt}
+use Rattle.acpi_base.specs.Contents.{HasMadt, HasSlit}
 use Rattle.acpi_base.specs.Madt.{MadtContents}
 use Rattle.acpi_base.specs.Slit.{SlitContents, HasSlitSize}
-use Rattle.acpi_base.specs.Pptt.{PpttContents}
+use Rattle.acpi_base.specs.declared.table_kind.TableKind.TheVariants as kind
 use Rattle.acpi_lint.specs.Rules.GicAdvice.{IsGicrTooSmall}
 use Rattle.acpi_lint.specs.Rules.Slots.{IsListedTwice, IsSecondTable, IsListedApart}
 use Rattle.acpi_lint.specs.Rules.FadtAdvice.{IsSciNowhere}
@@ -18,7 +18,6 @@ use Rattle.acpi_lint.specs.Rules.RootAdvice.{IsNullSlot, IsRsdtDiffers}
 use Rattle.acpi_lint.specs.Rules.RsdpAdvice.{IsRsdpReserved}
 use Rattle.acpi_lint.specs.Rules.HeaderAdvice.{IsHeaderText, IsSecondOther}
 use Rattle.acpi_lint.specs.Rules.NamedAdvice.{IsDsdtWrong, IsFacsReserved}
-use Rattle.acpi_base.specs.declared.table_kind.TableKind.TheVariants as kind
 use Rattle.acpi_lint.specs.RowGroups.{IsRowBroken, OfKind}
 use Rattle.acpi_lint.specs.Rules.Rows.{rule_number}
 use Rattle.acpi_lint.specs.declared.rule.Rule.{Rule}
@@ -49,9 +48,9 @@ pub data Condition : Type 1 where
   Fadt : (List ℕ → ℕ → ℕ → ℕ → Type 0) → Condition
   FadtMemory : (Memory → List ℕ → ℕ → ℕ → ℕ → Type 0) → Condition  -- what the FADT names in memory
   FadtMadt : (PolicyValue → List ℕ → MadtContents → ℕ → ℕ → ℕ → Type 0) → Condition
-  Madt : (List ℕ → ℕ → ℕ → ℕ → Type 0) → Condition
+  Madt : (List ℕ → ℕ → ℕ → ℕ → Type 0) → Condition  -- the bytes of the MADT
   Slit : (SlitContents → ℕ → ℕ → ℕ → Type 0) → Condition
-  Pptt : (PpttContents → ℕ → ℕ → ℕ → Type 0) → Condition
+  Pptt : (List ℕ → ℕ → ℕ → ℕ → Type 0) → Condition  -- the bytes of the PPTT
 
 -- the condition of each rule
 abbrev pub condition : Rule → Condition
@@ -85,7 +84,7 @@ HoldsAt (FadtMemory P) m q at other point = OfFadt m q (λ fadt. P m fadt at oth
 HoldsAt (FadtMadt P) m q at other point = OfFadt m q (λ fadt. OfMadt m q (λ madt. P q fadt madt at other point))
 HoldsAt (Madt P) m q at other point = OfKind kind.Madt m q (λ madt. P madt at other point)
 HoldsAt (Slit P) m q at other point = OfSlit m q (λ slit. P slit at other point)
-HoldsAt (Pptt P) m q at other point = HasPptt m q (λ pptt. P pptt at other point)
+HoldsAt (Pptt P) m q at other point = OfKind kind.Pptt m q (λ pptt. P pptt at other point)
 
 -- the set breaks a rule that is not a row
 abbrev pub IsBrokenByHand : Rule → Memory → PolicyValue → ℕ → ℕ → ℕ → Type 0

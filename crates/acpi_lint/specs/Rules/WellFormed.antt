@@ -1,9 +1,8 @@
--- Tables of entries that are well-formed: their entries fill them, and none has a type that the stages read with another length
--- than its type's. Only of such a table is it known what is not in it.
+-- A MADT that is well-formed: its entries fill it, and none has a type that the stages read with another length than its
+-- type's. Only of such a one is it known what is not in it.
 use Rattle.std.specs.Prelude.{◌≡◌, ℕ, List, Option, None, slice_index}
 use Rattle.acpi_base.specs.Entries.{PlacedEntry, StandsWith, IsTypeOf}
 use Rattle.acpi_base.specs.Madt as madt
-use Rattle.acpi_base.specs.Pptt as pptt
 
 -- there are no bytes after these entries, and none of them has another length than its type's
 abbrev pub IsWellFormed : {E : Type 0} → (E → Type 0) → List (PlacedEntry E) → Option ℕ → Type 0
@@ -17,7 +16,3 @@ HasOtherMadtLength _ = ⊥
 -- the MADT has no fault with the codes 33 and 34
 abbrev pub IsWellFormedMadt : madt.MadtContents → Type 0
 IsWellFormedMadt c = IsWellFormed HasOtherMadtLength c.entries c.cut
-
--- the PPTT has no fault with the codes 50 and 51 (5.2.30)
-abbrev pub IsWellFormedPptt : pptt.PpttContents → Type 0
-IsWellFormedPptt c = IsWellFormed pptt.HasOtherPpttLength c.entries c.cut

@@ -28,7 +28,7 @@ pub const UIDS: &[Case<'static>] = cases!({
     RINTC => at 0 shows 0, RINTC_UID
 });
 
-/// The APIC ID, x2APIC ID or core ID of each processor that has one.
+/// The APIC ID, X2APIC ID or core ID of each processor that has one.
 pub const APIC_IDS: &[Case<'static>] = cases!({
     LOCAL_APIC => at 0 shows 0, LOCAL_APIC_ID;
     X2APIC => at 0 shows 0, X2APIC_ID;
@@ -53,7 +53,7 @@ const LEAFLESS_UIDS: &[Case<'static>] = cases!({
     RINTC if (RINTC_FLAGS & 0b11) != 0 => at 0 shows 0, RINTC_UID
 });
 
-/// The APIC ID, x2APIC ID or core ID of each usable processor that has one.
+/// The APIC ID, X2APIC ID or core ID of each usable processor that has one.
 const USABLE_APIC_IDS: &[Case<'static>] = cases!({
     LOCAL_APIC if (LOCAL_APIC_FLAGS & 0b11) != 0 => at 0 shows LOCAL_APIC_ID, LOCAL_APIC_ID;
     X2APIC if (X2APIC_FLAGS & 0b11) != 0 => at 0 shows X2APIC_ID, X2APIC_ID;
@@ -115,10 +115,10 @@ const UNREAD_PROCESSORS: &[Case<'static>] = any!({
     (any RINTC) if (length own) < 20
 });
 
-// ---- of a rule that is no row
+// ---- for GicrTooSmall, which is not a row
 
 /// When redistributors are counted: the GIC has some by its version, and all ranges of them are read (5.2.12.17).
-pub const GICRS_COUNT: &[Guard<'static>] = &[
+pub const GICRS_ARE_KNOWN: &[Guard<'static>] = &[
     HAS_REDISTRIBUTORS,
     guard!((none table MADT_ENTRIES: { (any GICR) if (length own) != 16 })),
     MADT_WHOLE,
@@ -376,10 +376,10 @@ pub static GIC: [Row<'static>; 11] = [
         MSI_FRAME => at 0 shows MSI_FRAME_ID, MSI_FRAME_ID
     }),
     // 168 GicOverlap, likely wrong (5.2.12.15): two structures of the GIC share an address.
-    // Numbers: `at` and `other` are the offsets of two such structures, first the one with the lower address, `point`
-    // is the lowest address at which two overlap.
+    // Numbers: `at` and `other` are the offsets of two such structures, first the one that begins lower, and of two that
+    // begin together the one at the lower offset; `point` is the lowest address at which two overlap.
     // "The structures of the GIC at {at} and {other} of the MADT share the address {point}."
-    // The bytes of an MSI frame, an ITS and a distributor, which has more from version 3 on, are given by the GIC's
+    // The bytes of an MSI frame, an ITS and a distributor, which has more in versions 3 and 4, are given by the GIC's
     // architecture.
     rule!(168 GicOverlap, overlap in MADT_ENTRIES: {
         GICR => at 0 shows GICR_LENGTH, GICR_BASE;
@@ -459,8 +459,8 @@ pub static MADT_WITH_SRAT: [Row<'static>; 2] = [
     // 119 NoDomain, likely wrong (5.2.16): a usable processor is not in the SRAT, which has affinities.
     // Numbers: `at` is the processor's offset in the MADT, `point` is its APIC ID, X2APIC ID or core ID, of a GICC or
     // an RINTC its UID.
-    // "The usable processor at {at} of the MADT, of the ID or UID {point:d}, has no affinity in the SRAT, which has
-    // others."
+    // "The usable processor at {at} of the MADT, of the ID or UID {point:d}, has no enabled affinity in the SRAT, which
+    // has others."
     // This row: a processor with an APIC ID. Applies if the SRAT is well-formed.
     rule!(119 NoDomain, nowhere in MADT_ENTRIES where
         PROCESSORS_READ, OTHER_SRAT_WHOLE, OTHER_SRAT_LENGTHS, PLACED_PROCESSORS:

@@ -64,6 +64,22 @@ const WRONG_LENGTHS: &[Case<'static>] = any!({
 const OTHER_BEYOND_X86: Guard<'static> =
     guard!((some other MADT_ENTRIES: { GICC; CORE_PIC; RINTC }));
 
+// ---- for NoPackage, which is not a row
+
+/// The leaves, by their marks from Revision 2 on; below that, if the table is well-formed, the nodes that no other one has
+/// as its Parent.
+pub const MARKED_LEAVES: Row<'static> =
+    rule!(182 NoPackage, given in PPTT_ENTRIES where MARKED: LEAF_IDS);
+
+pub const UNMARKED_LEAVES: Row<'static> = rule!(182 NoPackage, given in PPTT_ENTRIES where
+    UNMARKED, PPTT_WHOLE, PPTT_LENGTHS: NODE_IDS except PARENTS);
+
+/// The Parent of each node that is no physical package.
+pub const OUTER_PARENTS: &[Case<'static>] = cases!({
+    NODE if (NODE_FLAGS & 0b1) == 0 && (length own) == (20 + 4 * NODE_RESOURCES)
+        => at 0 shows 0, NODE_PARENT
+});
+
 // ---- the rules
 
 /// Rules on the PPTT.

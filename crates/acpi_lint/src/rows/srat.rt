@@ -14,7 +14,7 @@ use acpi_rules::{
 
 // ---- what entries give
 
-/// The APIC ID or x2APIC ID of each enabled affinity of one.
+/// The APIC ID or X2APIC ID of each enabled affinity of one.
 pub const PLACED_APIC_IDS: &[Case<'static>] = cases!({
     APIC_AFFINITY if (APIC_AFFINITY_FLAGS & 0b1) != 0 => at 0 shows 0, APIC_AFFINITY_ID;
     X2APIC_AFFINITY if (X2APIC_AFFINITY_FLAGS & 0b1) != 0 => at 0 shows 0, X2APIC_AFFINITY_ID

@@ -5,14 +5,16 @@ use Rattle.std.proofs.lemmas.Option.{same_Some}
 use Rattle.acpi_rules.specs.Rows.{guard_holds, guard_said}
 use Rattle.acpi_rules.specs.declared.numbered.Numbered.{Numbered}
 use Rattle.acpi_rules.proofs.LeastPlaces.{not_after_itself}
-use Rattle.acpi_lint.specs.Rules.GicAdvice.{alone, entries_give, interface_count, redistributor_count}
-use Rattle.acpi_lint.specs.declared.rows.madt.TheConstants.{GICR_LENGTHS, GICRS_COUNT, USABLE_GICCS}
+use Rattle.acpi_lint.specs.Rules.Entries.{alone, entries_give}
+use Rattle.acpi_lint.specs.Rules.GicAdvice.{interface_count, redistributor_count}
+use Rattle.acpi_lint.specs.declared.rows.madt.TheConstants.{GICR_LENGTHS, GICRS_ARE_KNOWN, USABLE_GICCS}
+use Rattle.acpi_lint.specs.declared.rows.madt_fields.TheConstants.{MADT_ENTRIES}
 use Rattle.acpi_lint.proofs.madt_advice.gicr_too_small.Goals as goal
 
 pub returns-in_default : goal.returns-in_default
 returns-in_default c = λ at other point small.
     let (g, is, place) = small.first in
-    let lengths : c.in_ok-lengths.lengths.items ≡ entries_give GICR_LENGTHS c.args.madt.now = search rules in
+    let lengths : c.in_ok-lengths.lengths.items ≡ entries_give MADT_ENTRIES GICR_LENGTHS c.args.madt.now = search rules in
     let none : None ≡ slice_get c.in_ok-lengths.lengths.items 0 = search rules in
     let no : None ≡ Some g = none ∙ ap (λ items. slice_get items 0) lengths ∙ is in
     absurd cc
@@ -23,13 +25,13 @@ returns c =
     let g = c.in-Some.first.now in
     let table : c.new.result.bytes.now ≡ madt = search rules in
     let other : c.new-2.result.bytes.now ≡ [] = search rules in
-    let lengths : c.in_ok-lengths.lengths.items ≡ entries_give GICR_LENGTHS madt =
+    let lengths : c.in_ok-lengths.lengths.items ≡ entries_give MADT_ENTRIES GICR_LENGTHS madt =
     rw (table, other) at c.in_ok-lengths.ensures in
-    let interfaces : c.in_ok-interfaces.interfaces.items ≡ entries_give USABLE_GICCS madt =
+    let interfaces : c.in_ok-interfaces.interfaces.items ≡ entries_give MADT_ENTRIES USABLE_GICCS madt =
     rw (table, other) at c.in_ok-interfaces.ensures in
-    let known : list_all (guard_holds (alone madt)) (map guard_said GICRS_COUNT.now) ≡ true = search rules in
+    let known : list_all (guard_holds (alone madt)) (map guard_said GICRS_ARE_KNOWN.now) ≡ true = search rules in
     let here : Some g ≡ slice_get c.in_ok-lengths.lengths.items 0 = search rules in
-    let first : slice_get (entries_give GICR_LENGTHS madt) 0 ≡ Some g =
+    let first : slice_get (entries_give MADT_ENTRIES GICR_LENGTHS madt) 0 ≡ Some g =
     sym (here ∙ ap (λ items. slice_get items 0) lengths) in
     let count : c.redistributors-count.result ≡ redistributor_count madt =
     rw (c.deref-2.ensures.value, lengths) at c.redistributors-count.ensures in
