@@ -1,5 +1,5 @@
 -- The examples of advice on the packages of a PPTT, by computing.
-use Rattle.std.proofs.Common.{◌≡◌, ◌<◌, ◌∙◌, ℕ, List, [], ◌∷◌, Some, ap, arith, false, inl, inr, map, refl, subst, sym}
+use Rattle.std.proofs.Common.{◌≡◌, ◌∙◌, ℕ, List, [], ◌∷◌, Some, ap, arith, false, inl, inr, refl, subst, sym}
 use Rattle.std.specs.Prelude.{Contains}
 use Rattle.std.specs.List.{AllByRecursion, list_all}
 use Rattle.std.proofs.lemmas.Bool.{both_ways}
@@ -7,7 +7,7 @@ use Rattle.std.proofs.lemmas.List.Elements.{All-contains, All-from_recursion}
 use Rattle.std.proofs.lemmas.Option.{none-some, same_Some}
 use Rattle.acpi_base.specs.Chains.{Ends, IsChain}
 use Rattle.acpi_base.specs.Number.{field, number_bytes}
-use Rattle.acpi_rules.specs.Cases.{case_said, gives, in_case, is_kind}
+use Rattle.acpi_rules.specs.Cases.{gives, in_case, is_kind}
 use Rattle.acpi_rules.specs.Clauses.{all_hold, holds, passes}
 use Rattle.acpi_rules.specs.Fields.{reading}
 use Rattle.acpi_rules.specs.Numbered.{IsFirst, IsNoLater}

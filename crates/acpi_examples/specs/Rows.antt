@@ -224,6 +224,10 @@ gic_examples =
     ∷ keeps rule.GicOverlap (madt (its_at 0x10000 ∷ gicd 4 ∷ [])) []
     ∷ breaks rule.GicOverlap (madt (its_at 0xfff ∷ gicd 2 ∷ [])) [] 64 44 0xfff
     ∷ keeps rule.GicOverlap (madt (its_at 0x1000 ∷ gicd 2 ∷ gicr 0 0 ∷ [])) []
+    ∷ breaks rule.GicOverlap (madt (its_at 0x40000 ∷ its_at 0x5ffff ∷ [])) [] 44 64 0x5ffff
+    ∷ keeps rule.GicOverlap (madt (its_at 0x40000 ∷ its_at 0x60000 ∷ [])) []
+    ∷ breaks rule.GicOverlap (madt (its_at 0xfff ∷ msi_frame 5 ∷ [])) [] 64 44 0xfff
+    ∷ keeps rule.GicOverlap (madt (its_at 0x1000 ∷ msi_frame 5 ∷ [])) []
     ∷ breaks rule.GicOverlap (madt (gicr 1 5 ∷ msi_frame 5 ∷ [])) [] 60 44 1
     ∷ []
 
