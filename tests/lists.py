@@ -15,7 +15,8 @@ sys.path.insert(0, str(TOP / "tests"))
 from acpi_images.program import finish  # noqa: E402
 
 SCRIPT = "scripts/lists.py"
-READ = ("bindings", "docs", "scripts", "share/acpiset/explain", *(f"crates/{it}/{part}" for it in ("acpi_base", "acpi_c", "acpi_lint") for part in ("specs", "src")))
+READ = ("bindings", "docs", "scripts", "share/acpiset/explain", "crates/acpi_lint/proofs",
+        *(f"crates/{it}/{part}" for it in ("acpi_base", "acpi_c", "acpi_lint") for part in ("specs", "src")))
 HEADER = "bindings/c/acpiset.h"
 PYTHON, RUST = "bindings/python/acpiset/_lists.py", "bindings/rust/src/lists.rs"
 EXPLAINED = "crates/acpi_c/src/explained.rt"
@@ -183,7 +184,7 @@ def large_number(lists):
     lists.is_silent("a number beyond 255, after a gap, that is written")
     lists.is_silent("a number beyond 255, after a gap", "--check")
     for name, text in (
-        (RULE, '1000, "PpttReserved"),\n    // end: rules'), (ROWS, '(83, 1000, codes "PpttReserved")'), (HEADER, "ACPISET_PPTT_RESERVED = 1000"),
+        (RULE, '1000, "PpttReserved"),\n    // end: rules'), (ROWS, '(83, 1000, codes "PpttReserved")'), (BOUNDS, "rule_number r ≤ 1000"), (HEADER, "ACPISET_PPTT_RESERVED = 1000"),
         (PYTHON, "    PpttReserved = 1000  #"), (RUST, "        PpttReserved = 1000,"), (SENTENCES, "    1000: ("), (FAULTS, "1000 [PpttReserved](#1000-pp"),
     ):
         lists.count(f"a number beyond 255 in {name}", "" if text in (lists.top / name).read_text() else "it is not there")
