@@ -211,7 +211,7 @@ agree 'rules of advice (<) and their parts in FAULTS.md (>)' "$rules" "$advised"
 # Of a rule without a definition by hand nothing would be found if it had no row either. A row that is a constant is a part of one.
 by_hand=$(sed -n 's/^condition rule\.\([A-Za-z0-9]*\) = .*/\1/p' crates/acpi_lint/specs/Rules/Broken.antt)
 agree 'rules of advice that are not by hand (<) and those with a row (>)' "$(grep -vwF "$by_hand" <<<"$rules")" \
-  "$(grep -hv '^pub const' crates/acpi_lint/src/rows/*.rt | grep -oE 'rule!\([0-9]+ [A-Za-z0-9]+' | cut -d '(' -f 2)"
+  "$(sed -n '/^pub static/,/^];$/p' crates/acpi_lint/src/rows/*.rt | grep -oE 'rule!\([0-9]+ [A-Za-z0-9]+' | cut -d '(' -f 2)"
 awk -f man/faults.awk docs/FAULTS.md >"$scratch/acpiset-faults.7"
 agree 'codes and rules of advice (<) and their parts in acpiset-faults(7) (>)' "$codes"$'\n'"$rules" \
   "$(sed -n 's/^\.SS \([0-9]* [A-Za-z0-9]*\)$/\1/p' "$scratch/acpiset-faults.7")"

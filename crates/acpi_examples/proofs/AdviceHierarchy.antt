@@ -134,20 +134,28 @@ no_packages = record {
     ends,
     refl,
   );
-  inside = λ at other point (_, (rest, chain), _). no_root (outer_nodes (nodes 1 0 10 36)) ((λ is. omega (arith, is)), tt) rest at chain;
+  inside = λ at other point (_, (rest, chain), _).
+      no_root (outer_nodes (nodes 1 0 10 36)) ((λ is. omega (arith, is)), tt) rest at chain;
   itself = λ at other point (leaf, ends, _).
-      no_chain (outer_nodes (nodes 0 0 11 36)) 56 (none_begins (outer_nodes (nodes 0 0 11 36)) 56 ((λ is. omega (arith, is)), tt))
+      no_chain (outer_nodes (nodes 0 0 11 36)) 56
+      (none_begins (outer_nodes (nodes 0 0 11 36)) 56 ((λ is. omega (arith, is)), tt))
       (subst (Ends (HasParent (outer_nodes (nodes 0 0 11 36))))
-      (leaf_there (nodes 0 0 11 36) at point
-      ((λ g is. absurd (none-some _ is)), ((λ g is. ap (λ (n : Numbered). n.at) (sym (same_Some _ g is))), tt)) refl leaf) ends);
+      (leaf_there (nodes 0 0 11 36) at point (
+        (λ g is. absurd (none-some _ is)),
+        ((λ g is. ap (λ (n : Numbered). n.at) (sym (same_Some _ g is))), tt),
+      ) refl leaf) ends);
   dangling = λ at other point (leaf, ends, _).
-      leads_nowhere (outer_nodes (nodes 0 0 10 37)) 56 37 ((λ is. absurd (omega (arith, is))), ((λ _. refl), tt)) (λ is. omega (arith, is))
+      leads_nowhere (outer_nodes (nodes 0 0 10 37)) 56 37 ((λ is. absurd (omega (arith, is))), ((λ _. refl), tt))
+      (λ is. omega (arith, is))
       ((λ is. omega (arith, is)), ((λ is. omega (arith, is)), tt))
       (subst (Ends (HasParent (outer_nodes (nodes 0 0 10 37))))
-      (leaf_there (nodes 0 0 10 37) at point
-      ((λ g is. absurd (none-some _ is)), ((λ g is. ap (λ (n : Numbered). n.at) (sym (same_Some _ g is))), tt)) refl leaf) ends);
+      (leaf_there (nodes 0 0 10 37) at point (
+        (λ g is. absurd (none-some _ is)),
+        ((λ g is. ap (λ (n : Numbered). n.at) (sym (same_Some _ g is))), tt),
+      ) refl leaf) ends);
   cycle = λ at other point (_, (rest, chain), _).
-      no_root (outer_nodes (nodes 0 56 10 36)) ((λ is. omega (arith, is)), ((λ is. omega (arith, is)), tt)) rest at chain;
+      no_root (outer_nodes (nodes 0 56 10 36))
+      ((λ is. omega (arith, is)), ((λ is. omega (arith, is)), tt)) rest at chain;
 }
 
 pub hierarchy_advised : IsHierarchyAdvised

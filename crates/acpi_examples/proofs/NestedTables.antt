@@ -218,5 +218,6 @@ structures_overlapping =
           (outer_first 72 (nested_bytes 72) inside_tables) (inner_first 72 (nested_bytes 72) inside_tables)
           (λ same. omega arith) (omega arith) (omega arith) (omega arith);
       apart = two_apart (IsFirstStructure (nested_set 36) rsdp_at) 0x1000 (range_of 0x2000 0x2000 36)
-          (range_of 0x2024 0x2024 36) rsdp_at (nested_ranges 36 (take 36 (nested_bytes 36)) behind_tables) (omega arith);
+          (range_of 0x2024 0x2024 36) rsdp_at (nested_ranges 36 (take 36 (nested_bytes 36)) behind_tables)
+          (omega arith);
     }

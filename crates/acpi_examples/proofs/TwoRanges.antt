@@ -11,12 +11,14 @@ use Rattle.acpi_examples.specs.Advice.{IsKept}
 abbrev pub range_of : ℕ → ℕ → ℕ → Numbered
 range_of at start size = record { number = start; at = at; value = size }
 
--- each range is one of these two, or ends before the first and has the place d, or begins after the second and has the place
+-- each range is one of these two, or ends before the first and has the place d, or begins after the second and has
+-- the place
 -- e, or is empty
 abbrev pub AreTwoRanges : (Numbered → Type 0) → ℕ → Numbered → Numbered → ℕ → Type 0
 AreTwoRanges Has d a b e =
     (g : Numbered) → Has g
-    → (g ≡ a) ⊎ (g ≡ b) ⊎ ((g.at ≡ d) × (g.number + g.value ≤ a.number)) ⊎ ((g.at ≡ e) × (b.number + b.value ≤ g.number))
+    → (g ≡ a) ⊎ (g ≡ b) ⊎ ((g.at ≡ d) × (g.number + g.value ≤ a.number))
+    ⊎ ((g.at ≡ e) × (b.number + b.value ≤ g.number))
     ⊎ (g.value ≡ 0)
 
 at_of : {g a : Numbered} → g ≡ a → g.at ≡ a.at

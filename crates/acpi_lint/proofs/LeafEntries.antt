@@ -17,7 +17,9 @@ use Rattle.acpi_lint.specs.declared.rows.pptt.TheConstants.{MARKED_LEAVES, UNMAR
 pub placed_alike : (given sorted : List Numbered) → IsPermutation (map by_place given) sorted → (g : Numbered)
     → Contains sorted g → g.at ≡ g.number
 placed_alike given sorted moved g listed =
-    let among = Contains-permutation sorted (map by_place given) g (IsPermutation-sym (map by_place given) sorted moved) listed in
+    let among =
+    Contains-permutation sorted (map by_place given) g
+    (IsPermutation-sym (map by_place given) sorted moved) listed in
     let (x, has, is) = element_of_map by_place given g among in
     sym (ap (λ (n : Numbered). n.at) is) ∙ ap (λ (n : Numbered). n.number) is
 
@@ -91,7 +93,9 @@ leaves_said pptt marked unmarked leaves first second moved at id = (to, from)
         elim (Contains-append_cases (map by_place marked) (map by_place unmarked) g
         (Contains-permutation leaves given g (IsPermutation-sym given leaves moved) listed)) [
           | inl has ↦
-              let (other, found) = placed_from marked at id (g, has, there, named) in (other, inl ((by_mark other).0 found))
+              let (other, found) = placed_from marked at id (g, has, there, named) in
+              (other, inl ((by_mark other).0 found))
           | inr has ↦
-              let (other, found) = placed_from unmarked at id (g, has, there, named) in (other, inr ((by_parents other).0 found))
+              let (other, found) = placed_from unmarked at id (g, has, there, named) in
+              (other, inr ((by_parents other).0 found))
         ]

@@ -30,7 +30,8 @@ offset_of nodes k within = get_or-map (λ (g : Numbered). g.number) nodes k none
 -- the node at the index where those with lower offsets end is the first one at its offset
 pub first_there : (nodes : List Numbered) (offset i : ℕ) → IsParted nodes offset i → i < length nodes
     → (get_or nodes i none).number ≡ offset
-    → (i < length nodes) × IsFirst (λ g. Contains nodes g) (get_or nodes i none) × ((get_or nodes i none).number ≡ offset)
+    → (i < length nodes) × IsFirst (λ g. Contains nodes g) (get_or nodes i none)
+    × ((get_or nodes i none).number ≡ offset)
 first_there nodes offset i parted within is =
     let here : get_or nodes i (get_or nodes i none) ≡ get_or nodes i none =
     get_or_default nodes i (get_or nodes i none) none within in (

@@ -40,7 +40,8 @@ same_rule r s same = same_Some r s (sym (rule_found r) ∙ ap rule_numbered same
 
 pub has_number : (row : BorRule) → is_row row ≡ true → row.1 ≡ rule_number row.0
 has_number row is =
-    eqb-true row.1 (rule_number row.0) (and_parts (row.1 == rule_number row.0) (bytes_eq row.2.now (rule_name row.0)) is).0
+    eqb-true row.1 (rule_number row.0)
+    (and_parts (row.1 == rule_number row.0) (bytes_eq row.2.now (rule_name row.0)) is).0
 
 pub has_name : (row : BorRule) → is_row row ≡ true → row.2.now ≡ rule_name row.0
 has_name row is =

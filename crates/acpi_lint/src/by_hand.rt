@@ -86,7 +86,8 @@ fn add_of_fadt(
     tables: &CompleteTables<'_>,
     found: &mut Vec<Found>,
 ) -> Result<(), AllocError>
-    ensures adds { IfOk result (λ _. (q : PolicyValue) → AreCompleteTables image.now q.rsdp tables.now
+    ensures adds { IfOk result (λ _. (q : PolicyValue)
+        → AreCompleteTables image.now q.rsdp tables.now
         → Adds image.now q fadt_rules found.old.items found.new.items) }
     ensures refuses { OnErr result (IsSome tables.now.fadt) }
 {

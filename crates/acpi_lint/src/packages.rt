@@ -33,7 +33,8 @@ fn push_by_places(given: &[Numbered], all: &mut Vec<Numbered>) -> Result<(), All
 /// each node.
 fn leaves(alloc: Global, pptt: &Table<'_>) -> Result<Vec<Numbered>, AllocError>
     ensures order { IfOk result (λ leaves. AllPairs IsNotAbove leaves.items) }
-    ensures placed { IfOk result (λ leaves. (g : Numbered) → Contains leaves.items g → g.at ≡ g.number) }
+    ensures placed { IfOk result (λ leaves. (g : Numbered) → Contains leaves.items g
+        → g.at ≡ g.number) }
     ensures all { IfOk result (λ leaves. (at id : ℕ) → IsLeafAt pptt.now at id
         ↔ ((g : Numbered) × Contains leaves.items g × (g.number ≡ at) × (g.value ≡ id))) }
 {

@@ -116,7 +116,8 @@ fn structures(
     tables: &CompleteTables<'_>,
 ) -> Result<Vec<Numbered>, AllocError>
     requires { AreCompleteTables image.now rsdp tables.now }
-    ensures { IfOk result (λ given. (g : Numbered) → Contains given.items g ↔ IsFirstStructure image.now rsdp g) }
+    ensures { IfOk result (λ given. (g : Numbered)
+        → Contains given.items g ↔ IsFirstStructure image.now rsdp g) }
 {
     let mut given = Vec::new(alloc);
     push_first(&mut given, rsdp_range(image, rsdp))?;

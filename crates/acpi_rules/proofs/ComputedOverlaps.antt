@@ -89,7 +89,8 @@ abbrev IsOverlapIn : Range → List Numbered → Numbered → Numbered → Type 
 IsOverlapIn r all g f =
     Meets r g f × (NoneBelow r all f.number × ((h : Numbered) → Contains all h → IsBehind r g f f.number h))
 
-decides_overlap : (r : Range) (all : List Numbered) (g f : Numbered) → Decides (is_overlap r all g f) (IsOverlapIn r all g f)
+decides_overlap : (r : Range) (all : List Numbered) (g f : Numbered)
+    → Decides (is_overlap r all g f) (IsOverlapIn r all g f)
 decides_overlap r all g f =
     Decides-and (meets r g f) _ (decides_meets r g f)
     (Decides-and (none_below r all f.number) _ (decides_none_below r all f.number)

@@ -63,7 +63,9 @@ behind_highest r sorted i j high h order highest least within here differ =
             | inr (none, begin) ↦ omega arith
           ] in
           absurd (differ (ap (λ (x : Numbered). x.at)
-          (sym here ∙ ap (λ (n : ℕ). get_or sorted n h) same ∙ placed sorted highest.k h high highest.within highest.is)))
+          (sym here
+          ∙ ap (λ (n : ℕ). get_or sorted n h) same
+          ∙ placed sorted highest.k h high highest.within highest.is)))
     ]
 
 -- the highest one, if one was passed
@@ -211,7 +213,8 @@ first_shared r sorted i high h order within here highest met =
         | inr (j, upto, inside, is, more) ↦ elim (cases_lt i j) [
           | inl less ↦ before sorted i j h x order less inside here is
           | inr also ↦
-              let same : h ≡ x = sym here ∙ ap (λ (n : ℕ). get_or sorted n h) (omega arith) ∙ placed sorted j h x inside is in
+              let same : h ≡ x =
+              sym here ∙ ap (λ (n : ℕ). get_or sorted n h) (omega arith) ∙ placed sorted j h x inside is in
               rw same (inr (refl, itself_no_later x))
         ]
       ];

@@ -154,7 +154,8 @@ pub none_so_far : (r : Repeat) (sorted : List Numbered) → FindsLeast (IsRepeat
 none_so_far r sorted at other point (g, f, (k, below, here), repeats, is) = omega arith
 
 -- those that were passed at i + 1 were at i, but for the one that is at i
-pub passed_next : {X : Type 0} (xs : List X) (i : ℕ) (h g : X) → i < length xs → get_or xs i h ≡ h → IsPassed xs (i + 1) g
+pub passed_next : {X : Type 0} (xs : List X) (i : ℕ) (h g : X) → i < length xs → get_or xs i h ≡ h
+    → IsPassed xs (i + 1) g
     → IsPassed xs i g ⊎ (g ≡ h)
 passed_next xs i h g within here (k, below, is) =
     elim (cases_lt k i) [

@@ -11,7 +11,8 @@ pub returns-in_default-clause-adds : goal.returns-in_default-clause-adds
 returns-in_default-clause-adds c = λ m q are. λ done before.
     let found = c.args.found.now.items in
     let lifts = kind_lifts kind.Madt m q c.madt.result are c.madt.ensures in
-    none_added m q rule.GicrTooSmall found (not_there (OfKind kind.Madt m q) (λ whole. whole) IsGicrTooSmall lifts c.in_default.is)
+    none_added m q rule.GicrTooSmall found
+    (not_there (OfKind kind.Madt m q) (λ whole. whole) IsGicrTooSmall lifts c.in_default.is)
     done before
 
 pub returns-clause-adds : goal.returns-clause-adds

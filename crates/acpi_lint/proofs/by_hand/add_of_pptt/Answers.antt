@@ -11,7 +11,8 @@ pub returns-in_default-clause-adds : goal.returns-in_default-clause-adds
 returns-in_default-clause-adds c = λ m q are. λ done before.
     let found = c.args.found.now.items in
     let lifts = kind_lifts kind.Pptt m q c.long.result are c.long.ensures in
-    none_added m q rule.NoPackage found (not_there (OfKind kind.Pptt m q) (λ whole. whole) IsNoPackage lifts c.in_default.is)
+    none_added m q rule.NoPackage found
+    (not_there (OfKind kind.Pptt m q) (λ whole. whole) IsNoPackage lifts c.in_default.is)
     done before
 
 pub returns-clause-adds : goal.returns-clause-adds

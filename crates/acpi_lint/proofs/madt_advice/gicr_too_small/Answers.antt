@@ -14,7 +14,8 @@ use Rattle.acpi_lint.proofs.madt_advice.gicr_too_small.Goals as goal
 pub returns-in_default : goal.returns-in_default
 returns-in_default c = λ at other point small.
     let (g, is, place) = small.first in
-    let lengths : c.in_ok-lengths.lengths.items ≡ entries_give MADT_ENTRIES GICR_LENGTHS c.args.madt.now = search rules in
+    let lengths : c.in_ok-lengths.lengths.items ≡ entries_give MADT_ENTRIES GICR_LENGTHS c.args.madt.now =
+    search rules in
     let none : None ≡ slice_get c.in_ok-lengths.lengths.items 0 = search rules in
     let no : None ≡ Some g = none ∙ ap (λ items. slice_get items 0) lengths ∙ is in
     absurd cc

@@ -8,5 +8,8 @@ returns-clause-found c =
     let sorted = c.sort_numbers.new.given.items in
     let moved = c.sort_numbers.ensures.permutation in
     overlap_as c.args.range c.first_in_order.result
-    (λ n. (Contains-permutation sorted given n (IsPermutation-sym given sorted moved), Contains-permutation given sorted n moved))
+    (λ n. (
+      Contains-permutation sorted given n (IsPermutation-sym given sorted moved),
+      Contains-permutation given sorted n moved,
+    ))
     ((rw c.deref.ensures.value at c.first_in_order.ensures) c.in_ok-sort_numbers.ensures.sorted)

@@ -10,15 +10,18 @@ loop-row-init c = named_rows c.args.name.now c.rows-row-items.result.now c.rows-
 
 pub loop-row-preserved : goal.loop-row-preserved
 loop-row-preserved c =
-    row_after (λ row. bytes_eq row.2.now c.args.name.now) c.rows-row-items.result.now c.loop-row.row-index _ (rule_named c.args.name.now)
+    row_after (λ row. bytes_eq row.2.now c.args.name.now) c.rows-row-items.result.now c.loop-row.row-index _
+    (rule_named c.args.name.now)
     c.loop-row-test.true c.loop-row.invariant (sym c.eq.ensures ∙ c.if-eq.false)
 
 pub returns-then-eq : goal.returns-then-eq
 returns-then-eq c =
-    row_here (λ row. bytes_eq row.2.now c.args.name.now) c.rows-row-items.result.now c.loop-row.row-index _ (rule_named c.args.name.now)
+    row_here (λ row. bytes_eq row.2.now c.args.name.now) c.rows-row-items.result.now c.loop-row.row-index _
+    (rule_named c.args.name.now)
     c.loop-row-test.true c.loop-row.invariant (sym c.eq.ensures ∙ c.if-eq.true)
 
 pub returns : goal.returns
 returns c =
-    sym (ap (rule_by (λ row. bytes_eq row.2.now c.args.name.now)) (drop_of_length-le c.rows-row-items.result.now {i = c.loop-row.row-index} c.loop-row-test.false))
+    sym (ap (rule_by (λ row. bytes_eq row.2.now c.args.name.now))
+    (drop_of_length-le c.rows-row-items.result.now {i = c.loop-row.row-index} c.loop-row-test.false))
     ∙ c.loop-row.invariant

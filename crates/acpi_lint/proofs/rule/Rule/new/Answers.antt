@@ -20,7 +20,8 @@ returns-then-row-number-clause-found c =
 
 pub returns-clause-found : goal.returns-clause-found
 returns-clause-found c =
-    sym (ap (rule_by (λ row. row.1 == c.args.number)) (drop_of_length-le c.rows-row-items.result.now {i = c.loop-row.row-index} c.loop-row-test.false))
+    sym (ap (rule_by (λ row. row.1 == c.args.number))
+    (drop_of_length-le c.rows-row-items.result.now {i = c.loop-row.row-index} c.loop-row-test.false))
     ∙ c.loop-row.invariant
 
 pub returns-clause-none : goal.returns-clause-none
