@@ -22,9 +22,9 @@ PYTHON, RUST = "bindings/python/acpiset/_lists.py", "bindings/rust/src/lists.rs"
 EXPLAINED = "crates/acpi_c/src/explained.rt"
 RULE, ROWS = "crates/acpi_lint/src/rule.rt", "crates/acpi_lint/specs/Rules/Rows.antt"
 BOUNDS = "crates/acpi_lint/proofs/RuleNumbers.antt"
-SENTENCES = "share/acpiset/explain/sentences.py"
+ABOUT, SENTENCES = "share/acpiset/explain/about.py", "share/acpiset/explain/sentences.py"
 FAULTS, TABLES = "docs/FAULTS.md", "docs/TABLES.md"
-MADT, PPTT, SLOTS = "crates/acpi_lint/src/rows/madt.rt", "crates/acpi_lint/src/rows/pptt.rt", "crates/acpi_lint/src/slot_advice.rt"
+MADT, SLOTS, CACHES = (f"crates/acpi_lint/src/{name}.rt" for name in ("rows/madt", "slot_advice", "cache_types"))
 CODE, CODES = "crates/acpi_base/src/code.rt", "crates/acpi_base/specs/Codes.antt"
 TIMER = "155 TimerLevel, likely wrong (5.2.12.5): the override of ISA interrupt 0, the timer, is level-triggered."
 
@@ -51,9 +51,9 @@ COMPARED = [
     (FAULTS, "155 [TimerLevel](#155-timerlevel), ", "", [FAULTS]),
     (FAULTS, "- Numbers: `at` is the override's offset, `point` is its Flags.", "- Numbers: `at` is its offset.", [FAULTS]),
     (FAULTS, "- Numbers: `at` is the override's offset, `point` is its Flags.\n- Severity: likely wrong.\n", "", [FAULTS]),
-    (FAULTS, "| not looked at | 127, 128 |", "| not looked at | 127 |", [FAULTS]),
+    (FAULTS, "| not looked at | 127, 128, 309 |", "| not looked at | 127, 128 |", [FAULTS]),
     (TABLES, "| entry | 0 | Flags | 5.2.12.5 |", "| entry | 0 | Flags | 5.2.12.7 |", [TABLES]),
-    (TABLES, "| 127, 128 | not looked at", "| 127 | not looked at", [TABLES]),
+    (TABLES, "| 127, 128, 309 | not looked at", "| 127, 128 | not looked at", [TABLES]),
 ]
 # An edit, and the files that the script writes for it.
 WRITTEN = [
@@ -97,11 +97,12 @@ REFUSED = [
     (FAULTS, "- Fix: list the FADT.", "- Next: list the FADT.", "docs/FAULTS.md: the part of 19 NoFadt has no point Fix"),
     (TABLES, "| 155 TimerLevel |", "| 155 Timer |", "docs/TABLES.md: no row of 155 TimerLevel"),
 ]
-# The last rule with a number beyond 255 that does not follow on the one before.
+# The last rule, which is by hand, with a number beyond 999 that does not follow on the one before.
 LARGE = [
-    (PPTT, "184 PpttReserved", "1000 PpttReserved"),
-    (FAULTS, "### 184 PpttReserved", "### 1000 PpttReserved"),
-    (TABLES, "| 184 PpttReserved |", "| 1000 PpttReserved |"),
+    (CACHES, "311 SameCacheType", "1000 SameCacheType"),
+    (FAULTS, "### 311 SameCacheType", "### 1000 SameCacheType"),
+    (TABLES, "| 311 SameCacheType |", "| 1000 SameCacheType |"),
+    (ABOUT, "entries.pptt: (182, 311)", "entries.pptt: (182, 1000)"),
 ]
 
 
@@ -181,13 +182,14 @@ def refused(lists):
 def large_number(lists):
     for name, old, new in LARGE:
         lists.edit(name, old, new)
-    lists.is_silent("a number beyond 255, after a gap, that is written")
-    lists.is_silent("a number beyond 255, after a gap", "--check")
+    lists.is_silent("a number beyond 999, after a gap, that is written")
+    lists.is_silent("a number beyond 999, after a gap", "--check")
     for name, text in (
-        (RULE, '1000, "PpttReserved"),\n    // end: rules'), (ROWS, '(83, 1000, codes "PpttReserved")'), (BOUNDS, "rule_number r ≤ 1000"), (HEADER, "ACPISET_PPTT_RESERVED = 1000"),
-        (PYTHON, "    PpttReserved = 1000  #"), (RUST, "        PpttReserved = 1000,"), (SENTENCES, "    1000: ("), (FAULTS, "1000 [PpttReserved](#1000-pp"),
+        (RULE, '1000, "SameCacheType"),\n    // end: rules'), (ROWS, '(116, 1000, codes "SameCacheType")'), (BOUNDS, "rule_number r ≤ 1000"),
+        (HEADER, "ACPISET_SAME_CACHE_TYPE = 1000"), (PYTHON, "    SameCacheType = 1000  #"), (RUST, "        SameCacheType = 1000,"),
+        (SENTENCES, "    1000: ("), (FAULTS, "1000 [SameCacheType](#1000-samec"),
     ):
-        lists.count(f"a number beyond 255 in {name}", "" if text in (lists.top / name).read_text() else "it is not there")
+        lists.count(f"a number beyond 999 in {name}", "" if text in (lists.top / name).read_text() else "it is not there")
 
 
 def main():

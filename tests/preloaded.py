@@ -25,7 +25,7 @@ def build_object(scratch):
 
 
 # This many requests are refused each in its turn, and those after them in steps of a twentieth.
-EACH = 200
+EACH = 210
 
 
 def numbers():

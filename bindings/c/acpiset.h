@@ -128,7 +128,7 @@ struct acpiset_answer acpiset_confirm(const struct acpiset_piece *pieces, size_t
 
 /* The most findings that acpiset_lint of this version reports. A shared library of a later version may count more. */
 /* begin: most, made by scripts/lists.py */
-#define ACPISET_MOST_FINDINGS 143
+#define ACPISET_MOST_FINDINGS 176
 /* end: most */
 
 /* All that is wrong: the first fault of each code that has one, and then the first finding of each rule of advice that is
@@ -345,7 +345,40 @@ enum acpiset_rule {
     ACPISET_LEAF_AS_PARENT = 181,       /* a leaf is the Parent of a node */
     ACPISET_NO_PACKAGE = 182,           /* no node from a leaf to its root is a package */
     ACPISET_CACHE_NUMBERS = 183,        /* a cache's size or associativity is 0, or its size is not sets * ways * line size */
-    ACPISET_PPTT_RESERVED = 184         /* a field of the PPTT has a reserved value */
+    ACPISET_PPTT_RESERVED = 184,        /* a field of the PPTT has a reserved value */
+    ACPISET_RSDP_TEXT = 279,            /* the OEMID of the RSDP has a byte that is not printable */
+    ACPISET_ROOT_HEADER = 280,          /* the root table has a Revision that is not 1, or a text of its header has a byte that is not printable */
+    ACPISET_DSDT_TEXT = 281,            /* a text of the DSDT's header has a byte that is not printable */
+    ACPISET_FADT_PAST_REVISION = 282,   /* the FADT is longer than one of its Revision, or has the Revision 0 */
+    ACPISET_ARM_BOOT_EARLY = 283,       /* ARM_BOOT_ARCH is not 0 in a FADT older than 5.1, which does not have it */
+    ACPISET_FIXED_IN_REDUCED = 284,     /* the hardware is reduced, and SMI_CMD or a register block has an address */
+    ACPISET_SMI_HANDSHAKE = 285,        /* SMI_CMD is there, and one of ACPI_ENABLE and ACPI_DISABLE is 0 */
+    ACPISET_S4_BIOS_DIFFERS = 286,      /* S4BIOS_REQ of the FADT and S4BIOS_F of the FACS do not agree */
+    ACPISET_GPE_PAST_END = 287,         /* a GPE block has events above 255, for which there are no methods */
+    ACPISET_BLOCK_TOO_LONG = 288,       /* a register block is longer than a generic address structure can describe */
+    ACPISET_BLOCK_SPACE = 289,          /* a register block is neither in memory nor in I/O ports */
+    ACPISET_BLOCK_USUAL_WIDTH = 290,    /* a register block has another width than the usual one */
+    ACPISET_SLEEP_NOT_REDUCED = 291,    /* a sleep register has an address, and the hardware is not reduced */
+    ACPISET_FADT_FOR_RISCV = 292,       /* the MADT is of RISC-V, and the FADT is older than 6.6 */
+    ACPISET_GICC_SHORT = 293,           /* a GIC CPU interface has fewer than the 76 bytes of ACPI 5.1 */
+    ACPISET_GICC_NO_GICR = 294,         /* an enabled processor names no redistributor, and others do */
+    ACPISET_CAPABLE_NO_GICR = 295,      /* a processor is Online Capable, and there is no range of redistributors */
+    ACPISET_GICC_DIFFERS = 296,         /* the virtual interface, the maintenance interrupt or the mode of a usable processor is not that of the first one */
+    ACPISET_SAME_GICR_BASE = 297,       /* two enabled processors name the same redistributor */
+    ACPISET_PARKING_VERSION = 298,      /* a GIC CPU interface has a version of the parking protocol above 1 */
+    ACPISET_GICC_NO_PPI = 299,          /* an interrupt of a processor's profiling or trace is not private to it */
+    ACPISET_PIC_VERSION = 300,          /* a structure of LoongArch or RISC-V has a version that is not 1 */
+    ACPISET_FURTHER_RESERVED = 301,     /* a structure of a GIC, of LoongArch or of RISC-V has a reserved value */
+    ACPISET_HART_INVALID = 302,         /* a usable hart has an ID of all ones, which no hart has */
+    ACPISET_WAKEUP_MAILBOX = 303,       /* a Multiprocessor Wakeup structure is not of the length of its version, or has a wrong version, reserved bytes or address */
+    ACPISET_LAPIC_AT_ZERO = 304,        /* a Local APIC Address Override has the address 0 */
+    ACPISET_MADT_REVISION = 305,        /* the MADT has structures that its Revision does not have */
+    ACPISET_AFFINITY_RESERVED = 306,    /* a structure of a GIC, of RISC-V, or of an initiator or a port has a reserved value */
+    ACPISET_DEVICE_HANDLE = 307,        /* a device handle is neither of ACPI nor of PCI */
+    ACPISET_ITS_DOMAIN = 308,           /* an ITS is in a proximity domain that nothing else is in */
+    ACPISET_PPTT_UNREAD = 309,          /* a structure of the PPTT of a type that is not read */
+    ACPISET_CACHE_ID_ZERO = 310,        /* a cache has the Cache ID 0, and its flags say that the ID is valid */
+    ACPISET_SAME_CACHE_TYPE = 311       /* a node names two caches of one type, and neither is the Next Level of a cache that it names */
 };
 /* end: rules */
 
@@ -496,6 +529,39 @@ static inline const char *acpiset_number_name(uint32_t number) {
     case ACPISET_NO_PACKAGE: return "NoPackage";
     case ACPISET_CACHE_NUMBERS: return "CacheNumbers";
     case ACPISET_PPTT_RESERVED: return "PpttReserved";
+    case ACPISET_RSDP_TEXT: return "RsdpText";
+    case ACPISET_ROOT_HEADER: return "RootHeader";
+    case ACPISET_DSDT_TEXT: return "DsdtText";
+    case ACPISET_FADT_PAST_REVISION: return "FadtPastRevision";
+    case ACPISET_ARM_BOOT_EARLY: return "ArmBootEarly";
+    case ACPISET_FIXED_IN_REDUCED: return "FixedInReduced";
+    case ACPISET_SMI_HANDSHAKE: return "SmiHandshake";
+    case ACPISET_S4_BIOS_DIFFERS: return "S4BiosDiffers";
+    case ACPISET_GPE_PAST_END: return "GpePastEnd";
+    case ACPISET_BLOCK_TOO_LONG: return "BlockTooLong";
+    case ACPISET_BLOCK_SPACE: return "BlockSpace";
+    case ACPISET_BLOCK_USUAL_WIDTH: return "BlockUsualWidth";
+    case ACPISET_SLEEP_NOT_REDUCED: return "SleepNotReduced";
+    case ACPISET_FADT_FOR_RISCV: return "FadtForRiscv";
+    case ACPISET_GICC_SHORT: return "GiccShort";
+    case ACPISET_GICC_NO_GICR: return "GiccNoGicr";
+    case ACPISET_CAPABLE_NO_GICR: return "CapableNoGicr";
+    case ACPISET_GICC_DIFFERS: return "GiccDiffers";
+    case ACPISET_SAME_GICR_BASE: return "SameGicrBase";
+    case ACPISET_PARKING_VERSION: return "ParkingVersion";
+    case ACPISET_GICC_NO_PPI: return "GiccNoPpi";
+    case ACPISET_PIC_VERSION: return "PicVersion";
+    case ACPISET_FURTHER_RESERVED: return "FurtherReserved";
+    case ACPISET_HART_INVALID: return "HartInvalid";
+    case ACPISET_WAKEUP_MAILBOX: return "WakeupMailbox";
+    case ACPISET_LAPIC_AT_ZERO: return "LapicAtZero";
+    case ACPISET_MADT_REVISION: return "MadtRevision";
+    case ACPISET_AFFINITY_RESERVED: return "AffinityReserved";
+    case ACPISET_DEVICE_HANDLE: return "DeviceHandle";
+    case ACPISET_ITS_DOMAIN: return "ItsDomain";
+    case ACPISET_PPTT_UNREAD: return "PpttUnread";
+    case ACPISET_CACHE_ID_ZERO: return "CacheIdZero";
+    case ACPISET_SAME_CACHE_TYPE: return "SameCacheType";
     default: return "";
     }
 }
@@ -527,6 +593,7 @@ static inline uint32_t acpiset_severity_of(uint32_t number) {
     switch (number) {
     case ACPISET_MADT_UNREAD:
     case ACPISET_SRAT_UNREAD:
+    case ACPISET_PPTT_UNREAD:
         return ACPISET_NOT_LOOKED_AT;
     case ACPISET_SLIT_DIFFERS:
     case ACPISET_CACHE_SHAPE:
@@ -544,6 +611,23 @@ static inline uint32_t acpiset_severity_of(uint32_t number) {
     case ACPISET_LEAF_AS_PARENT:
     case ACPISET_CACHE_NUMBERS:
     case ACPISET_PPTT_RESERVED:
+    case ACPISET_RSDP_TEXT:
+    case ACPISET_ROOT_HEADER:
+    case ACPISET_DSDT_TEXT:
+    case ACPISET_FADT_PAST_REVISION:
+    case ACPISET_ARM_BOOT_EARLY:
+    case ACPISET_FIXED_IN_REDUCED:
+    case ACPISET_SMI_HANDSHAKE:
+    case ACPISET_S4_BIOS_DIFFERS:
+    case ACPISET_SLEEP_NOT_REDUCED:
+    case ACPISET_PARKING_VERSION:
+    case ACPISET_PIC_VERSION:
+    case ACPISET_FURTHER_RESERVED:
+    case ACPISET_MADT_REVISION:
+    case ACPISET_AFFINITY_RESERVED:
+    case ACPISET_DEVICE_HANDLE:
+    case ACPISET_CACHE_ID_ZERO:
+    case ACPISET_SAME_CACHE_TYPE:
         return ACPISET_LOOK_AT_IT;
     case ACPISET_LISTED_TWICE:
     case ACPISET_SECOND_TABLE:
@@ -611,6 +695,21 @@ static inline uint32_t acpiset_severity_of(uint32_t number) {
     case ACPISET_REMOTE_AS_LOCAL:
     case ACPISET_LEAF_UNFLAGGED:
     case ACPISET_NO_PACKAGE:
+    case ACPISET_GPE_PAST_END:
+    case ACPISET_BLOCK_TOO_LONG:
+    case ACPISET_BLOCK_SPACE:
+    case ACPISET_BLOCK_USUAL_WIDTH:
+    case ACPISET_FADT_FOR_RISCV:
+    case ACPISET_GICC_SHORT:
+    case ACPISET_GICC_NO_GICR:
+    case ACPISET_CAPABLE_NO_GICR:
+    case ACPISET_GICC_DIFFERS:
+    case ACPISET_SAME_GICR_BASE:
+    case ACPISET_GICC_NO_PPI:
+    case ACPISET_HART_INVALID:
+    case ACPISET_WAKEUP_MAILBOX:
+    case ACPISET_LAPIC_AT_ZERO:
+    case ACPISET_ITS_DOMAIN:
         return ACPISET_LIKELY_WRONG;
     default: return number >= 1 && number <= 59 ? ACPISET_FAULT : 0;
     }

@@ -13,7 +13,7 @@ POINT = re.compile(r"^- ([A-Z]\w*): (.*?)(?=^- |^\n|\Z)", re.M | re.S)
 # A section whose parts are on rules: what it is on. Sections of the standard follow.
 CHAPTER = re.compile(r"^## (?:Advice on (?:the )?)?(.*?)(?: \([\d., ]+\))?\n(.*?)(?=^## |\Z)", re.M | re.S)
 # A row of docs/TABLES.md on a rule, which ends with sections of the standard.
-ROW = re.compile(r"^(\| (\d+) ([A-Z]\w*) \|.*\|)([\d., ]*\|)$", re.M)
+ROW = re.compile(r"^(\| (\d+) ([A-Z]\w*) \|.*\|)([\d., to]*\|)$", re.M)
 
 
 # ---- what the page says

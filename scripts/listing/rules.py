@@ -19,7 +19,7 @@ from .tree import CRATES, Wrong, capital, named, text_of
 
 SOURCE = CRATES / "acpi_lint" / "src"
 SEVERITIES = ("not looked at", "look at it", "likely wrong")
-HEAD = re.compile(rf"(\d+) ([A-Z]\w*), ({'|'.join(SEVERITIES)})(?: \((\d[\d., ]*)\))?: ((?:(?!\. ).)+)\.")
+HEAD = re.compile(rf"(\d+) ([A-Z]\w*), ({'|'.join(SEVERITIES)})(?: \((\d[\d., to]*)\))?: ((?:(?!\. ).)+)\.")
 TOLD = re.compile(r'(?:If `(at|other|point)` is (0x[1-9a-f][0-9a-f]*|0): )?"([A-Z][^"]*\.)"')
 PLACE = re.compile(r"\{(at|other|point)(?::[ds])?\}")
 COMMENT = re.compile(r" *///? ?(.*)")

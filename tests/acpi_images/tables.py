@@ -104,10 +104,10 @@ def full_fadt(facs=FACS_AT, length=116, **fields):
 
 
 # Fields of a FADT on which there is no advice: a DSDT, which is nowhere in the images; the SCI and the register blocks of full hardware;
-# and of ACPI 6.5, whose FADT has this many bytes, the minor version and that a GIC's processors are started by firmware.
+# and of ACPI 6.6, whose FADT has this many bytes, the minor version and that a GIC's processors are started by firmware.
 WITH_DSDT = {"_40": number(DSDT_AT, 4)}
 WITH_BLOCKS = {"_46": number(9, 2), "_56": number(0x400, 4), "_64": number(0x404, 4), "_76": number(0x408, 4)}
-OF_6_5 = {"_129": b"\1\0\5"}
+OF_6_6 = {"_129": b"\1\0\6"}
 LAST_LENGTH = 276
 
 
@@ -117,8 +117,8 @@ def old_fadt(revision, length):
 
 
 def sound_fadt():
-    """A FADT of reduced hardware and of ACPI 6.5, on which there is no advice."""
-    return revised(fadt(length=LAST_LENGTH, **WITH_DSDT, **OF_6_5), 6)
+    """A FADT of reduced hardware and of ACPI 6.6, on which there is no advice."""
+    return revised(fadt(length=LAST_LENGTH, **WITH_DSDT, **OF_6_6), 6)
 
 
 def sound_full_fadt(facs=FACS_AT, **fields):

@@ -13,6 +13,7 @@ from pathlib import Path
 
 sys.path.insert(0, str(Path(__file__).resolve().parents[1]))
 
+import further
 import sets
 from acpi_images.program import IMAGES as FIRMWARE_AT, finish
 from explained import IMAGES, TOP, Tests
@@ -82,6 +83,17 @@ SENTENCES = [
     ("MadtReserved 0x3c 0x3 0x0", "The structure at 0x3c of the MADT has a reserved value at its offset 3."),
     ("SratReserved 0x24 0x0 0x2", "The number at 0x24 of the SRAT is 0x2, not 1."),
     ("SratReserved 0x30 0x4 0x0", "The structure at 0x30 of the SRAT has a reserved value at its offset 4."),
+    ("RootHeader 0x8 0x0 0x2", "The Revision of the root table, at 0x8, is 2, not 1."),
+    ("RootHeader 0x1c 0x0 0x41004141", "The text at 0x1c of the root table, 0x41004141 as a number, has a byte that is not printable."),
+    ("FadtPastRevision 0x8 0x0 0x0", "The FADT's Revision, at 0x8, is 0."),
+    ("FadtPastRevision 0x4 0xf4 0x10c", "The FADT's Length, at 0x4, is 268, and a FADT of its Revision has at most 244 bytes."),
+    ("SmiHandshake 0x35 0x0 0x0", "ACPI_DISABLE, at 0x35 of the FADT, is 0, and SMI_CMD and ACPI_ENABLE are not."),
+    ("S4BiosDiffers 0x36 0x0 0x0", "S4BIOS_REQ, at 0x36 of the FADT, is 0, and S4BIOS_F of the FACS is set."),
+    ("S4BiosDiffers 0x36 0x0 0x5", "S4BIOS_REQ, at 0x36 of the FADT, is 0x5, and S4BIOS_F of the FACS is clear."),
+    ("GpePastEnd 0x5c 0x0 0x42", "GPE0_BLK_LEN, at 0x5c of the FADT, is 66, which gives events above 255."),
+    ("GiccNoPpi 0x90 0x50 0x20", "..has the trace buffer interrupt 32, which is not private to a processor."),
+    ("WakeupMailbox 0x2c 0x18 0x10", "The wakeup structure at 0x2c of the MADT has 16 bytes, and one of its version has 24."),
+    ("WakeupMailbox 0x2c 0x8 0x1001", "..has the mailbox address 0x1001, which is 0 or no multiple of 4096."),
 ]
 
 
@@ -138,7 +150,7 @@ def refused_lines(tests):
     tests.refuses(1, "'\\x1b[2J\\xff'", text=b"\x1b[2J\xff\n")
     tests.refuses(1, "no line on standard input")
     tests.refuses(1, "standard input has more than 65,536 bytes", text=b"41 " * 1_000_000)
-    tests.refuses(1, "more than 100 lines", tests.file(sets.LEAF), text=b"yes\n" * 101)
+    tests.refuses(1, "more than 200 lines", tests.file(sets.LEAF), text=b"yes\n" * 201)
     tests.refuses(1, "absent: cannot be read", "absent", text=b"yes\n")
     tests.refuses(1, "\\x1b[2J: cannot be read", "\x1b[2J", text=b"yes\n")
     tests.refuses(1, "/: a directory: give the file with the image", "/", text=b"yes\n")
@@ -429,7 +441,7 @@ def advised(tests):
         ("0x2c", "type 12 length 24: gicd base 0x8000000 version 3"), ("0xec", "type 15 length 20: its id 4 base 0x8080000"),
         ("0x100", "type 13 length 24: msi-frame id 6 base 0x8020000"),
     ):
-        tests.says(f"advice MadtReserved {at} 0x10 0x0", [f"  {at} entry {text}", "byte 16 of it is 0x0"], sets.PARTS_OF_A_GIC)
+        tests.says(f"advice MadtReserved {at} 0x11 0x0", [f"  {at} entry {text}", "byte 17 of it is 0x0"], sets.PARTS_OF_A_GIC)
     for line, text in (
         ("X2ApicBelow255 0x2c 0x0 0x0", "the MADT has no usable local APIC with an APIC ID other than 255"),
         ("GicrTooSmall 0x2c 0x0 0x0", "the MADT has no GIC distributor of 24 bytes"),
@@ -440,21 +452,35 @@ def advised(tests):
     tests.says("advice PortsOverlap 0x30 0x50 0x0", "..at offset 0x30 (48) is no register block: is this the image", "example.img.txt")
 
 
+def numbered(tests):
+    """Fields and lengths that a line names by their offsets, and texts of headers."""
+    for line, texts, image in further.CASES:
+        tests.says(f"advice {line}", texts, image, without=[MISMATCH])
+    for line, texts, image in further.FIELDS:
+        tests.says(f"advice {line}", texts, image)
+    for line, text, image in further.MISMATCHES:
+        tests.says(f"advice {line}", f"{text}: i{MISMATCH}", image)
+    tests.says("advice MadtRevision 0x8 0x0 0x5", "Revision is 5", further.REVISION_5, without=["of Revision 3:"])
+
+
 def unread(tests):
     arm, caches = "q10-efi-virt-smp4.img.txt", "q11-efi-virt-caches.img.txt"
     by_advice = "looked at by the advice of lint only"
     tests.says("yes", f"  type 13 (GIC MSI frame): 1 at offset 0x184 (388): {by_advice}", arm, "--rsdp", "4f0b0018")
     tests.says("yes", f"  type 11 (GICC): 4, the first at offset 0x44 (68): {by_advice}", arm)
     tests.says("yes", f"  type 15 (GIC ITS): 1 at offset 0x2d4 (724): {by_advice}", caches, "--rsdp", "47fe0000")
-    tests.says("yes", "its MADT and SRAT have no structures of types that the stages do not check", "sb-q35-default.img.txt")
+    tests.says("yes", "its MADT, SRAT and PPTT have no structures of types that the stages do not check", "sb-q35-default.img.txt")
     tests.says("yes", "no RSDP is found in it: give its address with --rsdp HEX", b"@2000\n41\n")
     texts = ["  type 3 (GICC affinity): 1 at offset 0x30 (48): not looked at", "  type 11 (GICC): 1 at offset 0x2c (44): not looked at"]
     texts += [f"  type 3 (GICC affinity): 2, the first at offset 0x3e (62): {by_advice}"]
-    texts += ["  type 16 (multiprocessor wakeup): 1 at offset 0x53 (83): not looked at"]
+    texts += [f"  type 16 (multiprocessor wakeup): 1 at offset 0x53 (83): {by_advice}"]
+    texts += ["  type 28: 2, the first at offset 0x63 (99): not looked at", f"  type 25 (IMSIC): 1 at offset 0x6b (107): {by_advice}"]
+    texts += ["  type 25 (IMSIC): 1 at offset 0x7b (123): not looked at", f"  type 27 (PLIC): 1 at offset 0x8c (140): {by_advice}"]
+    texts += ["  type 2 (ID structure): 2, the first at offset 0x38 (56): not looked at"]
     tests.says("yes", texts, sets.UNREAD)
     head = "structures of this table that neither the stages nor advice look at:"
-    texts = [head, "  type 11 (GICC): 1 at offset 0x2c (44)", "  type 16 (multiprocessor wakeup): 1 at offset 0x53 (83)"]
-    tests.says("advice MadtUnread 0x2c 0xb 0x0", texts, sets.UNREAD)
+    texts = [head, "  type 11 (GICC): 1 at offset 0x2c (44)", "  type 28: 2, the first at offset 0x63 (99)", "  type 25 (IMSIC): 1 at offset 0x7b (123)"]
+    tests.says("advice MadtUnread 0x2c 0xb 0x0", texts, sets.UNREAD, without=["multiprocessor wakeup): ", "PLIC"])
     texts = [head, "  type 3 (GICC affinity): 1 at offset 0x30 (48)"]
     tests.says("advice SratUnread 0x30 0x3 0x0", texts, sets.UNREAD, without=["offset 0x3e"])
     texts = [f"  type {kind} ({name}): 1 at offset {at}: {told}" for kind, name, at, told in (
@@ -485,7 +511,7 @@ def judged(tests):
     asked = "(acpiset is neither beside this tool nor on PATH, so it was not asked whether the image has this)"
     tests.says("no 10 Overlap 0x50 0x78 0x0", [asked, f"..no address is in both: i{MISMATCH}"], "example.img.txt", tool=alone)
     tests.says(OVERLAP, [asked, "both cover 0x100000000 to 0x107ffffff"], "sb-pc-nvdimm-numa.img.txt", tool=alone, without=[MISMATCH])
-    nothing_else = "its MADT and SRAT have no structures of types that the stages do not check"
+    nothing_else = "its MADT, SRAT and PPTT have no structures of types that the stages do not check"
     tests.says("yes", nothing_else, "sb-q35-default.img.txt", tool=alone, without=["acpiset is neither"])
     tests.path = os.path.join(tests.scratch, "whole") + ":" + tests.path
     tests.says("no 10 Overlap 0x50 0x78 0x0", f"..{DOUBT}", "example.img.txt", tool=alone)
@@ -611,6 +637,8 @@ def many(tests):
     tests.refuses(1, "a line has more than 65,536 bytes", tests.file(long_line), text=b"yes\n")
     chain = ["..and 99000 more, up to the one at 0x1e8490", "it names the one at 0x24 again: 100000 of these 100000 are the cycle"]
     tests.says("no 14 ParentCycle 0x24 0x0 0x186a0", chain, sets.image_of(sets.long_pptt(100_000)))
+    # Lint can write one line of each fault and of each rule.
+    tests.says("yes\n" * 200, "yes", sets.LEAF)
     # Of two chains 1,000 structures are listed together, and of each one the first.
     lines = "no 14 ParentCycle 0x24 0x0 0x3e8\nno 14 ParentCycle 0x38 0x0 0x3e8"
     tests.says(lines, ["..node 1000 of the chain", "and 999 more, up to the one at 0x24"], sets.image_of(sets.long_pptt(1000)), without=["node 2 of the chain at offset 0x4c"])
@@ -635,7 +663,7 @@ def many(tests):
         tests.refuses(2, "one line, name or code, and one image at most", *words)
 
 
-PARTS = [lines_without_image, sentences, refused_lines, structures, chains, numbers, fields, advised, unread, judged, other_programs]
+PARTS = [lines_without_image, sentences, refused_lines, structures, chains, numbers, fields, advised, numbered, unread, judged, other_programs]
 PARTS += [shown, image_texts, streams, places, many, terminal]
 
 

@@ -58,10 +58,11 @@ GICC = bytes([11, 80]) + bytes(6) + number(21, 4) + number(1, 4) + bytes(64)
 AFFINITY = bytes([3, 18]) + number(6, 4) + number(22, 4) + number(1, 4) + bytes(4)
 ARM = image_of(madt(GICC), srat(AFFINITY))
 NONE_USABLE = image_of(madt(rintc(5, flags=0), core_pic(6, 3, flags=0)))
-# Structures at which the stages do not look: a GICC that is too short for advice too, and a wakeup structure.
+# Structures at which the stages do not look: of the MADT a GICC that is too short for advice too, a wakeup structure, two of a type that
+# is not known, an IMSIC and one with a byte more, and a PLIC, at 0x2c, 0x53, 0x63, 0x67, 0x6b, 0x7b and 0x8c.
 UNREAD = image_of(
-    madt(bytes([11, 39]) + bytes(37), bytes([16, 16]) + bytes(14)),
-    srat(bytes([3, 14]) + bytes(12), bytes([3, 18]) + bytes(16), bytes([3, 18]) + bytes(16)),
+    madt(other(11, 39), other(16, 16), other(28, 4), other(28, 4), other(25, 16), other(25, 17), other(27, 36)),
+    srat(other(3, 14), other(3, 18), other(3, 18)), pptt(node(), other(2, 4), other(2, 8)),
 )
 # Parts of a GIC, of which the advice looks at the third alone: the others have a byte less or more than their type has.
 GIC = image_of(madt(gicd(23), other(13, 25), other(14, 16), other(15, 21)))

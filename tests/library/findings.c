@@ -37,7 +37,7 @@ static bool is_in_order(struct acpiset_answer answer) {
     size_t count = (size_t)(answer.at + answer.other);
     for (size_t i = 0; i < count; i++) {
         bool is_fault = i < answer.at;
-        if (is_fault ? all[i].number < 1 || all[i].number > 59 : all[i].number < 101 || all[i].number > 184) return false;
+        if (is_fault ? all[i].number < 1 || all[i].number > 59 : all[i].number < 101 || all[i].number > 311) return false;
         if (i > 0 && all[i].number <= all[i - 1].number) return false;
     }
     return true;

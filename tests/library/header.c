@@ -6,7 +6,7 @@
 #include <stdio.h>
 
 int main(void) {
-    for (uint32_t number = 0; number < 300; number++) {
+    for (uint32_t number = 0; number < 400; number++) {
         const char *name = acpiset_number_name(number);
         if (*name || acpiset_stage_of(number) || acpiset_severity_of(number))
             printf("%lu %s %lu %lu\n", (unsigned long)number, name, (unsigned long)acpiset_stage_of(number),

@@ -1,6 +1,6 @@
 """The header of the library: its lists, which compilers accept it, and what it says when it is compiled."""
 
-from acpi_images.advice import RULES
+from acpi_images.advice import RULES_BY_NUMBER
 from acpi_images.faults import STAGE_OF
 from builds import HEADER, HERE, TOP, difference, refused_by, run, syntaxes
 
@@ -65,8 +65,10 @@ BadLine NoAddress TextOverlap TextPastEnd TextTooLong Unaligned TableTooLong Pas
 
 
 # The rules of which nothing is known to be wrong, and those whose findings may be right; those of all others are likely wrong.
-NOT_LOOKED_AT = {127, 128}
-LOOK_AT_IT = {121, 123, 129, *range(145, 150), 153, 157, 158, 172, 178, 181, 183, 184}
+NOT_LOOKED_AT = {127, 128, 309}
+LOOK_AT_IT = {
+    121, 123, 129, *range(145, 150), 153, 157, 158, 172, 178, 181, 183, 184, *range(279, 287), 291, 298, 300, 301, 305, 306, 307, 310, 311,
+}
 
 
 def severity(rule):
@@ -78,8 +80,8 @@ def names():
     above."""
     for number, (name, stage) in enumerate(STAGE_OF.items(), 1):
         yield f"{number} {name} {stage} 4"
-    for number, name in enumerate(RULES, 101):
-        yield f"{number} {name} 0 {severity(number)}"
+    for number, rule in sorted(RULES_BY_NUMBER.items()):
+        yield f"{number} {rule.name} 0 {severity(number)}"
     for number, name in enumerate(KINDS):
         yield f"kind {number} {name}"
     yield "settings 32 e0000 24 0 0 18"

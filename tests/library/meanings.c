@@ -3,7 +3,7 @@
 
 #include <string.h>
 
-enum { ROOM = 4096, LAST = 300 };
+enum { ROOM = 4096, LAST = 400 };
 
 static char room[ROOM];
 

@@ -19,7 +19,7 @@ from pathlib import Path
 sys.path.insert(0, str(Path(__file__).resolve().parents[1]))
 
 from acpi_images.generated.near import (
-    APIC_AFFINITY, BESIDE_IN_MADT, BESIDE_IN_SRAT, CACHES, CHILD, GICC, GICC_AFFINITY, LAPIC, MADT_LENGTHS, NODES, OVERRIDE, PAIRS, SRAT_LENGTHS,
+    APIC_AFFINITY, BESIDE_IN_MADT, BESIDE_IN_SRAT, CACHES, CHILD, GICC, GICC_AFFINITY, LAPIC, MADT_LENGTHS, NODES, OVERRIDE, PAIRS, RINTC, SRAT_LENGTHS,
     blocks_fadt, entry, madt, of_length, pptt, slit, srat,
 )  # fmt: skip
 from acpi_images.program import SECONDS, Cases, finish
@@ -33,7 +33,8 @@ ORDER = (b"FACP", b"APIC", b"SRAT", b"SLIT", b"PPTT")
 
 
 def fadts():
-    """FADTs with all fields, and such that end at a field or have another Revision; in one only one of two commands is written."""
+    """FADTs with all fields, and such that end at a field or have another Revision; in one only one of two commands is written, in others
+    blocks are too long."""
     yield table(b"FACP", bytes(240), 6)
     yield from (bytes(blocks_fadt(flags)) for flags in (0, 1 << 20))
     lengths = ((116, 1), (132, 2), (131, 5), (132, 5), (276, 5), (131, 6), (132, 6), (244, 3), (268, 5), (276, 6))
@@ -41,6 +42,8 @@ def fadts():
     data = blocks_fadt()
     data[52] = 0
     yield bytes(data)
+    data[60:64], data[68:72], data[88:92] = bytes(4), bytes(4), bytes([40] * 4)
+    yield from (of_length(data, length, 3) for length in (160, 172, 184, 196, 208, 220))
 
 
 def madts():
@@ -55,6 +58,11 @@ def madts():
     yield madt(entry(11, 82, (12, 4, 1), (60, 8, 0x0102030405060708)), entry(14, 16, (4, 8, 0x1000), (12, 4, 0x1000)))
     yield from (madt(entry(*how)) for how in MADT_LENGTHS.items())
     yield madt(LAPIC, OVERRIDE, entry(6, 12))
+    others = ((10, 82), (11, 59), (11, 82), (12, 82))
+    yield from (madt(GICC, entry(*how, (12, 4, 1), (40, 8, 5))) for how in others)
+    for size, version in product(range(2, 27), (0, 1, 2)):
+        wakeup = entry(16, 26, (2, 2, version), (8, 8, 0x1000))
+        yield madt(bytes((16, size)) + wakeup[2:size])
 
 
 def srats():
@@ -81,6 +89,11 @@ def sets():
     yield from product(pptts(), some_madts)
     for (one, affinity), beside in product(PAIRS, ((), (APIC_AFFINITY,), (GICC_AFFINITY,))):
         yield madt(one), srat(*beside, affinity)
+    for length in (131, 132, 133):
+        data = blocks_fadt()
+        data[131] = 6
+        yield of_length(data, length, 6), madt(RINTC)
+    yield (srat(entry(0, 16, (2, 1, 1), (4, 4, 1), (9, 3, 1)), entry(4, 12, (2, 4, 0x101))),)
     for count in (256, 257):
         yield srat(entry(0, 16, (4, 4, 1), (9, 1, 1))), slit(count, count * count)
 

@@ -39,10 +39,15 @@ def advised(*advice, first="yes"):
 # ---- the MADT
 
 
+def madt_of(*entries):
+    """A MADT of Revision 6, which has all types of entries."""
+    return revised(madt(*entries), 6)
+
+
 def interrupt_sources():
     """A processor, an I/O APIC from 0 on, and NMI sources of a number that it serves, but for the last one."""
     fault = f"no 17 GsiNowhere {44 + 8 + 12 + 8 * LAST:#x} 0x0 0x18"
-    yield "the last", madt(lapic(0, 0), io_apic(0xFEC00000, 0), nmi_source(23) * LAST, nmi_source(24)), advised(first=fault)
+    yield "the last", madt_of(lapic(0, 0), io_apic(0xFEC00000, 0), nmi_source(23) * LAST, nmi_source(24)), advised(first=fault)
 
 
 def processors():
@@ -53,7 +58,7 @@ def processors():
     entries = b"".join(entry.pack(9, 16, 0, apic_id, 1, uid) for apic_id, uid in numbers)
     last = 44 + 16 * LAST
     advice = f"SameUid {last:#x} 0x2c {COUNT:#x}", f"SameApicId {last:#x} 0x2c", f"NoLeaf 0x3c 0x0 {COUNT - 1:#x}"
-    yield "the last", (madt(entries), pptt(core(COUNT), core(1))), advised(*advice, first="no 18 LeafUnknown 0x38 0x0 0x1")
+    yield "the last", (madt_of(entries), pptt(core(COUNT), core(1))), advised(*advice, first="no 18 LeafUnknown 0x38 0x0 0x1")
 
 
 def io_apics():
@@ -61,9 +66,9 @@ def io_apics():
     entry = struct.Struct("<BBBBII")
     apics = lambda address: b"".join(entry.pack(1, 12, place % 256, 0, address(place), 24 * place) for place in range(COUNT))
     repeated = advised(f"SameIoApicId {52 + 12 * 256:#x} 0x34")
-    yield "rising", madt(lapic(0, 0), apics(lambda place: 0x1000 * (place + 1))), repeated
+    yield "rising", madt_of(lapic(0, 0), apics(lambda place: 0x1000 * (place + 1))), repeated
     order = random.Random(5).sample(range(COUNT), COUNT)
-    yield "in no order", madt(lapic(0, 0), apics(lambda place: 0x1000 * (order[place] + 1))), repeated
+    yield "in no order", madt_of(lapic(0, 0), apics(lambda place: 0x1000 * (order[place] + 1))), repeated
 
 
 def x2apics():
@@ -71,19 +76,19 @@ def x2apics():
     entry = struct.Struct("<BBHIII")
     ids, uids = (random.Random(seed).sample(range(2**32 - 1), COUNT) for seed in (3, 4))
     alike = [entry.pack(9, 16, 0, apic_id, 1, uid) for apic_id, uid in zip(ids, uids)]
-    yield "clean", madt(*alike), advised()
+    yield "clean", madt_of(*alike), advised()
     repeated = lambda at: (f"SameUid {at:#x} 0x2c {uids[0]:#x}", f"SameApicId {at:#x} 0x2c {ids[0]:#x}")
-    yield "the last", madt(*alike[:-1], alike[0]), advised(*repeated(44 + 16 * LAST))
+    yield "the last", madt_of(*alike[:-1], alike[0]), advised(*repeated(44 + 16 * LAST))
     half = COUNT // 2
-    yield "each twice", madt(*alike[:half], *alike[:half]), advised(*repeated(44 + 16 * half))
+    yield "each twice", madt_of(*alike[:half], *alike[:half]), advised(*repeated(44 + 16 * half))
 
 
 def unread_entries():
     """A processor, and entries of two bytes of a type without a meaning; behind them a range of redistributors of no bytes."""
     entries = lapic(0, 0) + bytes((0x80, 2)) * COUNT
-    yield "all", madt(entries), advised("MadtUnread 0x34 0x80")
+    yield "all", madt_of(entries), advised("MadtUnread 0x34 0x80")
     empty = struct.pack("<BBHQI", 14, 16, 0, 0x20000, 0)
-    yield "the last", madt(entries, empty), advised("MadtUnread 0x34 0x80", f"GicrEmpty {52 + 2 * COUNT:#x} 0x0 0x20000")
+    yield "the last", madt_of(entries, empty), advised("MadtUnread 0x34 0x80", f"GicrEmpty {52 + 2 * COUNT:#x} 0x0 0x20000")
 
 
 def giccs():
@@ -92,22 +97,22 @@ def giccs():
     mpidr = lambda place: (GICCS - place & 0xFFFFFF) | (place % 256) << 32
     alike = b"".join(entry.pack(11, 80, place, 1, mpidr(place)) for place in range(GICCS))
     last = 44 + 80 * GICCS
-    yield "clean", madt(alike, gicd()), advised()
-    yield "the last", madt(alike, gicd(), entry.pack(11, 80, 0, 1, mpidr(0))), advised(
+    yield "clean", madt_of(alike, gicd()), advised()
+    yield "the last", madt_of(alike, gicd(), entry.pack(11, 80, 0, 1, mpidr(0))), advised(
         f"SameUid {last + 24:#x} 0x2c", f"SameMpidr {last + 24:#x} 0x2c {mpidr(0):#x}"
     )
     wrong = b"".join(entry.pack(11, 80, place, 1, place << 24) for place in range(GICCS))
-    yield "all", madt(wrong, gicd()), advised("MpidrReserved 0x7c 0x0 0x1000000")
+    yield "all", madt_of(wrong, gicd()), advised("MpidrReserved 0x7c 0x0 0x1000000")
 
 
 def harts():
     """Harts whose UIDs rise and whose IDs fall; the last of them has the ID of the first."""
     entry = struct.Struct("<BBHIQI")
     alike = [entry.pack(24, 20, 1, 1, COUNT - place, place) for place in range(COUNT)]
-    yield "clean", madt(*alike), advised()
-    yield "the last", madt(*alike[:-1], entry.pack(24, 20, 1, 1, COUNT, LAST)), advised(f"SameHart {44 + 20 * LAST:#x} 0x2c {COUNT:#x}")
+    yield "clean", madt_of(*alike), advised()
+    yield "the last", madt_of(*alike[:-1], entry.pack(24, 20, 1, 1, COUNT, LAST)), advised(f"SameHart {44 + 20 * LAST:#x} 0x2c {COUNT:#x}")
     one = (entry.pack(24, 20, 1, 3, 0, place) for place in range(COUNT))
-    yield "all", madt(*one), advised("EnabledAndCapable 0x2c 0x0 0x3", "SameHart 0x40 0x2c")
+    yield "all", madt_of(*one), advised("EnabledAndCapable 0x2c 0x0 0x3", "SameHart 0x40 0x2c")
 
 
 def overrides():
@@ -115,14 +120,14 @@ def overrides():
     number; and of 256 sources."""
     before = lapic(0, 0) + io_apic(0xFEC00000, 0)
     alike = b"".join(override(source, source) for source in range(16)) * (COUNT // 16)
-    yield "clean", madt(before, alike), advised()
+    yield "clean", madt_of(before, alike), advised()
     last = 64 + 10 * COUNT
     past = advised(f"OverridePastIsa {last:#x} 0x13 0x3", f"TwoSourcesOneGsi {last:#x} 0x5e 0x3")
-    yield "the last", madt(before, alike, override(19, 3)), past
+    yield "the last", madt_of(before, alike, override(19, 3)), past
     one = b"".join(override(source, 2) for source in range(16)) * (COUNT // 16)
-    yield "all", madt(before, one), advised("TwoSourcesOneGsi 0x4a 0x40 0x2")
+    yield "all", madt_of(before, one), advised("TwoSourcesOneGsi 0x4a 0x40 0x2")
     many = b"".join(override(source, source % 24) for source in range(256)) * (COUNT // 256)
-    yield "256 sources", madt(before, many), advised("OverridePastIsa 0xe0 0x10 0x10", "TwoSourcesOneGsi 0x130 0x40")
+    yield "256 sources", madt_of(before, many), advised("OverridePastIsa 0xe0 0x10 0x10", "TwoSourcesOneGsi 0x130 0x40")
 
 
 def redistributors():
@@ -130,12 +135,12 @@ def redistributors():
     entry = struct.Struct("<BBHQI")
     ranges = lambda base, size: b"".join(entry.pack(14, 16, 0, base(place), size) for place in range(COUNT))
     falling = ranges(lambda place: 0x20000 * (COUNT - place), 0x20000)
-    yield "clean", madt(lapic(0, 0), falling), advised()
-    yield "the last two", madt(lapic(0, 0), falling, entry.pack(14, 16, 0, 0x3FFFF, 1)), advised(
+    yield "clean", madt_of(lapic(0, 0), falling), advised()
+    yield "the last two", madt_of(lapic(0, 0), falling, entry.pack(14, 16, 0, 0x3FFFF, 1)), advised(
         f"GicOverlap {52 + 16 * LAST:#x} {52 + 16 * COUNT:#x} 0x3ffff"
     )
-    yield "all", madt(lapic(0, 0), ranges(lambda _: 0x20000, 0x20000)), advised("GicOverlap 0x34 0x44 0x20000")
-    yield "all empty", madt(lapic(0, 0), ranges(lambda _: 0x20000, 0)), advised("GicrEmpty 0x34 0x0 0x20000")
+    yield "all", madt_of(lapic(0, 0), ranges(lambda _: 0x20000, 0x20000)), advised("GicOverlap 0x34 0x44 0x20000")
+    yield "all empty", madt_of(lapic(0, 0), ranges(lambda _: 0x20000, 0)), advised("GicrEmpty 0x34 0x0 0x20000")
 
 
 def its_and_frames():
@@ -147,16 +152,16 @@ def its_and_frames():
         [*(of_its.pack(15, 20, 0, number(place), 0x20000 * (COUNT - place)) for place in range(half))]
         + [*(of_frame.pack(13, 24, 0, number(place), 0x1000 * place) for place in range(half))]
     )
-    yield "clean", madt(lapic(0, 0), entries(lambda place: half - place)), advised()
+    yield "clean", madt_of(lapic(0, 0), entries(lambda place: half - place)), advised()
     frames = 52 + 20 * half
     alike = advised("SameIts 0x48 0x34 0x7", f"SameMsiFrame {frames + 24:#x} {frames:#x} 0x7")
-    yield "all", madt(lapic(0, 0), entries(lambda _: 7)), alike
+    yield "all", madt_of(lapic(0, 0), entries(lambda _: 7)), alike
 
 
 def distributors():
     """A processor, and distributors with a reserved byte each."""
     entries = gicd() + placed(gicd(), _16=b"\1") * LAST
-    yield "all", madt(lapic(0, 0), entries), advised("SecondGicd 0x4c 0x34", "GicOverlap 0x34 0x4c", "MadtReserved 0x4c 0x10")
+    yield "all", madt_of(lapic(0, 0), entries), advised("SecondGicd 0x4c 0x34", "GicOverlap 0x34 0x4c", "MadtReserved 0x4c 0x10")
 
 
 # ---- the SRAT and the SLIT
@@ -175,10 +180,11 @@ def affinities_of_its():
     of_madt, of_srat = struct.Struct("<BBHIQ4x"), struct.Struct("<BBI2xI")
     entries = b"".join(of_madt.pack(15, 20, 0, PAIRS - place, 0x20000 * place) for place in range(PAIRS))
     affinities = lambda last: b"".join(of_srat.pack(4, 12, 0, place + 1) for place in range(PAIRS - 1)) + of_srat.pack(4, 12, 0, last)
-    there = madt(lapic(0, 0), entries)
-    yield "clean", (there, srat(affinities(PAIRS))), advised()
+    there = madt_of(lapic(0, 0), entries)
+    # the domain of them all has memory too
+    yield "clean", (there, srat(affinities(PAIRS), memory(0, 1))), advised()
     nowhere = advised(f"ItsNowhere {48 + 12 * (PAIRS - 1):#x} 0x0 {PAIRS + 1:#x}")
-    yield "the last", (there, srat(affinities(PAIRS + 1))), nowhere
+    yield "the last", (there, srat(affinities(PAIRS + 1), memory(0, 1))), nowhere
 
 
 def localities():

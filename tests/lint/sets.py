@@ -74,7 +74,7 @@ def of_few(count):
         ("overrides", [*before, *overrides, override(0, 0)], advised()),
         ("overrides, the last to a number of another source", [*before, *overrides, override(19, 3)], two),
     ):
-        yield Case(f"{count} {name}", text_with(madt(*tables)), AT_SEED, lines)
+        yield Case(f"{count} {name}", text_with(revised(madt(*tables), 6)), AT_SEED, lines)
 
 
 def of_row(row):

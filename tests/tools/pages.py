@@ -220,6 +220,19 @@ def findings(cases):
         cases.count(f"the page of {line}", "; ".join(wrong))
 
 
+def marked_twice(cases):
+    """The pictures show each of the two places that some findings are about."""
+    known = {line.split()[1]: text for line, text in examples()}
+    for name, picture, titles in (
+        ("S4BiosDiffers", "map", ["Fixed ACPI Description Table", "Firmware ACPI Control Structure"]),
+        ("DsdtText", "map", ["Fixed ACPI Description Table", "Differentiated System Description Table"]),
+        ("SameGicrBase", "processors", ["UID 2", "UID 3"]), ("SameMpidr", "processors", ["UID 2", "UID 3"]),
+    ):
+        found = [title for title in made(cases, known[name], ["--rsdp", "e0000"]).titles(picture) if f"; advice 1: {name}" in title]
+        missing = [title for title in titles if not any(one.startswith(title) for one in found)]
+        cases.count(f"the places of {name}", missing and f"{missing} are not in {found}", len(found) != len(titles) and f"{found}")
+
+
 def cards_have(cases):
     """The parts of a card."""
     page = made(cases, text_of(numa_set()), ["--rsdp", "e0000"], 1)
@@ -460,7 +473,8 @@ def opened(cases):
 
 
 PARTS = (
-    read_back, from_bytes, findings, cards_have, pictures_have, from_lines, dumps, bad_files, ways_on, alone, hostile, large, opened,
+    read_back, from_bytes, findings, marked_twice, cards_have, pictures_have, from_lines, dumps, bad_files, ways_on, alone, hostile, large,
+    opened,
 )
 
 

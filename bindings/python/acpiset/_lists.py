@@ -157,6 +157,39 @@ class Rule(IntEnum):
     NoPackage = 182  # no node from a leaf to its root is a package
     CacheNumbers = 183  # a cache's size or associativity is 0, or its size is not sets * ways * line size
     PpttReserved = 184  # a field of the PPTT has a reserved value
+    RsdpText = 279  # the OEMID of the RSDP has a byte that is not printable
+    RootHeader = 280  # the root table has a Revision that is not 1, or a text of its header has a byte that is not printable
+    DsdtText = 281  # a text of the DSDT's header has a byte that is not printable
+    FadtPastRevision = 282  # the FADT is longer than one of its Revision, or has the Revision 0
+    ArmBootEarly = 283  # ARM_BOOT_ARCH is not 0 in a FADT older than 5.1, which does not have it
+    FixedInReduced = 284  # the hardware is reduced, and SMI_CMD or a register block has an address
+    SmiHandshake = 285  # SMI_CMD is there, and one of ACPI_ENABLE and ACPI_DISABLE is 0
+    S4BiosDiffers = 286  # S4BIOS_REQ of the FADT and S4BIOS_F of the FACS do not agree
+    GpePastEnd = 287  # a GPE block has events above 255, for which there are no methods
+    BlockTooLong = 288  # a register block is longer than a generic address structure can describe
+    BlockSpace = 289  # a register block is neither in memory nor in I/O ports
+    BlockUsualWidth = 290  # a register block has another width than the usual one
+    SleepNotReduced = 291  # a sleep register has an address, and the hardware is not reduced
+    FadtForRiscv = 292  # the MADT is of RISC-V, and the FADT is older than 6.6
+    GiccShort = 293  # a GIC CPU interface has fewer than the 76 bytes of ACPI 5.1
+    GiccNoGicr = 294  # an enabled processor names no redistributor, and others do
+    CapableNoGicr = 295  # a processor is Online Capable, and there is no range of redistributors
+    GiccDiffers = 296  # the virtual interface, the maintenance interrupt or the mode of a usable processor is not that of the first one
+    SameGicrBase = 297  # two enabled processors name the same redistributor
+    ParkingVersion = 298  # a GIC CPU interface has a version of the parking protocol above 1
+    GiccNoPpi = 299  # an interrupt of a processor's profiling or trace is not private to it
+    PicVersion = 300  # a structure of LoongArch or RISC-V has a version that is not 1
+    FurtherReserved = 301  # a structure of a GIC, of LoongArch or of RISC-V has a reserved value
+    HartInvalid = 302  # a usable hart has an ID of all ones, which no hart has
+    WakeupMailbox = 303  # a Multiprocessor Wakeup structure is not of the length of its version, or has a wrong version, reserved bytes or address
+    LapicAtZero = 304  # a Local APIC Address Override has the address 0
+    MadtRevision = 305  # the MADT has structures that its Revision does not have
+    AffinityReserved = 306  # a structure of a GIC, of RISC-V, or of an initiator or a port has a reserved value
+    DeviceHandle = 307  # a device handle is neither of ACPI nor of PCI
+    ItsDomain = 308  # an ITS is in a proximity domain that nothing else is in
+    PpttUnread = 309  # a structure of the PPTT of a type that is not read
+    CacheIdZero = 310  # a cache has the Cache ID 0, and its flags say that the ID is valid
+    SameCacheType = 311  # a node names two caches of one type, and neither is the Next Level of a cache that it names
 
 
 # The stage of each code.
@@ -177,6 +210,9 @@ SEVERITY_OF: Dict[int, int] = {
     149: 2, 150: 3, 151: 3, 152: 3, 153: 2, 154: 3, 155: 3, 156: 3, 157: 2, 158: 2, 159: 3, 160: 3,
     161: 3, 162: 3, 163: 3, 164: 3, 165: 3, 166: 3, 167: 3, 168: 3, 169: 3, 170: 3, 171: 3, 172: 2,
     173: 3, 174: 3, 175: 3, 176: 3, 177: 3, 178: 2, 179: 3, 180: 3, 181: 2, 182: 3, 183: 2, 184: 2,
+    279: 2, 280: 2, 281: 2, 282: 2, 283: 2, 284: 2, 285: 2, 286: 2, 287: 3, 288: 3, 289: 3, 290: 3,
+    291: 2, 292: 3, 293: 3, 294: 3, 295: 3, 296: 3, 297: 3, 298: 2, 299: 3, 300: 2, 301: 2, 302: 3,
+    303: 3, 304: 3, 305: 2, 306: 2, 307: 2, 308: 3, 309: 1, 310: 2, 311: 2,
 }
 
 # What each means and what to fix: lines of text, with an LF between any two.
@@ -683,10 +719,10 @@ TEXT_OF: Dict[int, str] = {
         "16, not its hart ID at 8; of a CORE PIC at 3, not its core ID at 7."
     ),
     127: (
-        "The MADT has a structure that no stage and no rule looks at: one of a type other than 0 to 5, 9 to 15, 17 and 24, a GICC "
-        "(11) shorter than 40 bytes, a GICD (12) or an MSI frame (13) of other than 24, a GICR (14) of other than 16, an ITS (15) "
-        "of other than 20, a CORE PIC (17) of other than 15, or an RINTC (24) shorter than 20. `acpiset` uses only its type and "
-        "length.\n"
+        "The MADT has a structure of a type or length that is not read: of types 6 to 8, or from 28 on; or of another length than "
+        "40 or more (type 11), 24 (12, 13), 16 (14, 25), 20 (15), 16 or 24 (16), 15 (17), 23 (18), 21 (19), 13 (20), 19 (21), 17 "
+        "(22), 14 (23), 20 or more (24), or 36 (26, 27). `acpiset` uses only its type and length, and of type 16 the fields of "
+        "WakeupMailbox.\n"
         "Numbers: `at` is the offset of the first one, `other` its type.\n"
         "Fix: nothing is known to be wrong. Check these structures by other means, such as `iasl -d`. `show` prints the offset, "
         "type and length of each, and `acpiset-explain` counts them for a `yes`."
@@ -1044,5 +1080,203 @@ TEXT_OF: Dict[int, str] = {
         "bit 4 in the flags of a node, above bit 7 in those of a cache, above bit 4 in the attributes of a cache.\n"
         "Numbers: `at` is the structure's offset, `other` the offset in it of the first field or byte that is wrong.\n"
         "Fix: write 0 to reserved bytes and bits."
+    ),
+    279: (
+        "The OEMID of the RSDP has a byte that is not printable ASCII, 0x20 to 0x7e. Zeros at its end are allowed. Applies if 20 "
+        "bytes of the RSDP are in the image.\n"
+        "Numbers: `at` is 0x9, the offset of OEMID in the RSDP, `point` is its 6 bytes as a number.\n"
+        "Fix: write the complete text, with blanks or zeros after its last letter."
+    ),
+    280: (
+        "A text in the header of the XSDT or RSDT has a byte that is neither printable ASCII, 0x20 to 0x7e, nor one of the zeros "
+        "at its end; or Revision is not 1. Applies if all bytes of the table are in the image.\n"
+        "Numbers: `at` is the field's offset: 0x8 for Revision, 0xa (10) for OEMID, 0x10 (16) for OEM Table ID, 0x1c (28) for "
+        "Creator ID; `point` is the field as a number.\n"
+        "Fix: write the complete texts, with blanks or zeros after the last letter, and Revision 1."
+    ),
+    281: (
+        "A text in the header of the DSDT that the FADT names has a byte that is neither printable ASCII, 0x20 to 0x7e, nor one "
+        "of the zeros at its end. Applies if 36 bytes with the signature `DSDT` are in the image.\n"
+        "Numbers: `at` is the text's offset in the DSDT: 0xa (10) for OEMID, 0x10 (16) for OEM Table ID, 0x1c (28) for Creator "
+        "ID; `point` is the text as a number.\n"
+        "Fix: correct the texts in `DefinitionBlock` of the ASL, or in the code that writes the header, which also has to set the "
+        "checksum."
+    ),
+    282: (
+        "Revision is 0; or the FADT is longer than one of its Revision: above 116 bytes at Revision 1, 132 at 2, 244 at 3 or 4, "
+        "268 at 5, 276 from 6 on.\n"
+        "Numbers: for the length `at` is 0x4, the offset of Length, `other` is the length that a FADT of this Revision has, "
+        "`point` is Length. For Revision 0 `at` is 0x8, the offset of Revision.\n"
+        "Fix: set Revision to that of the fields, or Length to that of the Revision."
+    ),
+    283: (
+        "The FADT is older than 5.1, which added ARM_BOOT_ARCH, and this field exists and is not 0.\n"
+        "Numbers: `at` is 0x81 (129), the offset of ARM_BOOT_ARCH, `point` is ARM_BOOT_ARCH.\n"
+        "Fix: write the version of the fields, 5.1 or later; or write 0 to ARM_BOOT_ARCH."
+    ),
+    284: (
+        "The hardware is reduced, HW_REDUCED_ACPI is set, and SMI_CMD, the 4-byte address of a register block, or the address in "
+        "an X_ structure that exists is not 0.\n"
+        "Numbers: `at` is the offset of the address, `point` is the address.\n"
+        "Fix: write 0 to them; or clear HW_REDUCED_ACPI if the hardware has these registers."
+    ),
+    285: (
+        "The hardware is not reduced, SMI_CMD is not 0, and exactly one of ACPI_ENABLE and ACPI_DISABLE is 0.\n"
+        "Numbers: `at` is the offset of the one that is 0, 0x34 (52) or 0x35 (53).\n"
+        "Fix: write both commands of the firmware's SMI handler. If it has none, write 0 to all three fields."
+    ),
+    286: (
+        "The hardware is not reduced, and S4BIOS_REQ is not 0 while S4BIOS_F is clear, or is 0 while S4BIOS_F is set. Applies "
+        "only to a FACS without the faults 27 to 31.\n"
+        "Numbers: `at` is 0x36 (54), the offset of S4BIOS_REQ, `point` is S4BIOS_REQ.\n"
+        "Fix: if the firmware does this, write the command to S4BIOS_REQ and set S4BIOS_F; otherwise clear both."
+    ),
+    287: (
+        "The hardware is not reduced, and a GPE block has events above 255: GPE0 has an address, and GPE0_BLK_LEN is above 64; or "
+        "GPE1 has one, and GPE1_BASE + 4 * GPE1_BLK_LEN is above 256. The address is that of the X_ structure or of the 4-byte "
+        "field.\n"
+        "Numbers: for GPE0 `at` is 0x5c (92), the offset of GPE0_BLK_LEN, `point` is GPE0_BLK_LEN. For GPE1 `at` is 0x5e (94), "
+        "the offset of GPE1_BASE, `point` is GPE1_BASE.\n"
+        "Fix: correct the length or GPE1_BASE. A block of n bytes has 4 * n events."
+    ),
+    288: (
+        "The hardware is not reduced, and the length byte of a register block other than GPE0 and GPE1 is above 31. The block's "
+        "4-byte address is not 0, and its X_ structure is missing or has the address 0.\n"
+        "Numbers: `at` is the offset of the length byte, `point` is the length.\n"
+        "Fix: write the length in bytes: usually 4 to PM1_EVT_LEN and PM_TMR_LEN, 2 to PM1_CNT_LEN, 1 to PM2_CNT_LEN."
+    ),
+    289: (
+        "The hardware is not reduced, and the X_ structure of a register block exists and has an address other than 0 and an "
+        "address space above 1.\n"
+        "Numbers: `at` is the offset of the X_ structure, which begins with its address space, `point` is this space.\n"
+        "Fix: write the address space 0, memory, or 1, system I/O."
+    ),
+    290: (
+        "The hardware is not reduced, and an X_ structure that exists has an address other than 0 and another bit width than 32 "
+        "for PM1a_EVT, PM1b_EVT and PM_TMR, 16 for PM1a_CNT and PM1b_CNT, or 8 for PM2_CNT (4.8.3).\n"
+        "Numbers: `at` is the offset of the width in the X_ structure, `point` is the width, in bits.\n"
+        "Fix: write the usual width, and to the length byte an eighth of it."
+    ),
+    291: (
+        "The hardware is not reduced, and SLEEP_CONTROL_REG or SLEEP_STATUS_REG exists and has an address other than 0.\n"
+        "Numbers: `at` is the offset of the address, `point` is the address.\n"
+        "Fix: write 0 to both; or set HW_REDUCED_ACPI if the hardware has no PM1 registers."
+    ),
+    292: (
+        "The MADT has a structure of type 24 (RINTC), of any length, and the FADT is older than 6.6.\n"
+        "Numbers: `at` is 0x8, the offset of Revision, `other` is Revision, `point` is the minor version.\n"
+        "Fix: write all fields of Revision 6, and the minor version 6."
+    ),
+    293: (
+        "A GICC is shorter than 76 bytes, its length in ACPI 5.1.\n"
+        "Numbers: `at` is the structure's offset, `other` is 0x4c (76), `point` is its length.\n"
+        "Fix: write the complete structure: 76 bytes in ACPI 5.1, 80 from 6.0 on, 82 from 6.5 on."
+    ),
+    294: (
+        "The GIC has version 3 or 4, there is no structure of type 14, a usable GICC has a GICR Base Address other than 0, and "
+        "that of an enabled GICC is 0. Applies only if the MADT is well-formed.\n"
+        "Numbers: `at` is the structure's offset, `other` is 0x3c (60), the offset of the GICR Base Address in it.\n"
+        "Fix: write to each GICC the address of its redistributor; or write a GICR for each range of redistributors, and 0 to all "
+        "GICCs."
+    ),
+    295: (
+        "The GIC has version 3 or 4, there is no structure of type 14, and a GICC is Online Capable and not Enabled. Applies only "
+        "if the MADT is well-formed.\n"
+        "Numbers: `at` is the structure's offset, `other` is 0xc (12), the offset of Flags in it, `point` is Flags.\n"
+        "Fix: write a GICR for each range of redistributors, and 0 to GICR Base Address of all GICCs."
+    ),
+    296: (
+        "A usable GICC of at least 60 bytes has another GICV, GICH or VGIC Maintenance Interrupt than the first such GICC, or "
+        "another mode of this interrupt.\n"
+        "Numbers: `at` is the structure's offset, `other` the offset in it of the field that differs: 0xc (12) for the mode, bit "
+        "2 of Flags, 0x28 (40) for GICV, 0x30 (48) for GICH, 0x38 (56) for the maintenance interrupt; `point` is the field.\n"
+        "Fix: write the same values to all usable GICCs."
+    ),
+    297: (
+        "The GIC has version 3 or 4, and an enabled GICC has the GICR Base Address of an earlier enabled one, other than 0.\n"
+        "Numbers: `at` is the structure's offset, `other` that of the first enabled one with this redistributor, `point` is its "
+        "address.\n"
+        "Fix: write to each GICC the address of its own redistributor."
+    ),
+    298: (
+        "The Parking Protocol Version of a GICC is above 1.\n"
+        "Numbers: `at` is the structure's offset, `other` is 0x10 (16), the offset of the version in it, `point` is the version.\n"
+        "Fix: write 1, or 0 if the processor is not started by the parking protocol."
+    ),
+    299: (
+        "The SPE Overflow Interrupt or the TRBE Interrupt of a GICC is neither 0 nor a PPI, 16 to 31 or 1056 to 1119.\n"
+        "Numbers: `at` is the structure's offset, `other` the offset in it of the interrupt, 0x4e (78) for that of profiling, "
+        "0x50 (80) for that of the trace buffer, `point` is the interrupt.\n"
+        "Fix: write the interrupt ID, which is 16 for the first PPI; or 0 if the processor does not have this interrupt."
+    ),
+    300: (
+        "A structure of types 17 to 27 has a version other than 1. Applies if it has the length that MadtUnread names.\n"
+        "Numbers: `at` is the structure's offset, `other` is 0x2, the offset of the version in it, `point` is the version.\n"
+        "Fix: write 1, and lay out all fields by the standard."
+    ),
+    301: (
+        "A structure of types 11 to 15, 17, 24 and 25 has a reserved byte that is not 0, or a reserved bit of its flags set. "
+        "Applies if it has the length that MadtUnread names.\n"
+        "Numbers: `at` is the structure's offset, `other` the offset in it of the first field or byte that is wrong, `point` is "
+        "the value there.\n"
+        "Fix: write 0 to reserved bytes and bits."
+    ),
+    302: (
+        "The Hart ID of a usable RINTC is 0xffffffffffffffff.\n"
+        "Numbers: `at` is the structure's offset, `other` is 0x8, the offset of the ID in it, `point` is the ID.\n"
+        "Fix: write the hart's ID. In a structure for a hart that does not exist, clear Enabled and Online Capable."
+    ),
+    303: (
+        "In a structure of type 16, of any length, the Mailbox Version is above 1, a byte from 4 to 7 is not 0, or the Mailbox "
+        "Address is 0 or no multiple of 4096; or its length is not that of its version: 24 bytes for 1; 16 for 0, and if it is "
+        "too short to have a version.\n"
+        "Numbers: `at` is the structure's offset. For its length `other` is the length of its version, `point` is its length. "
+        "Otherwise `other` is the offset in it of the field that is wrong, `point` is the value there.\n"
+        "Fix: write all fields of the version, and the address of the mailbox's page of 4096 bytes."
+    ),
+    304: (
+        "A Local APIC Address Override (type 5, 12 bytes) has the address 0 (5.2.12.8).\n"
+        "Numbers: `at` is the structure's offset, `other` is 0x4, the offset of the address in it.\n"
+        "Fix: write the address; or remove the structure if the 4 bytes at 36 of the MADT can hold the address."
+    ),
+    305: (
+        "The MADT has a structure of types 9 to 15, of any length, and a Revision below 3; or one of types 24 to 27, of any "
+        "length, and a Revision below 6.\n"
+        "Numbers: `at` is 0x8, the offset of Revision, `point` is Revision.\n"
+        "Fix: write the Revision of the standard that has these structures."
+    ),
+    306: (
+        "A structure of types 3 to 7 has a reserved byte that is not 0, or a reserved bit of its flags set. Applies if it has the "
+        "length that SratUnread names.\n"
+        "Numbers: `at` is the structure's offset, `other` the offset in it of the first field or byte that is wrong, `point` is "
+        "the value there.\n"
+        "Fix: write 0 to reserved bytes and bits."
+    ),
+    307: (
+        "A generic initiator or port (types 5 and 6, 32 bytes) has a Device Handle Type above 1.\n"
+        "Numbers: `at` is the structure's offset, `other` is 0x3, the offset of Device Handle Type in it, `point` is this type.\n"
+        "Fix: write 0 for a device handle of ACPI, 1 for one of PCI."
+    ),
+    308: (
+        "Nothing else is in the proximity domain of an ITS affinity (type 4, 12 bytes): no affinity, no enabled memory range, and "
+        "no enabled initiator or port. Applies only if the SRAT is well-formed and SratUnread finds nothing in it.\n"
+        "Numbers: `at` is the structure's offset, `other` is 0x2, the offset of the domain in it, `point` is the domain.\n"
+        "Fix: write the domain of processors or memory near the ITS."
+    ),
+    309: (
+        "The PPTT has a structure of a type above 1, of any length. `acpiset` uses only its type and length.\n"
+        "Numbers: `at` is the offset of the first one, `other` its type.\n"
+        "Fix: remove the structure, or check it by other means, such as `iasl -d`."
+    ),
+    310: (
+        "The PPTT's Revision is 3 or more, and a cache of 28 bytes with a valid Cache ID, bit 7 of its flags, has the Cache ID 0.\n"
+        "Numbers: `at` is the cache's offset, `other` is 0x18 (24), the offset of the Cache ID in it.\n"
+        "Fix: number the caches from 1; or clear bit 7."
+    ),
+    311: (
+        "A node names two caches of one type, neither of which is the Next Level of a cache that the node names. The type is "
+        "valid in both, bit 4 of their flags; 10b and 11b are one type, unified.\n"
+        "Numbers: `at` is the node's offset, `other` that of the first cache of the type, `point` that of the other one.\n"
+        "Fix: let the node name only the caches nearest to it, one of each type, and let Next Level of Cache lead to the others."
     ),
 }

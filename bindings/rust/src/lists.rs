@@ -529,10 +529,10 @@ numbered! {
         ///
         /// Numbers: `at` is the leaf's offset, `point` is its ACPI Processor ID.
         LeafNowhere = 126,
-        /// The MADT has a structure that no stage and no rule looks at: one of a type other than 0 to 5, 9 to 15, 17
-        /// and 24, a GICC (11) shorter than 40 bytes, a GICD (12) or an MSI frame (13) of other than 24, a GICR (14) of
-        /// other than 16, an ITS (15) of other than 20, a CORE PIC (17) of other than 15, or an RINTC (24) shorter than
-        /// 20. `acpiset` uses only its type and length.
+        /// The MADT has a structure of a type or length that is not read: of types 6 to 8, or from 28 on; or of another
+        /// length than 40 or more (type 11), 24 (12, 13), 16 (14, 25), 20 (15), 16 or 24 (16), 15 (17), 23 (18), 21
+        /// (19), 13 (20), 19 (21), 17 (22), 14 (23), 20 or more (24), or 36 (26, 27). `acpiset` uses only its type and
+        /// length, and of type 16 the fields of WakeupMailbox.
         ///
         /// Numbers: `at` is the offset of the first one, `other` its type.
         MadtUnread = 127,
@@ -842,6 +842,180 @@ numbered! {
         ///
         /// Numbers: `at` is the structure's offset, `other` the offset in it of the first field or byte that is wrong.
         PpttReserved = 184,
+        /// The OEMID of the RSDP has a byte that is not printable ASCII, 0x20 to 0x7e. Zeros at its end are allowed.
+        /// Applies if 20 bytes of the RSDP are in the image.
+        ///
+        /// Numbers: `at` is 0x9, the offset of OEMID in the RSDP, `point` is its 6 bytes as a number.
+        RsdpText = 279,
+        /// A text in the header of the XSDT or RSDT has a byte that is neither printable ASCII, 0x20 to 0x7e, nor one
+        /// of the zeros at its end; or Revision is not 1. Applies if all bytes of the table are in the image.
+        ///
+        /// Numbers: `at` is the field's offset: 0x8 for Revision, 0xa (10) for OEMID, 0x10 (16) for OEM Table ID, 0x1c
+        /// (28) for Creator ID; `point` is the field as a number.
+        RootHeader = 280,
+        /// A text in the header of the DSDT that the FADT names has a byte that is neither printable ASCII, 0x20 to
+        /// 0x7e, nor one of the zeros at its end. Applies if 36 bytes with the signature `DSDT` are in the image.
+        ///
+        /// Numbers: `at` is the text's offset in the DSDT: 0xa (10) for OEMID, 0x10 (16) for OEM Table ID, 0x1c (28)
+        /// for Creator ID; `point` is the text as a number.
+        DsdtText = 281,
+        /// Revision is 0; or the FADT is longer than one of its Revision: above 116 bytes at Revision 1, 132 at 2, 244
+        /// at 3 or 4, 268 at 5, 276 from 6 on.
+        ///
+        /// Numbers: for the length `at` is 0x4, the offset of Length, `other` is the length that a FADT of this
+        /// Revision has, `point` is Length. For Revision 0 `at` is 0x8, the offset of Revision.
+        FadtPastRevision = 282,
+        /// The FADT is older than 5.1, which added ARM_BOOT_ARCH, and this field exists and is not 0.
+        ///
+        /// Numbers: `at` is 0x81 (129), the offset of ARM_BOOT_ARCH, `point` is ARM_BOOT_ARCH.
+        ArmBootEarly = 283,
+        /// The hardware is reduced, HW_REDUCED_ACPI is set, and SMI_CMD, the 4-byte address of a register block, or the
+        /// address in an X_ structure that exists is not 0.
+        ///
+        /// Numbers: `at` is the offset of the address, `point` is the address.
+        FixedInReduced = 284,
+        /// The hardware is not reduced, SMI_CMD is not 0, and exactly one of ACPI_ENABLE and ACPI_DISABLE is 0.
+        ///
+        /// Numbers: `at` is the offset of the one that is 0, 0x34 (52) or 0x35 (53).
+        SmiHandshake = 285,
+        /// The hardware is not reduced, and S4BIOS_REQ is not 0 while S4BIOS_F is clear, or is 0 while S4BIOS_F is set.
+        /// Applies only to a FACS without the faults 27 to 31.
+        ///
+        /// Numbers: `at` is 0x36 (54), the offset of S4BIOS_REQ, `point` is S4BIOS_REQ.
+        S4BiosDiffers = 286,
+        /// The hardware is not reduced, and a GPE block has events above 255: GPE0 has an address, and GPE0_BLK_LEN is
+        /// above 64; or GPE1 has one, and GPE1_BASE + 4 * GPE1_BLK_LEN is above 256. The address is that of the X_
+        /// structure or of the 4-byte field.
+        ///
+        /// Numbers: for GPE0 `at` is 0x5c (92), the offset of GPE0_BLK_LEN, `point` is GPE0_BLK_LEN. For GPE1 `at` is
+        /// 0x5e (94), the offset of GPE1_BASE, `point` is GPE1_BASE.
+        GpePastEnd = 287,
+        /// The hardware is not reduced, and the length byte of a register block other than GPE0 and GPE1 is above 31.
+        /// The block's 4-byte address is not 0, and its X_ structure is missing or has the address 0.
+        ///
+        /// Numbers: `at` is the offset of the length byte, `point` is the length.
+        BlockTooLong = 288,
+        /// The hardware is not reduced, and the X_ structure of a register block exists and has an address other than 0
+        /// and an address space above 1.
+        ///
+        /// Numbers: `at` is the offset of the X_ structure, which begins with its address space, `point` is this space.
+        BlockSpace = 289,
+        /// The hardware is not reduced, and an X_ structure that exists has an address other than 0 and another bit
+        /// width than 32 for PM1a_EVT, PM1b_EVT and PM_TMR, 16 for PM1a_CNT and PM1b_CNT, or 8 for PM2_CNT (4.8.3).
+        ///
+        /// Numbers: `at` is the offset of the width in the X_ structure, `point` is the width, in bits.
+        BlockUsualWidth = 290,
+        /// The hardware is not reduced, and SLEEP_CONTROL_REG or SLEEP_STATUS_REG exists and has an address other than
+        /// 0.
+        ///
+        /// Numbers: `at` is the offset of the address, `point` is the address.
+        SleepNotReduced = 291,
+        /// The MADT has a structure of type 24 (RINTC), of any length, and the FADT is older than 6.6.
+        ///
+        /// Numbers: `at` is 0x8, the offset of Revision, `other` is Revision, `point` is the minor version.
+        FadtForRiscv = 292,
+        /// A GICC is shorter than 76 bytes, its length in ACPI 5.1.
+        ///
+        /// Numbers: `at` is the structure's offset, `other` is 0x4c (76), `point` is its length.
+        GiccShort = 293,
+        /// The GIC has version 3 or 4, there is no structure of type 14, a usable GICC has a GICR Base Address other
+        /// than 0, and that of an enabled GICC is 0. Applies only if the MADT is well-formed.
+        ///
+        /// Numbers: `at` is the structure's offset, `other` is 0x3c (60), the offset of the GICR Base Address in it.
+        GiccNoGicr = 294,
+        /// The GIC has version 3 or 4, there is no structure of type 14, and a GICC is Online Capable and not Enabled.
+        /// Applies only if the MADT is well-formed.
+        ///
+        /// Numbers: `at` is the structure's offset, `other` is 0xc (12), the offset of Flags in it, `point` is Flags.
+        CapableNoGicr = 295,
+        /// A usable GICC of at least 60 bytes has another GICV, GICH or VGIC Maintenance Interrupt than the first such
+        /// GICC, or another mode of this interrupt.
+        ///
+        /// Numbers: `at` is the structure's offset, `other` the offset in it of the field that differs: 0xc (12) for
+        /// the mode, bit 2 of Flags, 0x28 (40) for GICV, 0x30 (48) for GICH, 0x38 (56) for the maintenance interrupt;
+        /// `point` is the field.
+        GiccDiffers = 296,
+        /// The GIC has version 3 or 4, and an enabled GICC has the GICR Base Address of an earlier enabled one, other
+        /// than 0.
+        ///
+        /// Numbers: `at` is the structure's offset, `other` that of the first enabled one with this redistributor,
+        /// `point` is its address.
+        SameGicrBase = 297,
+        /// The Parking Protocol Version of a GICC is above 1.
+        ///
+        /// Numbers: `at` is the structure's offset, `other` is 0x10 (16), the offset of the version in it, `point` is
+        /// the version.
+        ParkingVersion = 298,
+        /// The SPE Overflow Interrupt or the TRBE Interrupt of a GICC is neither 0 nor a PPI, 16 to 31 or 1056 to 1119.
+        ///
+        /// Numbers: `at` is the structure's offset, `other` the offset in it of the interrupt, 0x4e (78) for that of
+        /// profiling, 0x50 (80) for that of the trace buffer, `point` is the interrupt.
+        GiccNoPpi = 299,
+        /// A structure of types 17 to 27 has a version other than 1. Applies if it has the length that MadtUnread
+        /// names.
+        ///
+        /// Numbers: `at` is the structure's offset, `other` is 0x2, the offset of the version in it, `point` is the
+        /// version.
+        PicVersion = 300,
+        /// A structure of types 11 to 15, 17, 24 and 25 has a reserved byte that is not 0, or a reserved bit of its
+        /// flags set. Applies if it has the length that MadtUnread names.
+        ///
+        /// Numbers: `at` is the structure's offset, `other` the offset in it of the first field or byte that is wrong,
+        /// `point` is the value there.
+        FurtherReserved = 301,
+        /// The Hart ID of a usable RINTC is 0xffffffffffffffff.
+        ///
+        /// Numbers: `at` is the structure's offset, `other` is 0x8, the offset of the ID in it, `point` is the ID.
+        HartInvalid = 302,
+        /// In a structure of type 16, of any length, the Mailbox Version is above 1, a byte from 4 to 7 is not 0, or
+        /// the Mailbox Address is 0 or no multiple of 4096; or its length is not that of its version: 24 bytes for 1;
+        /// 16 for 0, and if it is too short to have a version.
+        ///
+        /// Numbers: `at` is the structure's offset. For its length `other` is the length of its version, `point` is its
+        /// length. Otherwise `other` is the offset in it of the field that is wrong, `point` is the value there.
+        WakeupMailbox = 303,
+        /// A Local APIC Address Override (type 5, 12 bytes) has the address 0 (5.2.12.8).
+        ///
+        /// Numbers: `at` is the structure's offset, `other` is 0x4, the offset of the address in it.
+        LapicAtZero = 304,
+        /// The MADT has a structure of types 9 to 15, of any length, and a Revision below 3; or one of types 24 to 27,
+        /// of any length, and a Revision below 6.
+        ///
+        /// Numbers: `at` is 0x8, the offset of Revision, `point` is Revision.
+        MadtRevision = 305,
+        /// A structure of types 3 to 7 has a reserved byte that is not 0, or a reserved bit of its flags set. Applies
+        /// if it has the length that SratUnread names.
+        ///
+        /// Numbers: `at` is the structure's offset, `other` the offset in it of the first field or byte that is wrong,
+        /// `point` is the value there.
+        AffinityReserved = 306,
+        /// A generic initiator or port (types 5 and 6, 32 bytes) has a Device Handle Type above 1.
+        ///
+        /// Numbers: `at` is the structure's offset, `other` is 0x3, the offset of Device Handle Type in it, `point` is
+        /// this type.
+        DeviceHandle = 307,
+        /// Nothing else is in the proximity domain of an ITS affinity (type 4, 12 bytes): no affinity, no enabled
+        /// memory range, and no enabled initiator or port. Applies only if the SRAT is well-formed and SratUnread finds
+        /// nothing in it.
+        ///
+        /// Numbers: `at` is the structure's offset, `other` is 0x2, the offset of the domain in it, `point` is the
+        /// domain.
+        ItsDomain = 308,
+        /// The PPTT has a structure of a type above 1, of any length. `acpiset` uses only its type and length.
+        ///
+        /// Numbers: `at` is the offset of the first one, `other` its type.
+        PpttUnread = 309,
+        /// The PPTT's Revision is 3 or more, and a cache of 28 bytes with a valid Cache ID, bit 7 of its flags, has the
+        /// Cache ID 0.
+        ///
+        /// Numbers: `at` is the cache's offset, `other` is 0x18 (24), the offset of the Cache ID in it.
+        CacheIdZero = 310,
+        /// A node names two caches of one type, neither of which is the Next Level of a cache that the node names. The
+        /// type is valid in both, bit 4 of their flags; 10b and 11b are one type, unified.
+        ///
+        /// Numbers: `at` is the node's offset, `other` that of the first cache of the type, `point` that of the other
+        /// one.
+        SameCacheType = 311,
     }
 }
 
@@ -852,7 +1026,8 @@ impl Rule {
     pub const fn severity(self) -> Option<Severity> {
         Some(match self {
             Rule::MadtUnread
-            | Rule::SratUnread => Severity::NotLookedAt,
+            | Rule::SratUnread
+            | Rule::PpttUnread => Severity::NotLookedAt,
             Rule::SlitDiffers
             | Rule::CacheShape
             | Rule::NullSlot
@@ -868,7 +1043,24 @@ impl Rule {
             | Rule::SratReserved
             | Rule::LeafAsParent
             | Rule::CacheNumbers
-            | Rule::PpttReserved => Severity::LookAtIt,
+            | Rule::PpttReserved
+            | Rule::RsdpText
+            | Rule::RootHeader
+            | Rule::DsdtText
+            | Rule::FadtPastRevision
+            | Rule::ArmBootEarly
+            | Rule::FixedInReduced
+            | Rule::SmiHandshake
+            | Rule::S4BiosDiffers
+            | Rule::SleepNotReduced
+            | Rule::ParkingVersion
+            | Rule::PicVersion
+            | Rule::FurtherReserved
+            | Rule::MadtRevision
+            | Rule::AffinityReserved
+            | Rule::DeviceHandle
+            | Rule::CacheIdZero
+            | Rule::SameCacheType => Severity::LookAtIt,
             Rule::ListedTwice
             | Rule::SecondTable
             | Rule::ListedApart
@@ -934,7 +1126,22 @@ impl Rule {
             | Rule::ItsNowhere
             | Rule::RemoteAsLocal
             | Rule::LeafUnflagged
-            | Rule::NoPackage => Severity::LikelyWrong,
+            | Rule::NoPackage
+            | Rule::GpePastEnd
+            | Rule::BlockTooLong
+            | Rule::BlockSpace
+            | Rule::BlockUsualWidth
+            | Rule::FadtForRiscv
+            | Rule::GiccShort
+            | Rule::GiccNoGicr
+            | Rule::CapableNoGicr
+            | Rule::GiccDiffers
+            | Rule::SameGicrBase
+            | Rule::GiccNoPpi
+            | Rule::HartInvalid
+            | Rule::WakeupMailbox
+            | Rule::LapicAtZero
+            | Rule::ItsDomain => Severity::LikelyWrong,
             Rule::Unknown { .. } => return None,
         })
     }

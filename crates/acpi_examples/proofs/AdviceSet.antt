@@ -1,27 +1,27 @@
 -- The examples of advice on what the RSDP, the root tables and the FADT name, by computing.
-use Rattle.std.proofs.Common.{◌≡◌, ◌≢◌, ℕ, zero, suc, ◌+◌, ◌*◌, ◌<◌, ◌≤◌, ◌==◌, ◌&&◌, nat_le, Bool, true, false, List, [], ◌∷◌, length, take, Option, Some, None, refl, sym, ap, subst, ◌∙◌, inl, inr, arith}
-use Rattle.std.specs.Prelude.{◌++◌, ◌⊎◌, slice_index, codes, replicate}
+use Rattle.std.proofs.Common.{◌≡◌, ◌≢◌, ℕ, zero, suc, ◌+◌, ◌*◌, ◌<◌, ◌≤◌, ◌==◌, ◌&&◌, nat_le, Bool, true, false, List, [], ◌∷◌, length, take, drop, Option, Some, None, refl, sym, ap, subst, ◌∙◌, inl, inr, arith}
+use Rattle.std.specs.Prelude.{◌++◌, ◌⊎◌, not, nat_lt, slice_index, codes, replicate}
 use Rattle.std.specs.List.{cons_option}
-use Rattle.std.proofs.lemmas.Bool.{both_ways, and_parts, cases_eq}
+use Rattle.std.proofs.lemmas.Bool.{both_ways, and_parts, cases_eq, cases_lt}
 use Rattle.std.proofs.lemmas.Bool.Decides.{nat_tests}
 use Rattle.std.proofs.lemmas.Option.{none-some}
 use Rattle.acpi_base.specs.Facs.{IsFacs}
-use Rattle.acpi_base.specs.Fadt.{wide_address}
+use Rattle.acpi_base.specs.Fadt.{has_flag, wide_address}
 use Rattle.acpi_base.specs.Frames.{IsFrame}
 use Rattle.acpi_base.specs.Image.Runs.{Run, lookup, memory_of}
-use Rattle.acpi_base.specs.Memory.{run_of, cons_both, bytes_at}
-use Rattle.acpi_base.specs.Number.{field, byte_sum}
-use Rattle.acpi_base.specs.Root.{chosen_root, IsRoot, IsRootTable, HasSlot, IsSlot}
+use Rattle.acpi_base.specs.Memory.{Memory, run_of, cons_both, bytes_at}
+use Rattle.acpi_base.specs.Number.{field, byte_sum, has_bit}
+use Rattle.acpi_base.specs.Root.{chosen_root, root_signature, IsRoot, IsRootTable, HasSlot, IsSlot}
 use Rattle.acpi_base.specs.Rsdp.{addresses_at}
 use Rattle.acpi_base.specs.Signature.{has_signature}
 use Rattle.acpi_base.specs.Tables.{table_frame}
 use Rattle.acpi_base.specs.declared.frame.Question.TheVariants as question
-use Rattle.acpi_lint.specs.Rules.HeaderAdvice.{IsNoText, IsOddField, is_once, once_signatures, signature_number, ListsNumber}
+use Rattle.acpi_lint.specs.Rules.HeaderAdvice.{IsNoText, IsOddField, IsOddOem, is_once, once_signatures, signature_number, ListsNumber}
 use Rattle.acpi_lint.specs.Rules.NamedAdvice.{IsBrokenDsdt, IsOddFacs}
 use Rattle.acpi_lint.specs.Rules.FixedFields.{IsUsed}
-use Rattle.acpi_lint.specs.Rules.RootAdvice.{IsNullIn, listed_signature, listed_signatures, times_in, IsXsdt, IsNamedRsdt}
+use Rattle.acpi_lint.specs.Rules.RootAdvice.{IsOddRoot, IsNullIn, listed_signature, listed_signatures, times_in, IsXsdt, IsNamedRsdt}
 use Rattle.acpi_lint.specs.Rules.Slots.{dsdt_signature}
-use Rattle.acpi_examples.specs.AdviceSet.{short_rsdp, sized_rsdp, long_rsdp, rsdp_runs, one_xsdt, both_runs, no_rsdt_slot, late_rsdt_slot, cut_rsdt, same_rsdt, rsdt_runs, plain_header, odd_header, two_tables, header_runs, dsdt_runs, flagged_facs, facs_runs, AreRootsAdvised, AreRsdpsAdvised, AreHeadersAdvised, AreNamedAdvised, AreSetsAdvised}
+use Rattle.acpi_examples.specs.AdviceSet.{oem_of, named_rsdp, short_rsdp, sized_rsdp, long_rsdp, rsdp_runs, one_xsdt, both_runs, no_rsdt_slot, late_rsdt_slot, cut_rsdt, same_rsdt, rsdt_runs, plain_header, odd_header, two_tables, header_of_oem, named_rsdt, named_root, named_runs, header_runs, dsdt_runs, flagged_facs, facs_runs, AreRootsAdvised, AreRsdpsAdvised, AreHeadersAdvised, AreNamedAdvised, AreSetsAdvised}
 use Rattle.acpi_examples.specs.AdviceSlots.{twice_bytes}
 use Rattle.acpi_examples.specs.Sets.{rsdp_at, rsdt_bytes, set_of, uid_bytes, new_leaf_bytes}
 use Rattle.acpi_examples.specs.Tables.{table}
@@ -36,30 +36,81 @@ use Rattle.acpi_base.proofs.Root.Slots.{one_slot, root_slot, slot_of_root}
 bytes_in : (runs : List Run) (a n : ℕ) → bytes_at (memory_of runs) a n ≡ run_of (lookup runs) a n
 bytes_in runs a n = λ i. run_of (λ x. byte_of_memory_of runs x i) a n
 
--- ---- bytes that are 0
+-- ---- bytes that are all of a kind
+
+-- whether this many numbers from one on pass a test
+abbrev all_pass : (ℕ → Bool) → ℕ → ℕ → Bool
+all_pass test start zero = true
+all_pass test start (suc n) = test start && all_pass test (suc start) n
+
+passes_at : (test : ℕ → Bool) (start n at : ℕ) → all_pass test start n ≡ true → start ≤ at → at < start + n
+    → test at ≡ true
+passes_at test start zero at are from below = absurd (omega (arith, from, below))
+passes_at test start (suc n) at are from below =
+    let (here, more) = and_parts (test start) (all_pass test (suc start) n) are in
+    elim (cases_eq at start) [
+      | inl same ↦ rw same here
+      | inr differs ↦ passes_at test (suc start) n at more (omega (arith, from, differs)) (omega (arith, below))
+    ]
+
+is_zero : (k : ℕ) → (k == 0) ≡ true → k ≡ 0
+is_zero k is = grind (arith, nat_tests)
 
 abbrev zeros : List ℕ → ℕ → ℕ → Bool
-zeros bytes start zero = true
-zeros bytes start (suc n) = (field bytes start 1 == 0) && zeros bytes (suc start) n
-
-zero_at : (bytes : List ℕ) (start n at : ℕ) → zeros bytes start n ≡ true → start ≤ at → at < start + n
-    → field bytes at 1 ≡ 0
-zero_at bytes start zero at is from below = absurd (omega (arith, from, below))
-zero_at bytes start (suc n) at is from below =
-    let parts = and_parts (field bytes start 1 == 0) (zeros bytes (suc start) n) is in
-    elim (cases_eq at start) [
-      | inl same ↦ rw same (zero_is (field bytes start 1) parts.0)
-      | inr differs ↦
-          zero_at bytes (suc start) n at parts.1 (omega (arith, from, differs)) (omega (arith, below))
-    ]
-  where
-    zero_is : (k : ℕ) → (k == 0) ≡ true → k ≡ 0
-    zero_is k is = grind (arith, nat_tests)
+zeros bytes start n = all_pass (λ at. field bytes at 1 == 0) start n
 
 none_used : (bytes : List ℕ) (start n end at other point : ℕ) → start + n ≡ end → zeros bytes start n ≡ true
     → ¬ IsUsed bytes start end at other point
 none_used bytes start n end at other point size is (from, below, unused, here, some) =
-    some (here ∙ zero_at bytes start n at is from (omega (arith, size, below)))
+    some (here ∙ is_zero (field bytes at 1)
+    (passes_at (λ at. field bytes at 1 == 0) start n at is from (omega (arith, size, below))))
+
+-- ---- text
+
+abbrev is_letter : ℕ → Bool
+is_letter k = nat_le 32 k && nat_le k 126
+
+-- this many letters, and this many zeros behind them
+is_text : (text : List ℕ) (n m : ℕ) → length text ≡ n + m → all_pass (λ i. is_letter (slice_index text i)) 0 n ≡ true
+    → all_pass (λ i. slice_index text i == 0) n m ≡ true → ¬ IsNoText text
+is_text text n m size letters others it =
+    elim (cases_lt it.i n) [
+      | inl before ↦
+          of (slice_index text it.i)
+          (passes_at (λ i. is_letter (slice_index text i)) 0 n it.i letters (omega arith) (omega (arith, before)))
+          it.odd
+      | inr behind ↦
+          it.used (is_zero (slice_index text it.j)
+          (passes_at (λ i. slice_index text i == 0) n m it.j others (omega (arith, behind, it.order))
+          (omega (arith, it.inside, size))))
+    ]
+  where
+    of : (k : ℕ) → is_letter k ≡ true → ¬ ((k < 32) ⊎ (126 < k))
+    of k is odd = grind (arith, nat_tests)
+
+-- byte i is no letter, and byte j, the same or a later one, is not 0
+abbrev is_odd : List ℕ → ℕ → ℕ → Bool
+is_odd text i j =
+    (nat_le i j && nat_lt j (length text)) && (not (is_letter (slice_index text i)) && not (slice_index text j == 0))
+
+no_text : (text : List ℕ) (i j : ℕ) → is_odd text i j ≡ true → IsNoText text
+no_text text i j is =
+    let (order, inside, odd, used) = of (length text) (slice_index text i) (slice_index text j) is in
+    record { i = i; j = j; order = order; inside = inside; odd = odd; used = used }
+  where
+    of : (n k l : ℕ) → ((nat_le i j && nat_lt j n) && (not (is_letter k) && not (l == 0))) ≡ true
+        → (i ≤ j) × (j < n) × ((k < 32) ⊎ (126 < k)) × (l ≢ 0)
+    of n k l is = grind (arith, nat_tests)
+
+no_odd_oem : (header : List ℕ) (at other point : ℕ) → take 6 (drop 10 header) ≡ oem_of 0x41
+    → take 8 (drop 16 header) ≡ replicate 8 0x41 → take 4 (drop 28 header) ≡ replicate 4 0
+    → ¬ IsOddOem header at other point
+no_odd_oem header at other point oem table_id creator odd =
+    elim odd [
+      | inl it ↦ is_text (oem_of 0x41) 3 3 refl refl refl (subst IsNoText oem it.3)
+      | inr (inl it) ↦ is_text (replicate 8 0x41) 8 0 refl refl refl (subst IsNoText table_id it.3)
+      | inr (inr it) ↦ is_text (replicate 4 0) 0 4 refl refl refl (subst IsNoText creator it.3)
+    ]
 
 -- ---- root tables
 
@@ -76,6 +127,17 @@ none_null at other point (inside, null, unused) =
       | inr second ↦ (let here : 0x3000 ≡ 0 = rw second at null in omega (arith, here))
     ]
 
+-- one of these bytes, by what is there
+root_table_of : {m : Memory} {r d : ℕ} (whole : List ℕ) → bytes_at m r 36 ≡ Some (take 36 whole)
+    → 36 ≤ field (take 36 whole) 4 4 → bytes_at m r (field (take 36 whole) 4 4) ≡ Some whole
+    → has_signature (take 36 whole) (root_signature d) ≡ true → IsRootTable m r d whole
+root_table_of whole head least all signed =
+    record {
+      header = take 36 whole;
+      table = record { header_present = head; least = least; present = all };
+      signed = signed;
+    }
+
 -- an RSDT alone
 rsdt_root : (rsdt bytes : List ℕ) → IsRoot (memory_of (rsdt_runs rsdt bytes)) rsdp_at 0x1000 4
 unfolding run_of cons_both addresses_at chosen_root field
@@ -87,27 +149,26 @@ rsdt_root rsdt bytes =
 
 cut_table : IsRootTable (memory_of (rsdt_runs cut_rsdt [])) 0x1000 4 cut_rsdt
 unfolding run_of cons_both has_signature field
-cut_table = record {
-  header = take 36 cut_rsdt;
-  table = record {
-    header_present = bytes_in (rsdt_runs cut_rsdt []) 0x1000 36;
-    least = omega arith;
-    present = bytes_in (rsdt_runs cut_rsdt []) 0x1000 39;
-  };
-  signed = refl;
-}
+cut_table =
+    root_table_of cut_rsdt (bytes_in (rsdt_runs cut_rsdt []) 0x1000 36) (omega arith)
+    (bytes_in (rsdt_runs cut_rsdt []) 0x1000 39) refl
+
+named_table : (revision byte : ℕ) → IsRootTable (named_root revision byte) 0x1000 4 (named_rsdt revision byte)
+unfolding run_of cons_both has_signature field
+named_table revision byte =
+    let runs = rsdt_runs (named_rsdt revision byte) [] in
+    root_table_of (named_rsdt revision byte) (bytes_in runs 0x1000 36) (omega arith) (bytes_in runs 0x1000 36) refl
+
+none_odd_root : (at other point : ℕ) → ¬ IsOddRoot (named_rsdt 1 0x41) 4 at other point
+unfolding field
+none_odd_root at other point (inl (place, unused, is, differs)) = differs is
+none_odd_root at other point (inr odd) = no_odd_oem (named_rsdt 1 0x41) at other point refl refl refl odd
 
 same_table : (bytes : List ℕ) → IsRootTable (memory_of (rsdt_runs same_rsdt bytes)) 0x1000 4 same_rsdt
 unfolding run_of cons_both has_signature field
-same_table bytes = record {
-  header = take 36 same_rsdt;
-  table = record {
-    header_present = bytes_in (rsdt_runs same_rsdt bytes) 0x1000 36;
-    least = omega arith;
-    present = bytes_in (rsdt_runs same_rsdt bytes) 0x1000 44;
-  };
-  signed = refl;
-}
+same_table bytes =
+    root_table_of same_rsdt (bytes_in (rsdt_runs same_rsdt bytes) 0x1000 36) (omega arith)
+    (bytes_in (rsdt_runs same_rsdt bytes) 0x1000 44) refl
 
 same_slot : (bytes : List ℕ) (k a : ℕ) → IsSlot (memory_of (rsdt_runs same_rsdt bytes)) rsdp_at k a → a ≡ 0x2000
 unfolding field
@@ -142,16 +203,9 @@ both_xsdt rsdt =
       r = 0x1000;
       root = both_root rsdt;
       table =
-          record {
-            header = take 36 one_xsdt;
-            table =
-                record {
-                  header_present = bytes_in (both_runs rsdt) 0x1000 36;
-                  least = omega arith;
-                  present = bytes_in (both_runs rsdt) 0x1000 44;
-                };
-            signed = refl;
-          };
+          root_table_of one_xsdt (bytes_in (both_runs rsdt) 0x1000 36) (omega arith)
+          (bytes_in (both_runs rsdt) 0x1000 44)
+          refl;
     }
 
 no_slot_rsdt : IsNamedRsdt (memory_of (both_runs no_rsdt_slot)) rsdp_at no_rsdt_slot
@@ -162,16 +216,8 @@ no_slot_rsdt =
       present = bytes_in (both_runs no_rsdt_slot) rsdp_at 36;
       named = λ same. (let here : 0x2000 ≡ 0 = same in omega (arith, here));
       table =
-          record {
-            header = take 36 no_rsdt_slot;
-            table =
-                record {
-                  header_present = bytes_in (both_runs no_rsdt_slot) 0x2000 36;
-                  least = omega arith;
-                  present = bytes_in (both_runs no_rsdt_slot) 0x2000 36;
-                };
-            signed = refl;
-          };
+          root_table_of no_rsdt_slot (bytes_in (both_runs no_rsdt_slot) 0x2000 36) (omega arith)
+          (bytes_in (both_runs no_rsdt_slot) 0x2000 36) refl;
     }
 
 late_rsdt : IsNamedRsdt (memory_of (both_runs late_rsdt_slot)) rsdp_at late_rsdt_slot
@@ -182,16 +228,8 @@ late_rsdt =
       present = bytes_in (both_runs late_rsdt_slot) rsdp_at 36;
       named = λ same. (let here : 0x2000 ≡ 0 = same in omega (arith, here));
       table =
-          record {
-            header = take 36 late_rsdt_slot;
-            table =
-                record {
-                  header_present = bytes_in (both_runs late_rsdt_slot) 0x2000 36;
-                  least = omega arith;
-                  present = bytes_in (both_runs late_rsdt_slot) 0x2000 44;
-                };
-            signed = refl;
-          };
+          root_table_of late_rsdt_slot (bytes_in (both_runs late_rsdt_slot) 0x2000 36) (omega arith)
+          (bytes_in (both_runs late_rsdt_slot) 0x2000 44) refl;
     }
 
 -- what each address leads to
@@ -243,15 +281,15 @@ roots_advised = record {
     whole = twice_bytes;
     root = twice_root;
     table = twice_table;
-    null = (omega arith, refl, (refl, refl));
+    holds = (omega arith, refl, (refl, refl));
   };
   no_null = λ at other point it.
       none_null at other point
       (of_root (λ d whole. IsNullIn whole d at other point) it.root (root uid_bytes new_leaf_bytes) it.table
-      (root_table uid_bytes new_leaf_bytes) it.null);
+      (root_table uid_bytes new_leaf_bytes) it.holds);
   cut = λ at other point it.
       let null = of_root (λ d whole. IsNullIn whole d at other point) it.root (rsdt_root cut_rsdt []) it.table cut_table
-      it.null in
+      it.holds in
       let inside : 36 + 4 * (at + 1) ≤ 39 = null.0 in
       omega (arith, inside);
   differs = (
@@ -268,6 +306,26 @@ roots_advised = record {
   );
   same = λ at other point (place, unused, (xsdt, rsdt, wide, narrow, differ)).
       differ (same_lists at other point xsdt rsdt wide narrow);
+  revision = record {
+    r = 0x1000;
+    d = 4;
+    whole = named_rsdt 2 0x41;
+    root = rsdt_root (named_rsdt 2 0x41) [];
+    table = named_table 2 0x41;
+    holds = inl (refl, refl, refl, (λ same. omega (arith, same)));
+  };
+  text = record {
+    r = 0x1000;
+    d = 4;
+    whole = named_rsdt 1 0;
+    root = rsdt_root (named_rsdt 1 0) [];
+    table = named_table 1 0;
+    holds = inr (inl (refl, refl, refl, no_text (oem_of 0) 1 2 refl));
+  };
+  plain = λ at other point it.
+      none_odd_root at other point
+      (of_root (λ d whole. IsOddRoot whole d at other point) it.root (rsdt_root (named_rsdt 1 0x41) []) it.table
+      (named_table 1 0x41) it.holds);
 }
 
 -- ---- the RSDP
@@ -340,6 +398,15 @@ rsdps_advised = record {
           | inr used ↦ none_used (long_rsdp 0) 33 3 36 at other point refl refl (rw same at used)
         ]
   ];
+  text = (
+    named_rsdp 0,
+    bytes_in (rsdp_runs (named_rsdp 0)) rsdp_at 20,
+    (refl, refl, refl, no_text (oem_of 0) 1 2 refl),
+  );
+  plain = λ at other point (head, present, odd).
+      let same : head ≡ named_rsdp 0x41 =
+      same_value head (named_rsdp 0x41) present (bytes_in (rsdp_runs (named_rsdp 0x41)) rsdp_at 20) in
+      is_text (oem_of 0x41) 3 3 refl refl refl (subst (λ (b : List ℕ). IsNoText (take 6 (drop 9 b))) same odd.3);
 }
 
 -- ---- headers
@@ -354,59 +421,14 @@ in_two one other k a slot = of k (slot_of_root (set_of one other) rsdp_at 0x1000
     of (suc zero) slot = inr (refl, one_slot rsdt_bytes 4 1 a 0x3000 slot slot_1)
     of (suc (suc k)) slot = absurd (omega (arith, slot.inside))
 
-plain : (i j : ℕ) → i ≤ j → j < 3
-    → (slice_index (0x20 ∷ 0x7e ∷ 0 ∷ []) i < 32) ⊎ (126 < slice_index (0x20 ∷ 0x7e ∷ 0 ∷ []) i)
-    → ¬ (slice_index (0x20 ∷ 0x7e ∷ 0 ∷ []) j ≢ 0)
-plain zero j order inside (inl low) used = (let here : 0x20 < 32 = low in omega (arith, here))
-plain zero j order inside (inr high) used = (let here : 126 < 0x20 = high in omega (arith, here))
-plain (suc zero) j order inside (inl low) used = (let here : 0x7e < 32 = low in omega (arith, here))
-plain (suc zero) j order inside (inr high) used = (let here : 126 < 0x7e = high in omega (arith, here))
-plain (suc (suc i)) j order inside odd used =
-    let last : j ≡ 2 = omega (arith, order, inside) in
-    used (ap (slice_index (0x20 ∷ 0x7e ∷ 0 ∷ [])) last)
-
--- this many bytes are printable
-abbrev are_letters : List ℕ → ℕ → ℕ → Bool
-are_letters text start zero = true
-are_letters text start (suc n) =
-    (nat_le 32 (slice_index text start) && nat_le (slice_index text start) 126) && are_letters text (suc start) n
-
-letter_at : (text : List ℕ) (start n at : ℕ) → are_letters text start n ≡ true → start ≤ at → at < start + n
-    → (32 ≤ slice_index text at) × (slice_index text at ≤ 126)
-letter_at text start zero at is from below = absurd (omega (arith, from, below))
-letter_at text start (suc n) at is from below =
-    let (here, more) = and_parts (nat_le 32 (slice_index text start) && nat_le (slice_index text start) 126)
-    (are_letters text (suc start) n) is in
-    elim (cases_eq at start) [
-      | inl same ↦ rw same (is_letter (slice_index text start) here)
-      | inr differs ↦ letter_at text (suc start) n at more (omega (arith, from, differs)) (omega (arith, below))
-    ]
-  where
-    is_letter : (k : ℕ) → (nat_le 32 k && nat_le k 126) ≡ true → (32 ≤ k) × (k ≤ 126)
-    is_letter k is = grind (arith, nat_tests)
-
-all_letters : (text : List ℕ) (n : ℕ) → length text ≡ n → are_letters text 0 n ≡ true → ¬ IsNoText text
-all_letters text n size are it =
-    let (low, high) = letter_at text 0 n it.i are (omega arith) (omega (arith, it.order, it.inside, size)) in
-    elim it.odd [ inl below ↦ omega (arith, low, below) | inr above ↦ omega (arith, high, above) ]
-
-all_zeros : ¬ IsNoText (0 ∷ 0 ∷ 0 ∷ 0 ∷ [])
-all_zeros it = it.used (zero_there it.j it.inside)
-  where
-    zero_there : (j : ℕ) → j < 4 → slice_index (0 ∷ 0 ∷ 0 ∷ 0 ∷ []) j ≡ 0
-    zero_there zero inside = refl
-    zero_there (suc zero) inside = refl
-    zero_there (suc (suc zero)) inside = refl
-    zero_there (suc (suc (suc zero))) inside = refl
-    zero_there (suc (suc (suc (suc j)))) inside = absurd (omega (arith, inside))
-
 no_odd_field : (offset : ℕ) → ¬ IsOddField (plain_header (codes "MCFG")) offset
-no_odd_field offset (size, inl (here, is), odd) = all_letters (codes "MCFG") 4 refl refl (rw (here, is) at odd)
+no_odd_field offset (size, inl (here, is), odd) = is_text (codes "MCFG") 4 0 refl refl refl (rw (here, is) at odd)
 no_odd_field offset (size, inr (inl (here, is)), odd) =
-    all_letters (replicate 6 0x41) 6 refl refl (rw (here, is) at odd)
+    is_text (replicate 6 0x41) 6 0 refl refl refl (rw (here, is) at odd)
 no_odd_field offset (size, inr (inr (inl (here, is))), odd) =
-    all_letters (replicate 8 0x41) 8 refl refl (rw (here, is) at odd)
-no_odd_field offset (size, inr (inr (inr (here, is))), odd) = all_zeros (rw (here, is) at odd)
+    is_text (replicate 8 0x41) 8 0 refl refl refl (rw (here, is) at odd)
+no_odd_field offset (size, inr (inr (inr (here, is))), odd) =
+    is_text (replicate 4 0) 0 4 refl refl refl (rw (here, is) at odd)
 
 -- the header that each of two slots lists
 header_in_two : (bytes header : List ℕ) (k a : ℕ) → bytes_at (set_of bytes bytes) 0x2000 36 ≡ Some bytes
@@ -431,21 +453,6 @@ no_once : (n : ℕ) → n ≡ 0x54445353 → is_once n ≡ true → ⊥
 unfolding once_signatures field
 no_once n same once = both_ways false refl (rw same at once)
 
-two_of_six : 2 < 6
-two_of_six = omega arith
-
-zero_odd : 0 < 32
-zero_odd = omega arith
-
-low_odd : 0x1f < 32
-low_odd = omega arith
-
-high_odd : 126 < 0x7f
-high_odd = omega arith
-
-in_one : 0 < 1
-in_one = omega arith
-
 headers_advised : AreHeadersAdvised
 unfolding run_of cons_both field once_signatures
 headers_advised = record {
@@ -454,37 +461,14 @@ headers_advised = record {
     (
       odd_header,
       bytes_of_runs odd_header odd_header 0x2000 36,
-      (
-        6,
-        inr (inl (refl, refl)),
-        record {
-          i = 1;
-          j = 2;
-          order = omega arith;
-          inside = two_of_six;
-          odd = inl zero_odd;
-          used = λ same. (let here : 0x41 ≡ 0 = same in omega (arith, here));
-        },
-      ),
+      (6, inr (inl (refl, refl)), no_text (0x41 ∷ 0 ∷ 0x41 ∷ 0 ∷ 0 ∷ 0 ∷ []) 1 2 refl),
     ),
   );
-  low = record {
-    i = 0;
-    j = 0;
-    order = omega arith;
-    inside = in_one;
-    odd = inl low_odd;
-    used = λ same. (let here : 0x1f ≡ 0 = same in omega (arith, here));
-  };
-  high = record {
-    i = 0;
-    j = 0;
-    order = omega arith;
-    inside = in_one;
-    odd = inr high_odd;
-    used = λ same. (let here : 0x7f ≡ 0 = same in omega (arith, here));
-  };
-  text = λ it. plain it.i it.j it.order it.inside it.odd it.used;
+  low = no_text (0x1f ∷ []) 0 0 refl;
+  high = no_text (0x7f ∷ []) 0 0 refl;
+  text = is_text (0x20 ∷ 0x7e ∷ 0 ∷ []) 2 1 refl refl refl;
+  table_id = inr (inl (refl, refl, refl, no_text (replicate 7 0x41 ++ 0x1f ∷ []) 7 7 refl));
+  creator = inr (inr (refl, refl, refl, no_text (0 ∷ 0 ∷ 0 ∷ 0x7f ∷ []) 0 3 refl));
   letters = λ at other point (slot, (header, present, odd)).
       no_odd_field other
       (rw
@@ -584,8 +568,11 @@ none_odd at other point it =
       | inr (inr (inr (inr used))) ↦ none_used (flagged_facs 3) 40 24 64 at other point refl refl used
     ]
 
+there : ◌≢◌ {A = ℕ} 0x3000 0
+there same = omega (arith, same)
+
 named_advised : AreNamedAdvised
-unfolding wide_address field byte_sum
+unfolding run_of cons_both has_signature has_flag has_bit wide_address field byte_sum
 named_advised = record {
   signature = (refl, refl, refl, (λ same. omega (arith, same)), other_dsdt);
   short = (refl, refl, refl, (λ same. omega (arith, same)), short_dsdt);
@@ -609,13 +596,39 @@ named_advised = record {
   ospm = inr (inr (inr (inl (refl, refl, refl, omega arith))));
   last = inr (inr (inr (inr (omega arith, omega arith, refl, refl, (λ same. omega (arith, same))))));
   two_flags = none_odd;
-  named_flags = (
-    λ same. (let here : 0x3000 ≡ 0 = same in omega (arith, here)),
-    (flagged_facs 4, named_facs 4, inl (refl, refl, refl, omega arith)),
-  );
+  named_flags = (there, (flagged_facs 4, named_facs 4, inl (refl, refl, refl, omega arith)));
   named_two = λ at other point (some, (facs, is, odd)).
       let same : facs ≡ flagged_facs 3 = one_frame is.frame (named_facs 3).frame in
       none_odd at other point (rw same at odd);
+  text = (
+    header_of_oem dsdt_signature 2 (oem_of 0),
+    (there, bytes_in (named_runs dsdt_signature 0) 0x3000 36, refl),
+    inl (refl, refl, refl, no_text (oem_of 0) 1 2 refl),
+  );
+  plain = λ at other point (header, (some, present, signed), odd).
+      let same : header ≡ header_of_oem dsdt_signature 2 (oem_of 0x41) =
+      same_value header _ present (bytes_in (named_runs dsdt_signature 0x41) 0x3000 36) in
+      no_odd_oem (header_of_oem dsdt_signature 2 (oem_of 0x41)) at other point refl refl refl (rw same at odd);
+  no_dsdt = λ at other point (header, (some, present, signed), odd).
+      let same : header ≡ header_of_oem (codes "SSDT") 2 (oem_of 0) =
+      same_value header _ present (bytes_in (named_runs (codes "SSDT") 0) 0x3000 36) in
+      both_ways false refl (rw same at signed);
+  command = (
+    refl,
+    there,
+    (flagged_facs 2, named_facs 2, (refl, refl, refl, inl ((λ same. omega (arith, same)), refl))),
+  );
+  flag = (refl, there, (flagged_facs 1, named_facs 1, (refl, refl, refl, inr (refl, refl))));
+  both = λ at other point (full, some, (facs, is, (place, unused, number, differ))).
+      let same : facs ≡ flagged_facs 1 = one_frame is.frame (named_facs 1).frame in
+      elim differ [
+        | inl (on, clear) ↦ both_ways true (rw same at clear) refl
+        | inr (off, set) ↦ (let seven : 7 ≡ 0 = sym number ∙ off in omega (arith, seven))
+      ];
+  neither = λ at other point (full, some, (facs, is, (place, unused, number, differ))).
+      let same : facs ≡ flagged_facs 2 = one_frame is.frame (named_facs 2).frame in
+      elim differ [ inl (on, clear) ↦ on number | inr (off, set) ↦ both_ways false refl (rw same at set) ];
+  reduced = λ at other point (full, some, facs). both_ways true full refl;
 }
 
 pub sets_advised : AreSetsAdvised

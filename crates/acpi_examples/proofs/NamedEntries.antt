@@ -1,16 +1,18 @@
 -- What holds for each entry of an example, and what for none.
-use Rattle.std.specs.Prelude.{nat_lt}
+use Rattle.std.specs.Prelude.{Contains, nat_lt}
 use Rattle.std.specs.List.{list_all, AllByRecursion}
 use Rattle.std.proofs.Common.{◌≡◌, ℕ, ◌<◌, List, [], ◌∷◌, true, refl}
 use Rattle.std.proofs.lemmas.Bool.{and_parts, ltb-true}
 use Rattle.std.proofs.lemmas.List.Elements.{All-from_recursion, All-contains}
 use Rattle.acpi_base.specs.Entries.{PlacedEntry, Stands, StandsWith}
 
+pub each_of : {X : Type 0} (P : X → Type 0) (xs : List X) → AllByRecursion P xs → (x : X) → Contains xs x → P x
+each_of P xs each x listed = All-contains P xs x (All-from_recursion P xs each) listed
+
 pub each_entry : {E : Type 0} (entries : List (PlacedEntry E)) (Q : ℕ → E → Type 0)
     → AllByRecursion (λ s. Q s.offset s.entry) entries → (o : ℕ) (e : E) → Stands entries o e → Q o e
 each_entry {E} entries Q each o e stands =
-    All-contains (λ (s : PlacedEntry E). Q s.offset s.entry) entries (record { offset = o; entry = e })
-    (All-from_recursion (λ (s : PlacedEntry E). Q s.offset s.entry) entries each) stands
+    each_of (λ (s : PlacedEntry E). Q s.offset s.entry) entries each (record { offset = o; entry = e }) stands
 
 pub none_stands : {E : Type 0} (entries : List (PlacedEntry E)) (o : ℕ) (P : ℕ → E → Type 0)
     → AllByRecursion (λ s. ¬ P s.offset s.entry) entries → ¬ StandsWith entries o (P o)

@@ -12,9 +12,9 @@ use Rattle.acpi_rules.specs.Terms.{shown, term_number, value_number}
 use Rattle.acpi_rules.specs.Walks.{cut_from, structures_from}
 use Rattle.acpi_rules.proofs.Computed.{finds_broken, first_broken}
 use Rattle.acpi_rules.specs.declared.place.Place.{Place}
-use Rattle.acpi_lint.specs.RowGroups.{fadt_group, fadt_with_madt_group, gic_group, madt_group, madt_with_fadt_group, madt_with_pptt_group, madt_with_srat_group, pptt_group, pptt_with_madt_group, srat_group, srat_with_madt_group, srat_with_slit_group}
+use Rattle.acpi_lint.specs.RowGroups.{fadt_further_group, fadt_group, fadt_with_madt_group, gic_group, madt_further_group, madt_group, madt_with_fadt_group, madt_with_pptt_group, madt_with_srat_group, pptt_group, pptt_with_madt_group, srat_group, srat_with_madt_group, srat_with_slit_group}
 use Rattle.acpi_lint.specs.Rules.Rows.{rule_number}
-use Rattle.acpi_examples.specs.Rows.{AreFound, AreRowsFound, Example, tables_of, fadt_examples, fadt_with_madt_examples, gic_examples, madt_examples, madt_with_fadt_examples, madt_with_pptt_examples, madt_with_srat_examples, pptt_examples, pptt_with_madt_examples, srat_examples, srat_with_madt_examples, srat_with_slit_examples}
+use Rattle.acpi_examples.specs.Rows.{AreFound, AreRowsFound, Example, tables_of, fadt_examples, fadt_further_examples, fadt_with_madt_examples, gic_examples, madt_examples, madt_further_examples, madt_with_fadt_examples, madt_with_pptt_examples, madt_with_srat_examples, pptt_examples, pptt_with_madt_examples, srat_examples, srat_with_madt_examples, srat_with_slit_examples}
 
 -- what two functions give for each element, if the lists are the same
 same_of : {X Y : Type 0} (f g : X → Y) (xs : List X) → map f xs ≡ map g xs → (x : X) → Contains xs x → f x ≡ g x
@@ -36,102 +36,24 @@ all_computed rows examples same = λ e listed.
     rw (sym (same_of (computed rows) (λ x. x.found) examples same e listed))
     (finds_broken (rule_number e.rule) rows (tables_of e))
 
-madt_found : AreFound madt_group.rows madt_examples
-unfolding field number_bytes gives in_case is_kind all_hold holds passes reading
-    guard_holds first_bytes head_said kind_in most_of said_in size_in start_of
-    shown term_number value_number cut_from structures_from
-    computed madt_group
-madt_found = all_computed madt_group.rows madt_examples refl
-
-gic_found : AreFound gic_group.rows gic_examples
-unfolding field number_bytes gives in_case is_kind all_hold holds passes reading
-    guard_holds first_bytes head_said kind_in most_of said_in size_in start_of
-    shown term_number value_number cut_from structures_from
-    computed gic_group
-gic_found = all_computed gic_group.rows gic_examples refl
-
-madt_with_fadt_found : AreFound madt_with_fadt_group.rows madt_with_fadt_examples
-unfolding field number_bytes gives in_case is_kind all_hold holds passes reading
-    guard_holds first_bytes head_said kind_in most_of said_in size_in start_of
-    shown term_number value_number cut_from structures_from
-    computed madt_with_fadt_group
-madt_with_fadt_found = all_computed madt_with_fadt_group.rows madt_with_fadt_examples refl
-
-fadt_with_madt_found : AreFound fadt_with_madt_group.rows fadt_with_madt_examples
-unfolding field number_bytes gives in_case is_kind all_hold holds passes reading
-    guard_holds first_bytes head_said kind_in most_of said_in size_in start_of
-    shown term_number value_number cut_from structures_from
-    computed fadt_with_madt_group
-fadt_with_madt_found = all_computed fadt_with_madt_group.rows fadt_with_madt_examples refl
-
-madt_with_srat_found : AreFound madt_with_srat_group.rows madt_with_srat_examples
-unfolding field number_bytes gives in_case is_kind all_hold holds passes reading
-    guard_holds first_bytes head_said kind_in most_of said_in size_in start_of
-    shown term_number value_number cut_from structures_from
-    computed madt_with_srat_group
-madt_with_srat_found = all_computed madt_with_srat_group.rows madt_with_srat_examples refl
-
-srat_with_madt_found : AreFound srat_with_madt_group.rows srat_with_madt_examples
-unfolding field number_bytes gives in_case is_kind all_hold holds passes reading
-    guard_holds first_bytes head_said kind_in most_of said_in size_in start_of
-    shown term_number value_number cut_from structures_from
-    computed srat_with_madt_group
-srat_with_madt_found = all_computed srat_with_madt_group.rows srat_with_madt_examples refl
-
-srat_found : AreFound srat_group.rows srat_examples
-unfolding field number_bytes gives in_case is_kind all_hold holds passes reading
-    guard_holds first_bytes head_said kind_in most_of said_in size_in start_of
-    shown term_number value_number cut_from structures_from
-    computed srat_group
-srat_found = all_computed srat_group.rows srat_examples refl
-
-srat_with_slit_found : AreFound srat_with_slit_group.rows srat_with_slit_examples
-unfolding field number_bytes gives in_case is_kind all_hold holds passes reading
-    guard_holds first_bytes head_said kind_in most_of said_in size_in start_of
-    shown term_number value_number cut_from structures_from
-    computed srat_with_slit_group
-srat_with_slit_found = all_computed srat_with_slit_group.rows srat_with_slit_examples refl
-
-madt_with_pptt_found : AreFound madt_with_pptt_group.rows madt_with_pptt_examples
-unfolding field number_bytes gives in_case is_kind all_hold holds passes reading
-    guard_holds first_bytes head_said kind_in most_of said_in size_in start_of
-    shown term_number value_number cut_from structures_from
-    computed madt_with_pptt_group
-madt_with_pptt_found = all_computed madt_with_pptt_group.rows madt_with_pptt_examples refl
-
-pptt_with_madt_found : AreFound pptt_with_madt_group.rows pptt_with_madt_examples
-unfolding field number_bytes gives in_case is_kind all_hold holds passes reading
-    guard_holds first_bytes head_said kind_in most_of said_in size_in start_of
-    shown term_number value_number cut_from structures_from
-    computed pptt_with_madt_group
-pptt_with_madt_found = all_computed pptt_with_madt_group.rows pptt_with_madt_examples refl
-
-pptt_found : AreFound pptt_group.rows pptt_examples
-unfolding field number_bytes gives in_case is_kind all_hold holds passes reading
-    guard_holds first_bytes head_said kind_in most_of said_in size_in start_of
-    shown term_number value_number cut_from structures_from
-    computed pptt_group
-pptt_found = all_computed pptt_group.rows pptt_examples refl
-
-fadt_found : AreFound fadt_group.rows fadt_examples
-unfolding field number_bytes gives in_case is_kind all_hold holds passes reading
-    guard_holds first_bytes head_said kind_in most_of said_in size_in start_of
-    shown term_number value_number cut_from structures_from
-    computed fadt_group
-fadt_found = all_computed fadt_group.rows fadt_examples refl
-
 pub rows_found : AreRowsFound
+unfolding field number_bytes gives in_case is_kind all_hold holds passes reading guard_holds first_bytes head_said
+    kind_in most_of said_in size_in start_of shown term_number value_number cut_from structures_from computed madt_group
+    madt_further_group gic_group madt_with_fadt_group fadt_with_madt_group madt_with_srat_group srat_with_madt_group
+    srat_group srat_with_slit_group madt_with_pptt_group pptt_with_madt_group pptt_group fadt_group fadt_further_group
 rows_found = record {
-  madt = madt_found;
-  gic = gic_found;
-  madt_with_fadt = madt_with_fadt_found;
-  fadt_with_madt = fadt_with_madt_found;
-  madt_with_srat = madt_with_srat_found;
-  srat_with_madt = srat_with_madt_found;
-  srat = srat_found;
-  srat_with_slit = srat_with_slit_found;
-  madt_with_pptt = madt_with_pptt_found;
-  pptt_with_madt = pptt_with_madt_found;
-  pptt = pptt_found;
-  fadt = fadt_found;
+  madt = all_computed madt_group.rows madt_examples refl;
+  madt_further = all_computed madt_further_group.rows madt_further_examples refl;
+  gic = all_computed gic_group.rows gic_examples refl;
+  madt_with_fadt = all_computed madt_with_fadt_group.rows madt_with_fadt_examples refl;
+  fadt_with_madt = all_computed fadt_with_madt_group.rows fadt_with_madt_examples refl;
+  madt_with_srat = all_computed madt_with_srat_group.rows madt_with_srat_examples refl;
+  srat_with_madt = all_computed srat_with_madt_group.rows srat_with_madt_examples refl;
+  srat = all_computed srat_group.rows srat_examples refl;
+  srat_with_slit = all_computed srat_with_slit_group.rows srat_with_slit_examples refl;
+  madt_with_pptt = all_computed madt_with_pptt_group.rows madt_with_pptt_examples refl;
+  pptt_with_madt = all_computed pptt_with_madt_group.rows pptt_with_madt_examples refl;
+  pptt = all_computed pptt_group.rows pptt_examples refl;
+  fadt = all_computed fadt_group.rows fadt_examples refl;
+  fadt_further = all_computed fadt_further_group.rows fadt_further_examples refl;
 }

@@ -1,12 +1,12 @@
 -- Examples of the rules that are rows: of each tables that break it, with the three numbers of the first finding, and tables that
 -- just keep it. Proved by computing: a further example is a line here.
-use Rattle.std.specs.Prelude.{ℕ, ◌+◌, ◌*◌, List, [], ◌∷◌, ◌++◌, length, replicate, take, drop, Contains, Option, Some, None}
+use Rattle.std.specs.Prelude.{ℕ, ◌+◌, ◌-◌, ◌*◌, List, [], ◌∷◌, ◌++◌, length, map, replicate, take, drop, Contains, Option, Some, None}
 use Rattle.acpi_base.specs.Number.{number_bytes}
 use Rattle.acpi_rules.specs.Places.{FindsLeast}
 use Rattle.acpi_rules.specs.Rows.{Row}
 use Rattle.acpi_rules.specs.Terms.{TwoTables}
 use Rattle.acpi_rules.specs.declared.place.Place.{Place}
-use Rattle.acpi_lint.specs.RowGroups.{BreaksRow, OfAny, fadt_group, fadt_with_madt_group, gic_group, madt_group, madt_with_fadt_group, madt_with_pptt_group, madt_with_srat_group, pptt_group, pptt_with_madt_group, srat_group, srat_with_madt_group, srat_with_slit_group}
+use Rattle.acpi_lint.specs.RowGroups.{BreaksRow, OfAny, fadt_further_group, fadt_group, fadt_with_madt_group, gic_group, madt_further_group, madt_group, madt_with_fadt_group, madt_with_pptt_group, madt_with_srat_group, pptt_group, pptt_with_madt_group, srat_group, srat_with_madt_group, srat_with_slit_group}
 use Rattle.acpi_lint.specs.Rules.Rows.{rule_number}
 use Rattle.acpi_lint.specs.declared.rule.Rule.{Rule}
 use Rattle.acpi_lint.specs.declared.rule.Rule.TheVariants as rule
@@ -42,6 +42,11 @@ AreFound rows examples =
 abbrev pub patched : ℕ → List ℕ → List ℕ → List ℕ
 patched at bytes table = take at table ++ bytes ++ drop (at + length bytes) table
 
+-- a table with a byte, the last of three numbers, at an offset, the second one, in the structure at the first one breaks the rule
+-- there
+abbrev pub breaks_at : Rule → List ℕ → ℕ × ℕ × ℕ → Example
+breaks_at r table place = breaks r (patched (place.0 + place.1) (place.2 ∷ []) table) [] place.0 place.1 place.2
+
 abbrev pub joined : List (List ℕ) → List ℕ
 joined [] = []
 joined (e ∷ es) = e ++ joined es
@@ -60,6 +65,14 @@ fadt revision size = patched 8 (revision ∷ []) (replicate size 0)
 abbrev pub reduced : List ℕ → List ℕ
 reduced table = patched 114 (16 ∷ []) table
 
+-- one with an address in the X_ structure at this offset, whose space and width are these
+abbrev pub with_block : ℕ → ℕ → ℕ → List ℕ
+with_block at space width = patched at (space ∷ width ∷ 0 ∷ 0 ∷ 1 ∷ []) (fadt 6 276)
+
+-- the Revisions, and how many bytes a FADT of each has
+abbrev pub fadt_sizes : List (ℕ × ℕ)
+fadt_sizes = (1, 116) ∷ (2, 132) ∷ (3, 244) ∷ (4, 244) ∷ (5, 268) ∷ (6, 276) ∷ (7, 276) ∷ []
+
 -- a MADT, an SRAT and a PPTT with these entries
 abbrev pub madt : List (List ℕ) → List ℕ
 madt entries = replicate 44 0 ++ joined entries
@@ -75,6 +88,10 @@ abbrev pub pptt : ℕ → List (List ℕ) → List ℕ
 pptt revision entries = patched 8 (revision ∷ []) (replicate 36 0) ++ joined entries
 
 -- ---- entries: an ID is before the flags, and before these a UID where it is a local APIC's
+
+-- one of this type and length, 0 behind these
+abbrev pub entry : ℕ → ℕ → List ℕ
+entry kind size = kind ∷ size ∷ replicate (size - 2) 0
 
 abbrev pub local_apic : ℕ → ℕ → ℕ → List ℕ
 local_apic uid id flags = 0 ∷ 8 ∷ uid ∷ id ∷ flags ∷ replicate 3 0
@@ -116,6 +133,29 @@ its id = 15 ∷ 20 ∷ 0 ∷ 0 ∷ id ∷ replicate 15 0
 abbrev pub its_at : ℕ → List ℕ
 its_at address = patched 8 (number_bytes 8 address) (its 5)
 
+-- a wakeup structure of this length, with a version, a reserved byte, and bits 15:8 of the mailbox's address
+abbrev pub wakeup : ℕ → ℕ → ℕ → ℕ → List ℕ
+wakeup size version reserved high =
+    take size (16 ∷ size ∷ version ∷ 0 ∷ reserved ∷ 0 ∷ 0 ∷ 0 ∷ 0 ∷ high ∷ replicate 14 0)
+
+-- an interrupt controller of LoongArch or RISC-V, of version 1, and a MADT with one of each type, from 44 on
+abbrev pub pic : ℕ → ℕ → List ℕ
+pic kind size = patched 2 (1 ∷ []) (entry kind size)
+
+abbrev pub pics : List ℕ
+pics =
+    madt
+    (pic 17 15 ∷ pic 18 23 ∷ pic 19 21 ∷ pic 20 13 ∷ pic 21 19 ∷ pic 22 17 ∷ pic 23 14 ∷ pic 24 20
+    ∷ pic 25 16 ∷ pic 26 36 ∷ pic 27 36 ∷ [])
+
+-- a MADT with the structures that FurtherReserved looks at, at 44, 122, 146, 170, 186, 206, 221 and 241, with all flags that they
+-- have
+abbrev pub flagged : List ℕ
+flagged =
+    madt
+    (patched 12 (31 ∷ []) (entry 11 78) ∷ entry 12 24 ∷ patched 16 (1 ∷ []) (entry 13 24) ∷ patched 2 (1 ∷ []) (entry 14 16)
+    ∷ patched 2 (1 ∷ []) (entry 15 20) ∷ patched 11 (1 ∷ []) (entry 17 15) ∷ patched 4 (3 ∷ []) (entry 24 20) ∷ entry 25 16 ∷ [])
+
 abbrev pub rintc : ℕ → ℕ → ℕ → List ℕ
 rintc flags hart uid = 24 ∷ 20 ∷ 0 ∷ 0 ∷ flags ∷ 0 ∷ 0 ∷ 0 ∷ hart ∷ replicate 7 0 ++ uid ∷ replicate 3 0
 
@@ -135,6 +175,24 @@ its_affinity id = 4 ∷ 12 ∷ replicate 6 0 ++ id ∷ replicate 3 0
 
 abbrev pub initiator : ℕ → ℕ → List ℕ
 initiator domain flags = 5 ∷ 32 ∷ 0 ∷ 0 ∷ domain ∷ replicate 19 0 ++ flags ∷ replicate 7 0
+
+abbrev pub port : ℕ → ℕ → List ℕ
+port domain flags = patched 0 (6 ∷ []) (initiator domain flags)
+
+-- an SRAT with the structures that AffinityReserved looks at, at 48, 66, 78, 110 and 142, with all flags that they have
+abbrev pub affinities : List ℕ
+affinities =
+    srat 2 (gicc_affinity 7 3 ∷ its_affinity 5 ∷ initiator 7 3 ∷ port 7 3 ∷ patched 12 (1 ∷ []) (entry 7 20) ∷ [])
+
+-- an ITS in domain 7, and what else may be in it, with this flag that it is enabled
+abbrev pub its_in_seven : List ℕ
+its_in_seven = patched 2 (7 ∷ []) (its_affinity 5)
+
+abbrev pub others_in_seven : ℕ → List (List ℕ)
+others_in_seven flag =
+    patched 2 (7 ∷ []) (apic_affinity 0 4 flag) ∷ memory 7 9 1 flag ∷ patched 4 (7 ∷ []) (patched 12 (flag ∷ []) (entry 2 24))
+    ∷ patched 10 (flag ∷ []) (gicc_affinity 7 3) ∷ initiator 7 flag ∷ port 7 flag
+    ∷ patched 4 (7 ∷ []) (patched 12 (flag ∷ []) (entry 7 20)) ∷ []
 
 -- a node without private resources, and a cache of 28 bytes with a Cache ID
 abbrev pub node : ℕ → List ℕ
@@ -193,6 +251,50 @@ madt_examples =
     ∷ keeps rule.MadtReserved (patched 40 (1 ∷ []) (madt [])) []
     ∷ breaks rule.MadtReserved (madt (local_apic 3 5 4 ∷ [])) [] 44 4 0
     ∷ keeps rule.MadtReserved (madt (local_apic 3 5 3 ∷ [])) []
+    ∷ map (λ (e : ℕ × ℕ). breaks rule.MadtUnread (madt (entry e.0 e.1 ∷ [])) [] 44 e.0 0)
+    ((6, 4) ∷ (8, 4) ∷ (11, 39) ∷ (12, 25) ∷ (13, 23) ∷ (14, 15) ∷ (15, 21) ∷ (17, 14) ∷ (24, 19) ∷ (28, 4) ∷ (255, 2)
+    ∷ (16, 15) ∷ (16, 20) ∷ (16, 28) ∷ (18, 22) ∷ (18, 24) ∷ (19, 20) ∷ (19, 22) ∷ (20, 12) ∷ (20, 14) ∷ (21, 18) ∷ (21, 20)
+    ∷ (22, 16) ∷ (22, 18) ∷ (23, 13) ∷ (23, 15) ∷ (25, 15) ∷ (25, 17) ∷ (26, 35) ∷ (26, 37) ∷ (27, 35) ∷ (27, 37) ∷ [])
+    ++ keeps rule.MadtUnread (madt (entry 16 16 ∷ entry 16 24 ∷ [])) []
+    ∷ keeps rule.MadtUnread pics []
+    ∷ []
+
+-- the MADT, further: a wakeup structure, those of LoongArch and RISC-V, and what is reserved (5.2.12.8, 5.2.12.14 to 5.2.12.26)
+abbrev pub madt_further_examples : List Example
+madt_further_examples =
+    map (breaks_at rule.PicVersion pics)
+    ((44, 2, 0) ∷ (59, 2, 2) ∷ (82, 2, 2) ∷ (103, 2, 2) ∷ (116, 2, 2) ∷ (135, 2, 2) ∷ (152, 2, 2) ∷ (166, 2, 2) ∷ (186, 2, 2)
+    ∷ (202, 2, 2) ∷ (238, 2, 2) ∷ [])
+    ++ keeps rule.PicVersion pics []
+    ∷ keeps rule.PicVersion (madt (entry 16 16 ∷ entry 18 22 ∷ entry 28 4 ∷ [])) []
+    ∷ map (breaks_at rule.FurtherReserved flagged)
+    ((44, 2, 1) ∷ (44, 3, 1) ∷ (44, 12, 32) ∷ (44, 77, 1) ∷ (122, 2, 1) ∷ (122, 3, 1) ∷ (122, 21, 1) ∷ (122, 22, 1) ∷ (122, 23, 1)
+    ∷ (146, 2, 1) ∷ (146, 3, 1) ∷ (146, 16, 2) ∷ (170, 2, 2) ∷ (170, 3, 1) ∷ (186, 2, 2) ∷ (186, 3, 1) ∷ (186, 16, 1) ∷ (186, 17, 1)
+    ∷ (186, 18, 1) ∷ (186, 19, 1) ∷ (206, 11, 2) ∷ (221, 3, 1) ∷ (221, 4, 4) ∷ (241, 3, 1) ∷ (241, 4, 1) ∷ [])
+    ++ breaks rule.FurtherReserved (patched 59 (1 ∷ []) flagged) [] 44 12 0x100001f
+    ∷ keeps rule.FurtherReserved flagged []
+    ∷ keeps rule.FurtherReserved (madt (patched 2 (1 ∷ []) (entry 12 25) ∷ [])) []
+    ∷ breaks rule.HartInvalid (madt (patched 8 (replicate 8 255) (rintc 1 0 1) ∷ [])) [] 44 8 0xffffffffffffffff
+    ∷ breaks rule.HartInvalid (madt (patched 8 (replicate 8 255) (rintc 2 0 1) ∷ [])) [] 44 8 0xffffffffffffffff
+    ∷ keeps rule.HartInvalid (madt (patched 8 (254 ∷ replicate 7 255) (rintc 1 0 1) ∷ [])) []
+    ∷ keeps rule.HartInvalid (madt (patched 8 (replicate 8 255) (rintc 0 0 1) ∷ [])) []
+    ∷ breaks rule.WakeupMailbox (madt (entry 16 3 ∷ [])) [] 44 16 3
+    ∷ breaks rule.WakeupMailbox (madt (entry 16 12 ∷ [])) [] 44 16 12
+    ∷ breaks rule.WakeupMailbox (madt (wakeup 24 0 0 16 ∷ [])) [] 44 16 24
+    ∷ breaks rule.WakeupMailbox (madt (wakeup 16 1 0 16 ∷ [])) [] 44 24 16
+    ∷ breaks rule.WakeupMailbox (madt (wakeup 24 2 0 16 ∷ [])) [] 44 2 2
+    ∷ breaks rule.WakeupMailbox (madt (wakeup 16 0 1 0 ∷ [])) [] 44 4 1
+    ∷ breaks rule.WakeupMailbox (madt (wakeup 16 0 0 0 ∷ [])) [] 44 8 0
+    ∷ breaks rule.WakeupMailbox (madt (wakeup 24 1 0 8 ∷ [])) [] 44 8 2048
+    ∷ keeps rule.WakeupMailbox (madt (wakeup 16 0 0 16 ∷ wakeup 24 1 0 16 ∷ [])) []
+    ∷ breaks rule.LapicAtZero (madt (entry 5 12 ∷ [])) [] 44 4 0
+    ∷ keeps rule.LapicAtZero (madt (patched 11 (1 ∷ []) (entry 5 12) ∷ entry 5 13 ∷ [])) []
+    ∷ map (λ kind. breaks rule.MadtRevision (patched 8 (2 ∷ []) (madt (entry kind 2 ∷ []))) [] 8 0 2) (9 ∷ 15 ∷ [])
+    ++ keeps rule.MadtRevision (patched 8 (3 ∷ []) (madt (entry 9 2 ∷ entry 15 2 ∷ []))) []
+    ∷ keeps rule.MadtRevision (patched 8 (2 ∷ []) (madt (entry 8 2 ∷ entry 16 2 ∷ []))) []
+    ∷ map (λ kind. breaks rule.MadtRevision (patched 8 (5 ∷ []) (madt (entry kind 2 ∷ []))) [] 8 0 5) (24 ∷ 27 ∷ [])
+    ++ keeps rule.MadtRevision (patched 8 (6 ∷ []) (madt (entry 24 2 ∷ entry 27 2 ∷ []))) []
+    ∷ keeps rule.MadtRevision (patched 8 (5 ∷ []) (madt (entry 23 2 ∷ entry 28 2 ∷ []))) []
     ∷ []
 
 -- the parts of a GIC (5.2.12.14 to 5.2.12.18)
@@ -229,6 +331,45 @@ gic_examples =
     ∷ breaks rule.GicOverlap (madt (its_at 0xfff ∷ msi_frame 5 ∷ [])) [] 64 44 0xfff
     ∷ keeps rule.GicOverlap (madt (its_at 0x1000 ∷ msi_frame 5 ∷ [])) []
     ∷ breaks rule.GicOverlap (madt (gicr 1 5 ∷ msi_frame 5 ∷ [])) [] 60 44 1
+    ∷ breaks rule.GiccShort (madt (entry 11 75 ∷ [])) [] 44 76 75
+    ∷ keeps rule.GiccShort (madt (entry 11 76 ∷ [])) []
+    ∷ keeps rule.GiccShort (madt (entry 11 39 ∷ [])) []
+    ∷ breaks rule.GiccNoGicr (madt (gicd 3 ∷ patched 12 (8 ∷ []) (interface 0 0 5) ∷ interface 0 0 0 ∷ [])) [] 144 60 0
+    ∷ breaks rule.GiccNoGicr (madt (gicd 4 ∷ interface 0 0 0 ∷ interface 0 0 5 ∷ [])) [] 68 60 0
+    ∷ keeps rule.GiccNoGicr (madt (gicd 3 ∷ interface 0 0 5 ∷ gicc 1 8 zeros ∷ [])) []
+    ∷ keeps rule.GiccNoGicr (madt (gicd 3 ∷ patched 12 (0 ∷ []) (interface 0 0 5) ∷ interface 0 0 0 ∷ [])) []
+    ∷ keeps rule.GiccNoGicr (madt (gicd 2 ∷ gicd 3 ∷ interface 0 0 5 ∷ interface 0 0 0 ∷ [])) []
+    ∷ keeps rule.GiccNoGicr (madt (gicd 3 ∷ interface 0 0 5 ∷ interface 0 0 0 ∷ entry 14 2 ∷ [])) []
+    ∷ keeps rule.GiccNoGicr (madt (gicd 3 ∷ interface 0 0 5 ∷ interface 0 0 0 ∷ (0 ∷ []) ∷ [])) []
+    ∷ breaks rule.CapableNoGicr (madt (gicd 3 ∷ gicc 1 24 zeros ∷ [])) [] 68 12 24
+    ∷ breaks rule.CapableNoGicr (madt (gicd 4 ∷ gicc 1 8 zeros ∷ [])) [] 68 12 8
+    ∷ keeps rule.CapableNoGicr (madt (gicd 4 ∷ gicc 1 9 zeros ∷ [])) []
+    ∷ keeps rule.CapableNoGicr (madt (gicd 2 ∷ gicc 1 8 zeros ∷ [])) []
+    ∷ keeps rule.CapableNoGicr (madt (gicd 3 ∷ gicc 1 8 zeros ∷ entry 14 2 ∷ [])) []
+    ∷ keeps rule.CapableNoGicr (madt (gicd 3 ∷ gicc 1 8 zeros ∷ entry 0 7 ∷ [])) []
+    ∷ map (λ at. breaks rule.GiccDiffers (madt (gicc 0 1 zeros ∷ patched at (7 ∷ []) (gicc 1 8 zeros) ∷ [])) [] 120 at 7)
+    (40 ∷ 48 ∷ 56 ∷ [])
+    ++ breaks rule.GiccDiffers (madt (gicc 0 1 zeros ∷ patched 40 (7 ∷ []) (gicc 1 5 zeros) ∷ [])) [] 120 12 5
+    ∷ breaks rule.GiccDiffers (madt (gicc 0 5 zeros ∷ gicc 1 8 zeros ∷ [])) [] 120 12 8
+    ∷ breaks rule.GiccDiffers
+    (madt (gicc 0 1 zeros ∷ patched 59 (1 ∷ []) (patched 12 (1 ∷ []) (entry 11 60)) ∷ [])) [] 120 56 0x1000000
+    ∷ keeps rule.GiccDiffers (madt (gicc 0 1 zeros ∷ patched 40 (7 ∷ []) (patched 12 (5 ∷ []) (entry 11 59)) ∷ [])) []
+    ∷ keeps rule.GiccDiffers (madt (patched 40 (7 ∷ []) (gicc 0 0 zeros) ∷ gicc 1 1 zeros ∷ gicc 2 4 zeros ∷ [])) []
+    ∷ keeps rule.GiccDiffers (madt (gicc 0 5 zeros ∷ patched 32 (7 ∷ []) (gicc 1 13 (byte 0 5)) ∷ [])) []
+    ∷ breaks rule.SameGicrBase (madt (gicd 3 ∷ interface 0 0 5 ∷ interface 0 0 5 ∷ [])) [] 144 68 5
+    ∷ breaks rule.SameGicrBase (madt (gicd 4 ∷ interface 0 0 5 ∷ interface 0 0 6 ∷ interface 0 0 5 ∷ [])) [] 220 68 5
+    ∷ keeps rule.SameGicrBase (madt (gicd 3 ∷ interface 0 0 5 ∷ patched 12 (8 ∷ []) (interface 0 0 5) ∷ [])) []
+    ∷ keeps rule.SameGicrBase (madt (gicd 3 ∷ interface 0 0 0 ∷ interface 0 0 0 ∷ [])) []
+    ∷ keeps rule.SameGicrBase (madt (gicd 2 ∷ interface 0 0 5 ∷ interface 0 0 5 ∷ [])) []
+    ∷ breaks rule.ParkingVersion (madt (interface 2 0 0 ∷ [])) [] 44 16 2
+    ∷ keeps rule.ParkingVersion (madt (interface 1 0 0 ∷ [])) []
+    ∷ map (λ n. breaks rule.GiccNoPpi (madt (patched 78 (number_bytes 2 n) (entry 11 80) ∷ [])) [] 44 78 n)
+    (1 ∷ 15 ∷ 32 ∷ 1055 ∷ 1120 ∷ [])
+    ++ map (λ n. breaks rule.GiccNoPpi (madt (patched 80 (number_bytes 2 n) (entry 11 82) ∷ [])) [] 44 80 n)
+    (1 ∷ 15 ∷ 32 ∷ 1055 ∷ 1120 ∷ [])
+    ++ map (λ n. keeps rule.GiccNoPpi (madt (patched 78 (number_bytes 2 n ++ number_bytes 2 n) (entry 11 82) ∷ [])) [])
+    (16 ∷ 31 ∷ 1056 ∷ 1119 ∷ [])
+    ++ keeps rule.GiccNoPpi (madt (patched 78 (15 ∷ []) (entry 11 79) ∷ [])) []
     ∷ []
 
 -- the MADT with the FADT
@@ -252,6 +393,11 @@ fadt_with_madt_examples =
     ∷ keeps rule.NoBootMethod (fadt 6 131) (madt (interface 0 0 0 ∷ []))
     ∷ keeps rule.NoBootMethod (patched 129 (1 ∷ []) (fadt 6 131)) (madt (interface 0 0 0 ∷ interface 0 0 0 ∷ []))
     ∷ keeps rule.NoBootMethod (fadt 6 130) (madt (interface 0 0 0 ∷ interface 0 0 0 ∷ []))
+    ∷ breaks rule.FadtForRiscv (patched 131 (0xf5 ∷ []) (fadt 6 276)) (madt (rintc 1 5 1 ∷ [])) 8 6 5
+    ∷ keeps rule.FadtForRiscv (patched 131 (6 ∷ []) (fadt 6 276)) (madt (rintc 1 5 1 ∷ []))
+    ∷ breaks rule.FadtForRiscv (fadt 6 131) (madt (entry 24 2 ∷ [])) 8 6 0
+    ∷ keeps rule.FadtForRiscv (fadt 7 131) (madt (rintc 1 5 1 ∷ []))
+    ∷ keeps rule.FadtForRiscv (fadt 6 276) (madt (gicc 0 1 zeros ∷ []))
     ∷ []
 
 -- the MADT with the SRAT
@@ -295,6 +441,18 @@ srat_examples =
     ∷ keeps rule.SratReserved (srat 2 []) []
     ∷ breaks rule.SratReserved (srat 2 (apic_affinity 0 4 2 ∷ [])) [] 48 4 0
     ∷ keeps rule.SratReserved (srat 2 (apic_affinity 0 4 1 ∷ [])) []
+    ∷ map (breaks_at rule.AffinityReserved affinities)
+    ((48, 10, 2) ∷ (66, 6, 1) ∷ (66, 7, 1) ∷ (78, 2, 1) ∷ (78, 24, 4) ∷ (78, 28, 1) ∷ (78, 29, 1) ∷ (78, 30, 1) ∷ (78, 31, 1)
+    ∷ (110, 2, 1) ∷ (110, 24, 4) ∷ (110, 28, 1) ∷ (110, 29, 1) ∷ (110, 30, 1) ∷ (110, 31, 1) ∷ (142, 2, 1) ∷ (142, 3, 1)
+    ∷ (142, 12, 2) ∷ [])
+    ++ keeps rule.AffinityReserved affinities []
+    ∷ map (breaks_at rule.DeviceHandle affinities) ((78, 3, 2) ∷ (110, 3, 2) ∷ [])
+    ++ keeps rule.DeviceHandle (patched 81 (1 ∷ []) (patched 113 (1 ∷ []) affinities)) []
+    ∷ breaks rule.ItsDomain (srat 2 (its_in_seven ∷ others_in_seven 0)) [] 48 2 7
+    ∷ map (λ e. keeps rule.ItsDomain (srat 2 (its_in_seven ∷ e ∷ [])) []) (others_in_seven 1)
+    ++ map (λ e. keeps rule.ItsDomain (srat 2 (its_in_seven ∷ e ∷ [])) []) (entry 8 2 ∷ entry 0 15 ∷ (0 ∷ []) ∷ [])
+    ++ breaks rule.ItsDomain (srat 2 (apic_affinity 1 4 1 ∷ its_affinity 5 ∷ [])) [] 64 2 0
+    ∷ keeps rule.ItsDomain (srat 2 (apic_affinity 1 4 1 ∷ patched 3 (1 ∷ []) (its_affinity 5) ∷ [])) []
     ∷ []
 
 -- the SRAT with the SLIT (5.2.17)
@@ -350,6 +508,12 @@ pptt_examples =
     ∷ keeps rule.SameCacheId (pptt 2 (cache 128 5 4 ∷ cache 128 5 4 ∷ [])) []
     ∷ breaks rule.PpttReserved (pptt 3 (node 32 ∷ [])) [] 36 4 0
     ∷ keeps rule.PpttReserved (pptt 3 (node 31 ∷ [])) []
+    ∷ breaks rule.PpttUnread (pptt 3 (node 0 ∷ entry 2 30 ∷ entry 255 2 ∷ [])) [] 56 2 0
+    ∷ breaks rule.PpttUnread (pptt 3 (entry 255 2 ∷ [])) [] 36 255 0
+    ∷ keeps rule.PpttUnread (pptt 3 (entry 0 2 ∷ entry 1 2 ∷ [])) []
+    ∷ breaks rule.CacheIdZero (pptt 3 (cache 128 0 4 ∷ [])) [] 36 24 0
+    ∷ keeps rule.CacheIdZero (pptt 3 (cache 128 1 4 ∷ cache 127 0 4 ∷ sized_cache 128 5 6 0 7 ∷ [])) []
+    ∷ keeps rule.CacheIdZero (pptt 2 (cache 128 0 4 ∷ [])) []
     ∷ []
 
 -- the FADT (5.2.9)
@@ -400,9 +564,62 @@ fadt_examples =
     ∷ keeps rule.FadtReserved (patched 114 (64 ∷ []) (fadt 6 276)) []
     ∷ []
 
+-- the FADT, further: its Revision, and what the hardware or the standard does not have (5.2.9)
+abbrev pub fadt_further_examples : List Example
+fadt_further_examples =
+    map (λ (r : ℕ × ℕ). breaks rule.FadtPastRevision (fadt r.0 (r.1 + 1)) [] 4 r.1 (r.1 + 1)) fadt_sizes
+    ++ map (λ (r : ℕ × ℕ). keeps rule.FadtPastRevision (fadt r.0 r.1) []) fadt_sizes
+    ++ breaks rule.FadtPastRevision (fadt 0 116) [] 8 0 0
+    ∷ breaks rule.ArmBootEarly (patched 129 (0 ∷ 1 ∷ 0x10 ∷ []) (fadt 5 268)) [] 129 0 256
+    ∷ keeps rule.ArmBootEarly (patched 129 (0 ∷ 1 ∷ 0x11 ∷ []) (fadt 5 268)) []
+    ∷ breaks rule.ArmBootEarly (patched 129 (1 ∷ []) (fadt 5 131)) [] 129 0 1
+    ∷ keeps rule.ArmBootEarly (patched 129 (1 ∷ []) (fadt 6 131)) []
+    ∷ keeps rule.ArmBootEarly (patched 129 (1 ∷ []) (fadt 5 130)) []
+    ∷ map (λ at. breaks rule.FixedInReduced (reduced (patched at (7 ∷ []) (fadt 6 276))) [] at 0 7)
+    (48 ∷ 56 ∷ 60 ∷ 64 ∷ 68 ∷ 72 ∷ 76 ∷ 80 ∷ 84 ∷ 152 ∷ 164 ∷ 176 ∷ 188 ∷ 200 ∷ 212 ∷ 224 ∷ 236 ∷ [])
+    ++ keeps rule.FixedInReduced (patched 48 (7 ∷ []) (with_block 148 1 8)) []
+    ∷ keeps rule.FixedInReduced (reduced (patched 236 (7 ∷ []) (fadt 3 243))) []
+    ∷ breaks rule.SmiHandshake (patched 48 (178 ∷ 0 ∷ 0 ∷ 0 ∷ 0 ∷ 1 ∷ []) (fadt 6 276)) [] 52 0 0
+    ∷ breaks rule.SmiHandshake (patched 48 (178 ∷ 0 ∷ 0 ∷ 0 ∷ 1 ∷ 0 ∷ []) (fadt 6 276)) [] 53 0 0
+    ∷ keeps rule.SmiHandshake (patched 48 (178 ∷ 0 ∷ 0 ∷ 0 ∷ 1 ∷ 1 ∷ []) (fadt 6 276)) []
+    ∷ keeps rule.SmiHandshake (patched 48 (178 ∷ []) (fadt 6 276)) []
+    ∷ keeps rule.SmiHandshake (patched 53 (1 ∷ []) (fadt 6 276)) []
+    ∷ keeps rule.SmiHandshake (reduced (patched 48 (178 ∷ 0 ∷ 0 ∷ 0 ∷ 0 ∷ 1 ∷ []) (fadt 6 276))) []
+    ∷ breaks rule.GpePastEnd (patched 92 (65 ∷ []) (patched 80 (1 ∷ []) (fadt 6 276))) [] 92 0 65
+    ∷ breaks rule.GpePastEnd (patched 92 (65 ∷ []) (with_block 220 1 8)) [] 92 0 65
+    ∷ keeps rule.GpePastEnd (patched 92 (64 ∷ []) (with_block 220 1 8)) []
+    ∷ breaks rule.GpePastEnd (patched 93 (1 ∷ 253 ∷ []) (patched 84 (1 ∷ []) (fadt 6 276))) [] 94 0 253
+    ∷ breaks rule.GpePastEnd (patched 93 (65 ∷ []) (with_block 232 1 8)) [] 94 0 0
+    ∷ keeps rule.GpePastEnd (patched 93 (1 ∷ 252 ∷ []) (patched 84 (1 ∷ []) (fadt 6 276))) []
+    ∷ keeps rule.GpePastEnd (patched 92 (65 ∷ 65 ∷ []) (fadt 6 276)) []
+    ∷ keeps rule.GpePastEnd (reduced (patched 92 (65 ∷ []) (with_block 220 1 8))) []
+    ∷ map
+    (λ (b : ℕ × ℕ × ℕ). breaks rule.BlockTooLong (patched b.1 (32 ∷ []) (patched b.0 (1 ∷ []) (fadt 3 b.2))) [] b.1 0 32)
+    ((56, 88, 276) ∷ (56, 88, 159) ∷ (60, 88, 276) ∷ (60, 88, 171) ∷ (64, 89, 276) ∷ (64, 89, 183) ∷ (68, 89, 276) ∷ (68, 89, 195)
+    ∷ (72, 90, 276) ∷ (72, 90, 207) ∷ (76, 91, 276) ∷ (76, 91, 219) ∷ [])
+    ++ keeps rule.BlockTooLong (patched 88 (31 ∷ []) (patched 56 (1 ∷ []) (fadt 6 276))) []
+    ∷ keeps rule.BlockTooLong (patched 88 (32 ∷ []) (patched 56 (1 ∷ []) (with_block 148 1 8))) []
+    ∷ keeps rule.BlockTooLong (patched 92 (32 ∷ []) (patched 80 (1 ∷ []) (fadt 6 276))) []
+    ∷ keeps rule.BlockTooLong (reduced (patched 88 (32 ∷ []) (patched 56 (1 ∷ []) (fadt 6 276)))) []
+    ∷ map (λ at. breaks rule.BlockSpace (with_block at 2 8) [] at 0 2) (148 ∷ 160 ∷ 172 ∷ 184 ∷ 196 ∷ 208 ∷ 220 ∷ 232 ∷ [])
+    ++ keeps rule.BlockSpace (patched 160 (2 ∷ []) (with_block 148 1 8)) []
+    ∷ keeps rule.BlockSpace (reduced (with_block 148 2 8)) []
+    ∷ map (λ (b : ℕ × ℕ). breaks rule.BlockUsualWidth (with_block b.0 1 b.1) [] (b.0 + 1) 0 b.1)
+    ((148, 16) ∷ (160, 31) ∷ (172, 32) ∷ (184, 8) ∷ (196, 16) ∷ (208, 24) ∷ [])
+    ++ map (λ (b : ℕ × ℕ). keeps rule.BlockUsualWidth (with_block b.0 1 b.1) [])
+    ((148, 32) ∷ (160, 32) ∷ (172, 16) ∷ (184, 16) ∷ (196, 8) ∷ (208, 32) ∷ (220, 7) ∷ (232, 7) ∷ [])
+    ++ keeps rule.BlockUsualWidth (patched 149 (16 ∷ []) (fadt 6 276)) []
+    ∷ keeps rule.BlockUsualWidth (reduced (with_block 148 1 16)) []
+    ∷ breaks rule.SleepNotReduced (patched 248 (7 ∷ []) (fadt 5 256)) [] 248 0 7
+    ∷ keeps rule.SleepNotReduced (patched 248 (7 ∷ []) (fadt 5 255)) []
+    ∷ breaks rule.SleepNotReduced (patched 260 (7 ∷ []) (fadt 5 268)) [] 260 0 7
+    ∷ keeps rule.SleepNotReduced (reduced (patched 260 (7 ∷ []) (fadt 5 268))) []
+    ∷ []
+
 -- each of these finds what it says
 pub record AreRowsFound : Type 0 where
   pub madt : AreFound madt_group.rows madt_examples
+  pub madt_further : AreFound madt_further_group.rows madt_further_examples
   pub gic : AreFound gic_group.rows gic_examples
   pub madt_with_fadt : AreFound madt_with_fadt_group.rows madt_with_fadt_examples
   pub fadt_with_madt : AreFound fadt_with_madt_group.rows fadt_with_madt_examples
@@ -414,3 +631,4 @@ pub record AreRowsFound : Type 0 where
   pub pptt_with_madt : AreFound pptt_with_madt_group.rows pptt_with_madt_examples
   pub pptt : AreFound pptt_group.rows pptt_examples
   pub fadt : AreFound fadt_group.rows fadt_examples
+  pub fadt_further : AreFound fadt_further_group.rows fadt_further_examples

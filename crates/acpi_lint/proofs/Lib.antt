@@ -16,6 +16,7 @@ mod HeldStages
 mod LeastPlaces
 mod ListedSlots
 mod NamedPlaces
+mod NearestCaches
 mod OddFields
 mod OfTables
 mod OnceTables

@@ -167,7 +167,7 @@ none_outside nodes leaves i end passed at other point (x, (j, inside, is), there
 
 -- ---- the rule
 
-first_as : {P Q : Numbered → Type 0} (f : Numbered) → ((g : Numbered) → P g ↔ Q g) → IsFirst P f → IsFirst Q f
+pub first_as : {P Q : Numbered → Type 0} (f : Numbered) → ((g : Numbered) → P g ↔ Q g) → IsFirst P f → IsFirst Q f
 first_as f same first =
     record { here = (same f).0 first.here; least = λ g there is. first.least g ((same g).1 there) is }
 

@@ -25,7 +25,7 @@ pub rule_from : (r : Rule) → 101 ≤ rule_number r
 rule_from rule.ListedTwice = omega arith
 rule_from _ = omega arith
 
-pub rule_upto : (r : Rule) → rule_number r ≤ 184
+pub rule_upto : (r : Rule) → rule_number r ≤ 311
 rule_upto rule.ListedTwice = omega arith
 rule_upto _ = omega arith
 

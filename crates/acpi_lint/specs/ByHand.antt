@@ -32,13 +32,15 @@ InSized P slit at other point = HasSlitSize slit × P slit at other point
 
 abbrev pub slot_rules : List Rule
 slot_rules =
-    rule.SecondOther ∷ rule.HeaderText ∷ rule.NullSlot ∷ rule.ListedApart ∷ rule.SecondTable ∷ rule.ListedTwice ∷ []
+    rule.SecondOther ∷ rule.HeaderText ∷ rule.RootHeader ∷ rule.NullSlot ∷ rule.ListedApart ∷ rule.SecondTable
+    ∷ rule.ListedTwice ∷ []
 
 abbrev pub memory_rules : List Rule
-memory_rules = rule.RsdpReserved ∷ rule.TablesOverlap ∷ rule.RsdtDiffers ∷ []
+memory_rules = rule.RsdpText ∷ rule.RsdpReserved ∷ rule.TablesOverlap ∷ rule.RsdtDiffers ∷ []
 
 abbrev pub fadt_rules : List Rule
-fadt_rules = rule.FacsReserved ∷ rule.DsdtWrong ∷ rule.PortPastEnd ∷ rule.PortsOverlap ∷ []
+fadt_rules =
+    rule.S4BiosDiffers ∷ rule.FacsReserved ∷ rule.DsdtText ∷ rule.DsdtWrong ∷ rule.PortPastEnd ∷ rule.PortsOverlap ∷ []
 
 abbrev pub fadt_madt_rules : List Rule
 fadt_madt_rules = rule.SciNowhere ∷ []
@@ -50,7 +52,7 @@ abbrev pub slit_rules : List Rule
 slit_rules = rule.RemoteAsLocal ∷ rule.SlitDiffers ∷ []
 
 abbrev pub pptt_rules : List Rule
-pptt_rules = rule.NoPackage ∷ []
+pptt_rules = rule.SameCacheType ∷ rule.NoPackage ∷ []
 
 -- all of them
 abbrev pub rules_by_hand : List Rule

@@ -1,6 +1,7 @@
 -- The definitions that contracts of the linter cite.
 pub mod AdviceText
 pub mod ByHand
+pub mod CacheTypes
 pub mod CompleteTables
 pub mod Differences
 pub mod FadtPlaces

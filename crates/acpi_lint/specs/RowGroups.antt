@@ -9,8 +9,8 @@ use Rattle.acpi_base.specs.declared.table_kind.TableKind.TheVariants as kind
 use Rattle.acpi_rules.specs.Rows.{Row, BorRow, IsBroken, row_value, rows_said}
 use Rattle.acpi_rules.specs.Terms.{TwoTables}
 use Rattle.acpi_lint.specs.TableLengths.{least_length}
-use Rattle.acpi_lint.specs.declared.rows.fadt.TheConstants.{FADT, FADT_WITH_MADT}
-use Rattle.acpi_lint.specs.declared.rows.madt.TheConstants.{GIC, MADT, MADT_WITH_FADT, MADT_WITH_PPTT, MADT_WITH_SRAT}
+use Rattle.acpi_lint.specs.declared.rows.fadt.TheConstants.{FADT, FADT_FURTHER, FADT_WITH_MADT}
+use Rattle.acpi_lint.specs.declared.rows.madt.TheConstants.{GIC, MADT, MADT_FURTHER, MADT_WITH_FADT, MADT_WITH_PPTT, MADT_WITH_SRAT}
 use Rattle.acpi_lint.specs.declared.rows.pptt.TheConstants.{PPTT, PPTT_WITH_MADT}
 use Rattle.acpi_lint.specs.declared.rows.srat.TheConstants.{SRAT, SRAT_WITH_MADT, SRAT_WITH_SLIT}
 use denote.Ref.{Bor}
@@ -28,11 +28,17 @@ group_value g = record { table = g.0; other = g.1; rows = map row_value g.2.now 
 unfoldable pub fadt_group : RowGroup
 fadt_group = record { table = kind.Fadt; other = None; rows = rows_said FADT }
 
+unfoldable pub fadt_further_group : RowGroup
+fadt_further_group = record { table = kind.Fadt; other = None; rows = rows_said FADT_FURTHER }
+
 unfoldable pub fadt_with_madt_group : RowGroup
 fadt_with_madt_group = record { table = kind.Fadt; other = Some kind.Madt; rows = rows_said FADT_WITH_MADT }
 
 unfoldable pub madt_group : RowGroup
 madt_group = record { table = kind.Madt; other = None; rows = rows_said MADT }
+
+unfoldable pub madt_further_group : RowGroup
+madt_further_group = record { table = kind.Madt; other = None; rows = rows_said MADT_FURTHER }
 
 unfoldable pub gic_group : RowGroup
 gic_group = record { table = kind.Madt; other = None; rows = rows_said GIC }
@@ -64,7 +70,7 @@ pptt_with_madt_group = record { table = kind.Pptt; other = Some kind.Madt; rows 
 -- all of them
 abbrev pub row_groups : List RowGroup
 row_groups =
-    fadt_group ∷ fadt_with_madt_group ∷ madt_group ∷ gic_group
+    fadt_group ∷ fadt_further_group ∷ fadt_with_madt_group ∷ madt_group ∷ madt_further_group ∷ gic_group
     ∷ madt_with_fadt_group ∷ madt_with_srat_group ∷ madt_with_pptt_group ∷ srat_group
     ∷ srat_with_madt_group ∷ srat_with_slit_group ∷ pptt_group ∷ pptt_with_madt_group ∷ []
 

@@ -1,6 +1,7 @@
 -- The rules of advice: when each is broken, its first finding, and what is reported.
 pub mod Advice
 pub mod Broken
+pub mod CacheTypes
 pub mod Entries
 pub mod FadtAdvice
 pub mod FadtBlocks

@@ -9,15 +9,16 @@ ghost use Rattle.acpi_lint.specs.ByHand.{Adds, AreFoundByHand, fadt_madt_rules, 
 ghost use Rattle.acpi_lint.specs.CompleteTables.{AreCompleteTables};
 ghost use Rattle.acpi_lint.specs.Rules.Broken.{IsBrokenByHand};
 
+use crate::cache_types::same_cache_type;
 use crate::complete_tables::CompleteTables;
 use crate::fadt_blocks::{port_past_end, ports_overlap};
-use crate::fadt_memory::{dsdt_wrong, facs_reserved};
+use crate::fadt_memory::{dsdt_text, dsdt_wrong, facs_reserved, s4bios_differs};
 use crate::header_advice::{header_text, second_other};
 use crate::madt_advice::gicr_too_small;
 use crate::packages::no_package;
-use crate::root_advice::{null_slot, rsdt_differs};
+use crate::root_advice::{null_slot, root_header, rsdt_differs};
 use crate::row_findings::Found;
-use crate::rsdp_advice::rsdp_reserved;
+use crate::rsdp_advice::{rsdp_reserved, rsdp_text};
 use crate::rule::Rule;
 use crate::sci::sci_nowhere;
 use crate::slit::{remote_as_local, slit_differs};
@@ -56,6 +57,7 @@ fn add_of_slots(
     add(found, Rule::SecondTable, second_table(tables))?;
     add(found, Rule::ListedApart, listed_apart(tables))?;
     add(found, Rule::NullSlot, null_slot(tables))?;
+    add(found, Rule::RootHeader, root_header(tables))?;
     add(found, Rule::HeaderText, header_text(tables))?;
     add(found, Rule::SecondOther, second_other(alloc, tables)?)
 }
@@ -76,7 +78,8 @@ fn add_of_memory(
     add(found, Rule::RsdtDiffers, differs)?;
     let overlaps = tables_overlap(alloc, image, rsdp, tables)?;
     add(found, Rule::TablesOverlap, overlaps)?;
-    add(found, Rule::RsdpReserved, rsdp_reserved(image, rsdp))
+    add(found, Rule::RsdpReserved, rsdp_reserved(image, rsdp))?;
+    add(found, Rule::RsdpText, rsdp_text(image, rsdp))
 }
 
 /// Adds what the rules on the FADT find, and those on what it names.
@@ -97,7 +100,9 @@ fn add_of_fadt(
     add(found, Rule::PortsOverlap, ports_overlap(alloc, &fadt)?)?;
     add(found, Rule::PortPastEnd, port_past_end(&fadt))?;
     add(found, Rule::DsdtWrong, dsdt_wrong(image, &fadt))?;
-    add(found, Rule::FacsReserved, facs_reserved(image, &fadt))
+    add(found, Rule::DsdtText, dsdt_text(image, &fadt))?;
+    add(found, Rule::FacsReserved, facs_reserved(image, &fadt))?;
+    add(found, Rule::S4BiosDiffers, s4bios_differs(image, &fadt))
 }
 
 /// Adds what the rule on the FADT and the MADT finds.
@@ -148,7 +153,7 @@ fn add_of_slit(tables: &CompleteTables<'_>, found: &mut Vec<Found>) -> Result<()
     add(found, Rule::RemoteAsLocal, remote_as_local(&slit))
 }
 
-/// Adds what the rule on the PPTT finds.
+/// Adds what the rules on the PPTT find.
 fn add_of_pptt(
     alloc: Global,
     tables: &CompleteTables<'_>,
@@ -161,12 +166,13 @@ fn add_of_pptt(
     let Some(pptt) = tables.long(TableKind::Pptt) else {
         return Ok(());
     };
-    add(found, Rule::NoPackage, no_package(alloc, &pptt)?)
+    add(found, Rule::NoPackage, no_package(alloc, &pptt)?)?;
+    add(found, Rule::SameCacheType, same_cache_type(alloc, &pptt)?)
 }
 
 /// The first finding of each rule that is not a row. The tables are those of the set. Allocates for each finding, each
 /// slot of the root table, each structure in memory, each register block of the FADT, each range of redistributors, each
-/// usable CPU interface of a GIC, and each node of the PPTT.
+/// usable CPU interface of a GIC, and each node, private resource and cache of the PPTT.
 pub fn found_by_hand(
     alloc: Global,
     image: &LentImage<'_>,

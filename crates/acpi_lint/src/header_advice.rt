@@ -5,13 +5,13 @@ ghost use Rattle.std.specs.List.{filter_map, list_any};
 ghost use Rattle.acpi_base.specs.Memory.{Memory};
 ghost use Rattle.acpi_lint.specs.CompleteTables.{AreCompleteTables};
 ghost use Rattle.acpi_rules.specs.Places.{FindsLeast};
-ghost use Rattle.acpi_lint.specs.Rules.HeaderAdvice.{IsNoText, IsHeaderText, IsSecondOther, signature_number, is_once};
+ghost use Rattle.acpi_lint.specs.Rules.HeaderAdvice.{IsNoText, IsHeaderText, IsOddNumber, IsOddOem, IsSecondOther, signature_number, is_once};
 ghost use Rattle.acpi_lint.specs.Headers.{IsFirstOdd, once_numbered};
 ghost use Rattle.acpi_lint.specs.declared.listed_slots.Slot.{Slot};
 
 use crate::complete_tables::CompleteTables;
 use crate::listed_slots::Slot;
-use acpi_base::field::u32_at;
+use acpi_base::field::{number_at, u32_at};
 use acpi_rules::{Numbered, Place, Repeat, first_repeated};
 use std::alloc::{AllocError, Global};
 
@@ -39,6 +39,28 @@ fn is_odd_field(header: &[u8], offset: usize, size: usize) -> bool
     ensures { IsTrue result ↔ IsNoText (take size (drop offset header.now)) }
 {
     is_no_text(&header[offset..offset + size])
+}
+
+/// The place of the text at an offset, with its number, if it has such a byte.
+pub fn odd_number(bytes: &[u8], offset: usize, size: usize) -> Option<Place>
+    requires size { (1 ≤ size) × (size ≤ 8) }
+    requires room { offset + size ≤ length bytes.now }
+    ensures { FindsLeast (IsOddNumber bytes.now offset size) result }
+{
+    is_odd_field(bytes, offset, size).then_some(Place {
+        at: offset as u64,
+        other: 0,
+        point: number_at(bytes, offset, size),
+    })
+}
+
+/// The place of the first text of a header, behind its signature, with such a byte.
+pub fn odd_oem(header: &[u8]) -> Option<Place>
+    requires { 36 ≤ length header.now }
+    ensures { FindsLeast (IsOddOem header.now) result }
+{
+    let later = odd_number(header, 16, 8).or(odd_number(header, 28, 4));
+    odd_number(header, 10, 6).or(later)
 }
 
 /// The offset of the first field of a header with such a byte.

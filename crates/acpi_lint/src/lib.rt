@@ -34,6 +34,7 @@
 
 mod advice;
 mod by_hand;
+mod cache_types;
 mod complete_tables;
 mod facs;
 mod fadt;

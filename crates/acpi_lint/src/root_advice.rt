@@ -7,16 +7,55 @@ ghost use Rattle.acpi_base.specs.Root.{IsSlotWidth};
 ghost use Rattle.acpi_base.specs.Memory.{Memory};
 ghost use Rattle.acpi_lint.specs.CompleteTables.{AreCompleteTables};
 ghost use Rattle.acpi_rules.specs.Places.{FindsLeast};
-ghost use Rattle.acpi_lint.specs.Rules.RootAdvice.{IsNullIn, IsNullSlot, listed_signature, IsXsdt, IsNamedRsdt, IsRsdtDiffers};
+ghost use Rattle.acpi_lint.specs.Rules.RootAdvice.{IsNullIn, IsNullSlot, IsOddRoot, IsOtherRevision, IsRootHeader, listed_signature, IsXsdt, IsNamedRsdt, IsRsdtDiffers};
 ghost use Rattle.acpi_lint.specs.Differences.{first_difference, FindsDifference};
 
 use crate::complete_tables::CompleteTables;
+use crate::header_advice::odd_oem;
 use acpi_base::LentImage;
-use acpi_base::field::{is_signed, number_at, u32_at};
+use acpi_base::field::{is_signed, number_at, u8_at, u32_at};
 use acpi_graph::sort_unless_sorted;
 use acpi_read::{Root, Rsdp, Table};
 use acpi_rules::Place;
 use std::alloc::{AllocError, Global};
+
+// ---- the header
+
+/// The place of the Revision of a root table, if it is not 1.
+fn other_revision(whole: &[u8]) -> Option<Place>
+    requires { 36 ≤ length whole.now }
+    ensures { FindsLeast (IsOtherRevision whole.now) result }
+{
+    let revision = u8_at(whole, 8);
+    (revision != 1).then_some(Place {
+        at: 8,
+        other: 0,
+        point: u64::from(revision),
+    })
+}
+
+/// The place of the first field of a root table's header that is odd.
+fn odd_root(whole: &[u8]) -> Option<Place>
+    requires { 36 ≤ length whole.now }
+    ensures { (d : ℕ) → FindsLeast (IsOddRoot whole.now d) result }
+{
+    other_revision(whole).or(odd_oem(whole))
+}
+
+/// 280 RootHeader, look at it (5.2.7, 5.2.8): the root table has a Revision that is not 1, or a text of its header has a
+/// byte that is not printable.
+/// Numbers: `at` is the field's offset: 0x8 for Revision, 0xa (10) for OEMID, 0x10 (16) for OEM Table ID, 0x1c (28) for
+/// Creator ID; `point` is the field as a number.
+/// If `at` is 0x8: "The Revision of the root table, at {at}, is {point:d}, not 1."
+/// "The text at {at} of the root table, {point} as a number, has a byte that is not printable."
+///
+/// The place of the first such field of a set's root table, if that is complete. The tables are those of the set.
+pub fn root_header(tables: &CompleteTables<'_>) -> Option<Place>
+    ensures { (m : Memory) (p : ℕ) → AreCompleteTables m p tables.now
+        → FindsLeast (IsRootHeader m p) result }
+{
+    odd_root(tables.root.as_ref()?.bytes())
+}
 
 // ---- slots that list nothing
 

@@ -1,7 +1,7 @@
 //! Rules as rows of data, table by table. What a row means is said by `acpi_rules`.
 
 ghost use Rattle.std.specs.Prelude.{◌≡◌, map};
-ghost use Rattle.acpi_lint.specs.RowGroups.{group_value, row_groups, fadt_group, fadt_with_madt_group, gic_group, madt_group, madt_with_fadt_group, madt_with_pptt_group, madt_with_srat_group, pptt_group, pptt_with_madt_group, srat_group, srat_with_madt_group, srat_with_slit_group};
+ghost use Rattle.acpi_lint.specs.RowGroups.{group_value, row_groups, fadt_further_group, fadt_group, fadt_with_madt_group, gic_group, madt_further_group, madt_group, madt_with_fadt_group, madt_with_pptt_group, madt_with_srat_group, pptt_group, pptt_with_madt_group, srat_group, srat_with_madt_group, srat_with_slit_group};
 
 // ---- how rows are written
 
@@ -65,6 +65,9 @@ macro_rules! within {
     };
     (table) => {
         Within::Table
+    };
+    (around) => {
+        Within::Around
     };
     (other) => {
         Within::Other
@@ -254,6 +257,9 @@ macro_rules! form {
     (unlike_value) => {
         Form::Repeated(Repeat::UnlikeValue)
     };
+    (unlike_number) => {
+        Form::Repeated(Repeat::UnlikeNumber)
+    };
     (nowhere) => {
         Form::LookedUp(LookUp::Nowhere)
     };
@@ -320,13 +326,15 @@ mod table_fields;
 
 use acpi_base::TableKind;
 use acpi_rules::Row;
-use fadt::{FADT, FADT_WITH_MADT};
+use fadt::{FADT, FADT_FURTHER, FADT_WITH_MADT};
 pub use madt::{GICR_LENGTHS, GICRS_ARE_KNOWN, USABLE_GICCS};
-use madt::{GIC, MADT, MADT_WITH_FADT, MADT_WITH_PPTT, MADT_WITH_SRAT};
+use madt::{GIC, MADT, MADT_FURTHER, MADT_WITH_FADT, MADT_WITH_PPTT, MADT_WITH_SRAT};
 pub use madt_fields::{MADT_ENTRIES, MADT_SERIES};
-pub use pptt::{MARKED_LEAVES, OUTER_PARENTS, UNMARKED_LEAVES};
+pub use pptt::{
+    CACHE_TYPES, MARKED_LEAVES, NEXT_LEVELS, OUTER_PARENTS, RESOURCES, UNMARKED_LEAVES,
+};
 use pptt::{PPTT, PPTT_WITH_MADT};
-pub use pptt_fields::{PPTT_ENTRIES, PPTT_SERIES};
+pub use pptt_fields::{PPTT_ENTRIES, PPTT_RESOURCES, PPTT_SERIES};
 use srat::{SRAT, SRAT_WITH_MADT, SRAT_WITH_SLIT};
 pub use srat_fields::SRAT_SERIES;
 
@@ -339,6 +347,14 @@ fn fadt_group() -> RowGroup<'static>
     ensures { group_value result ≡ fadt_group }
 {
     (TableKind::Fadt, None, FADT.as_slice())
+}
+
+/// The further ones on the FADT.
+#[tactic(auto, unfolding(crate::specs::RowGroups::fadt_further_group))]
+fn fadt_further_group() -> RowGroup<'static>
+    ensures { group_value result ≡ fadt_further_group }
+{
+    (TableKind::Fadt, None, FADT_FURTHER.as_slice())
 }
 
 /// Those on the FADT with the MADT.
@@ -359,6 +375,14 @@ fn madt_group() -> RowGroup<'static>
     ensures { group_value result ≡ madt_group }
 {
     (TableKind::Madt, None, MADT.as_slice())
+}
+
+/// The further ones on the MADT.
+#[tactic(auto, unfolding(crate::specs::RowGroups::madt_further_group))]
+fn madt_further_group() -> RowGroup<'static>
+    ensures { group_value result ≡ madt_further_group }
+{
+    (TableKind::Madt, None, MADT_FURTHER.as_slice())
 }
 
 /// Those on the parts of a GIC in the MADT.
@@ -458,13 +482,15 @@ fn pptt_with_madt_group() -> RowGroup<'static>
 }
 
 /// All rows. Each group is told by a function, since the proof of one that names all constants takes too many steps.
-pub fn row_groups() -> [RowGroup<'static>; 12]
+pub fn row_groups() -> [RowGroup<'static>; 14]
     ensures { map group_value result ≡ row_groups }
 {
     [
         fadt_group(),
+        fadt_further_group(),
         fadt_with_madt_group(),
         madt_group(),
+        madt_further_group(),
         gic_group(),
         madt_with_fadt_group(),
         madt_with_srat_group(),

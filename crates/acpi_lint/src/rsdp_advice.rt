@@ -3,8 +3,9 @@
 ghost use Rattle.std.specs.Prelude.{◌≡◌, ◌≤◌, ℕ, List, Some, length, MatchOption};
 ghost use Rattle.acpi_base.specs.Rsdp.{revision_of};
 ghost use Rattle.acpi_rules.specs.Places.{FindsLeast};
-ghost use Rattle.acpi_lint.specs.Rules.RsdpAdvice.{AreExtendedBytes, IsOddRevision, IsLongRsdp, IsOddExtended, IsRsdpReserved};
+ghost use Rattle.acpi_lint.specs.Rules.RsdpAdvice.{AreExtendedBytes, IsOddRevision, IsLongRsdp, IsOddExtended, IsRsdpReserved, IsRsdpText};
 
+use crate::header_advice::odd_number;
 use crate::limits::used;
 use acpi_base::LentImage;
 use acpi_base::field::{u8_at, u32_at};
@@ -78,4 +79,15 @@ pub fn rsdp_reserved(image: &LentImage<'_>, rsdp: u64) -> Option<Place>
     ensures { FindsLeast (IsRsdpReserved image.now rsdp) result }
 {
     odd_revision(image, rsdp).or(odd_extended(image, rsdp))
+}
+
+/// 279 RsdpText, look at it (5.2.5.3): the OEMID of the RSDP has a byte that is not printable.
+/// Numbers: `at` is 0x9, the offset of OEMID in the RSDP, `point` is its 6 bytes as a number.
+/// "The OEMID, at {at} of the RSDP, {point} as a number, has a byte that is not printable."
+///
+/// The place of the OEMID of the RSDP at an address, if it is no text.
+pub fn rsdp_text(image: &LentImage<'_>, rsdp: u64) -> Option<Place>
+    ensures { FindsLeast (IsRsdpText image.now rsdp) result }
+{
+    odd_number(image.window(rsdp, Rsdp::SHORT_LENGTH)?, 9, 6)
 }

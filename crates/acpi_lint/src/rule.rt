@@ -177,6 +177,75 @@ pub enum Rule {
     CacheNumbers,
     /// A field of the PPTT has a reserved value (5.2.30).
     PpttReserved,
+    /// The OEMID of the RSDP has a byte that is not printable (5.2.5.3).
+    RsdpText,
+    /// The root table has a Revision that is not 1, or a text of its header has a byte that is not printable (5.2.7,
+    /// 5.2.8).
+    RootHeader,
+    /// A text of the DSDT's header has a byte that is not printable (5.2.6).
+    DsdtText,
+    /// The FADT is longer than one of its Revision, or has the Revision 0 (5.2.9).
+    FadtPastRevision,
+    /// ARM_BOOT_ARCH is not 0 in a FADT older than 5.1, which does not have it (5.2.9).
+    ArmBootEarly,
+    /// The hardware is reduced, and SMI_CMD or a register block has an address (5.2.9).
+    FixedInReduced,
+    /// SMI_CMD is there, and one of ACPI_ENABLE and ACPI_DISABLE is 0 (5.2.9).
+    SmiHandshake,
+    /// S4BIOS_REQ of the FADT and S4BIOS_F of the FACS do not agree (5.2.9, 5.2.10).
+    S4BiosDiffers,
+    /// A GPE block has events above 255, for which there are no methods (5.6.4.1).
+    GpePastEnd,
+    /// A register block is longer than a generic address structure can describe (5.2.9, 5.2.3.2).
+    BlockTooLong,
+    /// A register block is neither in memory nor in I/O ports (5.2.9).
+    BlockSpace,
+    /// A register block has another width than the usual one (4.8.3).
+    BlockUsualWidth,
+    /// A sleep register has an address, and the hardware is not reduced (5.2.9).
+    SleepNotReduced,
+    /// The MADT is of RISC-V, and the FADT is older than 6.6 (5.2.9).
+    FadtForRiscv,
+    /// A GIC CPU interface has fewer than the 76 bytes of ACPI 5.1 (5.2.12.14).
+    GiccShort,
+    /// An enabled processor names no redistributor, and others do (5.2.12.14).
+    GiccNoGicr,
+    /// A processor is Online Capable, and there is no range of redistributors (5.2.12.14).
+    CapableNoGicr,
+    /// The virtual interface, the maintenance interrupt or the mode of a usable processor is not that of the first one
+    /// (5.2.12.14).
+    GiccDiffers,
+    /// Two enabled processors name the same redistributor (5.2.12.14).
+    SameGicrBase,
+    /// A GIC CPU interface has a version of the parking protocol above 1 (5.2.12.14).
+    ParkingVersion,
+    /// An interrupt of a processor's profiling or trace is not private to it (5.2.12.14).
+    GiccNoPpi,
+    /// A structure of LoongArch or RISC-V has a version that is not 1 (5.2.12.20 to 5.2.12.26).
+    PicVersion,
+    /// A structure of a GIC, of LoongArch or of RISC-V has a reserved value (5.2.12.14 to 5.2.12.20).
+    FurtherReserved,
+    /// A usable hart has an ID of all ones, which no hart has.
+    HartInvalid,
+    /// A Multiprocessor Wakeup structure is not of the length of its version, or has a wrong version, reserved bytes or
+    /// address (5.2.12.19).
+    WakeupMailbox,
+    /// A Local APIC Address Override has the address 0 (5.2.12.8).
+    LapicAtZero,
+    /// The MADT has structures that its Revision does not have (5.2.12).
+    MadtRevision,
+    /// A structure of a GIC, of RISC-V, or of an initiator or a port has a reserved value (5.2.16.4 to 5.2.16.7).
+    AffinityReserved,
+    /// A device handle is neither of ACPI nor of PCI (5.2.16.6, 5.2.16.7).
+    DeviceHandle,
+    /// An ITS is in a proximity domain that nothing else is in (5.2.16.5).
+    ItsDomain,
+    /// A structure of the PPTT of a type that is not read (5.2.30).
+    PpttUnread,
+    /// A cache has the Cache ID 0, and its flags say that the ID is valid (5.2.30.2).
+    CacheIdZero,
+    /// A node names two caches of one type, and neither is the Next Level of a cache that it names (5.2.30.2).
+    SameCacheType,
     // end: rules
 }
 
@@ -267,6 +336,39 @@ const ROWS: [(Rule, u16, &str); Rule::COUNT] = [
     (Rule::NoPackage, 182, "NoPackage"),
     (Rule::CacheNumbers, 183, "CacheNumbers"),
     (Rule::PpttReserved, 184, "PpttReserved"),
+    (Rule::RsdpText, 279, "RsdpText"),
+    (Rule::RootHeader, 280, "RootHeader"),
+    (Rule::DsdtText, 281, "DsdtText"),
+    (Rule::FadtPastRevision, 282, "FadtPastRevision"),
+    (Rule::ArmBootEarly, 283, "ArmBootEarly"),
+    (Rule::FixedInReduced, 284, "FixedInReduced"),
+    (Rule::SmiHandshake, 285, "SmiHandshake"),
+    (Rule::S4BiosDiffers, 286, "S4BiosDiffers"),
+    (Rule::GpePastEnd, 287, "GpePastEnd"),
+    (Rule::BlockTooLong, 288, "BlockTooLong"),
+    (Rule::BlockSpace, 289, "BlockSpace"),
+    (Rule::BlockUsualWidth, 290, "BlockUsualWidth"),
+    (Rule::SleepNotReduced, 291, "SleepNotReduced"),
+    (Rule::FadtForRiscv, 292, "FadtForRiscv"),
+    (Rule::GiccShort, 293, "GiccShort"),
+    (Rule::GiccNoGicr, 294, "GiccNoGicr"),
+    (Rule::CapableNoGicr, 295, "CapableNoGicr"),
+    (Rule::GiccDiffers, 296, "GiccDiffers"),
+    (Rule::SameGicrBase, 297, "SameGicrBase"),
+    (Rule::ParkingVersion, 298, "ParkingVersion"),
+    (Rule::GiccNoPpi, 299, "GiccNoPpi"),
+    (Rule::PicVersion, 300, "PicVersion"),
+    (Rule::FurtherReserved, 301, "FurtherReserved"),
+    (Rule::HartInvalid, 302, "HartInvalid"),
+    (Rule::WakeupMailbox, 303, "WakeupMailbox"),
+    (Rule::LapicAtZero, 304, "LapicAtZero"),
+    (Rule::MadtRevision, 305, "MadtRevision"),
+    (Rule::AffinityReserved, 306, "AffinityReserved"),
+    (Rule::DeviceHandle, 307, "DeviceHandle"),
+    (Rule::ItsDomain, 308, "ItsDomain"),
+    (Rule::PpttUnread, 309, "PpttUnread"),
+    (Rule::CacheIdZero, 310, "CacheIdZero"),
+    (Rule::SameCacheType, 311, "SameCacheType"),
     // end: rules
 ];
 
@@ -279,13 +381,13 @@ fn rows() -> &'static [(Rule, u16, &'static str)]
 
 impl Rule {
     /// How many rules there are.
-    pub const COUNT: usize = 84;
+    pub const COUNT: usize = 117;
 
     /// The lowest number of a rule.
     pub const FIRST: u16 = 101;
 
     /// The highest number of a rule. Numbers between the lowest and the highest may be unused.
-    pub const LAST: u16 = 184;
+    pub const LAST: u16 = 311;
 
     /// The rule with this number.
     pub fn new(number: u16) -> Option<Rule>

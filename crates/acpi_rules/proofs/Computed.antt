@@ -215,12 +215,16 @@ is_told repeat.Twice g f = not (g.at == f.at)
 is_told repeat.Unlike g f = not (g.value == f.value)
 is_told repeat.UnlikeFirst g f = not (g.value == f.value)
 is_told repeat.UnlikeValue g f = not (g.value == f.value)
+is_told repeat.UnlikeNumber g f = not (g.value == f.value)
+is_told repeat.UnlikeValues g f = not (g.value == f.value)
 
 decides_told : (r : Repeat) (g f : Numbered) → Decides (is_told r g f) (IsTold r g f)
 decides_told repeat.Twice g f = Decides-not (g.at == f.at) (Decides-eqb g.at f.at)
 decides_told repeat.Unlike g f = Decides-not (g.value == f.value) (Decides-eqb g.value f.value)
 decides_told repeat.UnlikeFirst g f = Decides-not (g.value == f.value) (Decides-eqb g.value f.value)
 decides_told repeat.UnlikeValue g f = Decides-not (g.value == f.value) (Decides-eqb g.value f.value)
+decides_told repeat.UnlikeNumber g f = Decides-not (g.value == f.value) (Decides-eqb g.value f.value)
+decides_told repeat.UnlikeValues g f = Decides-not (g.value == f.value) (Decides-eqb g.value f.value)
 
 -- f is the first one of g's number, and this is told of g
 abbrev is_repeat : Repeat → List Numbered → Numbered → Numbered → Bool

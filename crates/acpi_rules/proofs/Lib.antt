@@ -5,7 +5,7 @@ pub mod ComputedLists
 mod ComputedOverlaps
 mod Elements
 pub mod Following
-mod FormFindings
+pub mod FormFindings
 mod GivenNumbers
 pub mod KnownNumbers
 pub mod LeastPlaces

@@ -24,6 +24,8 @@ IsTold repeat.Twice g f = g.at ≢ f.at
 IsTold repeat.Unlike g f = g.value ≢ f.value
 IsTold repeat.UnlikeFirst g f = g.value ≢ f.value
 IsTold repeat.UnlikeValue g f = g.value ≢ f.value
+IsTold repeat.UnlikeNumber g f = g.value ≢ f.value
+IsTold repeat.UnlikeValues g f = g.value ≢ f.value
 
 -- the place at which it is reported
 abbrev pub repeat_place : Repeat → Numbered → Numbered → Place
@@ -31,6 +33,8 @@ repeat_place repeat.Twice g f = record { at = g.at; other = f.at; point = g.valu
 repeat_place repeat.Unlike g f = record { at = g.at; other = f.at; point = g.number }
 repeat_place repeat.UnlikeFirst g f = record { at = f.at; other = g.at; point = g.number }
 repeat_place repeat.UnlikeValue g f = record { at = g.at; other = f.at; point = g.value }
+repeat_place repeat.UnlikeNumber g f = record { at = g.at; other = g.number; point = g.value }
+repeat_place repeat.UnlikeValues g f = record { at = g.number; other = f.value; point = g.value }
 
 -- of the numbers that there are f is the first one that is the same as g's, and this is told of g
 pub record Repeats (r : Repeat) (Has : Numbered → Type 0) (g f : Numbered) : Type 0 where

@@ -19,7 +19,7 @@ pub enum LookUp {
 /// The first of these, which are in order, that has a number.
 // Inlined, since mostly there are none.
 #[inline(always)]
-pub(crate) fn first_of(known: &[Numbered], number: u64) -> Option<Numbered>
+pub fn first_of(known: &[Numbered], number: u64) -> Option<Numbered>
     requires { AllPairs IsNotAbove known.now }
     ensures { result ≡ first_of known.now number }
 {

@@ -31,6 +31,10 @@ pub enum Repeat {
     UnlikeFirst,
     /// The same, reported at the later one, with the place of the first, and with the later one's value.
     UnlikeValue,
+    /// The same, reported at the later one, with the number, and with the later one's value.
+    UnlikeNumber,
+    /// The same, reported at the number, with the first one's value and the later one's.
+    UnlikeValues,
 }
 
 impl Repeat {
@@ -50,11 +54,13 @@ impl Repeat {
     {
         let (at, other) = match self {
             Repeat::UnlikeFirst => (first.at, here.at),
+            Repeat::UnlikeNumber => (here.at, here.number),
+            Repeat::UnlikeValues => (here.number, first.value),
             _ => (here.at, first.at),
         };
         let point = match self {
-            Repeat::Twice | Repeat::UnlikeValue => here.value,
-            _ => here.number,
+            Repeat::Unlike | Repeat::UnlikeFirst => here.number,
+            _ => here.value,
         };
         Place { at, other, point }
     }

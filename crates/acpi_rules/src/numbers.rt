@@ -25,7 +25,7 @@ use std::alloc::{AllocError, Global};
 pub type Numbers<'a> = (Path, &'a [Case<'a>], &'a [Case<'a>]);
 
 /// The numbers that structures give, in order. Refuses if out of memory.
-fn sorted_given(
+pub fn sorted_given(
     alloc: Global,
     path: &Path,
     cases: &[Case<'_>],

@@ -9,22 +9,22 @@ from .sentences import ROWS
 # its number if it is no row.
 OF_STAGES = {entries.madt: (6, 7, 8, 17), entries.srat: (9, 10, 16), entries.pptt: (12, 13, 14, 15, 18)}
 OF_ROWS = {
-    fadt.fadt_advice: ("fadt",),
+    fadt.fadt_advice: ("fadt", "fadt_further"),
     entries.fadt_madt: ("fadt_with_madt",),
-    entries.madt: ("madt", "gic", "madt_with_fadt", "madt_with_srat", "madt_with_pptt"),
+    entries.madt: ("madt", "madt_further", "gic", "madt_with_fadt", "madt_with_srat", "madt_with_pptt"),
     entries.srat: ("srat", "srat_with_madt", "srat_with_slit"),
     entries.pptt: ("pptt", "pptt_with_madt"),
 }
 BY_HAND = {
     fixed.listed: (101, 102, 103, 148, 149),
-    fixed.root_advice: (129, 130, 131),
-    fadt.fadt_advice: (133, 137, 138),
+    fixed.root_advice: (129, 130, 131, 280),
+    fadt.fadt_advice: (133, 137, 138, 281),
     entries.fadt_madt: (108,),
-    fadt.facs_advice: (146,),
-    fixed.rsdp_advice: (147,),
+    fadt.facs_advice: (146, 286),
+    fixed.rsdp_advice: (147, 279),
     entries.madt: (161,),
     fixed.slit_advice: (121, 179),
-    entries.pptt: (182,),
+    entries.pptt: (182, 311),
 }
 OF_RULES = {**BY_HAND}
 for explain, lists in OF_ROWS.items():
@@ -47,10 +47,10 @@ def about(line, tables, settings):
 def of_yes(report):
     """The structures that a `yes` does not cover, or that there are none."""
     if report.has_root():
-        entries.unread(report, "APIC")
-        entries.unread(report, "SRAT")
+        for signature in entries.STAGED:
+            entries.unread(report, signature)
         if not report.lines:
-            report.say("its MADT and SRAT have no structures of types that the stages do not check")
+            report.say("its MADT, SRAT and PPTT have no structures of types that the stages do not check")
 
 
 def of_fault(report, stage, code, at, other, point):

@@ -3,7 +3,7 @@
 from functools import lru_cache
 from itertools import islice
 
-from .fadt import field, found_fadt
+from .fadt import field, found_fadt, version
 from .fixed import localities
 from .image import ADDRESSES
 from .program import MISMATCH
@@ -12,12 +12,16 @@ from .tables import FIRST, LENGTHS, UNREAD, layout_of, little
 
 MOST_LISTED = 32
 # Codes whose second number is the offset of another structure.
-PAIRS = {37, 39, 40, 45, 57, 109, 110, 112, 113, 115, 117, 122, 124, 156, 162, 163, 166, 167, 168, 169, 171, 181}
-# Rules whose second number is an offset in the structure, of a byte that is reserved.
+PAIRS = {37, 39, 40, 45, 57, 109, 110, 112, 113, 115, 117, 122, 124, 156, 162, 163, 166, 167, 168, 169, 171, 181, 297, 311}
+# Rules whose second number is an offset in the structure, of a field or of a byte: those on reserved ones, which also look at a field of
+# the table, and others.
 RESERVED = {172, 178, 184}
+OF_FIELD = {294, 295, 296, 298, 299, 300, 301, 302, 303, 304, 306, 307, 308, 310}
 # Rules that say of the MADT as a whole that something is not there.
 OF_WHOLE_MADT = {116, 158, 159}
 PROCESSORS = (0, 9, 11, 17, 24)
+# The types of the SRAT that put something into a domain: all but that of an ITS.
+IN_DOMAINS = (0, 1, 2, 3, 5, 6, 7)
 
 # What is listed of the MADT for a rule, also what it says is not there: what that is, and the types.
 LISTED = {
@@ -28,8 +32,12 @@ LISTED = {
     ),
     159: (("the MADT's GICCs:", (11,)), ("the MADT's GIC distributors:", (12,))),
     # Apart from the GICCs, of which a MADT may have more than are listed, before its redistributors.
-    **dict.fromkeys((160, 161), (("the MADT's redistributors:", (14,)), ("the MADT's GICCs:", (11,)))),
+    **dict.fromkeys((160, 161, 294), (("the MADT's redistributors:", (14,)), ("the MADT's GICCs:", (11,)))),
+    295: (("the MADT's redistributors:", (14,)),),
 }
+
+# The types of the MADT that a Revision added.
+SINCE_REVISION = {3: range(9, 16), 6: range(24, 28)}
 
 # Where a rule looks for a number and does not find it: the table, what is there, of which types, and which field.
 LOOKED_IN = {
@@ -96,7 +104,7 @@ def say_served(report, io_apic):
     report.say(f"  {io_apic.offset:#x} serves {first} to {end - 1} (0x{first:x} to 0x{end - 1:x}), with {end - first} inputs")
 
 
-# What has to look at each structure of a table is kept, since a hundred lines may ask for it.
+# What has to look at each structure of a table is kept, since many lines may ask for it.
 kept = lru_cache(maxsize=None)
 
 
@@ -112,7 +120,7 @@ def offsets(table, types, word):
 
 
 def is_listed_above(report, what):
-    """Whether this was listed for an earlier line, which is said: a hundred lines may be about one list."""
+    """Whether this was listed for an earlier line, which is said: many lines may be about one list."""
     if what in report.tables.listed:
         report.say(f"{what} as listed above")
         return True
@@ -158,6 +166,8 @@ def madt(report, code, at, other, point):
         return
     if code in OF_WHOLE_MADT:
         report.field(table, "its beginning", 0, 44)
+    elif code == 305:
+        revision(report, table)
     elif code in RESERVED:
         reserved(report, table, 40, at, other)
     else:
@@ -165,7 +175,9 @@ def madt(report, code, at, other, point):
     for what, types in LISTED.get(code, ()):
         listing(report, what, table, types)
     if code in BESIDE:
-        beside(report, table, *BESIDE[code])
+        first = beside(report, table, *BESIDE[code])
+        if code == 296:
+            value(report, first, other)
 
 
 def madt_structures(report, table, code, at, other):
@@ -193,6 +205,20 @@ def madt_structures(report, table, code, at, other):
         looked_for(report, code)
     elif code in (152, 154):
         of_fadt(report, code)
+    elif found and (code == 293 or code == 303 and found.field_at(other) is None):
+        due = f"must be at least {other}" if code == 293 else f"one of its version has {other}"
+        report.say(f"its length, byte 1, is {found.size}, and {due}")
+    elif code in OF_FIELD:
+        value(report, found, other)
+
+
+def revision(report, table):
+    """The MADT's Revision, and the structures that only a later one has."""
+    report.field(table, "Revision", 8, 1)
+    report.say(f"Revision is {known(table.number(8, 1))}")
+    for least, types in SINCE_REVISION.items():
+        if (table.number(8, 1) or 0) < least:
+            listing(report, f"the MADT's structures of types {types[0]} to {types[-1]}, which are those of Revision {least}:", table, types)
 
 
 def is_distributor(one):
@@ -204,18 +230,27 @@ def is_usable_below_255(one):
     return is_one(one, "lapic") and one.fields["flags"] & 3 != 0 and one.fields["id"] != 255
 
 
+def is_usable_of_60(one):
+    """Whether a structure is a GICC of at least 60 bytes that is Enabled or Online Capable."""
+    return is_one(one, "gicc") and one.size >= 60 and one.fields["flags"] & 9 != 0
+
+
 # What a rule looks at in the MADT beside the structures that its line names: what that is, its type, and which one it is. The first one
 # is shown: the GIC's version is that of the first distributor.
-GICD = "GIC distributor of 24 bytes", 12, is_distributor
-BESIDE = {150: ("usable local APIC with an APIC ID other than 255", 0, is_usable_below_255), 161: GICD, 162: GICD}
+BESIDE = {
+    150: ("usable local APIC with an APIC ID other than 255", 0, is_usable_below_255),
+    **dict.fromkeys((161, 162, 294, 295, 297), ("GIC distributor of 24 bytes", 12, is_distributor)),
+    296: ("usable GICC of at least 60 bytes", 11, is_usable_of_60),
+}
 
 
 def beside(report, table, what, kind, is_due):
+    """The first such structure, or None."""
     at = first_of(table, kind, is_due)
     if at is None:
         report.say(f"the MADT has no {what}: {MISMATCH}")
-    else:
-        report.structure(table, f"the first {what}", at)
+        return None
+    return report.structure(table, f"the first {what}", at)
 
 
 @kept
@@ -232,22 +267,20 @@ def of_fadt(report, code):
         report.say(f"SCI_INT is {known(table.number(46, 2))}")
 
 
-def version(fadt):
-    """The Revision of a FADT and its minor version, whose high bits are something else."""
-    minor = (fadt.number(131, 1) or 0) & 0xF if fadt.length >= 132 else 0
-    return f"{known(fadt.number(8, 1))}.{minor}"
-
-
 def reserved(report, table, field_at, at, place):
     """A reserved value: of the field of 4 bytes that the table has, or of a structure, with the field or the byte at a place of it."""
     if at == field_at:
         report.field(table, "the field", at, 4)
         report.say(f"it is {known(table.number(at, 4), '#x')}")
         return
-    found = report.named(table, "the structure", at)
+    value(report, report.named(table, "the structure", at), place)
+
+
+def value(report, found, place):
+    """What a structure has at a place: a field, or else a byte. The word of a structure of one field is the field's name too."""
     name = found and found.field_at(place)
-    if name:
-        report.say(f"its field {name}, at {place}, is {found.fields[name]:#x}")
+    if found and name is not None:
+        report.say(f"its field {name or found.word}, at {place}, is {found.fields[name]:#x}")
     elif found and place < found.size:
         report.say(f"byte {place} of it is {found.number(place, 1):#x}")
 
@@ -286,6 +319,16 @@ def srat(report, code, at, other, point):
         count_unread(report, table)
     elif code == 120 and (slit := report.table("SLIT")):
         localities(report, slit)
+    elif code in OF_FIELD:
+        value(report, found, other)
+        if code == 308:
+            domains(report, table)
+
+
+def domains(report, table):
+    """The domains of what is in one: of enabled affinities, memory ranges, initiators and ports."""
+    numbers = enabled_numbers(table, IN_DOMAINS, "domain")
+    report.say(f"the SRAT's enabled affinities, memory ranges, initiators and ports have the domains {numbers}")
 
 
 def ranges(report, *two):
@@ -333,7 +376,9 @@ def pptt(report, code, at, other, point):
         reserved(report, table, None, at, other)
         return
     found = report.named(table, "the structure", at)
-    if code in PAIRS:
+    if code == 311:
+        caches(report, table, other, point)
+    elif code in PAIRS:
         report.named(table, "the other structure", other)
     elif code == 52:
         reference(report, table, other, "a node, type 0")
@@ -347,8 +392,22 @@ def pptt(report, code, at, other, point):
     elif code == 183 and is_one(found, "cache"):
         ways, sets, line = (found.fields[name] for name in ("ways", "sets", "line"))
         report.say(f"{sets} sets * {ways} ways * {line} bytes of a line are {sets * ways * line}, and Size is {found.fields['size']}")
+    elif code == 309:
+        count_unread(report, table)
+    elif code == 310:
+        value(report, found, other)
+        report.say(f"the PPTT's Revision is {known(table.number(8, 1))}")
     elif code in LOOKED_IN:
         looked_for(report, code)
+
+
+def caches(report, table, *two):
+    """Two caches that a node names, and what they are caches of."""
+    for what, at in zip(("the first cache", "the other cache"), two):
+        found = report.named(table, what, at)
+        if is_one(found, "cache"):
+            kind = ("data", "instructions", *2 * ["data and instructions"])[found.fields["attributes"] >> 2 & 3]
+            report.say(f"its field attributes, at 21, is {found.fields['attributes']:#x}: it is a cache of {kind}")
 
 
 def reference(report, table, at, due):
@@ -499,17 +558,29 @@ def overrides(table, source):
     return [one.offset for one in found if one.number(2, 1) == 0 and one.fields["source"] == source]
 
 
+# The structures at which rules of advice look and no stage does, by type: the least length, or the lengths.
+ADVISED_FROM = {("APIC", 11): 40, ("APIC", 24): 20}
+ADVISED = {
+    "APIC": {
+        12: (24,), 13: (24,), 14: (16,), 15: (20,), 16: (16, 24), 17: (15,), 18: (23,), 19: (21,), 20: (13,), 21: (19,), 22: (17,),
+        23: (14,), 25: (16,), 26: (36,), 27: (36,),
+    },
+    "SRAT": {3: (18,), 4: (12,), 5: (32,), 6: (32,), 7: (20,)},
+    "PPTT": {},
+}
+# The types at which the stages look.
+STAGED = {"APIC": (0, 1, 2, 3, 4, 5, 9, 10), "SRAT": (0, 1, 2), "PPTT": (0, 1)}
+
+
 def is_advised(signature, kind, size):
-    """Whether rules of advice look at a type that no stage looks at."""
-    if signature == "SRAT":
-        return size == {3: 18, 4: 12, 5: 32, 6: 32, 7: 20}.get(kind)
-    return size >= {11: 40, 24: 20}.get(kind, 256) or size == {12: 24, 13: 24, 14: 16, 15: 20, 17: 15}.get(kind)
+    """Whether rules of advice look at a structure of a type that no stage looks at."""
+    least = ADVISED_FROM.get((signature, kind))
+    return size in ADVISED[signature].get(kind, ()) if least is None else size >= least
 
 
 @kept
 def unread_kinds(table):
     """Types at which the stages do not look, each with whether advice does: how many structures a table has of them, and the first one."""
-    staged = (0, 1, 2) if table.signature == "SRAT" else (0, 1, 2, 3, 4, 5, 9, 10)
     alike, kinds = {}, {}
     for at in table.places():
         key = table.data[at : at + 2]
@@ -517,7 +588,7 @@ def unread_kinds(table):
             alike[key] = [0, at]
         alike[key][0] += 1
     for (kind, size), (count, at) in alike.items():
-        if kind not in staged:
+        if kind not in STAGED[table.signature]:
             found = kinds.setdefault((kind, is_advised(table.signature, kind, size)), [0, at])
             found[0] += count
     return kinds

@@ -77,10 +77,15 @@ def listed(report, code, slot, other, point):
     if code in (102, 149) and other < len(slots):
         header(report, code, slots[other], f"the table of slot {other}")
     if code == 148:
-        name, size = TEXTS.get(other, (f"what is at {other}, where no text is,", 1))
-        report.say(f"{name} is {report.image.part(address + other, size).hex(' ')}")
+        text(report, address, other)
     if slot >= len(slots) or slots[slot] != address:
         report.say(f"slot {slot} does not list this address: {MISMATCH}")
+
+
+def text(report, address, at):
+    """A text of the header at an address."""
+    name, size = TEXTS.get(at, (f"what is at {at}, where no text is,", 1))
+    report.say(f"{name} is {report.image.part(address + at, size).hex(' ')}")
 
 
 def signatures(report):
@@ -101,17 +106,28 @@ def slot_field(report, slot):
 
 
 def root_advice(report, code, at, other, point):
-    """What a rule on a slot, on both roots, or on tables at one place is about."""
+    """What a rule on a slot, on the root's header, on both roots, or on tables at one place is about."""
     if not report.has_root():
         return
     if code == 129:
         slot_field(report, at)
     elif code == 130:
         both_roots(report, point)
+    elif code == 280:
+        root_header(report, at)
     else:
         for address in (at, other):
             piece(report, address)
         report.say(f"both hold the byte at {point:#x}")
+
+
+def root_header(report, at):
+    address = report.tables.root
+    header(report, 280, address, "the XSDT or RSDT")
+    if at == 8:
+        report.say(f"Revision is {known(report.image.number(address + 8, 1))}, and must be 1")
+    else:
+        text(report, address, at)
 
 
 def both_roots(report, signature):
@@ -140,6 +156,9 @@ def rsdp_advice(report, code, at, other, point):
         report.has_root()
         return
     rsdp(report, code, address)
+    if code == 279:
+        report.say(f"OEMID is {report.image.part(address + 9, 6).hex(' ')}")
+        return
     name, size = {15: ("Revision", 1), 20: ("Length", 4)}.get(at, (f"byte {at}", 1))
     report.say(f"{name} is {known(report.image.number(address + at, size), '#x')}")
 

@@ -1,12 +1,16 @@
 """The tables that an RSDP leads to, and what their structures say, read whatever the checksums are."""
 
+from itertools import accumulate
+from typing import NamedTuple
+
 from .refusal import signature_of
 
 # Where the structures of a table begin.
 FIRST = {"APIC": 44, "SRAT": 48, "PPTT": 36}
 
 # What `show` writes of a structure, by table, type and length: its word, and of each field the name, the offset and the size in
-# bytes, with an x where it is hex. Of those with a - `show` writes type and length alone.
+# bytes, with an x where it is hex. Of those with a - `show` writes type and length alone. A field with a . before its name is said
+# only where a line is about it.
 CACHE = "cache flags:4/4x next:8/4x size:12/4 sets:16/4 ways:20/1 attributes:21/1x line:22/2"
 LAYOUTS = {
     ("APIC", 0, 8): "lapic uid:2/1 id:3/1 flags:4/4x",
@@ -18,27 +22,39 @@ LAYOUTS = {
     ("APIC", 9, 16): "x2apic uid:12/4 id:4/4 flags:8/4x",
     ("APIC", 10, 12): "x2apic-nmi uid:4/4 flags:2/2x lint:8/1",
     ("APIC", 12, 24): "-gicd base:8/8x version:20/1",
-    ("APIC", 13, 24): "-msi-frame id:4/4 base:8/8x",
-    ("APIC", 14, 16): "-gicr base:4/8x length:12/4x",
-    ("APIC", 15, 20): "-its id:4/4 base:8/8x",
-    ("APIC", 17, 15): "-core-pic uid:3/4 id:7/4 flags:11/4x",
+    ("APIC", 13, 24): "-msi-frame id:4/4 base:8/8x .flags:16/4x",
+    ("APIC", 14, 16): "-gicr base:4/8x length:12/4x .flags:2/1x",
+    ("APIC", 15, 20): "-its id:4/4 base:8/8x .flags:2/1x",
+    ("APIC", 17, 15): "-core-pic uid:3/4 id:7/4 flags:11/4x .version:2/1",
+    ("APIC", 18, 23): "-lio-pic base:3/8x .version:2/1",
+    ("APIC", 19, 21): "-ht-pic base:3/8x .version:2/1",
+    ("APIC", 20, 13): "-eio-pic node:4/1 .version:2/1",
+    ("APIC", 21, 19): "-msi-pic base:3/8x .version:2/1",
+    ("APIC", 22, 17): "-bio-pic base:3/8x gsi:15/2 .version:2/1",
+    ("APIC", 23, 14): "-lpc-pic base:3/8x .version:2/1",
+    ("APIC", 25, 16): "-imsic .version:2/1 .reserved:4/4x",
+    ("APIC", 26, 36): "-aplic id:3/1 base:24/8x gsi:20/4 .version:2/1",
+    ("APIC", 27, 36): "-plic id:3/1 base:24/8x gsi:32/4 .version:2/1",
     ("SRAT", 0, 16): "cpu id:3/1 domain:2/1+9/3 flags:4/4x",
     ("SRAT", 1, 40): "memory domain:2/4 base:8/8x length:16/8x flags:28/4x",
     ("SRAT", 2, 24): "cpu id:8/4 domain:4/4 flags:12/4x",
     ("SRAT", 3, 18): "-gicc uid:6/4 domain:2/4 flags:10/4x",
     ("SRAT", 4, 12): "-its domain:2/4 id:8/4",
-    ("SRAT", 5, 32): "-initiator domain:4/4 flags:24/4x",
-    ("SRAT", 6, 32): "-port domain:4/4 flags:24/4x",
+    ("SRAT", 5, 32): "-initiator domain:4/4 flags:24/4x .handle:3/1",
+    ("SRAT", 6, 32): "-port domain:4/4 flags:24/4x .handle:3/1",
     ("SRAT", 7, 20): "-rintc uid:8/4 domain:4/4 flags:12/4x",
     ("PPTT", 1, 24): CACHE,
     ("PPTT", 1, 28): CACHE + " id:24/4",
 }
 
-# The same for types of at least a length, the greatest of which comes first.
-GICC = "-gicc uid:8/4 flags:12/4x parking:16/4 base:32/8x"
-LONGER = {
-    ("APIC", 11): [(76, GICC + " gicr:60/8x mpidr:68/8x"), (68, GICC + " gicr:60/8x"), (40, GICC)],
-    ("APIC", 24): [(20, "-rintc uid:16/4 hart:8/8 flags:4/4x")],
+# The same for types of at least a length: the least one, and what each greater one adds.
+GROWING = {
+    ("APIC", 11): {
+        40: "-gicc uid:8/4 flags:12/4x parking:16/4 base:32/8x", 60: ".gicv:40/8x .gich:48/8x .maintenance:56/4", 68: "gicr:60/8x",
+        76: "mpidr:68/8x", 80: ".spe:78/2", 82: ".trbe:80/2",
+    },
+    ("APIC", 16): {4: "-wakeup version:2/2", 8: ".reserved:4/4x", 16: "mailbox:8/8x"},
+    ("APIC", 24): {20: "-rintc uid:16/4 hart:8/8 flags:4/4x .version:2/1"},
 }
 
 # The length that a type has.
@@ -60,27 +76,52 @@ UNREAD = {
     ("APIC", 15): "GIC ITS",
     ("APIC", 16): "multiprocessor wakeup",
     ("APIC", 17): "CORE PIC",
+    ("APIC", 18): "LIO PIC",
+    ("APIC", 19): "HT PIC",
+    ("APIC", 20): "EIO PIC",
+    ("APIC", 21): "MSI PIC",
+    ("APIC", 22): "BIO PIC",
+    ("APIC", 23): "LPC PIC",
     ("APIC", 24): "RINTC",
+    ("APIC", 25): "IMSIC",
+    ("APIC", 26): "APLIC",
+    ("APIC", 27): "PLIC",
     ("SRAT", 3): "GICC affinity",
     ("SRAT", 4): "GIC ITS affinity",
     ("SRAT", 5): "generic initiator affinity",
     ("SRAT", 6): "generic port affinity",
     ("SRAT", 7): "RINTC affinity",
+    ("PPTT", 2): "ID structure",
 }
 
 
+class Place(NamedTuple):
+    """A field of a structure. Its parts are offsets and sizes."""
+
+    name: str
+    parts: list
+    is_hex: bool
+    is_said: bool  # with the structure, also where the line is about something else
+
+
 def parsed(layout):
-    """A layout's word, whether `show` writes it, and of each field the name, the offsets and sizes, and whether it is hex."""
+    """A layout's word, whether `show` writes it, and its fields."""
     word, *fields = layout.lstrip("-").split()
     places = []
     for name, _, where in (field.partition(":") for field in fields):
         parts = [tuple(map(int, part.split("/"))) for part in where.rstrip("x").split("+")]
-        places.append((name, parts, where.endswith("x")))
+        places.append(Place(name.lstrip("."), parts, where.endswith("x"), not name.startswith(".")))
     return word, not layout.startswith("-"), places
 
 
+def grown(layouts):
+    """The layouts of a type by its least lengths, the greatest of which comes first."""
+    added = accumulate(layouts.values(), "{} {}".format)
+    return [*zip(layouts, map(parsed, added))][::-1]
+
+
 PARSED = {key: parsed(layout) for key, layout in LAYOUTS.items()}
-PARSED_LONGER = {key: [(least, parsed(layout)) for least, layout in layouts] for key, layouts in LONGER.items()}
+PARSED_LONGER = {key: grown(layouts) for key, layouts in GROWING.items()}
 PARSED_NODE = parsed("node flags:4/4x parent:8/4x id:12/4")
 OPAQUE = ("", False, [])
 
@@ -116,19 +157,19 @@ class Structure:
         self.offset, self.data = offset, data
         self.type, self.size = data[0], len(data)
         self.word, self.is_shown, self.places = layout_of(signature, data, 0)
-        self.fields = {name: value_at(data, 0, parts) for name, parts, _ in self.places}
+        self.fields = {place.name: value_at(data, 0, place.parts) for place in self.places}
 
     def number(self, at, size):
         return little(self.data, at, size)
 
     def field_at(self, at):
         """The name of the field that begins at an offset in the structure, or None."""
-        return next((name for name, parts, _ in self.places if parts[0][0] == at), None)
+        return next((place.name for place in self.places if place.parts[0][0] == at), None)
 
     def shown(self):
         """The line that `show` writes of it; of those that only rules of advice read, their fields are said too."""
         told = [self.word]
-        for name, _, is_hex in self.places:
+        for name, _, is_hex, _ in (place for place in self.places if place.is_said):
             value = f"{self.fields[name]:#x}" if is_hex else str(self.fields[name])
             told.append(f"{name} {value}" if name else value)
         if self.word == "node":
@@ -196,9 +237,9 @@ class Table:
         """The values of a field of all structures of these types that have it, each with the structure's offset."""
         for at in self.places(*types):
             _, _, places = layout_of(self.signature, self.data, at)
-            for field, parts, _ in places:
-                if field == name:
-                    yield value_at(self.data, at, parts), at
+            for place in places:
+                if place.name == name:
+                    yield value_at(self.data, at, place.parts), at
 
 
 # Structures of chains that are listed for all lines together.

@@ -186,7 +186,7 @@ class Contents:
         for entry in self.entries(table, "entry"):
             kind, size = entry["type"], entry["length"]
             if kind not in LENGTHS[signature] and (signature, kind) != NODE:
-                key = kind, signature != "PPTT" and is_advised(signature, kind, size)
+                key = kind, is_advised(signature, kind, size)
                 found[key] = found.get(key, 0) + 1
         return [Unread(kind, UNREAD.get((signature, kind), ""), count, is_read) for (kind, is_read), count in found.items()]
 

@@ -9,24 +9,26 @@ BY_STAGE = {1: ("rsdp",), 2: ("root",), 3: ("slot-{at}",), 4: ("fadt",), 5: ("fa
 TWO_SLOTS = "slot-{at}", "slot-{other}"
 # The tables of entries, by what explains a finding on one.
 TABLES = {entries.madt: "madt", entries.srat: "srat", entries.pptt: "pptt"}
+OF_FADT = *range(104, 108), 132, *range(134, 141), *range(142, 146), 170, *range(282, 286), *range(287, 293)
 BY_CODE = {
     8: ("rsdp",),
     19: ("root",),
     26: ("fadt",),
-    **dict.fromkeys((32, 116, 158, 159), ("madt",)),
+    **dict.fromkeys((32, 116, 158, 159, 305), ("madt",)),
     **dict.fromkeys((41, 173), ("srat",)),
     **dict.fromkeys((46, 47), ("slit",)),
     **dict.fromkeys((101, 102, 149), TWO_SLOTS),
     **dict.fromkeys((103, 129, 148), ("slot-{at}",)),
-    **dict.fromkeys((*range(104, 108), 132, *range(134, 141), *range(142, 146), 170), ("fadt",)),
+    **dict.fromkeys(OF_FADT, ("fadt",)),
     **dict.fromkeys((108, 141), ("sci", "fadt")),
     121: ("slit-{at:#x}", "slit-{other:#x}", "slit"),
     130: ("rsdp", "root"),
-    131: ("root",),
-    133: ("dsdt", "fadt"),
+    **dict.fromkeys((131, 280), ("root",)),
+    **dict.fromkeys((133, 281), ("dsdt", "fadt")),
     146: ("facs", "fadt"),
-    147: ("rsdp",),
+    **dict.fromkeys((147, 279), ("rsdp",)),
     179: ("slit-{at:#x}", "slit"),
+    286: ("fadt", "facs"),
 }
 # Stages whose one fault is about two entries, which is known without the documents.
 OF_PAIRS = (7, 8, 10, 16)

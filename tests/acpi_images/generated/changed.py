@@ -13,7 +13,7 @@ from ..rules.facts import MADT_LENGTHS
 from ..table_set import MadtEntries, PpttEntries, SratEntries, TableSet, complete_table, entries_of, fadt_of
 from ..tables import *
 from ..text import Image, read
-from .sets import LATER_FIELDS, further_domain, further_processor, gic_entries, gic_part
+from .sets import LATER_FIELDS, further_domain, further_entry, further_processor, gic_entries, gic_part
 
 KINDS = {b"APIC": MadtEntries, b"SRAT": SratEntries, b"PPTT": PpttEntries}
 LENGTH_AT, REVISION_AT, SUM_AT = 4, 8, 9
@@ -57,7 +57,8 @@ def madt_entry(dice):
         lambda: dice.choice(local_nmis(small(dice), dice.choice((1, 1, 0, 255)), dice.choice((0, 0, 2, 16)))),
         lambda: lapic_address(small(dice)),
         *[lambda: gic_part(dice, lambda: small(dice))] * 3,
-        lambda: other(dice.choice((6, 7, 8, 13, 14, 15, 16, 17, 23, 24, 25, 255)), dice.choice((2, 8, 16))),
+        lambda: other(dice.choice((6, 7, 8, 13, 14, 15, 16, 17, 23, 24, 25, 28, 255)), dice.choice((2, 8, 16))),
+        lambda: further_entry(dice),
     ))
     return make()
 
@@ -78,11 +79,11 @@ def srat_entry(dice):
 def pptt_entry(dice, starts=(36, 56, 76, 96, 64, 92)):
     place = lambda: dice.choice((0, 0, 36, *starts, dice.randrange(300)))
     leaf_flags = lambda: dice.choice((0, 1, 2, 8, 0xA, 0xA, 0xA, 0xB, 0x1F, 0x2A))
-    cache_flags = lambda: dice.choice((0, 1, 2, 4, 0x40, 0x47, 0x47, 0x80, 0xC2, 0xFF, 0x100))
+    cache_flags = lambda: dice.choice((0, 1, 2, 4, 0x10, 0x10, 0x40, 0x47, 0x47, 0x80, 0xC2, 0xFF, 0x100))
     line = lambda: dice.choice((0, 1, 3, 32, 64, 96))
     size = lambda: dice.choice((0, 1, 64, 128, 64 * 64, 64 * 64 * 2))
     length = lambda: dice.choice((24, 28, 28))
-    ways, attributes = lambda: dice.choice((0, 1, 2)), lambda: dice.choice((0, 0, 0xA, 0x1F, 0x20))
+    ways, attributes = lambda: dice.choice((0, 1, 2)), lambda: dice.choice((0, 0, 4, 8, 0xA, 0x1F, 0x20))
     shape = lambda: {"size": size(), "sets": dice.choice((0, 1, 64)), "ways": ways(), "attributes": attributes(), "line": line()}
     make = dice.choice((
         lambda: node(place(), leaf_flags(), small(dice), [place() for _ in range(dice.choice((0, 0, 1, 2)))]),
@@ -133,7 +134,7 @@ def new_madt(dice):
     entries = gic_entries(dice) if dice.random() < 0.3 else several(dice, madt_entry)
     if dice.random() < 0.5:
         entries = [it for it in entries if it[0] not in (7, 11, 17, 24) or it[1] in MADT_LENGTHS.get(it[0], ())]
-    return madt(*entries)
+    return revised(madt(*entries), dice.choice((1, 2, 3, 5, 6)))
 
 
 def new_srat(dice):
@@ -306,6 +307,7 @@ class Change:
         dsdt = self.dice.choice((
             table(b"DSDT", b""), table(b"DSDT", bytes(3)), table(b"SSDT", b""), changed(table(b"DSDT", b""), {9: 0}),
             changed(table(b"DSDT", b""), {4: 35}), table(b"DSDT", bytes(9))[:44], table(b"DSDT", b"")[:35],
+            changed(table(b"DSDT", bytes(9)), {self.dice.choice((10, 15, 16, 23, 28, 31)): self.dice.choice((0, 0x1F, 0x7F))}),
         ))
         at, address = self.dice.choice((40, 40, 140)), self.dice.choice((0x530000, 0x530000, 0x520010))
         self.image.replace(address, dsdt)
@@ -321,8 +323,8 @@ class Change:
             self.image.replace(facts.facs, changed(facs(), {at: self.dice.choice((0, 1, 2, 3, 255))}))
 
     def change_rsdp(self):
-        """Puts another Revision into the RSDP, or a number into bytes that are reserved."""
-        places = {15: (0, 1, 2, 3), 20: (36, 37, 40), 33: (0, 1), 35: (0, 1)}
+        """Puts another Revision into the RSDP, a number into bytes that are reserved, or a byte into its OEM ID."""
+        places = {9: (0, 0x20), 14: (0, 0x7E), 15: (0, 1, 2, 3), 20: (36, 37, 40), 33: (0, 1), 35: (0, 1)}
         at = self.dice.choice(list(places))
         self.put_byte(self.rsdp + at, *places[at] * 4)
 

@@ -1,20 +1,25 @@
 """Sets near the edges of the rules of advice on the FADT, the MADT, the SRAT, the SLIT and the PPTT: each entry of a table with each of
 its bytes changed, beside entries with which a rule may be broken; entries of each type with lengths around that of the type; a FADT with
-each field, and each two of them, changed. A set has one table or two. None is random, so a set is the same each time."""
+each field, and each two of them, changed, and with a DSDT or a FACS. A set has one table or two. None is random, so a set is the same
+each time."""
 
 from __future__ import annotations
 
 from itertools import product
 
-from ..tables import number, table
+from ..tables import TABLES_AT, changed, number, table
 
 # The lengths of entries, by their types.
 MADT_LENGTHS = {
-    **dict.fromkeys(range(26), 16), 0: 8, 1: 12, 2: 10, 3: 8, 4: 6, 5: 12, 10: 12, 11: 82, 12: 24, 13: 24, 15: 20, 17: 15, 24: 36, 128: 4, 255: 4
+    **dict.fromkeys(range(31), 16), 0: 8, 1: 12, 2: 10, 3: 8, 4: 6, 5: 12, 10: 12, 11: 82, 12: 24, 13: 24, 15: 20, 17: 15, 18: 23, 19: 21,
+    20: 13, 21: 19, 22: 17, 23: 14, 24: 36, 26: 36, 27: 36, 128: 4, 255: 4,
 }  # fmt: skip
 SRAT_LENGTHS = {0: 16, 1: 40, 2: 24, 3: 18, 4: 12, 5: 32, 6: 32, 7: 20, 8: 8, 255: 8}
-# Of each register block of the FADT the places of its 4-byte field, its length byte and its X_ structure (5.2.9).
-BLOCKS = ((56, 88, 148), (60, 88, 160), (64, 89, 172), (68, 89, 184), (72, 90, 196), (76, 91, 208), (80, 92, 220), (84, 93, 232))
+# Of each register block of the FADT the places of its 4-byte field, its length byte and its X_ structure, and its bytes (5.2.9).
+BLOCKS = (
+    (56, 88, 148, 4), (60, 88, 160, 4), (64, 89, 172, 2), (68, 89, 184, 2), (72, 90, 196, 1), (76, 91, 208, 4), (80, 92, 220, 4),
+    (84, 93, 232, 4),
+)
 # The offset and the size of other fields that rules read.
 FADT_FIELDS = (
     (8, 1), (36, 4), (40, 4), (44, 1), (45, 1), (46, 2), (48, 4), (52, 1), (53, 1), (54, 1), (55, 1), (94, 1), (95, 1), (109, 2), (111, 1),
@@ -42,6 +47,11 @@ def with_byte(data):
         yield data[:at] + bytes([byte]) + data[at + 1 :]
 
 
+def of_size(data, size):
+    """An entry that is cut off and says so."""
+    return data[:1] + bytes([size]) + data[2:size]
+
+
 def of_lengths(lengths):
     """Entries of each type and of lengths around its own, of zeros, of ones or of all bits."""
     for kind, right in lengths.items():
@@ -63,6 +73,10 @@ BESIDE_IN_MADT = (
     (LAPIC, IO_APIC), (GICC, GICD), (OVERRIDE, entry(2, 10, (3, 1, 8), (4, 4, 9))), (entry(12, 24, (20, 1, 2)), GICC), (GICD, entry(14, 16)),
     (ITS, entry(13, 24)),
 )  # fmt: skip
+# A GICC that names a redistributor of its own; wakeup structures of both versions; the interrupt controllers of LoongArch and RISC-V.
+OWN_GICC = entry(11, 82, (4, 4, 6), (8, 4, 6), (12, 4, 1), (60, 8, 0x1000), (68, 8, 6))
+WAKEUPS = entry(16, 16, (8, 8, 0x1000)), entry(16, 24, (2, 2, 1), (8, 8, 0x1000))
+CONTROLLERS = tuple(entry(kind, MADT_LENGTHS[kind], (2, 1, 1)) for kind in (*range(18, 24), 25, 26, 27))
 APIC_AFFINITY, X2APIC_AFFINITY = entry(0, 16, (3, 1, 7), (4, 4, 1)), entry(2, 24, (8, 4, 0x300), (12, 4, 1))
 GICC_AFFINITY, RINTC_AFFINITY = entry(3, 18, (6, 4, 5), (10, 4, 1)), entry(7, 20, (8, 4, 9), (12, 4, 1))
 MEMORY, ITS_AFFINITY = entry(1, 40, (16, 4, 0x1000), (28, 4, 1)), entry(4, 12, (8, 4, 3))
@@ -83,8 +97,8 @@ PAIRS = (
 )  # fmt: skip
 
 
-def madt(*entries, flags=0):
-    return table(b"APIC", bytes(4) + number(flags, 4) + b"".join(entries), 5)
+def madt(*entries, flags=0, revision=5):
+    return table(b"APIC", bytes(4) + number(flags, 4) + b"".join(entries), revision)
 
 
 def srat(*entries, revision=3, first=1):
@@ -92,24 +106,33 @@ def srat(*entries, revision=3, first=1):
 
 
 def blocks_fadt(flags=0):
-    """A FADT of Revision 6 in which each register block has both addresses, which agree, as its sleep registers do."""
-    data = bytearray(table(b"FACP", bytes(240), 6))
-    for index, (old, size, new) in enumerate(BLOCKS):
-        data[size], data[new : new + 2] = 4, (1, 32)
+    """A FADT of Revision 6 in which each register block has both addresses, which agree, as its sleep registers do, which reduced hardware
+    has."""
+    data = blank_fadt(flags)
+    for index, (old, size, new, count) in enumerate(BLOCKS):
+        data[size], data[new : new + 2] = count, (1, 8 * count)
         put(data, old, 4, 0x400 + 0x20 * index)
         put(data, new + 4, 8, 0x400 + 0x20 * index)
-    for at, size, value in ((36, 4, 0x1000), (132, 8, 0x1000), (40, 4, 0x2000), (140, 8, 0x2000), (46, 2, 9), (48, 4, 0xB2), (112, 4, flags)):
+    for at, size, value in ((36, 4, 0x1000), (132, 8, 0x1000), (40, 4, 0x2000), (140, 8, 0x2000), (46, 2, 9), (48, 4, 0xB2)):
         put(data, at, size, value)
     data[52:54], data[94], data[131], data[245], data[257] = (0xA0, 0xA1), 16, 5, 8, 8
-    put(data, 248, 8, 0x600), put(data, 260, 8, 0x700)
+    if flags >> 20 & 1:
+        put(data, 248, 8, 0x600), put(data, 260, 8, 0x700)
+    return data
+
+
+def blank_fadt(flags=0):
+    """A FADT of Revision 6 that has nothing but flags."""
+    data = bytearray(table(b"FACP", bytes(240), 6))
+    put(data, 112, 4, flags)
     return data
 
 
 def fadts():
     """FADTs with a field, or two, changed, and such of other lengths and Revisions."""
-    of_blocks = ((place, size) for old, length, new in BLOCKS for place, size in ((old, 4), (length, 1), (new, 1), (new + 1, 1), (new + 4, 8)))
-    fields = sorted({*FADT_FIELDS, *of_blocks})
-    for base in (blocks_fadt(), blocks_fadt(1 << 20), bytearray(table(b"FACP", bytes(240), 6))):
+    places_of = lambda old, length, new, _: ((old, 4), (length, 1), (new, 1), (new + 1, 1), (new + 4, 8))
+    fields = sorted({*FADT_FIELDS, *(place for block in BLOCKS for place in places_of(*block))})
+    for base in (blocks_fadt(), blocks_fadt(1 << 20), blank_fadt(), blank_fadt(1 << 20)):
         for index, (at, size) in enumerate(fields):
             value = int.from_bytes(base[at : at + size], "little")
             for first in (0, 1, 8, 31, 32, 33, value + 1, value ^ 1 << 10, value ^ 1 << 20, 1 << 23, 1 << 24):
@@ -120,13 +143,38 @@ def fadts():
                     two = bytearray(one)
                     put(two, other, width, second)
                     yield bytes(two)
-    for revision, length in product(range(1, 8), range(116, 277)):
+    for revision, length in product(range(8), range(116, 282)):
         yield of_length(blocks_fadt(), length, revision)
+    for major, minor, boot, length in product(range(8), (0, 1, 2, 0x10, 0xF1, 255), (0, 1, 2, 3, 256, 1 << 15), (130, 131, 132, 276)):
+        data = blank_fadt(1 << 20)
+        data[131] = minor
+        put(data, 129, 2, boot)
+        yield of_length(data, length, major)
+
+
+def blocks():
+    """FADTs of full hardware whose blocks are ports, structures or nothing, of many lengths, and the events of GPE0 and GPE1."""
+    for flags, (old, length_at, new, _), length in product((0, 1 << 20), BLOCKS, (0, 1, 30, 31, 32, 33, 64, 255)):
+        for port, address, space, width in product((0, 0x600, 1 << 24), (0, 0x600, 1 << 56), (0, 1, 2), (0, 8, 16, 32)):
+            data = blank_fadt(flags)
+            data[length_at], data[new : new + 2] = length, (space, width)
+            put(data, old, 4, port), put(data, new + 4, 8, address)
+            yield bytes(data)
+    # a place of 0 is that of no block
+    for first, second, base in product((0, 1, 4, 63, 64, 65, 66, 255), (0, 1, 4, 64, 65, 255), (0, 1, 16, 240, 241, 252, 253, 255)):
+        for port, structure in product((0, 80, 84), (0, 220, 232)):
+            data = blank_fadt()
+            data[92:95] = first, second, base
+            if port:
+                put(data, port, 4, 0x600)
+            if structure:
+                put(data, structure + 4, 8, 0x600)
+            yield bytes(data)
 
 
 def of_length(data, length, revision):
     """A FADT cut to this length."""
-    data = data[:length]
+    data = (data + bytes(8))[:length]
     data[8] = revision
     put(data, 4, 4, length)
     return bytes(data)
@@ -139,6 +187,22 @@ def madts():
     for one, other in product(MADT_ENTRIES, repeat=2):
         yield madt(one, other, one)
     yield from (madt(LAPIC, flags=flags) for flags in (0, 1, 2, 3, 1 << 31))
+    for beside in ((), (LAPIC,), (RINTC, CORE_PIC)):
+        yield from (madt(*beside, other) for one in (*WAKEUPS, *CONTROLLERS) for other in with_byte(one))
+    for revision, one in product(range(8), (*MADT_ENTRIES, *WAKEUPS, *CONTROLLERS)):
+        yield from (madt(*entries, revision=revision) for entries in ((one,), (LAPIC, one), (one, RINTC), (one, GICC), (entry(one[0], 2),)))
+
+
+def gics():
+    """MADTs of a distributor of each version and of GICCs that name redistributors of their own."""
+    for version, beside in product((2, 3, 4, 5), ((), (OWN_GICC,), (OWN_GICC, entry(14, 16, (12, 4, 0x20000))), (OWN_GICC, entry(14, 2)))):
+        distributor = entry(12, 24, (20, 1, version))
+        yield from (madt(distributor, *beside, other) for other in with_byte(OWN_GICC))
+        for size, flags, own in product((39, 40, 59, 60, 67, 68, 75, 76, 79, 80, 81, 82), range(10), (0, 0x1000, 1 << 56)):
+            yield madt(distributor, *beside, of_size(entry(11, 82, (12, 4, flags), (60, 8, own)), size))
+    for at, value in product((40, 48, 56, 78, 80), (1, 15, 16, 31, 32, 255, 256, 1055, 1056, 1119, 1120, 65535)):
+        one = entry(11, 82, (12, 4, 1), (at, 2, value))
+        yield from (madt(GICD, *pair) for pair in ((GICC, one), (one, GICC), (one, one)))
 
 
 def srats():
@@ -146,12 +210,21 @@ def srats():
         for other in (*of_lengths(SRAT_LENGTHS), *(it for one in SRAT_ENTRIES for it in with_byte(one))):
             yield srat(*beside, other, revision=revision)
     yield from (srat(APIC_AFFINITY, first=first) for first in (0, 1, 2, 257))
+    for domain, one in product((0, 1, 256), (*SRAT_ENTRIES, entry(5, 32, (24, 4, 1)), entry(6, 32, (24, 4, 1)))):
+        affinity = entry(4, 12, (2, 4, domain))
+        yield from (srat(*pair) for other in with_byte(one) for pair in ((affinity, other), (other, affinity)))
 
 
 def pptts():
     for revision, one in product((1, 2, 3), (NODE, *CACHES, entry(1, 28))):
         for beside, other in product(((), (one,), (NODE,)), (*with_byte(one), *(entry(one[0], size) for size in range(18, 34)))):
             yield table(b"PPTT", b"".join((*beside, other)), revision)
+    for revision, size, flags, value in product(range(1, 6), range(24, 30), (0x7F, 0x80, 0xFF), (0, 1, 256, 1 << 24)):
+        yield pptt(of_size(entry(1, 30, (4, 4, flags), (24, 4, value)), size), revision=revision)
+    for revision, flags in product((2, 3, 4), (0x80, 0xFF)):
+        yield from (pptt(other, revision=revision) for other in with_byte(entry(1, 28, (4, 4, flags))))
+    for kind, size, beside in product((*range(2, 9), 127, 128, 255), range(2, 32, 3), ((), (NODE,), CACHES)):
+        yield pptt(*beside, entry(kind, size))
     for power, difference in product(range(16), (-1, 0, 1)):
         yield table(b"PPTT", entry(1, 28, (4, 4, 0x40), (22, 2, (1 << power) + difference)), 3)
 
@@ -176,6 +249,45 @@ def hierarchies():
         yield from ((madt(other), pptt(node, revision=revision)) for other in with_byte(one))
         yield from ((madt(one), pptt(other, CHILD, revision=revision)) for other in with_byte(node))
         yield from ((madt(GICC, one), pptt(LEAF, other, revision=revision)) for other in with_byte(node))
+
+
+def typed_caches():
+    """PPTTs of a node that names two caches, or three, each of a type."""
+    for size, kinds in product((24, 28), product(range(4), repeat=2)):
+        node, first, second = entry(0, 28, (16, 4, 2), (20, 4, 64), (24, 4, 64 + size)), *(typed_cache(size, kind) for kind in kinds)
+        yield (pptt(node, first, second),)
+        for at, byte in product((4, 8, 20, 21), (0, 1, 2, 3, 4, 8, 12, 16, 64, 64 + size, 64 + 2 * size, 255)):
+            yield (pptt(node, changed(first, {at: byte}), second),)
+            yield (pptt(node, first, changed(second, {at: byte})),)
+        if kinds in ((0, 0), (0, 1), (2, 3)):
+            yield from ((pptt(other, first, second),) for other in with_byte(node))
+            for other in (it for one in (first, second) for it in with_byte(one)):
+                yield from ((pptt(node, *pair),) for pair in ((other, second), (first, other)))
+    for kinds, places in product(product(range(3), repeat=3), ((0, 1, 2), (2, 1, 0), (1, 1, 2), (0, 2, 0))):
+        for following in (0, 68, 92, 116):
+            node = entry(0, 32, (16, 4, 3), *((20 + 4 * index, 4, 68 + 24 * place) for index, place in enumerate(places)))
+            caches = (typed_cache(24, kind, following if index == 0 else 0) for index, kind in enumerate(kinds))
+            yield (pptt(node, *caches),)
+
+
+def typed_cache(size, kind, following=0):
+    """A cache of this type, with its Next Level."""
+    return entry(1, size, (4, 4, 0x10), (8, 4, following), (21, 1, kind << 2))
+
+
+def named_by_fadt():
+    """A FADT and the DSDT or the FACS that it names, at the address of the second table."""
+    dsdt = table(b"DSDT", bytes(4))
+    for (place, size), at, byte in product(((40, 4), (140, 8)), range(36), (0, 1, 0x1F, 0x20, 0x41, 0x7E, 0x7F, 0x80, 0xA0, 0xFE, 0xFF)):
+        data = blank_fadt(1 << 20)
+        put(data, place, size, TABLES_AT + 0x1000)
+        yield bytes(data), changed(dsdt, {at: byte})
+    firmware = b"FACS" + number(64, 4) + bytes(24) + b"\2" + bytes(31)
+    for flags, command, (at, byte) in product((0, 1 << 20), (0, 1, 255), product(range(64), (0, 1, 2, 3, 4, 128, 255))):
+        data = blank_fadt(flags)
+        put(data, 36, 4, TABLES_AT + 0x1000)
+        data[54] = command
+        yield bytes(data), changed(firmware, {at: byte})
 
 
 def domains():
@@ -204,6 +316,10 @@ def pairs():
             yield of_length(data, length, major), madt(one)
     for flags, other in product((0, 1 << 20), of_lengths(MADT_LENGTHS)):
         yield bytes(blocks_fadt(flags)), madt(other)
+    for major, minor, length in product(range(8), (0, 1, 5, 6, 7, 15, 0x15, 0x16, 0x65), (131, 132, 276)):
+        data = blank_fadt(1 << 20)
+        data[131] = minor
+        yield from ((of_length(data, length, major), madt(one)) for one in (RINTC, entry(24, 2), CORE_PIC, entry(25, 16)))
     for sci, source in product((9, 16, 17, 200), range(256)):
         data = blocks_fadt()
         put(data, 46, 2, sci)
@@ -217,5 +333,5 @@ def pairs():
 
 def near_sets():
     """The tables of each set, each set once."""
-    single = ((it,) for tables in (fadts, madts, srats, pptts) for it in tables())
-    return list(dict.fromkeys((*single, *hierarchies(), *pairs(), *domains(), *starts())))
+    single = ((it,) for tables in (fadts, blocks, madts, gics, srats, pptts) for it in tables())
+    return list(dict.fromkeys((*single, *hierarchies(), *typed_caches(), *pairs(), *domains(), *starts(), *named_by_fadt())))

@@ -19,8 +19,9 @@ LOW = 1 << 32
 # What bytes of a FADT may be that no stage reads: the model and the profile, SMI_CMD and what is written to it, where GPE1 begins, a
 # reserved byte, flags of an Arm machine, and the minor version.
 LATER_FIELDS = {
-    44: (0, 0, 0, 1, 2), 45: (0, 0, 4, 8, 9), 48: (0, 0, 0xB2), 50: (0, 0, 0, 0, 1), 52: (0, 0, 1, 2), 53: (0, 0, 0, 1), 55: (0, 0, 0, 1),
-    94: (0, 8, 16, 255), 95: (0, 0, 0, 1), 111: (0, 0, 0, 0, 1), 129: (0, 1, 1, 2), 131: (0, 1, 3, 5, 0x15),
+    44: (0, 0, 0, 1, 2), 45: (0, 0, 4, 8, 9), 48: (0, 0, 0xB2), 50: (0, 0, 0, 0, 1), 52: (0, 0, 1, 2), 53: (0, 0, 0, 1),
+    54: (0, 0, 0, 0xF2), 55: (0, 0, 0, 1), 94: (0, 8, 16, 255), 95: (0, 0, 0, 1), 111: (0, 0, 0, 0, 1), 129: (0, 1, 1, 2),
+    131: (0, 1, 3, 5, 0x15),
 }
 
 # Entries whose reserved bytes hold what nothing may depend on: a rebuilt set has 0 there.
@@ -83,9 +84,24 @@ def further_processor(dice, drawn, flags):
     make = dice.choice((
         lambda: cpu_interface(dice, drawn(), flags, dice.choice((39, 40, 41, 67, 68, 75, 76, 80, 80, 82))),
         lambda: core_pic(drawn(), drawn(), flags, dice.choice((14, 15, 15, 15, 15, 16))),
-        lambda: placed(rintc(drawn(), flags, dice.choice((19, 20, 21, 36, 36, 36))), _8=number(drawn(), 8)),
+        lambda: placed(rintc(drawn(), flags, dice.choice((19, 20, 21, 36, 36, 36))), _8=number(dice.choice((drawn(), TOP - 1)), 8)),
     ))
-    return make()
+    return with_reserved(dice, make())
+
+
+def with_reserved(dice, entry):
+    """An entry, in one of eight cases with a number in one of its first bytes after the length, of which many are reserved."""
+    at = dice.choice((2, 3, 4, 6, 7, 16, 21, 28, 77))
+    return placed(entry, **{f"_{at}": bytes([dice.choice((1, 2, 4, 255))])}) if dice.random() < 1 / 8 else entry
+
+
+def further_entry(dice):
+    """A wakeup structure, or an interrupt controller of LoongArch or RISC-V. Some are a byte too short or too long to be read."""
+    kind = dice.choice((16, 16, 16, 18, 19, 20, 21, 22, 23, 25, 25, 26, 27))
+    version = dice.choice((0, 1, 1, 1, 2))
+    size = {16: 24 if version == 1 else 16, 18: 23, 19: 21, 20: 13, 21: 19, 22: 17, 23: 14, 25: 16, 26: 36, 27: 36}[kind]
+    made = placed(built.other(kind, size + dice.choice((-1, 0, 0, 0, 0, 0, 1))), _2=bytes([version]))
+    return with_reserved(dice, placed(made, _8=number(dice.choice((0, 1, 0x1000, 0x1800, LOW)), 8)) if kind == 16 else made)
 
 
 # Where parts of a GIC are: at one place, or beside each other.
@@ -97,7 +113,10 @@ def cpu_interface(dice, uid, flags, length=80):
     parking, base = number(dice.choice((0, 0, 0, 1, LOW - 1)), 4), number(dice.choice((0, 0, 0, 0x1000)), 8)
     redistributor_at = number(dice.choice((0, 0, 0x20000, 0x40000, TOP - 1)), 8)
     mpidr = number(dice.choice((uid, uid, uid, uid << 8, uid << 32, uid << 24, LOW - 1)), 8)
-    return placed(gicc(uid, flags, length), _16=parking, _32=base, _60=redistributor_at, _68=mpidr)
+    virtual = {f"_{at}": number(dice.choice((0,) * 8 + (0x1000,)), size) for at, size in ((40, 8), (48, 8), (56, 4))}
+    interrupt = number(dice.choice((0, 0, 15, 16, 21, 31, 32, 1055, 1056, 1120)), 2)
+    made = placed(gicc(uid, flags, length), _16=parking, _32=base, _60=redistributor_at, _68=mpidr, **virtual)
+    return placed(made, **{f"_{dice.choice((78, 80))}": interrupt})
 
 
 def gic_part(dice, drawn):
@@ -109,7 +128,7 @@ def gic_part(dice, drawn):
         lambda: its(drawn(), base, 20 + more),
         lambda: frame(drawn(), base, 24 + more),
     ))
-    return make()
+    return with_reserved(dice, make())
 
 
 def gic_entries(dice):
@@ -129,7 +148,7 @@ def further_domain(dice, drawn, flags):
     of_hart = lambda: hart_domain(drawn(), drawn(), flags, 20 + more)
     of_one_its = lambda: placed(its_domain(drawn(), 12 + more), _8=number(drawn(), 4))
     of_device = lambda: device_domain(dice.choice((5, 6)), drawn(), flags, 32 + more)
-    return dice.choice((of_uid, of_uid, of_hart, of_hart, of_one_its, of_device))()
+    return with_reserved(dice, dice.choice((of_uid, of_uid, of_hart, of_hart, of_one_its, of_device))())
 
 
 # ---- PPTT (5.2.30)

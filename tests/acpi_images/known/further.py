@@ -913,6 +913,695 @@ nodes_kept(NUMBERS, "as many bytes as its lines have, and an attribute", cache(f
 nodes_broken(USED_THERE, "0x24 0x4", "a node's flag bit 24", node(flags=HIGH))
 nodes_broken(USED_THERE, "0x24 0x4", "a cache's flag bit 24", cache(flags=HIGH))
 
+# ---- the text and the Revision of the RSDP, of the root and of the DSDT
+# Texts of letters A with another byte at their start or end, or a zero before their end, as numbers: of 6, 8 and 4 bytes.
+TEXT_6 = ((0, 0x1F, 0x41414141411F), (5, 0x7F, 0x7F4141414141), (5, 0xFF, 0xFF4141414141), (0, 0, 0x414141414100), (4, 0, 0x410041414141))
+TEXT_8 = ((0, 0x1F, 0x414141414141411F), (7, 0x80, 0x8041414141414141), (6, 0, 0x4100414141414141))
+TEXT_4 = ((0, 0x1F, 0x4141411F), (3, 0x7F, 0x7F414141), (1, 0, 0x41410041))
+TEXTS = [(at, *it) for at, texts in ((10, TEXT_6), (16, TEXT_8), (28, TEXT_4)) for it in texts]
+# What is text, and what is none of these numbers of a header.
+NO_NAMES = dict.fromkeys([*range(10, 24), *range(28, 32)], 0)
+AT_ENDS = {14: 0, 15: 0, 23: 0, 31: 0}
+EDGES_OF_TEXT = {10: 0x20, 15: 0x7E, 16: 0x7E, 23: 0x20, 28: 0x20, 31: 0x7E}
+NO_TEXT = dict.fromkeys([*range(24, 28), *range(32, 36)], 0xFF)
+
+for place, byte, told in TEXT_6:
+    pointer = changed(rsdp(), {9 + place: byte}, (8, 20))
+    broken("RsdpText", f"0x9 0x0 {told:#x}", f"byte {place} is {byte:x}", pointed(pointer))
+WRONG_TEXT = {9: 0x1F}
+broken("RsdpText", "0x9 0x0 0x41414141411f", "an extended RSDP", pointed(changed(extended_rsdp(), WRONG_TEXT, (8, 20), (32, 36))))
+broken("RsdpText", "0x9 0x0 0x41414141411f", "20 bytes of an extended RSDP", {RSDP_AT: changed(extended_rsdp(), WRONG_TEXT, (8, 20))[:20]})
+broken("RsdpText", "0x9 0x0 0x41414141411f", "an RSDP that does not sum to 0", pointed(changed(rsdp(), WRONG_TEXT)))
+broken(
+    "RsdpText", "0x9 0x0 0x41414141411f", "an RSDP that is found", listed(others={RSDP_AT: changed(rsdp(), WRONG_TEXT, (8, 20))}), words="",
+)
+kept("RsdpText", "19 bytes of an RSDP", {RSDP_AT: changed(rsdp(), WRONG_TEXT, (8, 20))[:19]})
+kept("RsdpText", "no text", pointed(changed(rsdp(), dict.fromkeys(range(9, 15), 0), (8, 20))))
+kept("RsdpText", "zeros at the end", pointed(changed(rsdp(), {13: 0, 14: 0}, (8, 20))))
+kept("RsdpText", "the first and the last byte of text", pointed(changed(rsdp(), {9: 0x20, 14: 0x7E}, (8, 20))))
+kept("RsdpText", "another signature", pointed(changed(rsdp(), {7: 0x1F}, (8, 20))))
+kept("RsdpText", "an RSDP", pointed(extended_rsdp()))
+
+
+def rooted(changes, present=40):
+    """A FADT in an RSDT of which bytes are changed, and as many are present."""
+    return {RSDP_AT: rsdp(), RSDT_AT: changed(rsdt(0x2000), changes, (9, 40))[:present], 0x2000: fadt()}
+
+
+for at, place, byte, told in TEXTS:
+    broken("RootHeader", f"{at:#x} 0x0 {told:#x}", f"byte {at + place} is {byte:x}", rooted({at + place: byte}))
+for revision in (0, 2, 255):
+    broken("RootHeader", f"0x8 0x0 {revision:#x}", f"an RSDT of Revision {revision}", rooted({8: revision}))
+XSDT_2 = {**BOTH_ROOTS, XSDT_AT: revised(xsdt(0x2000, 0x3000), 2)}
+broken("RootHeader", "0x8 0x0 0x2", "an XSDT of Revision 2", XSDT_2)
+broken("RootHeader", "0x8 0x0 0x2", "a Revision and a name", rooted({8: 2, 10: 0x1F}))
+broken("RootHeader", "0xa 0x0 0x41414141411f", "two names", rooted({10: 0x1F, 28: 0}))
+broken("RootHeader", "0x10 0x0 0x414141414141411f", "the last two names", rooted({16: 0x1F, 28: 0}))
+broken("RootHeader", "0x8 0x0 0x2", "an RSDT that does not sum to 0", {**rooted({}), RSDT_AT: changed(rsdt(0x2000), {8: 2})})
+broken("RootHeader", "0x8 0x0 0x2", "an RSDT of no slots", {RSDP_AT: rsdp(), RSDT_AT: revised(rsdt(), 2)})
+kept("RootHeader", "an RSDT of Revision 1", rooted({}))
+for name, changes in (("no names", NO_NAMES), ("zeros at the ends", AT_ENDS), ("the first and the last byte of text", EDGES_OF_TEXT)):
+    kept("RootHeader", name, rooted(changes))
+    kept("DsdtText", name, of_dsdt(changed(DSDT, changes)))
+kept("RootHeader", "other bytes of the header", rooted(NO_TEXT))
+kept("RootHeader", "an RSDT that is not the root", {**BOTH_ROOTS, RSDT_AT: revised(rsdt(0x2000, 0x3000), 2)})
+kept("RootHeader", "an RSDT of which the last byte is not present", rooted({8: 2}, 39))
+kept("RootHeader", "an RSDT of another signature", rooted({0: ord("X"), 8: 2}))
+kept("RootHeader", "an RSDT of 35 bytes", rooted({4: 35, 8: 2}))
+kept("RootHeader", "no root", {RSDP_AT: rsdp()})
+
+for at, place, byte, told in TEXTS:
+    broken("DsdtText", f"{at:#x} 0x0 {told:#x}", f"byte {at + place} is {byte:x}", of_dsdt(changed(DSDT, {at + place: byte})))
+WRONG_DSDT, TOLD = changed(DSDT, {10: 0x1F, 16: 0x1F, 28: 0x1F}), "0xa 0x0 0x41414141411f"
+broken("DsdtText", TOLD, "three names", of_dsdt(WRONG_DSDT))
+broken("DsdtText", "0x10 0x0 0x414141414141411f", "two names", of_dsdt(changed(DSDT, {16: 0x1F, 28: 0x1F})))
+broken("DsdtText", TOLD, "a DSDT of which the header alone is present", of_dsdt(WRONG_DSDT[:36]))
+broken("DsdtText", TOLD, "a DSDT of 35 bytes", of_dsdt(changed(WRONG_DSDT, {4: 35})))
+broken("DsdtText", TOLD, "X_DSDT is used", image_of(fadt(length=148, **X_DSDT), others={0x5000: DSDT, 0x6000: WRONG_DSDT}))
+SHORT_X_DSDT = fadt(length=147, **{**OF_DSDT, "_140": number(0x6000, 7)})
+broken("DsdtText", TOLD, "seven bytes of X_DSDT", image_of(SHORT_X_DSDT, others={0x5000: WRONG_DSDT, 0x6000: DSDT}))
+broken("DsdtText", TOLD, "an X_DSDT of 0", image_of(fadt(length=148, **OF_DSDT), others={0x5000: WRONG_DSDT}))
+kept("DsdtText", "DSDT is not used", image_of(fadt(length=148, **X_DSDT), others={0x5000: WRONG_DSDT, 0x6000: DSDT}))
+kept("DsdtText", "other bytes of the header", of_dsdt(changed(DSDT, NO_TEXT)))
+kept("DsdtText", "35 bytes of a DSDT", of_dsdt(WRONG_DSDT[:35]))
+kept("DsdtText", "an SSDT", of_dsdt(changed(WRONG_DSDT, {0: ord("S"), 1: ord("S")})))
+kept("DsdtText", "a DSDT at 0, which is no address", listed(others={0: WRONG_DSDT}))
+SHORT_FADT = table(b"FACP", bytes(4) + OF_DSDT["_40"] + bytes(71), 0)
+kept("DsdtText", "a FADT of 115 bytes", image_of(SHORT_FADT, others={0x5000: WRONG_DSDT}))
+
+# ---- the FADT: what came after its Revision
+PAST_REVISION = "FadtPastRevision"
+for revision, most in ((1, 116), (2, 132), (3, 244), (4, 244), (5, 268), (6, 276), (7, 276), (255, 276)):
+    kept(PAST_REVISION, f"a FADT of Revision {revision} and Length {most}", image_of(old_fadt(revision, most)))
+    for length in (most + 1, 300):
+        name = f"a FADT of Revision {revision} and Length {length}"
+        broken(PAST_REVISION, f"0x4 {most:#x} {length:#x}", name, image_of(old_fadt(revision, length)))
+for length in (116, 276, 300):
+    broken(PAST_REVISION, "0x8", f"a FADT of Revision 0 and Length {length}", image_of(old_fadt(0, length)))
+broken(PAST_REVISION, "0x4 0x74 0x75", "a FADT that does not sum to 0", image_of(changed(old_fadt(1, 117), {9: 0})))
+kept(PAST_REVISION, "a FADT of Revision 6 and Length 116", image_of(old_fadt(6, 116)))
+kept(PAST_REVISION, "a FADT of Revision 0 and Length 115", image_of(SHORT_FADT))
+kept(PAST_REVISION, "a FADT of which the last byte is not present", image_of(old_fadt(1, 117)[:-1]))
+
+
+def arm_boot(revision, minor, boot, length=132, flags=REDUCED):
+    """A FADT of this version with this ARM_BOOT_ARCH, as far as its Length goes."""
+    end = (number(boot, 2) + bytes([minor]))[: length - 129]
+    return image_of(revised(fadt(flags, length, _129=end), revision))
+
+
+for revision, minor, boot, length in (
+    (5, 0, 1, 132), (5, 0x10, 1, 132), (5, 1, 1, 131), (4, 9, 2, 132), (1, 0, 0x8000, 131), (0, 15, 0xFFFF, 132), (3, 0, 0x100, 244),
+):
+    name = f"{boot:#x} by {revision}, {minor:#x}, {length} bytes"
+    broken("ArmBootEarly", f"0x81 0x0 {boot:#x}", name, arm_boot(revision, minor, boot, length))
+broken("ArmBootEarly", "0x81 0x0 0x1", "full hardware", arm_boot(5, 0, 1, flags=0))
+for revision, minor, boot, length in ((5, 1, 3, 132), (5, 0xF1, 3, 132), (6, 0, 3, 131), (255, 0, 3, 131), (5, 0, 0, 132), (1, 0, 1, 130)):
+    kept("ArmBootEarly", f"{boot:#x} by {revision}, {minor:#x}, {length} bytes", arm_boot(revision, minor, boot, length))
+kept("ArmBootEarly", "the bytes around it", image_of(fadt(length=132, _128=b"\xff\0\0\xff")))
+
+# ---- the FADT: what reduced hardware, or full hardware, does not use
+FIXED = "FixedInReduced"
+STRUCTURES = range(148, 233, 12)
+for at in (48, *range(56, 85, 4)):
+    for address in (1, HIGH):
+        broken(FIXED, f"{at:#x} 0x0 {address:#x}", f"{address:#x} at {at}", image_of(fadt(**{f"_{at}": number(address, 4)})))
+for at in STRUCTURES:
+    for address, space in ((1, 1), (HIGHER, 0), (1, 127)):
+        one = fadt(length=at + 12, **{f"_{at}": generic_address(address, space)})
+        broken(FIXED, f"{at + 4:#x} 0x0 {address:#x}", f"{address:#x} in the structure at {at}, space {space}", image_of(one))
+    kept(FIXED, f"a structure at {at} without an address", image_of(fadt(length=at + 12, **{f"_{at}": generic_address(0, 1, 32, 1, 3)})))
+    cut = {f"_{at}": generic_address(1)[:11]}
+    kept(FIXED, f"a structure at {at} that goes past the end by a byte", image_of(fadt(length=at + 11, **cut)))
+broken(FIXED, "0x30 0x0 0xb2", "an SMI port and a block", image_of(fadt(**SMI, **EVENTS)))
+broken(FIXED, "0x30 0x0 0xb2", "an SMI port and commands", image_of(fadt(**SMI, _52=b"\1\1")))
+broken(FIXED, "0x38 0x0 0x600", "two blocks", image_of(fadt(**EVENTS, _60=b"\1")))
+broken(FIXED, "0x38 0x0 0x600", "a block at two places", image_of(fadt(length=160, **EVENTS, **X_EVENTS)))
+broken(FIXED, "0x98 0x0 0x600", "two structures", image_of(fadt(length=184, **X_EVENTS, **X_CONTROL)))
+kept(FIXED, "full hardware", full(184, **SMI, **EVENTS, **X_EVENTS, **X_CONTROL))
+NO_BLOCKS = {"_36": number(FACS_AT, 4), **OF_DSDT, "_46": b"\1\1", "_52": b"\1\1\1\1", "_88": b"\4" * 8, "_96": b"\1" * 16}
+kept(FIXED, "commands, lengths and other fields", image_of(fadt(length=148, **NO_BLOCKS, _116=b"\1" * 32)))
+kept(FIXED, "sleep registers", sleep(BYTE, BYTE))
+
+HANDSHAKE = "SmiHandshake"
+broken(HANDSHAKE, "0x35", "a command that turns ACPI on", full(**SMI, _52=b"\2\0"))
+broken(HANDSHAKE, "0x34", "a command that turns ACPI off", full(**SMI, _52=b"\0\2"))
+broken(HANDSHAKE, "0x35", "an SMI port at 1000000h, and commands after it", full(_48=number(HIGH, 4), _52=b"\xff\0\1\1"))
+kept(HANDSHAKE, "neither command", full(**SMI))
+kept(HANDSHAKE, "neither command, and others", full(**SMI, _52=b"\0\0\1\1"))
+kept(HANDSHAKE, "two commands", full(**SMI, _52=b"\2\3"))
+kept(HANDSHAKE, "one command twice", full(**SMI, _52=b"\2\2"))
+kept(HANDSHAKE, "no SMI port", full(_52=b"\2\0"))
+kept(HANDSHAKE, "no SMI port, and an SCI", full(_46=b"\1\1", _52=b"\2\0"))
+kept(HANDSHAKE, "reduced hardware", image_of(fadt(**SMI, _52=b"\2\0")))
+
+S4BIOS = "S4BiosDiffers"
+ASKED = full_fadt(_54=b"\1")
+broken(S4BIOS, "0x36 0x0 0x1", "a command alone", of_facs({}, ASKED))
+broken(S4BIOS, "0x36 0x0 0xff", "a command of 255", of_facs({}, full_fadt(_54=b"\xff")))
+broken(S4BIOS, "0x36 0x0 0x1", "a command and the other flags", of_facs({20: 0xFE, 21: 1}, ASKED))
+broken(S4BIOS, "0x36", "the flag alone", of_facs({20: 1}))
+broken(S4BIOS, "0x36", "the flag and other commands", of_facs({20: 3}, full_fadt(_52=b"\1\1\0\1")))
+kept(S4BIOS, "both", of_facs({20: 1}, ASKED))
+kept(S4BIOS, "neither", of_facs({}))
+kept(S4BIOS, "the other flags", of_facs({20: 0xFE, 21: 1, 36: 1}))
+kept(S4BIOS, "other commands", of_facs({}, full_fadt(_53=b"\1\0\1")))
+for name, pieces in (
+    ("no FACS", image_of(full_fadt(0, _54=b"\1"))),
+    ("a FACS of another signature", of_facs({0: ord("f")}, ASKED)), ("a FACS of 63 bytes", of_facs({4: 63}, ASKED)),
+    ("a FACS of which the last byte is not present", image_of(ASKED, others={FACS_AT: facs()[:-1]})),
+    ("a FACS at no multiple of 64", image_of(full_fadt(0x7020, _54=b"\1"), others={0x7020: facs()})),
+    ("reduced hardware", of_facs({}, fadt(_36=number(FACS_AT, 4), _54=b"\1"))),
+):
+    kept(S4BIOS, f"a command, {name}", pieces)
+TWO_FACS = full_fadt(length=140, _132=number(0x8000, 8))
+broken(
+    S4BIOS, "0x36", "the flag in the FACS of X_FIRMWARE_CTRL",
+    image_of(TWO_FACS, others={0x7000: facs(), 0x8000: changed(facs(), {20: 1})}),
+)
+kept(S4BIOS, "the flag in the other FACS", image_of(TWO_FACS, others={0x7000: changed(facs(), {20: 1}), 0x8000: facs()}))
+
+# ---- register blocks of hardware that is not reduced, further
+GPES = "GpePastEnd"
+GPE0, GPE1 = {"_80": number(0x620, 4)}, {"_84": number(0x720, 4)}
+X_GPE0, X_GPE1 = {"_220": generic_address(0x620)}, {"_232": generic_address(0x720)}
+for length in (65, 66, 255):
+    broken(GPES, f"0x5c 0x0 {length:#x}", f"GPE0 of {length} bytes", full(**GPE0, _92=bytes([length])))
+broken(GPES, "0x5c 0x0 0x42", "GPE0 of 66 bytes, a structure in memory", full(232, _220=generic_address(HIGHER, 0), _92=b"\x42"))
+kept(GPES, "GPE0 of 64 bytes", full(**GPE0, _92=b"\x40"))
+kept(GPES, "66 bytes of no GPE0", full(_92=b"\x42", **GPE1))
+kept(GPES, "66 bytes of a GPE0 that goes past the end by a byte", full(231, _220=generic_address(0x620)[:11], _92=b"\x42"))
+for length, base in ((4, 241), (1, 253), (1, 255), (64, 1), (65, 0), (255, 255)):
+    broken(GPES, f"0x5e 0x0 {base:#x}", f"GPE1 of {length} bytes from {base} on", full(**GPE1, _93=bytes([length, base])))
+for length, base in ((4, 240), (1, 252), (0, 255), (64, 0)):
+    kept(GPES, f"GPE1 of {length} bytes from {base} on", full(**GPE1, _93=bytes([length, base])))
+broken(GPES, "0x5e 0x0 0xf1", "GPE1 past the last event, a structure", full(244, **X_GPE1, _93=bytes([4, 241])))
+broken(GPES, "0x5e 0x0 0xf1", "GPE1 past the last event, and a command after its base", full(**GPE1, _93=bytes([4, 241, 1])))
+kept(GPES, "a command after the base of GPE1", full(**GPE1, _93=bytes([4, 240, 1])))
+kept(GPES, "no GPE1", full(**GPE0, _93=bytes([4, 241])))
+kept(GPES, "a GPE1 that goes past the end by a byte", full(243, _232=generic_address(0x720)[:11], _93=bytes([4, 241])))
+broken(GPES, "0x5c 0x0 0x42", "GPE0 and GPE1", full(**GPE0, **GPE1, _92=bytes([66, 4, 241])))
+kept(GPES, "reduced hardware", image_of(fadt(**GPE0, **GPE1, _92=bytes([66, 4, 241]))))
+
+LONG = "BlockTooLong"
+for narrow, length_at, wide in ((56, 88, 148), (60, 88, 160), (64, 89, 172), (68, 89, 184), (72, 90, 196), (76, 91, 208)):
+    port = {f"_{narrow}": number(0x600, 4)}
+    for length in (32, 255):
+        own = {f"_{length_at}": bytes([length])}
+        broken(LONG, f"{length_at:#x} 0x0 {length:#x}", f"the port at {narrow} of {length} bytes", full(**port, **own))
+    kept(LONG, f"the port at {narrow} of 31 bytes", full(**port, **{f"_{length_at}": b"\37"}))
+    own = {f"_{length_at}": b"\40"}
+    kept(LONG, f"no port at {narrow}", full(**own))
+    kept(LONG, f"the structure at {wide}", full(wide + 12, **port, **own, **{f"_{wide}": generic_address(0x600)}))
+    empty, cut = {f"_{wide}": generic_address(0)}, {f"_{wide}": generic_address(0x600)[:11]}
+    broken(LONG, f"{length_at:#x} 0x0 0x20", f"the structure at {wide} without an address", full(wide + 12, **port, **own, **empty))
+    broken(LONG, f"{length_at:#x} 0x0 0x20", f"the structure at {wide} past the end by a byte", full(wide + 11, **port, **own, **cut))
+    kept(LONG, f"the port at {narrow}, of reduced hardware", image_of(fadt(**port, **own)))
+broken(LONG, "0x58 0x0 0x20", "two ports", full(**CONTROL, **EVENTS, _88=b"\40\41"))
+broken(LONG, "0x58 0x0 0x20", "a port past 16 MiB", full(_56=number(HIGH, 4), _88=b"\40"))
+kept(LONG, "GPE0 and GPE1 of 64 bytes", full(**GPE0, **GPE1, _92=b"\x40\x40"))
+kept(LONG, "32 bytes of no PM2 control, before a timer", full(**TIMER, _90=b"\40"))
+
+SPACES = "BlockSpace"
+for at in STRUCTURES:
+    for space in (2, 255):
+        one = {f"_{at}": generic_address(1, space)}
+        broken(SPACES, f"{at:#x} 0x0 {space:#x}", f"the structure at {at} of the space {space}", full(at + 12, **one))
+    for space in (0, 1):
+        kept(SPACES, f"the structure at {at} of the space {space}", full(at + 12, **{f"_{at}": generic_address(1, space)}))
+    kept(SPACES, f"the structure at {at} without an address", full(at + 12, **{f"_{at}": generic_address(0, 2)}))
+    kept(SPACES, f"the structure at {at} past the end by a byte", full(at + 11, **{f"_{at}": generic_address(1, 2)[:11]}))
+broken(SPACES, "0xa0 0x0 0x2", "the second and the third structure", full(184, _160=generic_address(1, 2), _172=generic_address(1, 3)))
+broken(SPACES, "0x94 0x0 0x2", "an address at 2^56", full(160, _148=generic_address(HIGHER, 2)))
+kept(SPACES, "sleep registers", full(268, _244=generic_address(1, 2), _256=generic_address(1, 2)))
+kept(SPACES, "reduced hardware", image_of(fadt(length=160, _148=generic_address(1, 2))))
+
+WIDTHS = "BlockUsualWidth"
+for at, usual in ((148, 32), (160, 32), (172, 16), (184, 16), (196, 8), (208, 32)):
+    kept(WIDTHS, f"{usual} bits at {at}", full(at + 12, **{f"_{at}": generic_address(1, width=usual)}))
+    for width in (usual - 1, usual + 1, 0, 255):
+        one = {f"_{at}": generic_address(1, width=width)}
+        broken(WIDTHS, f"{at + 1:#x} 0x0 {width:#x}", f"{width} bits at {at}", full(at + 12, **one))
+    kept(WIDTHS, f"no address at {at}", full(at + 12, **{f"_{at}": generic_address(0, width=usual + 1)}))
+    kept(WIDTHS, f"a structure at {at} past the end by a byte", full(at + 11, **{f"_{at}": generic_address(1, width=usual + 1)[:11]}))
+    kept(WIDTHS, f"{usual} bits at {at}, not from the first on", full(at + 12, **{f"_{at}": generic_address(1, 0, usual, 1, 3)}))
+broken(WIDTHS, "0x95 0x0 0x10", "a structure in memory, at 2^56", full(160, _148=generic_address(HIGHER, 0, 16)))
+broken(WIDTHS, "0x95 0x0 0x10", "two structures", full(184, _148=generic_address(1, width=16), _172=generic_address(1)))
+kept(WIDTHS, "events of GPE0 and GPE1", full(244, _220=generic_address(1, width=7), _232=generic_address(1, width=255)))
+kept(WIDTHS, "reduced hardware", image_of(fadt(length=160, _148=generic_address(1, width=16))))
+
+ASLEEP = "SleepNotReduced"
+for at in (244, 256):
+    for address in (1, HIGHER):
+        one = {f"_{at}": generic_address(address, width=8)}
+        broken(ASLEEP, f"{at + 4:#x} 0x0 {address:#x}", f"{address:#x} in the structure at {at}", full(at + 12, **one))
+    kept(ASLEEP, f"no address in the structure at {at}", full(at + 12, **{f"_{at}": generic_address(0, 1, 8, 1, 1)}))
+    kept(ASLEEP, f"a structure at {at} past the end by a byte", full(at + 11, **{f"_{at}": generic_address(1)[:11]}))
+broken(ASLEEP, "0xf8 0x0 0x1", "both registers", sleep(BYTE, generic_address(2), 0))
+broken(ASLEEP, "0xf8 0x0 0x1", "the first register, and a FADT that ends in the second", sleep(BYTE, BYTE, 0, 267))
+kept(ASLEEP, "reduced hardware", sleep(BYTE, BYTE))
+kept(ASLEEP, "the bytes around them", full(276, _232=generic_address(1), _268=b"\1" * 8))
+
+# ---- the FADT of harts
+FOR_RISCV = "FadtForRiscv"
+for revision, minor, length, told in (
+    (6, 5, 132, "0x6 0x5"), (6, 0xF5, 132, "0x6 0x5"), (6, 6, 131, "0x6 0x0"), (5, 15, 132, "0x5 0xf"), (1, 6, 132, "0x1 0x6"),
+    (0, 0, 116, "0x0 0x0"),
+):
+    broken(FOR_RISCV, f"0x8 {told}", f"a hart by {revision}, {minor:#x}, {length} bytes", arch(revision, minor, rintc(0), length=length))
+broken(FOR_RISCV, "0x8 0x6 0x5", "an RINTC of 2 bytes", arch(6, 5, other(24, 2)))
+broken(FOR_RISCV, "0x8 0x6 0x5", "a hart that is off, full hardware", arch(6, 5, rintc(0, 0), flags=0))
+broken(FOR_RISCV, "0x8 0x6 0x5", "a hart, and a MADT that is cut", arch(6, 5, rintc(0), b"\0"))
+for revision, minor in ((6, 6), (6, 0x16), (6, 15), (7, 0), (255, 0)):
+    kept(FOR_RISCV, f"a hart by {revision}, {minor:#x}", arch(revision, minor, rintc(0)))
+kept(FOR_RISCV, "other entries", arch(6, 5, gicc(0), core_pic(0, 0), *(other(kind, 2) for kind in (23, 25, 26, 27))))
+kept(FOR_RISCV, "a hart after the cut", arch(6, 5, lapic(0, 0), b"\0\0", rintc(0)))
+kept(FOR_RISCV, "no FADT", image_of(madt(rintc(0))))
+kept(FOR_RISCV, "a FADT of 115 bytes", image_of(SHORT_FADT, madt(rintc(0))))
+kept(FOR_RISCV, "no MADT", image_of(old_fadt(5, 268)))
+
+
+# ---- entries of the MADT that nothing reads
+UNREAD = "MadtUnread"
+for kind, read, unread in (
+    (11, (40, 41, 76, 80, 82, 255), (2, 39)), (12, (24,), (23, 25)), (13, (24,), (23, 25)), (14, (16,), (15, 17)), (15, (20,), (19, 21)),
+    (16, (16, 24), (2, 15, 17, 23, 25)), (17, (15,), (14, 16)), (18, (23,), (22, 24)), (19, (21,), (20, 22)), (20, (13,), (12, 14)),
+    (21, (19,), (18, 20)), (22, (17,), (16, 18)), (23, (14,), (2, 13, 15)), (24, (20, 21, 36, 255), (2, 19)), (25, (16,), (2, 15, 17)),
+    (26, (36,), (35, 37)), (27, (36,), (2, 35, 37)),
+):
+    for length in read:
+        entries_kept(UNREAD, f"type {kind} of {length} bytes", other(kind, length))
+    for length in unread:
+        entries_broken(UNREAD, f"0x2c {kind:#x}", f"type {kind} of {length} bytes", other(kind, length))
+for kind in (6, 7, 8, 28, 29, 30, 127, 128, 255):
+    for length in (2, 16, 20, 24):
+        entries_broken(UNREAD, f"0x2c {kind:#x}", f"type {kind} of {length} bytes", other(kind, length))
+for kind in (0, 1, 2, 3, 4, 5, 9, 10):
+    entries_kept(UNREAD, f"type {kind} of 2 bytes", other(kind, 2))
+entries_broken(UNREAD, "0x3c 0x1c", "the second entry, before a third", other(16, 16), other(28, 2), other(18, 22))
+
+# ---- the MADT: a GIC, further
+SHORT = "GiccShort"
+for length in (40, 75):
+    entries_broken(SHORT, f"0x2c 0x4c {length:#x}", f"a GICC of {length} bytes", cpu(length=length))
+entries_broken(SHORT, "0x7c 0x4c 0x4b", "a GICC that is off, after another", cpu(), cpu(flags=0, length=75))
+entries_broken(SHORT, "0x2c 0x4c 0x4b", "two GICCs", cpu(length=75), cpu(length=74))
+entries_broken(SHORT, "0x2c 0x4c 0x28", "a MADT that is cut", cpu(length=40), b"\0")
+for length in (76, 80, 82, 255, 39, 2):
+    entries_kept(SHORT, f"an entry of {length} bytes", other(11, length))
+
+NO_GICR = "GiccNoGicr"
+WITH_GICR = cpu(gicr=0x1000)
+entries_broken(NO_GICR, "0x94 0x3c", "the second GICC, version 3", distributor(3), WITH_GICR, cpu())
+entries_broken(NO_GICR, "0x44 0x3c", "the first GICC, version 4", distributor(4), cpu(), WITH_GICR)
+entries_broken(
+    NO_GICR, "0x94 0x3c", "after one that is online capable, of 68 bytes", distributor(3), cpu(gicr=0x1000, flags=8), cpu(length=68),
+)
+entries_broken(NO_GICR, "0x94 0x3c", "one at 2^56, and both flags", distributor(3), cpu(gicr=HIGHER), cpu(flags=9))
+entries_broken(NO_GICR, "0xab 0x3c", "after a distributor of 23 bytes", gicd(23), distributor(3), WITH_GICR, cpu(mpidr=1))
+entries_broken(NO_GICR, "0x94 0x3c", "two GICCs", distributor(3), WITH_GICR, cpu(), cpu())
+entries_kept(NO_GICR, "none has one", distributor(3), cpu(), cpu())
+entries_kept(NO_GICR, "one that is off has one", distributor(3), cpu(gicr=0x1000, flags=0), cpu())
+entries_kept(NO_GICR, "both have one", distributor(3), WITH_GICR, cpu(gicr=0x2000))
+entries_kept(NO_GICR, "one without that is off, and one that is online capable", distributor(3), WITH_GICR, cpu(flags=6), cpu(flags=8))
+entries_kept(NO_GICR, "one that ends in it", distributor(3), WITH_GICR, cpu(length=67))
+entries_kept(NO_GICR, "a structure of redistributors of 2 bytes", distributor(3), WITH_GICR, cpu(), other(14, 2))
+for name, entry in (("a cut", b"\0"), ("a local APIC of 7 bytes", other(0, 7))):
+    entries_kept(NO_GICR, f"a MADT with {name}", distributor(3), WITH_GICR, cpu(), entry)
+    entries_kept("CapableNoGicr", f"a MADT with {name}", distributor(3), cpu(flags=8), entry)
+for version in (0, 1, 2, 5):
+    entries_kept(NO_GICR, f"version {version}", distributor(version), WITH_GICR, cpu(), distributor(3))
+    entries_kept("CapableNoGicr", f"version {version}", distributor(version), cpu(flags=8), distributor(3))
+    entries_kept("SameGicrBase", f"version {version}", distributor(version), WITH_GICR, WITH_GICR, distributor(3))
+entries_kept(NO_GICR, "no distributor", WITH_GICR, cpu())
+
+NEVER_ON = "CapableNoGicr"
+for version, flags in ((3, 8), (4, 10), (3, HIGH + 8)):
+    entries_broken(NEVER_ON, f"0x44 0xc {flags:#x}", f"flags {flags:#x}, version {version}", distributor(version), cpu(flags=flags))
+entries_broken(NEVER_ON, "0x94 0xc 0x8", "the second GICC, with one of its own", distributor(3), cpu(), cpu(gicr=0x1000, flags=8))
+entries_broken(NEVER_ON, "0x44 0xc 0x8", "a byte after the flags", distributor(3), cpu(parking=1, flags=8))
+entries_broken(NEVER_ON, "0x44 0xc 0x8", "a GICC of 40 bytes, and another", distributor(3), cpu(flags=8, length=40), cpu(flags=12))
+for flags in (0, 1, 7, 9, 0xF):
+    entries_kept(NEVER_ON, f"flags {flags:#x}", distributor(3), cpu(flags=flags))
+entries_kept(NEVER_ON, "a GICC of 39 bytes", distributor(3), cpu(flags=8, length=39))
+entries_kept(NEVER_ON, "a structure of redistributors", distributor(3), cpu(flags=8), redistributor(0x1000, 0x20000))
+entries_kept(NEVER_ON, "a structure of redistributors of 2 bytes", distributor(3), cpu(flags=8), other(14, 2))
+entries_kept(NEVER_ON, "no distributor", cpu(flags=8))
+
+OTHERS = "GiccDiffers"
+for at, size in ((40, 8), (48, 8), (56, 4)):
+    top = 1 << 8 * size - 8
+    for value in (1, 0x5000, top):
+        one = placed(cpu(), **{f"_{at}": number(value, size)})
+        entries_broken(OTHERS, f"0x7c {at:#x} {value:#x}", f"{value:#x} at {at}, after 0", cpu(), one)
+    entries_broken(OTHERS, f"0x7c {at:#x} 0x0", f"0 at {at}, after 1", placed(cpu(), **{f"_{at}": b"\1"}), cpu())
+    off = placed(cpu(flags=0), **{f"_{at}": b"\1"})
+    entries_kept(OTHERS, f"1 at {at}, of ones that are off", off, cpu(), off)
+    entries_kept(OTHERS, f"one number at {at}", *[placed(cpu(), **{f"_{at}": b"\1"})] * 2)
+    short = placed(cpu(length=59), **{f"_{at}": b"\1"})
+    entries_kept(OTHERS, f"1 at {at}, of ones of 59 bytes", short, cpu(), short)
+    entries_broken(OTHERS, f"0x7c {at:#x} 0x1", f"1 at {at}, of one of 60 bytes", cpu(), placed(cpu(length=60), **{f"_{at}": b"\1"}))
+entries_broken(OTHERS, "0x7c 0xc 0x5", "level, then edge", cpu(), cpu(flags=5))
+entries_broken(OTHERS, "0x7c 0xc 0x1000005", "level, then edge, flag bit 24, and a byte after it", cpu(), cpu(parking=1, flags=HIGH + 5))
+entries_broken(OTHERS, "0x7c 0xc 0x8", "edge, then level, online capable", cpu(flags=5), cpu(flags=8))
+entries_broken(OTHERS, "0x7c 0xc 0x5", "all that may differ", cpu(), placed(cpu(flags=5), _40=b"\1" * 20))
+entries_broken(OTHERS, "0x7c 0x28 0x1", "GICV and GICH", cpu(), placed(cpu(), _40=b"\1", _48=b"\1"))
+entries_broken(OTHERS, "0x7c 0x30 0x1", "GICH and the interrupt", cpu(), placed(cpu(), _48=b"\1", _56=b"\1"))
+entries_broken(OTHERS, "0xcc 0x38 0x9", "the third, and the fourth", cpu(), cpu(), placed(cpu(), _56=b"\11"), cpu(flags=5))
+entries_broken(OTHERS, "0xcc 0x28 0x0", "after one that is off", cpu(flags=0), placed(cpu(), _40=b"\1"), cpu())
+entries_kept(OTHERS, "other flags", cpu(), cpu(flags=11), cpu(flags=8), cpu(flags=HIGH + 1))
+entries_kept(OTHERS, "edge of one that is off, and of one of 59 bytes", cpu(flags=4), cpu(), cpu(flags=5, length=59), cpu(flags=6))
+entries_kept(OTHERS, "other fields", cpu(), placed(cpu(5, 6, 7, 8), _2=b"\1" * 6, _20=b"\1" * 20, _76=b"\1" * 4))
+entries_kept(OTHERS, "no GICC that is on", cpu(flags=0), placed(cpu(flags=0), _40=b"\1"))
+
+ONE_GICR = "SameGicrBase"
+entries_broken(ONE_GICR, "0x94 0x44 0x1000", "version 3", distributor(3), WITH_GICR, WITH_GICR)
+entries_broken(ONE_GICR, "0x88 0x44 0x1000", "version 4, of 68 bytes", distributor(4), *[cpu(gicr=0x1000, length=68)] * 2)
+entries_broken(ONE_GICR, "0x94 0x44 0x100000000000000", "at 2^56, both flags", distributor(3), *[cpu(gicr=HIGHER, flags=9)] * 2)
+entries_broken(
+    ONE_GICR, "0xe4 0x94 0x2000", "one within the other", distributor(3), *(cpu(gicr=it) for it in (0x1000, 0x2000, 0x2000, 0x1000)),
+)
+entries_broken(ONE_GICR, "0xe4 0x44 0x1000", "beside one that is off", distributor(3), WITH_GICR, cpu(gicr=0x1000, flags=2), WITH_GICR)
+entries_broken(
+    ONE_GICR, "0xa4 0x54 0x1000", "a structure of redistributors", distributor(3), redistributor(0, 0x20000), WITH_GICR, WITH_GICR,
+)
+entries_broken(ONE_GICR, "0x94 0x44 0x1000", "a MADT that is cut", distributor(3), WITH_GICR, WITH_GICR, b"\0")
+entries_kept(ONE_GICR, "none twice", distributor(3), cpu(), cpu())
+entries_kept(ONE_GICR, "two, of one low half", distributor(3), WITH_GICR, cpu(gicr=HIGHER + 0x1000))
+entries_kept(
+    ONE_GICR, "one that is off, and one that is online capable", distributor(3), WITH_GICR, *(cpu(gicr=0x1000, flags=it) for it in (0, 8)),
+)
+entries_kept(ONE_GICR, "one that ends in it", distributor(3), WITH_GICR, cpu(gicr=0x1000, length=67))
+entries_kept(ONE_GICR, "no distributor", WITH_GICR, WITH_GICR)
+
+PARKING = "ParkingVersion"
+for version in (2, 256, HIGH, 2**32 - 1):
+    entries_broken(PARKING, f"0x2c 0x10 {version:#x}", f"version {version:#x}", cpu(parking=version))
+entries_broken(PARKING, "0x54 0x10 0x2", "the second GICC, off", cpu(parking=1, length=40), cpu(parking=2, flags=0, length=40))
+entries_broken(PARKING, "0x2c 0x10 0x2", "a byte after the version", placed(cpu(parking=2), _20=b"\1"))
+entries_kept(PARKING, "versions 0 and 1", cpu(), cpu(parking=1), placed(cpu(), _12=b"\1\1\1\1", _20=b"\1"))
+entries_kept(PARKING, "version 2, of 39 bytes", cpu(parking=2, length=39))
+
+NO_PPI = "GiccNoPpi"
+for at in (78, 80):
+    for value in (1, 15, 32, 1055, 1120, 0x1000, 0xFFFF):
+        one = placed(cpu(length=82), **{f"_{at}": number(value, 2)})
+        entries_broken(NO_PPI, f"0x2c {at:#x} {value:#x}", f"{value} at {at}", one)
+    for value in (0, 16, 31, 1056, 1119):
+        entries_kept(NO_PPI, f"{value} at {at}", placed(cpu(length=82), **{f"_{at}": number(value, 2)}))
+    entries_kept(NO_PPI, f"1 at {at}, of which one byte is there", placed(cpu(length=at + 1), **{f"_{at}": b"\1"}))
+    one = placed(cpu(length=at + 2, flags=0), **{f"_{at}": b"\1"})
+    entries_broken(NO_PPI, f"0x7c {at:#x} 0x1", f"1 at {at}, of the second GICC, which is off and ends there", cpu(), one)
+entries_broken(NO_PPI, "0x2c 0x4e 0x20", "both", placed(cpu(length=82), _78=b"\x20\0\1\0"))
+entries_kept(NO_PPI, "bytes around them", placed(cpu(length=84), _76=b"\xff\xff", _82=b"\xff\xff"))
+
+# ---- the MADT: versions, reserved bytes, and what came after its Revision
+READ_LENGTHS = {17: 15, 18: 23, 19: 21, 20: 13, 21: 19, 22: 17, 23: 14, 24: 36, 25: 16, 26: 36, 27: 36}
+for kind, length in READ_LENGTHS.items():
+    for version in (0, 2, 255):
+        one = placed(other(kind, length), _2=bytes([version]))
+        entries_broken("PicVersion", f"0x2c 0x2 {version:#x}", f"version {version} of type {kind}", one)
+    entries_kept("PicVersion", f"version 1 of type {kind}", placed(other(kind, length), _2=b"\1"))
+    if kind != 24:
+        lengths = (2, length - 1, length + 1)
+        entries_kept("PicVersion", f"version 0 of type {kind}, other lengths", *(other(kind, it) for it in lengths))
+entries_broken("PicVersion", "0x2c 0x2 0x0", "version 0 of type 24, of 20 bytes", other(24, 20))
+entries_broken("PicVersion", "0x2c 0x2 0x0", "version 0, and a byte after it", placed(other(18, 23), _3=b"\1"))
+entries_kept("PicVersion", "version 1, and a byte after it", placed(other(18, 23), _2=b"\1\1"))
+entries_broken("PicVersion", "0x3b 0x2 0x0", "the second entry", core_pic(0, 0), other(20, 13), other(17, 15))
+entries_kept("PicVersion", "version 0 of type 24, of 19 bytes", other(24, 19))
+entries_kept("PicVersion", "other types", *(other(kind, 16) for kind in (6, 9, 14, 16, 28)))
+
+RESERVED = "FurtherReserved"
+BLANK_25 = placed(other(25, 16), _2=b"\1")
+for entry, unread, *places in (
+    (cpu(length=82), (), (2, 1, 1), (3, 1, 0x80), (12, 4, 0x21), (12, 4, 1 << 31), (77, 1, 1)),
+    (cpu(length=40), (39,), (3, 1, 1), (12, 4, 0x20)),
+    (gicd(), (23, 25), (2, 1, 1), (3, 1, 0xFF), (21, 1, 1), (22, 1, 1), (23, 1, 0x80)),
+    (frame(0), (23, 25), (2, 1, 1), (3, 1, 1), (16, 4, 2), (16, 4, 1 << 31)),
+    (redistributor(0, 0), (15, 17), (2, 1, 2), (2, 1, 0x81), (3, 1, 1)),
+    (its(0), (19, 21), (2, 1, 2), (2, 1, 0x80), (3, 1, 1), *((at, 1, 1) for at in range(16, 20))),
+    (core_pic(0, 0), (14, 16), (11, 4, 2), (11, 4, 1 << 31)),
+    (rintc(0), (19,), (3, 1, 1), (4, 4, 4), (4, 4, 1 << 31)), (rintc(0, length=20), (), (3, 1, 0xFF), (4, 4, 4)),
+    (BLANK_25, (15, 17), (3, 1, 1), (4, 4, 1), (4, 4, 1 << 31)),
+):
+    for at, size, value in places:
+        one = placed(entry, **{f"_{at}": number(value, size)})
+        name = f"{value:#x} at {at} of type {entry[0]}, {len(entry)} bytes"
+        entries_broken(RESERVED, f"0x2c {at:#x} {value:#x}", name, one)
+        for length in unread:
+            entries_kept(RESERVED, f"{name}, made {length}", changed((one + bytes(8))[:length], {1: length}))
+entries_broken(RESERVED, "0x2c 0x4d 0x1", "byte 77 of a GICC that ends with it", placed(cpu(length=78), _77=b"\1"))
+entries_kept(RESERVED, "the byte after a GICC of 77 bytes", cpu(length=77), placed(gicd(), _16=b"\1"))
+entries_broken(RESERVED, "0x2c 0x3 0x1", "a reserved byte and a flag", placed(cpu(flags=0x20), _3=b"\1"))
+entries_broken(RESERVED, "0x2c 0xc 0x20", "a flag, and an earlier byte of a later entry", cpu(flags=0x20), placed(gicd(), _2=b"\1"))
+entries_broken(RESERVED, "0x7c 0x3 0x1", "the second entry", cpu(), placed(gicd(), _3=b"\1"), placed(frame(0), _2=b"\1"))
+entries_kept(
+    RESERVED, "all that is defined", placed(cpu(flags=0x1F, length=82), _4=b"\xff" * 8, _16=b"\xff" * 61, _78=b"\xff" * 4),
+    placed(gicd(), _4=b"\xff" * 17), placed(frame(0), _4=b"\xff" * 12, _16=b"\1", _20=b"\xff" * 4),
+    placed(redistributor(0, 0), _2=b"\1", _4=b"\xff" * 12), placed(its(0), _2=b"\1", _4=b"\xff" * 12),
+    placed(core_pic(2**32 - 1, 2**32 - 1), _2=b"\xff"), placed(rintc(0, 3), _2=b"\xff", _8=b"\xff" * 28), placed(BLANK_25, _8=b"\xff" * 8),
+)
+for kind, length in ((16, 16), *READ_LENGTHS.items(), (28, 16), (6, 16)):
+    if kind not in (17, 24, 25):
+        entries_kept(RESERVED, f"type {kind}", bytes([kind, length]) + b"\xff" * (length - 2))
+
+for flags in (1, 2):
+    told = "0x2c 0x8 0xffffffffffffffff"
+    entries_broken("HartInvalid", told, f"a hart of no ID, flags {flags}", hart(2**64 - 1, flags))
+entries_broken("HartInvalid", "0x50 0x8 0xffffffffffffffff", "the second hart, of 20 bytes", hart(5), hart(2**64 - 1, 1, 20))
+entries_broken("HartInvalid", "0x2c 0x8 0xffffffffffffffff", "a UID after no ID", placed(hart(2**64 - 1), _16=b"\1"))
+entries_kept("HartInvalid", "IDs just below", *map(hart, (2**64 - 2, 2**32 - 1, 2**63, 2**64 - 1 - HIGHER)))
+entries_kept("HartInvalid", "a hart of no ID that is off", hart(2**64 - 1, 0), hart(2**64 - 1, 4))
+entries_kept("HartInvalid", "a hart of no ID, of 19 bytes", hart(2**64 - 1, 1, 19))
+
+
+def wakeup(version, mailbox=0x1000, length=16, reserved=0):
+    """A multiprocessor wakeup structure (5.2.12.19), as far as it goes."""
+    return placed(other(16, length), _2=number(version, 2), _4=number(reserved, 4), _8=number(mailbox, 8))
+
+
+WAKE = "WakeupMailbox"
+entries_kept(WAKE, "versions 0 and 1", wakeup(0), wakeup(1, length=24))
+entries_kept(WAKE, "other types of entries", other(15, 16), other(17, 16))
+entries_kept(WAKE, "one after the cut", b"\20\0", wakeup(2))
+for version, least, lengths in ((0, 16, (4, 8, 15, 17, 24, 255)), (1, 24, (4, 16, 23, 25, 255))):
+    for length in lengths:
+        entries_broken(WAKE, f"0x2c {least:#x} {length:#x}", f"version {version} of {length} bytes", wakeup(version, length=length))
+entries_broken(WAKE, "0x2c 0x10 0x2", "an entry of 2 bytes", other(16, 2))
+entries_broken(WAKE, "0x2c 0x10 0x3", "an entry of 3 bytes, with one of version 1", placed(other(16, 3), _2=b"\1"))
+for version, length in ((2, 16), (256, 24), (0xFFFF, 16), (2, 4), (2, 15)):
+    entries_broken(WAKE, f"0x2c 0x2 {version:#x}", f"version {version} of {length} bytes", wakeup(version, length=length))
+for reserved in (1, 1 << 31):
+    entries_broken(WAKE, f"0x2c 0x4 {reserved:#x}", f"a reserved number of {reserved:#x}", wakeup(0, reserved=reserved))
+entries_broken(WAKE, "0x2c 0x4 0x1", "a reserved number, in 8 bytes", wakeup(1, length=8, reserved=1))
+entries_broken(WAKE, "0x2c 0x10 0x7", "three bytes of a reserved number", wakeup(0, length=7, reserved=1))
+for mailbox in (0, 1, 0xFFF, 0x1001, 0x1800, HIGHER + 0x800):
+    entries_broken(WAKE, f"0x2c 0x8 {mailbox:#x}", f"a mailbox at {mailbox:#x}", wakeup(0, mailbox))
+entries_broken(WAKE, "0x2c 0x8 0x1", "a mailbox at 1, of version 1", wakeup(1, 1, 24))
+entries_broken(WAKE, "0x2c 0x8 0x1", "a mailbox at 1, and another length", wakeup(0, 1, 24))
+entries_kept(WAKE, "mailboxes at multiples of 4096", *(wakeup(0, it) for it in (0x1000, HIGHER, 2**64 - 0x1000)))
+entries_broken(WAKE, "0x2c 0x2 0x2", "a version, a reserved number and a mailbox", wakeup(2, 1, 16, 1))
+entries_broken(WAKE, "0x2c 0x4 0x1", "a reserved number and a mailbox", wakeup(0, 1, 16, 1))
+entries_broken(WAKE, "0x3c 0x8 0x1", "the second entry, before a third", wakeup(0), wakeup(0, 1), wakeup(2))
+
+AT_ZERO = "LapicAtZero"
+entries_broken(AT_ZERO, "0x2c 0x4", "an address of 0", lapic_address(0))
+entries_broken(AT_ZERO, "0x38 0x4", "the second address, after reserved bytes", lapic_address(1), lapic_address(0, 1))
+entries_broken(AT_ZERO, "0x2c 0x4", "a MADT that is cut", lapic_address(0), b"\0")
+entries_kept(AT_ZERO, "other addresses", lapic_address(1), lapic_address(HIGHER), lapic_address(2**64 - 1))
+entries_kept(AT_ZERO, "other lengths", other(5, 11), other(5, 13))
+kept(AT_ZERO, "the MADT's own address", listed(table(b"APIC", bytes(8) + lapic(0, 0))))
+
+EARLY_ENTRY = "MadtRevision"
+
+
+def of_revision(revision, *entries):
+    """A MADT of a Revision."""
+    return listed(revised(madt(*entries), revision))
+
+
+for kinds, least in ((range(9, 16), 3), (range(24, 28), 6)):
+    for kind in kinds:
+        for length in (2, 24):
+            name = f"type {kind} of {length} bytes"
+            broken(EARLY_ENTRY, f"0x8 0x0 {least - 1:#x}", f"{name}, Revision {least - 1}", of_revision(least - 1, other(kind, length)))
+            kept(EARLY_ENTRY, f"{name}, Revision {least}", of_revision(least, other(kind, length)))
+broken(EARLY_ENTRY, "0x8", "an x2APIC, Revision 0", of_revision(0, x2apic(0, 0)))
+broken(EARLY_ENTRY, "0x8 0x0 0x5", "an x2APIC and a hart, Revision 5", of_revision(5, x2apic(0, 0), rintc(0)))
+broken(EARLY_ENTRY, "0x8 0x0 0x2", "a hart and an x2APIC, Revision 2", of_revision(2, rintc(0), x2apic(0, 0)))
+broken(EARLY_ENTRY, "0x8 0x0 0x2", "an x2APIC, and a MADT that is cut", of_revision(2, x2apic(0, 0), b"\0"))
+kept(EARLY_ENTRY, "all other types, Revision 0", of_revision(0, *(other(kind, 2) for kind in (*range(9), *range(16, 24), *range(28, 256)))))
+kept(EARLY_ENTRY, "a hart, Revision 255", of_revision(255, rintc(0)))
+kept(EARLY_ENTRY, "no entry, Revision 0", of_revision(0))
+kept(EARLY_ENTRY, "an x2APIC after the cut", of_revision(0, lapic(0, 0), b"\0\0", x2apic(0, 0)))
+
+# what these rules find is there, whatever comes after the cut, or is of another length
+for tail, name in ((b"\0", "a MADT that is cut"), (other(0, 7), "a local APIC of 7 bytes")):
+    for rule, numbers, entries in (
+        (OTHERS, "0x7c 0xc 0x5", (cpu(), cpu(flags=5))), (PARKING, "0x2c 0x10 0x2", (cpu(parking=2),)),
+        (NO_PPI, "0x2c 0x4e 0x20", (placed(cpu(), _78=b"\x20"),)), ("PicVersion", "0x2c 0x2 0x0", (other(18, 23),)),
+        (RESERVED, "0x2c 0x3 0x1", (placed(gicd(), _3=b"\1"),)), ("HartInvalid", "0x2c 0x8 0xffffffffffffffff", (hart(2**64 - 1),)),
+        (WAKE, "0x2c 0x10 0x8", (other(16),)), (UNREAD, "0x2c 0x1c", (other(28),)),
+    ):
+        entries_broken(rule, numbers, name, *entries, tail)
+
+# ---- the SRAT, further
+RESERVED_HERE = "AffinityReserved"
+for entry, *places in (
+    (uid_domain(0, 0), (10, 4, 2), (10, 4, 1 << 31)), (its_domain(0), (6, 1, 1), (7, 1, 0x80)),
+    *((device_domain(kind, 0), (2, 1, 1), (24, 4, 4), (24, 4, 1 << 31), *((at, 1, 1) for at in range(28, 32))) for kind in (5, 6)),
+    (hart_domain(0, 0), (2, 1, 1), (3, 1, 0xFF), (12, 4, 2), (12, 4, 1 << 31)),
+):
+    for at, size, value in places:
+        one, name = placed(entry, **{f"_{at}": number(value, size)}), f"{value:#x} at {at} of type {entry[0]}"
+        affinities_broken(RESERVED_HERE, f"0x30 {at:#x} {value:#x}", name, one)
+        for length in (len(entry) - 1, len(entry) + 1):
+            affinities_kept(RESERVED_HERE, f"{name}, made {length} bytes", changed((one + b"\0")[:length], {1: length}))
+affinities_broken(RESERVED_HERE, "0x30 0xa 0x2", "the first of two entries", uid_domain(0, 0, 2), placed(hart_domain(0, 0), _2=b"\1"))
+affinities_broken(RESERVED_HERE, "0x30 0x2 0x1", "a reserved byte and a flag", placed(device_domain(5, 0, 4), _2=b"\1"))
+affinities_broken(RESERVED_HERE, "0x42 0x3 0x1", "the second entry", uid_domain(0, 0), placed(hart_domain(0, 0, 2), _3=b"\1"))
+affinities_kept(
+    RESERVED_HERE, "all that is defined",
+    placed(uid_domain(2**32 - 1, 2**32 - 1), _14=b"\xff" * 4), placed(of_its(2**32 - 1), _2=b"\xff" * 4),
+    *(placed(device_domain(kind, 2**32 - 1, 3), _3=b"\xff", _8=b"\xff" * 16) for kind in (5, 6)),
+    placed(hart_domain(2**32 - 1, 2**32 - 1), _16=b"\xff" * 4),
+)
+affinities_kept(RESERVED_HERE, "other types", b"\0\20" + b"\xff" * 14, b"\2\30" + b"\xff" * 22, b"\10\24" + b"\xff" * 18)
+
+HANDLE = "DeviceHandle"
+for kind in (5, 6):
+    for value in (2, 255):
+        name = f"a handle of kind {value}, type {kind}"
+        affinities_broken(HANDLE, f"0x30 0x3 {value:#x}", name, placed(device_domain(kind, 0), _3=bytes([value])))
+    affinities_kept(HANDLE, f"handles of kinds 0 and 1, type {kind}", device_domain(kind, 0), placed(device_domain(kind, 0), _3=b"\1"))
+    for length in (31, 33):
+        affinities_kept(HANDLE, f"type {kind} of {length} bytes", placed(device_domain(kind, 0, 1, length), _3=b"\2"))
+affinities_broken(
+    HANDLE, "0x50 0x3 0x2", "the second entry, which is not enabled", device_domain(5, 0), placed(device_domain(6, 0, 0), _3=b"\2"),
+)
+affinities_broken(HANDLE, "0x30 0x3 0x2", "a port before an initiator", *(placed(device_domain(kind, 0), _3=b"\2") for kind in (6, 5)))
+affinities_broken(HANDLE, "0x30 0x3 0x2", "a handle of kind 2, and domain 5", placed(device_domain(5, 5), _3=b"\2"))
+for tail, name in ((b"\0", "an SRAT that is cut"), (other(1, 24), "a range of 24 bytes"), (other(8), "an entry of type 8")):
+    affinities_broken(HANDLE, "0x30 0x3 0x2", name, placed(device_domain(5, 5), _3=b"\2"), tail)
+    affinities_broken(RESERVED_HERE, "0x30 0xa 0x2", name, uid_domain(0, 0, 2), tail)
+affinities_kept(HANDLE, "handles of kind 0 in domain 5", device_domain(5, 5), device_domain(6, 5))
+affinities_kept(HANDLE, "other types", placed(hart_domain(0, 0), _3=b"\2"), placed(uid_domain(0, 0), _3=b"\2"))
+
+OF_ITS_ALONE = "ItsDomain"
+HERE_TOO = (
+    ("a local APIC", lambda flags: apic_domain(0, 1, flags)), ("an x2APIC", lambda flags: x2apic_domain(0, 1, flags)),
+    ("a GICC", lambda flags: uid_domain(0, 1, flags)), ("a hart", lambda flags: hart_domain(0, 1, flags)),
+    ("a range of no bytes", lambda flags: memory_of(1, flags=flags)), ("an initiator", lambda flags: device_domain(5, 1, flags)),
+    ("a port", lambda flags: device_domain(6, 1, flags)),
+)
+for name, affinity in HERE_TOO:
+    affinities_kept(OF_ITS_ALONE, f"{name} in the domain", its_domain(1), affinity(1))
+    affinities_broken(OF_ITS_ALONE, "0x30 0x2 0x1", f"{name} in the domain, not enabled", its_domain(1), affinity(2))
+affinities_broken(OF_ITS_ALONE, "0x30 0x2 0x1", "two ITS in one domain", its_domain(1), its_domain(1), memory_of(0))
+affinities_broken(OF_ITS_ALONE, "0x30 0x2", "an ITS in domain 0", its_domain(0))
+affinities_broken(OF_ITS_ALONE, "0x30 0x2 0x5", "a byte after the domain", placed(its_domain(5), _6=b"\1"))
+affinities_kept(OF_ITS_ALONE, "a byte after the domain of an ITS that is not alone", placed(its_domain(1), _6=b"\1"), memory_of(1))
+affinities_broken(OF_ITS_ALONE, "0x58 0x2 0x1000001", "a domain of one low byte", memory_of(1), its_domain(0x1000001))
+affinities_broken(OF_ITS_ALONE, "0x64 0x2 0x5", "the second ITS", memory_of(1), its_domain(1), its_domain(5), its_domain(6))
+affinities_broken(OF_ITS_ALONE, "0x40 0x2 0x1", "domain 257 of a local APIC, and domain 1", apic_domain(0, 257), its_domain(1))
+affinities_kept(OF_ITS_ALONE, "domain 257 of a local APIC", apic_domain(0, 257), its_domain(257))
+affinities_kept(OF_ITS_ALONE, "a processor before the ITS", hart_domain(0, 1), its_domain(1))
+for name, entry in (
+    ("a type that nothing reads", other(8, 2)), ("a GICC of 17 bytes", uid_domain(0, 1, length=17)),
+    ("an ITS of 13 bytes", its_domain(2, 13)), ("a cut", b"\0"), ("a range of 39 bytes", other(1, 39)),
+):
+    affinities_kept(OF_ITS_ALONE, f"{name} behind the ITS", its_domain(1), entry)
+affinities_kept(OF_ITS_ALONE, "no ITS", memory_of(1), its_domain(1, 11))
+
+# ---- the PPTT, further
+NOTHING_READS = "PpttUnread"
+for kind, length in ((2, 2), (2, 30), (3, 20), (128, 24), (255, 255)):
+    nodes_broken(NOTHING_READS, f"0x24 {kind:#x}", f"type {kind} of {length} bytes", other(kind, length))
+nodes_broken(NOTHING_READS, "0x38 0x3", "the second entry, before a third", node(), other(3), other(2), revision=1)
+nodes_broken(NOTHING_READS, "0x24 0x2", "a PPTT that is cut", other(2), b"\0")
+nodes_kept(NOTHING_READS, "nodes and caches, of any length", node(), cache(), other(0, 2), other(0, 19), other(1, 2), other(1, 200))
+nodes_kept(NOTHING_READS, "an entry after the cut", node(), b"\0\0", other(2))
+nodes_kept(NOTHING_READS, "no entry")
+
+NO_ID = "CacheIdZero"
+for revision in (3, 4, 255):
+    nodes_broken(NO_ID, "0x24 0x18", f"an ID of 0, Revision {revision}", shaped_cache(CACHE_ID_VALID), revision=revision)
+for revision in (0, 1, 2):
+    nodes_kept(NO_ID, f"an ID of 0, Revision {revision}", shaped_cache(CACHE_ID_VALID), revision=revision)
+nodes_broken(
+    NO_ID, "0x40 0x18", "the second cache, with all flags", shaped_cache(CACHE_ID_VALID, cache_id=1), shaped_cache(0xFF), revision=3,
+)
+nodes_broken(NO_ID, "0x24 0x18", "a PPTT that is cut", shaped_cache(CACHE_ID_VALID), b"\0", revision=3)
+IDS = [shaped_cache(CACHE_ID_VALID, cache_id=it) for it in (1, 256, HIGH)]
+nodes_kept(NO_ID, "other IDs", *IDS, revision=3)
+nodes_kept(NO_ID, "an ID of 0 that is not valid", shaped_cache(0xFFFFFF7F), revision=3)
+nodes_kept(NO_ID, "a cache of 24 bytes", shaped_cache(CACHE_ID_VALID, length=24), revision=3)
+nodes_kept(NO_ID, "caches of 27 and 29 bytes", *(cache(0, length, CACHE_ID_VALID) for length in (27, 29)), revision=3)
+
+# Caches of a type, from 0x40 on behind a node that names two things: at 0x40, 0x58 and 0x70.
+TYPED = 1 << 4
+DATA, CODE, BOTH, BOTH_TOO = range(4)
+
+
+def of_type(kind, next_level=0, flags=TYPED, length=24, others=0):
+    return cache(next_level, length, flags, attributes=kind << 2 | others)
+
+
+TYPES = "SameCacheType"
+for one, other_one in ((DATA, DATA), (CODE, CODE), (BOTH, BOTH), (BOTH, BOTH_TOO), (BOTH_TOO, BOTH), (BOTH_TOO, BOTH_TOO)):
+    two = node(resources=[64, 88]), of_type(one), of_type(other_one)
+    nodes_broken(TYPES, "0x24 0x40 0x58", f"types {one} and {other_one}", *two)
+for one, other_one in (
+    (DATA, CODE), (DATA, BOTH), (DATA, BOTH_TOO), (CODE, DATA), (CODE, BOTH), (CODE, BOTH_TOO), (BOTH, DATA), (BOTH_TOO, CODE),
+):
+    nodes_kept(TYPES, f"types {one} and {other_one}", node(resources=[64, 88]), of_type(one), of_type(other_one))
+TWO_OF_DATA = of_type(DATA), of_type(DATA)
+nodes_broken(TYPES, "0x24 0x58 0x40", "the later one named first", node(resources=[88, 64]), *TWO_OF_DATA)
+nodes_broken(
+    TYPES, "0x24 0x40 0x58", "other attributes", node(resources=[64, 88]), of_type(CODE, others=0b10011), of_type(CODE), revision=1,
+)
+nodes_broken(TYPES, "0x24 0x40 0x5c", "caches of 28 bytes", node(resources=[64, 92]), *[of_type(DATA, length=28)] * 2, revision=3)
+nodes_broken(TYPES, "0x24 0x40 0x58", "all flags", node(resources=[64, 88]), *[of_type(DATA, flags=2**32 - 1)] * 2)
+nodes_broken(TYPES, "0x24 0x40 0x58", "a PPTT that is cut", node(resources=[64, 88]), *TWO_OF_DATA, b"\0")
+nodes_kept(TYPES, "one cache named twice", node(resources=[64, 64]), *TWO_OF_DATA)
+nodes_broken(TYPES, "0x24 0x44 0x5c", "one cache named twice, and another", node(resources=[68, 68, 92]), *TWO_OF_DATA)
+for flags in ((TYPED, 0), (0, TYPED), (0xFFFFFFEF, TYPED), (0, 0), (0xFFFFFFEF, 0xFFFFFFEF)):
+    two = (of_type(DATA, flags=it) for it in flags)
+    nodes_kept(TYPES, f"flags {flags[0]:#x} and {flags[1]:#x}", node(resources=[64, 88]), *two)
+nodes_kept(TYPES, "a cache and its Next Level", node(resources=[64, 88]), of_type(DATA, 88), of_type(DATA))
+nodes_kept(TYPES, "a cache and its Next Level, named first", node(resources=[88, 64]), of_type(DATA, 88), of_type(DATA))
+nodes_kept(TYPES, "a cache that is its own Next Level", node(resources=[64, 88]), of_type(DATA, 64), of_type(DATA))
+nodes_kept(TYPES, "a cache with a size, and its Next Level", node(resources=[64, 88]), placed(of_type(DATA, 88), _12=b"\1"), of_type(DATA))
+nodes_kept(TYPES, "a reference past 16 MiB", node(resources=[64, HIGH + 88]), *TWO_OF_DATA)
+nodes_kept(TYPES, "a Next Level of one whose type is not valid", node(resources=[68, 92, 116]), of_type(DATA, 92, 0), *TWO_OF_DATA)
+nodes_broken(
+    TYPES, "0x24 0x40 0x58", "two caches of one Next Level that is not named",
+    node(resources=[64, 88]), *[of_type(DATA, 112)] * 2, of_type(DATA),
+)
+nodes_broken(
+    TYPES, "0x24 0x40 0x58", "the Next Level of a cache that is not named", node(resources=[64, 88]), *TWO_OF_DATA, of_type(DATA, 88),
+)
+nodes_broken(TYPES, "0x24 0x40 0x58", "a Next Level past 16 MiB", node(resources=[64, 88]), of_type(DATA, HIGH + 88), of_type(DATA))
+THREE = [68, 92, 116]
+nodes_broken(TYPES, "0x24 0x5c 0x74", "the second and the third", node(resources=THREE), of_type(DATA), of_type(CODE), of_type(CODE))
+nodes_broken(TYPES, "0x24 0x44 0x5c", "three, the last one named before the second", node(resources=[68, 116, 92]), *[of_type(DATA)] * 3)
+nodes_broken(
+    TYPES, "0x24 0x48 0x78", "two types, each twice", node(resources=[96, 72, 144, 120]), *[of_type(DATA), of_type(CODE)] * 2,
+)
+nodes_kept(TYPES, "a node, and the middle of a cache", node(resources=[68, 92, 113]), of_type(DATA), node(), of_type(DATA))
+nodes_kept(TYPES, "a cache of 25 bytes", node(resources=[64, 88]), of_type(DATA), of_type(DATA, length=25))
+nodes_broken(
+    TYPES, "0x24 0x5d 0x75", "the Next Level of a cache of 25 bytes",
+    node(resources=[68, 93, 117]), of_type(DATA, 117, length=25), *TWO_OF_DATA,
+)
+nodes_kept(TYPES, "one cache each of two nodes", node(resources=[84]), node(resources=[108]), *TWO_OF_DATA)
+nodes_broken(
+    TYPES, "0x38 0x54 0x6c", "the second node, of two that are wrong", node(), node(resources=[84, 108]), *TWO_OF_DATA,
+    node(resources=[84, 108]),
+)
+nodes_kept(TYPES, "a node of another length", node(resources=[64, 88], count=1), *TWO_OF_DATA)
+
 # ---- all lines, in their order, of sets that break several rules
 WHOLE = []
 
@@ -929,11 +1618,13 @@ whole(
     "local APICs", listed(madt(lapic(0, 255, 3), x2apic(1, 5, 2), override(0, 2, 12), override(16, 2), lapic_nmi(255, 0))),
     "NoDsdt 0x28", "BroadcastId 0x2c 0x0 0xff", "CapableTooEarly 0x34 0x1", "EnabledAndCapable 0x2c 0x0 0x3",
     "OverridePastIsa 0x4e 0x10 0x2", "TimerLevel 0x44 0x0 0xc", "TwoSourcesOneGsi 0x4e 0x44 0x2", "LintNotOne 0x58", "NoIoApic 0x0",
+    "MadtRevision 0x8 0x0 0x1",
 )
 whole(
     "two processors of a GIC", arch(5, 0, distributor(3), cpu(mpidr=1 << 24), cpu(mpidr=1 << 24), flags=0),
     "FadtOfRevision 0x4 0x84 0x10c", "SameUid 0x94 0x44", "NoDsdt 0x28", "NoPm1Block 0x38", "SciZero 0x2e", "FadtForArch 0x8 0x5",
     "NoRedistributor 0x2c 0x3", "SameMpidr 0x94 0x44 0x1000000", "MpidrReserved 0x44 0x0 0x1000000", "NoBootMethod 0x81",
+    "MadtRevision 0x8 0x0 0x1",
     faults=("no 4 PmEventLength 0x58", "no 4 PmControlLength 0x59", "no 5 NoFacs"),
 )
 whole(

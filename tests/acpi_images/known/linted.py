@@ -34,9 +34,17 @@ def advised(name, pieces, *advice, words="--rsdp e0000"):
 
 
 def madt_of(*entries):
-    """A MADT of these entries, from 0x2C on, and of a distributor after them where there are GICCs and none."""
+    """A MADT of these entries, from 0x2C on, and of a distributor after them where there are GICCs and none; of Revision 6, which has all
+    types of entries."""
     kinds = [entry[:1] for entry in entries]
-    return madt(*entries, *[gicd()] if b"\x0b" in kinds and b"\x0c" not in kinds else [])
+    return revised(madt(*entries, *[gicd()] if b"\x0b" in kinds and b"\x0c" not in kinds else []), 6)
+
+
+def blank(kind, length):
+    """An entry of a type of the MADT and nothing in it but the version that some types have, and of a wakeup structure a mailbox."""
+    if kind == 16:
+        return placed(other(kind, length), _2=bytes([length == 24]), _8=number(0x1000, 8))
+    return placed(other(kind, length), _2=b"\1") if 17 <= kind <= 27 else other(kind, length)
 
 
 def srat_of(*entries):
@@ -140,11 +148,13 @@ expected("a DSDT that is cut", sound(DSDT[:36]), "no 3 TableOut 0x1 0x3000", "ad
 
 # ---- the FADT: what its Revision has
 for revision, length, *advice in (
-    (0, 116), (1, 116), (2, 116), (2, 132), (3, 116, "FadtOfRevision 0x4 0x74 0xf4"), (3, 243, "FadtOfRevision 0x4 0xf3 0xf4"), (3, 244),
+    (0, 116, "FadtPastRevision 0x8"), (1, 116), (2, 116), (2, 132), (3, 116, "FadtOfRevision 0x4 0x74 0xf4"),
+    (3, 243, "FadtOfRevision 0x4 0xf3 0xf4"), (3, 244),
     (4, 243, "FadtOfRevision 0x4 0xf3 0xf4"), (4, 244), (5, 244, "FadtOfRevision 0x4 0xf4 0x10c"),
     (5, 267, "FadtOfRevision 0x4 0x10b 0x10c"), (5, 268), (6, 244, "FadtOfRevision 0x4 0xf4 0x114"),
-    (6, 268, "FadtOfRevision 0x4 0x10c 0x114"), (6, 275, "FadtOfRevision 0x4 0x113 0x114"), (6, 276), (6, 300),
-    (7, 275, "FadtOfRevision 0x4 0x113 0x114"), (7, 276), (255, 275, "FadtOfRevision 0x4 0x113 0x114"), (255, 276),
+    (6, 268, "FadtOfRevision 0x4 0x10c 0x114"), (6, 275, "FadtOfRevision 0x4 0x113 0x114"), (6, 276),
+    (6, 300, "FadtPastRevision 0x4 0x114 0x12c"), (7, 275, "FadtOfRevision 0x4 0x113 0x114"), (7, 276),
+    (255, 275, "FadtOfRevision 0x4 0x113 0x114"), (255, 276),
 ):
     advised(f"a FADT of Revision {revision} and Length {length}", image_of(old_fadt(revision, length)), *advice)
 expected(
@@ -160,9 +170,13 @@ FACS_TWICE = {0x7000: facs(), 0x8000: facs(), 0x100007000: facs()}
 
 
 def two_addresses(name, length, fields, *advice, flags=0):
-    """A FADT of full hardware with these fields, and FACSs."""
-    full = {**WITH_DSDT, **WITH_BLOCKS, "_36": number(0x7000, 4), "_88": b"\4", "_89": b"\2", "_91": b"\4"}
-    advised(name, image_of(fadt(flags, length, **{**full, **fields}), others=FACS_TWICE), *advice)
+    """A FADT of full hardware with these fields, and FACSs. It is of Revision 3, or a shorter one of Revision 1, for which it is too
+    long. Of reduced hardware there is advice on the first of the blocks, PM1a_EVT."""
+    full = {**WITH_DSDT, **WITH_BLOCKS, "_36": number(0x7000, 4), "_88": b"\4", "_89": b"\2", "_91": b"\4", **fields}
+    past = [] if length == 244 else [f"FadtPastRevision 0x4 0x74 {length:#x}"]
+    fixed = [f"FixedInReduced 0x38 0x0 {int.from_bytes(full['_56'], 'little'):#x}"] if flags == REDUCED else []
+    one = revised(fadt(flags, length, **full), 3 if length == 244 else 1)
+    advised(name, image_of(one, others=FACS_TWICE), *advice, *past, *fixed)
 
 
 two_addresses("two addresses of the FACS", 244, {"_132": number(0x8000, 8)}, "FacsDiffers 0x24 0x7000 0x8000")
@@ -190,22 +204,23 @@ two_addresses(
     "DsdtDiffers 0x28 0xa020000 0xa010000",
 )
 
-# ---- the FADT: register blocks, each with its 4-byte address, its length, and where its structure begins
-for name, narrow, length, wide in (
-    ("PM1a_EVT", 56, 88, 148), ("PM1b_EVT", 60, 88, 160), ("PM1a_CNT", 64, 89, 172), ("PM1b_CNT", 68, 89, 184), ("PM2_CNT", 72, 90, 196),
-    ("PM_TMR", 76, 91, 208), ("GPE0", 80, 92, 220), ("GPE1", 84, 93, 232),
+# ---- the FADT: register blocks, each with its 4-byte address, its length, where its structure begins, and the bytes of its registers
+for name, narrow, length, wide, size in (
+    ("PM1a_EVT", 56, 88, 148, 4), ("PM1b_EVT", 60, 88, 160, 4), ("PM1a_CNT", 64, 89, 172, 2), ("PM1b_CNT", 68, 89, 184, 2),
+    ("PM2_CNT", 72, 90, 196, 1), ("PM_TMR", 76, 91, 208, 4), ("GPE0", 80, 92, 220, 4), ("GPE1", 84, 93, 232, 4),
 ):
-    narrow_one = {f"_{narrow}": number(0x600, 4), f"_{length}": b"\4"}
-    ports = {**narrow_one, f"_{wide}": generic_address(0x604)}
+    narrow_one = {f"_{narrow}": number(0x600, 4), f"_{length}": bytes([size])}
+    ports = {**narrow_one, f"_{wide}": generic_address(0x604, width=8 * size)}
     cut = {**narrow_one, f"_{wide}": generic_address(0x604)[:11]}
     two_addresses(f"two addresses of {name}", 244, ports, f"BlockDiffers {narrow:#x} 0x600 0x604")
     two_addresses(f"two addresses of {name}, the second one complete", wide + 12, ports, f"BlockDiffers {narrow:#x} 0x600 0x604")
     two_addresses(f"a structure of {name} that is cut", wide + 11, cut)
-    two_addresses(f"one address of {name} twice", 244, {**ports, f"_{wide}": generic_address(0x600)})
+    two_addresses(f"one address of {name} twice", 244, {**ports, f"_{wide}": generic_address(0x600, width=8 * size)})
     two_addresses(f"two addresses of {name}, of reduced hardware", 244, ports, flags=REDUCED)
 PORT = {"_56": number(0x600, 4)}
 for space in (0, 2, 127):
-    two_addresses(f"a structure of the space {space}", 244, {**PORT, "_148": generic_address(0x604, space)})
+    other_space = [f"BlockSpace 0x94 0x0 {space:#x}"] if space else []
+    two_addresses(f"a structure of the space {space}", 244, {**PORT, "_148": generic_address(0x604, space)}, *other_space)
 two_addresses("a structure with address 0", 244, {**PORT, "_148": generic_address(0)})
 two_addresses("a structure and no port", 244, {"_56": bytes(4), "_148": generic_address(0x604)})
 HIGH_BLOCK = {**PORT, "_148": generic_address(0x100000600)}
@@ -214,7 +229,7 @@ two_addresses(
     "PortPastEnd 0x38 0x4 0x100000600",
 )
 TWO_BLOCKS = {
-    "_64": number(0x604, 4), "_89": b"\4", "_172": generic_address(5), "_80": number(0x620, 4), "_92": b"\4", "_220": generic_address(0x16),
+    "_64": number(0x604, 4), "_172": generic_address(5, width=16), "_80": number(0x620, 4), "_92": b"\4", "_220": generic_address(0x16),
 }
 two_addresses("two blocks with two addresses each", 244, TWO_BLOCKS, "BlockDiffers 0x40 0x604 0x5")
 
@@ -235,7 +250,7 @@ sci("an SCI of 200", 200, [SERVED], "yes", "advice SciNowhere 0x2e 0x0 0xc8")
 sci("an SCI before what is served", 0, [io_apic(0xFEC00000, 1)], "yes", "advice SciNowhere 0x2e", "advice SciZero 0x2e")
 sci("an SCI between two I/O APICs", 24, [SERVED, io_apic(0xFEC10000, 25, 1)], "yes", "advice SciNowhere 0x2e 0x0 0x18")
 sci("an SCI of the second I/O APIC", 25, [SERVED, io_apic(0xFEC10000, 25, 1)], "yes")
-sci("an SCI of 200, of reduced hardware", 200, [SERVED], "yes", flags=REDUCED)
+sci("an SCI of 200, of reduced hardware", 200, [SERVED], "yes", "advice FixedInReduced 0x38 0x0 0x400", flags=REDUCED)
 sci("an SCI of 200, and no I/O APIC", 200, [], "yes")
 sci("an SCI of 200, and an I/O APIC of 201 inputs", 200, [SERVED], "yes", words="fec00000=201")
 sci("an SCI of 200, and 201 inputs by default", 200, [SERVED], "yes", words="--default-inputs 201")
@@ -292,17 +307,19 @@ processors("one UID of an x2APIC and a local APIC", [x2apic(255, 0), lapic(255, 
 processors("two UIDs of x2APICs with one low byte", [x2apic(1, 0), x2apic(0x101, 1)])
 processors("one UID of a local APIC and a GICC", [lapic(1, 0), gicc(1)], "SameUid 0x34 0x2c 0x1")
 processors("one UID of two GICCs", [gicc(7), gicc(7)], "SameUid 0x7c 0x2c 0x7", "SameMpidr 0x7c 0x2c 0x7")
-processors("one UID of two GICCs of 40 bytes", [gicc(7, length=40), gicc(7, length=40)], "SameUid 0x54 0x2c 0x7")
+processors(
+    "one UID of two GICCs of 40 bytes", [gicc(7, length=40), gicc(7, length=40)], "SameUid 0x54 0x2c 0x7", "GiccShort 0x2c 0x4c 0x28",
+)
 processors("one UID of two GICCs, one of them too short", [gicc(7), gicc(7, length=39)], "MadtUnread 0x7c 0xb")
 processors("one UID of two GICCs, one of them off", [gicc(7), gicc(7, 2)])
 processors("one UID of two GICCs, one of them online capable", [gicc(7), gicc(7, 8)], "SameUid 0x7c 0x2c 0x7", "SameMpidr 0x7c 0x2c 0x7")
 for name, entries, *advice in (
     ("an RINTC and a GICC", [rintc(7), gicc(7)], "SameUid 0x50 0x2c 0x7"),
     ("a GICC and an RINTC of 20 bytes that is usable by bit 1", [gicc(7), rintc(7, 2, 20)], "SameUid 0x7c 0x2c 0x7"),
-    ("two RINTCs, one of them off", [rintc(7), rintc(7, 0xFFFFFFFC)]),
+    ("two RINTCs, one of them off", [rintc(7), rintc(7, 0xFFFFFFFC)], "FurtherReserved 0x50 0x4 0xfffffffc"),
     ("two RINTCs, one of them too short", [rintc(7), rintc(7, length=19)], "MadtUnread 0x50 0x18"),
     ("a CORE PIC and an x2APIC", [core_pic(7, 1), x2apic(7, 2)], "SameUid 0x3b 0x2c 0x7"),
-    ("two CORE PICs, one of them off", [core_pic(7, 1), core_pic(7, 2, 0xFFFFFFFE)]),
+    ("two CORE PICs, one of them off", [core_pic(7, 1), core_pic(7, 2, 0xFFFFFFFE)], "FurtherReserved 0x3b 0xb 0xfffffffe"),
     ("two CORE PICs, one of them too short", [core_pic(7, 1), core_pic(7, 2, length=14)], "MadtUnread 0x3b 0x11"),
     ("two CORE PICs, one of them too long", [core_pic(7, 1), core_pic(7, 2, length=16)], "MadtUnread 0x3b 0x11"),
 ):
@@ -330,7 +347,7 @@ processors("two APIC IDs of x2APICs with one low byte", [x2apic(0, 5), x2apic(1,
 for name, entries, *advice in (
     ("a CORE PIC and a local APIC", [core_pic(1, 5), lapic(2, 5)], "SameApicId 0x3b 0x2c 0x5"),
     ("an x2APIC and a CORE PIC", [x2apic(1, 5), core_pic(2, 5)], "SameApicId 0x3c 0x2c 0x5"),
-    ("two CORE PICs, one of them off", [core_pic(1, 5), core_pic(2, 5, 2)]),
+    ("two CORE PICs, one of them off", [core_pic(1, 5), core_pic(2, 5, 2)], "FurtherReserved 0x3b 0xb 0x2"),
     ("two CORE PICs, one of them too long", [core_pic(1, 5), core_pic(2, 5, length=16)], "MadtUnread 0x3b 0x11"),
 ):
     processors(f"one APIC ID of {name}", entries, *advice)
@@ -371,7 +388,7 @@ processors("a local APIC NMI of an x2APIC", [x2apic(48, 0), lapic_nmi(48, 1)])
 processors("a local APIC NMI of the low byte of a UID", [x2apic(0x130, 0), lapic_nmi(0x30, 1)], "NmiNowhere 0x3c 0x0 0x30")
 processors("a local APIC NMI of a processor that is off", [ON, lapic(48, 1, 0), lapic_nmi(48, 1)])
 processors("a local APIC NMI of a GICC that is off", [gicc(7), gicc(48, 0), lapic_nmi(48, 1)])
-processors("a local APIC NMI of a GICC of 40 bytes", [ON, gicc(48, length=40), lapic_nmi(48, 1)])
+processors("a local APIC NMI of a GICC of 40 bytes", [ON, gicc(48, length=40), lapic_nmi(48, 1)], "GiccShort 0x34 0x4c 0x28")
 processors("a local APIC NMI of an APIC ID", [lapic(0, 48), lapic_nmi(48, 1)], "NmiNowhere 0x34 0x0 0x30")
 processors("a local APIC NMI before its processor", [lapic_nmi(3, 1), lapic(3, 0)])
 processors("two local NMIs of no processor", [ON, lapic_nmi(255, 1), x2apic_nmi(9, 1), lapic_nmi(8, 1)], "NmiNowhere 0x3a 0x0 0x9")
@@ -379,9 +396,10 @@ for name, entry in (("a CORE PIC", core_pic(48, 1, 0)), ("an RINTC", rintc(48, 0
     processors(f"a local APIC NMI of {name} that is off", [ON, entry, lapic_nmi(48, 1)])
 processors("a local APIC NMI of the ID of a CORE PIC", [ON, core_pic(1, 48), lapic_nmi(48, 1)], "NmiNowhere 0x43 0x0 0x30")
 for kind in (6, 8, 13, 16, 18, 23, 25, 255):
+    advice = ["WakeupMailbox 0x3a 0x10 0x8"] if kind == 16 else []
     processors(
         f"a local APIC NMI of no processor, and an entry of type {kind}", [ON, lapic_nmi(48, 1), other(kind)], "NmiNowhere 0x34 0x0 0x30",
-        f"MadtUnread 0x3a {kind:#x} 0x0",
+        f"MadtUnread 0x3a {kind:#x} 0x0", *advice,
     )
 expected(
     "a local APIC NMI of no processor, which is too long", sound(madt_of(ON, changed(lapic_nmi(48, 1) + b"\0", {1: 7}))),
@@ -405,12 +423,13 @@ processors("processors that are off", [lapic(0, 0, 0), x2apic(1, 1, 4), gicc(2, 
 processors("a processor that is online capable", [lapic(0, 0, 2)])
 processors("an x2APIC that is online capable", [x2apic(0, 0, 2)])
 processors("a GICC that is online capable", [gicc(0, 8)])
-processors("a GICC with all flags but two", [gicc(0, 0xFFFFFFF6)], "NoProcessor")
-processors("a GICC of 40 bytes alone", [gicc(0, length=40)])
+processors("a GICC with all flags but two", [gicc(0, 0xFFFFFFF6)], "NoProcessor", "FurtherReserved 0x2c 0xc 0xfffffff6")
+processors("a GICC of 40 bytes alone", [gicc(0, length=40)], "GiccShort 0x2c 0x4c 0x28")
 for name, entry, *advice in (
     ("an RINTC", rintc(0)), ("a usable RINTC by bit 1", rintc(0, 2)), ("an RINTC of 20 bytes", rintc(0, length=20)),
-    ("an RINTC with all flags but two", rintc(0, 0xFFFFFFFC), "NoProcessor"), ("a CORE PIC", core_pic(0, 0)),
-    ("a CORE PIC with all flags but one", core_pic(0, 0, 0xFFFFFFFE), "NoProcessor"),
+    ("an RINTC with all flags but two", rintc(0, 0xFFFFFFFC), "NoProcessor", "FurtherReserved 0x2c 0x4 0xfffffffc"),
+    ("a CORE PIC", core_pic(0, 0)),
+    ("a CORE PIC with all flags but one", core_pic(0, 0, 0xFFFFFFFE), "NoProcessor", "FurtherReserved 0x2c 0xb 0xfffffffe"),
     ("a CORE PIC of 14 bytes", core_pic(0, 0, length=14), "MadtUnread 0x2c 0x11"),
     ("a CORE PIC of 16 bytes", core_pic(0, 0, length=16), "MadtUnread 0x2c 0x11"),
     ("an RINTC of 19 bytes", rintc(0, length=19), "MadtUnread 0x2c 0x18"),
@@ -440,7 +459,7 @@ for name, entries, *advice in (
         [uid_domain(1, 0), uid_domain(7, 0), uid_domain(5, 0), uid_domain(5, 1), uid_domain(7, 1)], "TwoUidDomains 0x42 0x78 0x7",
     ),
     ("a UID in two domains, the first one not enabled", [uid_domain(5, 0, 0), uid_domain(5, 1)]),
-    ("a UID in two domains, the second one not enabled", [uid_domain(5, 0), uid_domain(5, 1, 2)]),
+    ("a UID in two domains, the second one not enabled", [uid_domain(5, 0), uid_domain(5, 1, 2)], "AffinityReserved 0x42 0xa 0x2"),
     (
         "a UID in two domains after one that is not enabled", [uid_domain(5, 0, 0), uid_domain(5, 1), uid_domain(5, 0)],
         "TwoUidDomains 0x42 0x54 0x5",
@@ -453,7 +472,7 @@ for name, entries, *advice in (
     ("a UID in a domain of a GICC and in one of a hart", [uid_domain(5, 0), hart_domain(5, 1)], "TwoUidDomains 0x30 0x42 0x5"),
     ("a UID in a domain of a hart and in one of a GICC", [hart_domain(5, 0), uid_domain(5, 1)], "TwoUidDomains 0x30 0x44 0x5"),
     ("a UID in one domain of a GICC and of a hart", [uid_domain(5, 1), hart_domain(5, 1)]),
-    ("a UID in two domains, that of a hart not enabled", [uid_domain(5, 0), hart_domain(5, 1, 2)]),
+    ("a UID in two domains, that of a hart not enabled", [uid_domain(5, 0), hart_domain(5, 1, 2)], "AffinityReserved 0x42 0xc 0x2"),
     ("a UID in two domains, that of a hart too short", [uid_domain(5, 0), hart_domain(5, 1, length=19)], "SratUnread 0x42 0x7"),
     ("a UID in two domains, that of a hart too long", [uid_domain(5, 0), hart_domain(5, 1, length=21)], "SratUnread 0x42 0x7"),
     ("a UID in two domains, the second entry too short", [uid_domain(5, 0), uid_domain(5, 1, length=17)], "SratUnread 0x42 0x3"),
@@ -474,7 +493,7 @@ domains("an x2APIC in a domain, by the shorter entry", [x2apic(0, 6)], [apic_dom
 domains("a processor and nothing in the SRAT", [lapic(0, 6)], [])
 domains("a processor and memory", [lapic(0, 6)], [memory(0, 1)])
 NOT_ENABLED = [apic_domain(7, 0, 0), x2apic_domain(7, 0, 0), uid_domain(7, 0, 2)]
-domains("a processor and an affinity that is not enabled", [lapic(0, 6)], NOT_ENABLED)
+domains("a processor and an affinity that is not enabled", [lapic(0, 6)], NOT_ENABLED, "AffinityReserved 0x58 0xa 0x2")
 domains("an affinity of another processor", [lapic(0, 6)], [apic_domain(7, 0)], "AffinityNowhere 0x30 0x0 0x7", "NoDomain 0x2c 0x0 0x6")
 domains(
     "an affinity of a UID that is an APIC ID", [lapic(7, 6)], [apic_domain(7, 0)], "AffinityNowhere 0x30 0x0 0x7", "NoDomain 0x2c 0x0 0x6",
@@ -496,7 +515,7 @@ domains(
     "NoDomain 0x2c 0x0 0x5",
 )
 domains("a GICC in no domain", [gicc(5), gicc(6)], [uid_domain(5, 0)], "NoDomain 0x7c 0x0 0x6")
-domains("a GICC in no domain that is off", [gicc(5), gicc(6, 0xFFFFFFF6)], [uid_domain(5, 0)])
+domains("a GICC in no domain that is off", [gicc(5), gicc(6, 0xFFFFFFF6)], [uid_domain(5, 0)], "FurtherReserved 0x7c 0xc 0xfffffff6")
 domains("a GICC in no domain that is online capable", [gicc(5), gicc(6, 8)], [uid_domain(5, 0)], "NoDomain 0x7c 0x0 0x6")
 domains("an affinity of a GICC that is off", [gicc(5), gicc(6, 0)], [uid_domain(5, 0), uid_domain(6, 1)])
 domains("an affinity of no GICC", [gicc(5)], [uid_domain(5, 0), uid_domain(6, 0)], "AffinityNowhere 0x42 0x0 0x6")
@@ -513,8 +532,11 @@ for name, entries, affinities, *advice in (
     ("a GICC in a domain, by the entry of an RINTC", [gicc(5)], [HART_5]),
     ("an RINTC in no domain", [rintc(5), rintc(6)], [HART_5], "NoDomain 0x50 0x0 0x6"),
     ("a usable RINTC in no domain, by bit 1", [rintc(5), rintc(6, 2)], [HART_5], "NoDomain 0x50 0x0 0x6"),
-    ("an RINTC in no domain that is off", [rintc(5), rintc(6, 4)], [HART_5]),
-    ("an RINTC and its affinity, not enabled", [rintc(5), rintc(6)], [HART_5, hart_domain(6, 0, 2)], "NoDomain 0x50 0x0 0x6"),
+    ("an RINTC in no domain that is off", [rintc(5), rintc(6, 4)], [HART_5], "FurtherReserved 0x50 0x4 0x4"),
+    (
+        "an RINTC and its affinity, not enabled", [rintc(5), rintc(6)], [HART_5, hart_domain(6, 0, 2)], "NoDomain 0x50 0x0 0x6",
+        "AffinityReserved 0x44 0xc 0x2",
+    ),
     (
         "an RINTC and its affinity of 21 bytes", [rintc(5), rintc(6)], [HART_5, hart_domain(6, 0, length=21)],
         "NoDomain 0x50 0x0 0x6", "SratUnread 0x44 0x7",
@@ -531,7 +553,7 @@ for name, entries, affinities, *advice in (
     ("a CORE PIC in a domain", [core_pic(5, 9)], [apic_domain(9, 0)]),
     ("a CORE PIC in a domain, by the longer entry", [core_pic(5, 0x109)], [x2apic_domain(0x109, 0)]),
     ("a CORE PIC in no domain", [core_pic(5, 9), core_pic(6, 10)], [apic_domain(9, 0)], "NoDomain 0x3b 0x0 0xa"),
-    ("a CORE PIC in no domain that is off", [core_pic(5, 9), core_pic(6, 10, 2)], [apic_domain(9, 0)]),
+    ("a CORE PIC in no domain that is off", [core_pic(5, 9), core_pic(6, 10, 2)], [apic_domain(9, 0)], "FurtherReserved 0x3b 0xb 0x2"),
     ("an affinity of a CORE PIC that is off", [core_pic(5, 9), core_pic(6, 10, 0)], [apic_domain(9, 0), apic_domain(10, 0)]),
     ("an affinity of the UID of a CORE PIC", [core_pic(5, 9)], [HART_5], "NoDomain 0x2c 0x0 0x9"),
     (
@@ -578,16 +600,19 @@ localities(
     "what is not enabled past the distances", 2,
     [memory_of(3, 0, 16, 2), apic_domain(0, 3, 0), x2apic_domain(0, 3, 0), uid_domain(0, 3, 0)],
 )
-for name, placed in (
+for name, in_domain in (
     ("an ITS", its_domain), ("an initiator", partial(device_domain, 5)), ("a port", partial(device_domain, 6)),
     ("an RINTC", partial(hart_domain, 0)),
 ):
-    localities(f"{name} in the last domain", 2, [placed(1)])
-    localities(f"{name} past the distances", 2, [placed(2)], "DomainPastSlit 0x30 0x2 0x2")
-    localities(f"{name} far past the distances", 2, [placed(0x1000001)], "DomainPastSlit 0x30 0x2 0x1000001")
+    alone = ["ItsDomain 0x30 0x2"] if name == "an ITS" else []
+    localities(f"{name} in the last domain", 2, [in_domain(1)], *(f"{it} 0x1" for it in alone))
+    localities(f"{name} past the distances", 2, [in_domain(2)], "DomainPastSlit 0x30 0x2 0x2", *(f"{it} 0x2" for it in alone))
+    far = (f"{it} 0x1000001" for it in alone)
+    localities(f"{name} far past the distances", 2, [in_domain(0x1000001)], "DomainPastSlit 0x30 0x2 0x1000001", *far)
     if name != "an ITS":
         advice = ["InitiatorOff 0x30 0x0 0x2"] if name == "an initiator" else []
-        localities(f"{name} past the distances, not enabled", 2, [placed(2, 0xFFFFFFFE)], *advice)
+        flags = f"AffinityReserved 0x30 {0xC if name == 'an RINTC' else 0x18:#x} 0xfffffffe"
+        localities(f"{name} past the distances, not enabled", 2, [in_domain(2, 0xFFFFFFFE)], *advice, flags)
 for entry in (
     its_domain(2, 11), its_domain(2, 13), device_domain(5, 2, 1, 31), device_domain(5, 2, 1, 33), device_domain(6, 2, 1, 31),
     device_domain(6, 2, 1, 33), hart_domain(0, 2, 1, 19), hart_domain(0, 2, 1, 21),
@@ -666,18 +691,22 @@ hierarchy("an x2APIC that is no leaf", [core(0)], "NoLeaf 0x34 0x0 0x100", proce
 hierarchy("a processor whose APIC ID is that of a leaf", [core(0)], "NoLeaf 0x34 0x0 0x5", processors=(lapic(0, 1), lapic(5, 0)))
 hierarchy("processors, and no leaf", [named(0), shaped_cache(0)], "NoLeaf 0x2c", "LeafUnflagged 0x24", processors=TWO_PROCESSORS)
 hierarchy("processors, and a node of Revision 1 that is no leaf", [node()], "NoLeaf 0x2c", processors=TWO_PROCESSORS, revision=1)
-hierarchy("processors, and no node", [shaped_cache(0), other(2, 20)], processors=TWO_PROCESSORS)
+hierarchy("processors, and no node", [shaped_cache(0), other(2, 20)], "PpttUnread 0x40 0x2", processors=TWO_PROCESSORS)
 hierarchy("processors, and a PPTT without entries", [], processors=TWO_PROCESSORS)
-hierarchy("a processor that is no leaf, and another entry", [core(0), other(2)], "NoLeaf 0x34 0x0 0x1", processors=TWO_PROCESSORS)
+ANOTHER_ENTRY = [core(0), other(2)]
+hierarchy(
+    "a processor that is no leaf, and another entry", ANOTHER_ENTRY, "NoLeaf 0x34 0x0 0x1", "PpttUnread 0x38 0x2",
+    processors=TWO_PROCESSORS,
+)
 hierarchy("a processor that is no leaf, and a node of Revision 1", [named(0)], "NoLeaf 0x34 0x0 0x1", processors=TWO_PROCESSORS, revision=1)
 hierarchy("processors that are parents in Revision 1", [named(0), named(1, 36)], "NoLeaf 0x2c", processors=TWO_PROCESSORS, revision=1)
 for name, entries, *advice in (
     ("a GICC that is no leaf, and is online capable", (gicc(0), gicc(6, 8)), "NoLeaf 0x7c 0x0 0x6"),
     ("an RINTC that is no leaf", (rintc(0), rintc(6)), "NoLeaf 0x50 0x0 0x6"),
     ("an RINTC that is no leaf, and is usable by bit 1", (rintc(0), rintc(6, 2)), "NoLeaf 0x50 0x0 0x6"),
-    ("an RINTC that is no leaf, and is off", (rintc(0), rintc(6, 4))),
+    ("an RINTC that is no leaf, and is off", (rintc(0), rintc(6, 4)), "FurtherReserved 0x50 0x4 0x4"),
     ("a CORE PIC that is no leaf", (core_pic(0, 1), core_pic(6, 0)), "NoLeaf 0x3b 0x0 0x6"),
-    ("a CORE PIC that is no leaf, and is off", (core_pic(0, 1), core_pic(6, 0, 2))),
+    ("a CORE PIC that is no leaf, and is off", (core_pic(0, 1), core_pic(6, 0, 2)), "FurtherReserved 0x3b 0xb 0x2"),
 ):
     hierarchy(name, [core(0)], *advice, processors=entries)
 hierarchy("leaves, and no MADT", [core(0), core(9)])
@@ -689,7 +718,8 @@ hierarchy("a GICC that is no leaf, and a leaf of none", [core(9)], "NoLeaf 0x2c 
 hierarchy("a leaf of a GICC that is off", [core(6), core(9)], processors=(gicc(6), gicc(9, 0)))
 hierarchy("a leaf of a local APIC beside a GICC", [core(6), core(9)], processors=(gicc(6), lapic(9, 0)))
 hierarchy("a leaf of no GICC, which are off", [core(9)], "NoProcessor", "LeafNowhere 0x24 0x0 0x9", processors=[gicc(6, 0)])
-hierarchy("a leaf of no GICC of 40 bytes", [core(6), core(9)], "LeafNowhere 0x38 0x0 0x9", processors=[gicc(6, length=40)])
+OF_40 = [gicc(6, length=40)]
+hierarchy("a leaf of no GICC of 40 bytes", [core(6), core(9)], "LeafNowhere 0x38 0x0 0x9", "GiccShort 0x2c 0x4c 0x28", processors=OF_40)
 hierarchy("a leaf of no GICC, one of them too short", [core(6), core(9)], "MadtUnread 0x7c 0xb", processors=(gicc(6), gicc(9, length=39)))
 for name, processor in (("an RINTC", rintc(6)), ("an RINTC of 20 bytes", rintc(6, length=20)), ("a CORE PIC", core_pic(6, 9))):
     hierarchy(f"a leaf of {name}", [core(6)], processors=[processor])
@@ -709,7 +739,7 @@ hierarchy("a leaf of no local APIC, and a distributor", [core(0), core(9)], proc
 # ---- what is nowhere, and processors that no rule reads
 for kind, read, unread in ((7, (), (2, 8, 255)), (11, (40,), (2, 39)), (17, (15,), (2, 14, 16, 255)), (24, (20, 255), (2, 19))):
     for length in (*read, *unread):
-        entry = other(kind, length)
+        entry = blank(kind, length)
         for name, at, tables, *advice in (
             ("a local APIC NMI of no processor", 0x3A, [madt_of(ON, lapic_nmi(48, 1), entry)], "NmiNowhere 0x34 0x0 0x30"),
             ("no processor that is on", 0x34, [madt_of(lapic(0, 0, 0), entry)], "NoProcessor"),
@@ -720,7 +750,8 @@ for kind, read, unread in ((7, (), (2, 8, 255)), (11, (40,), (2, 39)), (17, (15,
             ("a processor that is no leaf", 0x3C, [madt_of(*TWO_PROCESSORS, entry), pptt(core(0))], "NoLeaf 0x34 0x0 0x1"),
             ("a leaf of no GICC", 0x7C, [madt_of(gicc(6), entry), pptt(core(6), core(9))], "LeafNowhere 0x38 0x0 0x9"),
         ):
-            advice = advice if length in read else [f"MadtUnread {at:#x} {kind:#x}"]
+            short = [f"GiccShort {at:#x} 0x4c 0x28"] if kind == 11 else []
+            advice = [*advice, *short] if length in read else [f"MadtUnread {at:#x} {kind:#x}"]
             advised(f"{name}, and an entry of type {kind} and length {length}", sound(*tables), *advice)
 
 # ---- what is sought in a table that has a cut, or a wrong length, after its last entry: it may be there, and nothing is told
@@ -763,12 +794,12 @@ caches("a cache of no sets, of 24 bytes", [shaped_cache(SETS_VALID, sets=0, leng
 caches("a cache of one set", [shaped_cache(SETS_VALID, sets=1)])
 caches("a cache of three sets", [shaped_cache(SETS_VALID | LINE_VALID, sets=3)])
 caches("a cache of 2^24 sets", [shaped_cache(SETS_VALID, sets=1 << 24)])
-caches("a cache of no sets, which are not valid", [shaped_cache(0xFF ^ SETS_VALID, sets=0)])
+caches("a cache of no sets, which are not valid", [shaped_cache(0xFF ^ SETS_VALID, sets=0, cache_id=1)])
 for line in (0, 3, 6, 63, 65, 96, 0x8001, 0xFFFF):
     caches(f"a line of {line} bytes", [shaped_cache(LINE_VALID, line=line)], "CacheShape 0x24")
 for line in (1, 2, 64, 256, 0x8000):
     caches(f"a line of {line} bytes", [shaped_cache(LINE_VALID, line=line)])
-caches("a line of 96 bytes, which is not valid", [shaped_cache(0xFF ^ LINE_VALID, line=96)])
+caches("a line of 96 bytes, which is not valid", [shaped_cache(0xFF ^ LINE_VALID, line=96, cache_id=1)])
 caches("a line of 96 bytes, of 24 bytes", [shaped_cache(LINE_VALID, line=96, length=24)], "CacheShape 0x24")
 THREE_CACHES = [shaped_cache(0x7F), shaped_cache(LINE_VALID, line=0), shaped_cache(SETS_VALID, sets=0)]
 caches("the second and the third cache", THREE_CACHES, "CacheShape 0x40")
@@ -786,7 +817,7 @@ caches("one Cache ID twice, in Revision 2", [ID_5, ID_5], revision=2)
 caches("one Cache ID twice, in Revision 4", [ID_5, ID_5], "SameCacheId 0x40 0x24 0x5", revision=4)
 caches("one Cache ID twice, one of them not valid", [ID_5, shaped_cache(0x7F, cache_id=5)])
 caches("one Cache ID twice, after one that is not valid", [shaped_cache(0x7F, cache_id=5), ID_5, ID_5], "SameCacheId 0x5c 0x40 0x5")
-caches("the Cache ID 0 twice", [shaped_cache(CACHE_ID_VALID)] * 2, "SameCacheId 0x40 0x24")
+caches("the Cache ID 0 twice", [shaped_cache(CACHE_ID_VALID)] * 2, "SameCacheId 0x40 0x24", "CacheIdZero 0x24 0x18")
 caches("caches of 24 bytes with the flag of a Cache ID", [shaped_cache(CACHE_ID_VALID, length=24)] * 2)
 caches("a Cache ID and a cache of 24 bytes", [shaped_cache(CACHE_ID_VALID, length=24), ID_5, ID_5], "SameCacheId 0x58 0x3c 0x5")
 
@@ -796,14 +827,18 @@ for kind in (0, 1, 2, 3, 4, 5, 9, 10):
     expected(f"an entry of type {kind} of 200 bytes", sound(madt_of(lapic(0, 0, 0), other(kind, 200))), "no 6 MadtEntryLength 0x34")
 for kind, read, unread in (
     (11, (40, 80, 255), (2, 39)), (12, (24,), (2, 16, 20, 23, 25)), (13, (24,), (2, 16, 20, 23, 25)), (14, (16,), (2, 15, 17, 20, 24)),
-    (15, (20,), (2, 16, 19, 21, 24)), (17, (15,), (2, 14, 16)), (24, (20, 36, 255), (2, 19)),
-    *((kind, (), (2, 16, 20, 24)) for kind in (6, 7, 8, 16, 18, 23, 25, 128, 255)),
+    (15, (20,), (2, 16, 19, 21, 24)), (16, (16, 24), (2, 15, 17, 20, 23, 25)), (17, (15,), (2, 14, 16)), (18, (23,), (2, 22, 24)),
+    (19, (21,), (2, 20, 22)), (20, (13,), (2, 12, 14)), (21, (19,), (2, 18, 20)), (22, (17,), (2, 16, 18)), (23, (14,), (2, 13, 15)),
+    (24, (20, 36, 255), (2, 19)), (25, (16,), (2, 15, 17)), (26, (36,), (2, 35, 37)), (27, (36,), (2, 35, 37)),
+    *((kind, (), (2, 16, 20, 24)) for kind in (6, 7, 8, 28, 29, 30, 128, 255)),
 ):
     for length in (*read, *unread):
-        advice = ["GicrEmpty 0x34"] if kind == 14 else []
-        advice = advice if length in read else [f"MadtUnread 0x34 {kind:#x}"]
-        processors(f"an entry of type {kind} and length {length}", [ON, other(kind, length)], *advice)
-processors("entries of types 13 to 16", [ON, gicc(1), *map(other, range(13, 17))], "MadtUnread 0x84 0xd")
+        advice = ["GicrEmpty 0x34"] if kind == 14 else ["GiccShort 0x34 0x4c 0x28"] if (kind, length) == (11, 40) else []
+        wakeup = [f"WakeupMailbox 0x34 0x10 {length:#x}"] if kind == 16 else []
+        advice = advice if length in read else [f"MadtUnread 0x34 {kind:#x}", *wakeup]
+        processors(f"an entry of type {kind} and length {length}", [ON, blank(kind, length)], *advice)
+FOUR_OTHERS = [ON, gicc(1), *map(other, range(13, 17))]
+processors("entries of types 13 to 16", FOUR_OTHERS, "MadtUnread 0x84 0xd", "WakeupMailbox 0x9c 0x10 0x8")
 processors("an entry of type 11 of 39 bytes before others", [ON, gicc(1, length=39), other(13)], "MadtUnread 0x34 0xb")
 expected("an entry of type 13 after the cut", sound(madt_of(ON, b"\1\1", other(13))), "no 6 MadtEntryCut 0x34")
 for kind in (0, 1, 2):
@@ -938,16 +973,17 @@ expected(
 # The same set with more mistakes, on which there is as much advice as there can well be.
 MOST = {
     **MANY_FAULTS,
-    RSDP_AT: changed(MANY_FAULTS[RSDP_AT], {33: 1}),
+    RSDP_AT: changed(MANY_FAULTS[RSDP_AT], {9: 0x1F, 33: 1}),
     RSDT_AT: rsdt(0x2000),
     XSDT_AT: changed(
-        xsdt(*(0x1000 * place for place in (2, 3, 4, 5, 6, 8, 9, 10, 11, 12, 13)), 0, 0xE000, 0xF000, 0xE024, 0x2000), {9: 0},
+        xsdt(*(0x1000 * place for place in (2, 3, 4, 5, 6, 8, 9, 10, 11, 12, 13)), 0, 0xE000, 0xF000, 0xE024, 0x2000), {8: 2, 9: 0},
     ),
     0x2000: revised(
         full_fadt(
             length=244, _40=number(0xA020000, 4), _44=b"\2", _46=number(200, 2), _48=number(0x10000, 4), _56=number(0x600, 4),
             _60=number(0x606, 4), _80=number(0x620, 4), _84=number(0x630, 4), _88=b"\3", _89=b"\1", _91=b"\3\1\1",
             _112=number(RESET_REG_SUP, 4), _132=number(0x7004, 8), _140=number(0xA010000, 8), _148=generic_address(0x604),
+            _232=generic_address(0x630, 2),
         ),
         6,
     ),
@@ -960,7 +996,7 @@ MOST = {
         override(0, 9, 0xC),  # 0x64
         override(16, 2),  # 0x6E
         lapic_address(0xFEE00000),  # 0x78
-        lapic_address(0xFEE00000),  # 0x84
+        lapic_address(0),  # 0x84
         nmi_source(50),  # 0x90
         lapic(1, 1),  # 0x98
         lapic(1, 1, 3),  # 0xA0
@@ -969,8 +1005,8 @@ MOST = {
         lapic_nmi(9, 0),  # 0xC0
         distributor(3),  # 0xC6
         distributor(3),  # 0xDE
-        cpu(gicr=0x5000, mpidr=1 << 24),  # 0xF6
-        cpu(mpidr=1 << 24),  # 0x146
+        placed(cpu(gicr=0x5000, mpidr=1 << 24), _78=b"\x20"),  # 0xF6
+        placed(cpu(gicr=0x5000, mpidr=1 << 24), _3=b"\1", _40=b"\1"),  # 0x146
         redistributor(0x100000, 0),  # 0x196
         its(1, 1 << 20),  # 0x1A6
         its(1, 1 << 30),  # 0x1BA
@@ -979,6 +1015,9 @@ MOST = {
         hart(5),  # 0x1FE
         hart(5),  # 0x222
         other(13),  # 0x246
+        other(16),  # 0x24E
+        other(18, 23),  # 0x256
+        cpu(gicr=0x5000, mpidr=1 << 32, length=75),  # 0x26D
     ),
     0x4000: srat(
         apic_domain(1, 0),  # 0x30
@@ -990,7 +1029,7 @@ MOST = {
         memory(0xFFFFFFFFFFFFF000, 0x1001, reserved=1),  # 0xCC
         memory(0x9000, 0),  # 0xF4
         of_its(6),  # 0x11C
-        device_domain(5, 0, 0),  # 0x128
+        placed(device_domain(5, 0, 4), _3=b"\2"),  # 0x128
         other(5),  # 0x148
     ),
     0x5000: slit(3, [11, 9, 20, 10, 10, 10, 20, 10, 10]),
@@ -1004,6 +1043,11 @@ MOST = {
         cache(0, 28, CACHE_ID_VALID | 1, cache_id=4),  # 0xA8
         cache(196),  # 0xC4, its own next level
         cache(1),  # 0xDC
+        other(2),  # 0xF4
+        cache(0, 28, CACHE_ID_VALID),  # 0xFC
+        node(resources=[308, 332]),  # 0x118
+        cache(flags=16),  # 0x134
+        cache(flags=16),  # 0x14C
         revision=3,
     ),
     0xE000: changed(table(b"MCFG", table(b"DATA", bytes(8))), {10: 0x7F}, (9, 80)),
@@ -1037,13 +1081,19 @@ expected(
     "advice HeaderText 0xc 0xa 0xe000", "advice SecondOther 0xd 0xc 0xf000", "advice X2ApicBelow255 0xb0 0x0 0x3",
     "advice BroadcastId 0xa8 0x0 0xff", "advice CapableTooEarly 0xa8 0x6", "advice EnabledAndCapable 0xa0 0x0 0x3",
     "advice OverridePastIsa 0x6e 0x10 0x2", "advice TimerLevel 0x64 0x0 0xc", "advice TwoSourcesOneGsi 0x64 0x5a 0x9",
-    "advice LintNotOne 0xc0", "advice GicrTooSmall 0x196 0x0 0x2", "advice SameMpidr 0x146 0xf6 0x1000000",
+    "advice LintNotOne 0xc0", "advice GicrTooSmall 0x196 0x0 0x3", "advice SameMpidr 0x146 0xf6 0x1000000",
     "advice MpidrReserved 0xf6 0x0 0x1000000", "advice GicrEmpty 0x196 0x0 0x100000", "advice SameIts 0x1ba 0x1a6 0x1",
     "advice SameMsiFrame 0x1e6 0x1ce 0x1", "advice GicOverlap 0xc6 0xde", "advice RedistributorTwice 0xf6 0x196 0x5000",
     "advice NoBootMethod 0x81", "advice SameHart 0x222 0x1fe 0x5", "advice MadtReserved 0xb0 0x8", "advice EmptyRange 0xf4 0x0 0x9000",
     "advice InitiatorOff 0x128", "advice DomainPastRevision 0xa4 0x1 0x100", "advice ItsNowhere 0x11c 0x0 0x6",
     "advice SratReserved 0xcc 0x6", "advice RemoteAsLocal 0x2f 0x1", "advice LeafUnflagged 0x78 0x0 0x9",
     "advice LeafAsParent 0x50 0x78", "advice NoPackage 0x50 0x0 0x8", "advice CacheNumbers 0xa8", "advice PpttReserved 0x78 0x2",
+    "advice RsdpText 0x9 0x0 0x41414141411f", "advice RootHeader 0x8 0x0 0x2", "advice BlockSpace 0xe8 0x0 0x2",
+    "advice FadtForRiscv 0x8 0x6", "advice GiccShort 0x26d 0x4c 0x4b", "advice GiccDiffers 0x146 0x28 0x1",
+    "advice SameGicrBase 0x146 0xf6 0x5000", "advice GiccNoPpi 0xf6 0x4e 0x20", "advice PicVersion 0x256 0x2",
+    "advice FurtherReserved 0x146 0x3 0x1", "advice WakeupMailbox 0x24e 0x10 0x8", "advice LapicAtZero 0x84 0x4",
+    "advice MadtRevision 0x8 0x0 0x1", "advice AffinityReserved 0x128 0x18 0x4", "advice DeviceHandle 0x128 0x3 0x2",
+    "advice PpttUnread 0xf4 0x2", "advice CacheIdZero 0xfc 0x18", "advice SameCacheType 0x118 0x134 0x14c",
 )
 expected(
     "each fault of the MADT's entries, and of the interrupt numbers",
@@ -1122,7 +1172,7 @@ expected(
 expected("a locality at 9 from itself, and at 11", sound(slit(2, [9, 20, 20, 11])), "no 11 SlitDiagonal 0x2c", "no 11 SlitLow 0x2c")
 advised("interrupt numbers up to 2^32", sound(madt_of(ON, io_apic(0xFEC00000, 2**32 - 24))))
 advised("a range up to 2^64", sound(srat_of(memory(2**64 - 0x1000, 0x1000))))
-advised("a resource of a type that no rule names", sound(pptt(node(resources=[60]), other(2, 30))))
+advised("a resource of a type that no rule names", sound(pptt(node(resources=[60]), other(2, 30))), "PpttUnread 0x3c 0x2")
 expected(
     "a node that leads to a cycle of two, and another to one of three",
     sound(pptt(node(56), node(76), node(56), node(116), node(136), node(156), node(116))), "no 14 ParentCycle 0x24 0x1 0x2",

@@ -1,6 +1,7 @@
 """Mistakes that firmware makes, put by hand into sets of real firmware one at a time, and the lines that `lint` has to write of
 each, worked out by hand from the rules in docs/TABLES.md and docs/FAULTS.md and from what tests/show/images says of the set.
-Nine of 26 break a rule that `check` looks at; the others are seen by advice alone."""
+Eleven of 50 break a rule that `check` looks at, and of the first 26, which other tools were given too, nine; the others are seen by
+advice alone."""
 
 from __future__ import annotations
 
@@ -22,8 +23,8 @@ UNCHANGED = [
 
 @dataclass
 class Mistake:
-    """Bytes of one table of a set changed, its sum closed again, and what `lint` writes of the set then. `others` are pieces
-    that the set did not have."""
+    """Bytes of one table of a set, or of its RSDP, changed, its sum closed again, and what `lint` writes of the set then. `others` are
+    pieces that the set did not have."""
 
     name: str
     image: str
@@ -45,16 +46,24 @@ class Mistake:
         """The pieces of the changed set."""
         image = read(firmware_text(self.image))
         tables = TableSet(image, int(IMAGES[self.image], 16))
-        is_root = self.signature == tables.signature
-        address = tables.root_at if is_root else tables.slots[tables.first_slots[self.signature]]
-        table = bytearray(complete_table(image, address).data)
+        address, found, sum_at = self.place_in(tables)
+        table = bytearray(found.data)
         for offset, new in self.changes.items():
             table[offset : offset + len(new)] = new
-        image.replace(address, summed(table, 9) if self.closes else table)
+        image.replace(address, summed(table, sum_at) if self.closes else table)
         return {**image.pieces(), **self.others}
+
+    def place_in(self, tables):
+        """Where the table is, its bytes, and the offset of its checksum; of an RSDP its first 20 bytes."""
+        if self.signature == RSDP_SIGNATURE:
+            return tables.rsdp, tables.image.present(tables.rsdp, 20), 8
+        is_root = self.signature == tables.signature
+        address = tables.root_at if is_root else tables.slots[tables.first_slots[self.signature]]
+        return address, complete_table(tables.image, address), 9
 
 
 MISTAKES = []
+RSDP_SIGNATURE = b"RSD PTR "
 
 
 def of_pc(name, signature, changes, *lines, **more):
@@ -69,6 +78,17 @@ def of_arm(name, signature, changes, *lines, **more):
     before, *advice = lines
     slots = "advice ListedTwice 0x3 0x2 0x47fc198e"
     MISTAKES.append(Mistake(name, "q11-efi-virt-caches", signature, changes, list(map(with_numbers, (before, slots, *advice))), **more))
+
+
+def of_four(name, signature, changes, *lines):
+    """A mistake in the set of an Arm machine with 4 processors, of which the GIC has no redistributors: its distributor is at 0x2C, a
+    GICC for each from 0x44 on, and of its PPTT a leaf for each from 0x38 on."""
+    MISTAKES.append(Mistake(name, "q10-efi-virt-smp4", signature, changes, list(map(with_numbers, lines))))
+
+
+def of_small(name, signature, changes, *lines):
+    """A mistake in the set of a small virtual machine of reduced hardware, which has sleep registers."""
+    MISTAKES.append(Mistake(name, "mv-acpi", signature, changes, list(map(with_numbers, lines))))
 
 
 # ---- what check sees
@@ -124,3 +144,52 @@ of_arm(
     "advice NoLeaf 0x94 0x0 0x1",
 )
 of_arm("a cache has lines of 0 bytes", b"PPTT", {0x4E: bytes(2)}, "yes", "advice CacheShape 0x38", "advice CacheNumbers 0x38 0x200000")
+
+# ---- what the further rules see
+of_pc("the RSDP's OEM ID is not set", RSDP_SIGNATURE, {9: b"\xff" * 6}, "yes", "advice RsdpText 0x9 0x0 0xffffffffffff")
+of_pc("the RSDT's Revision is left 0", b"RSDT", {8: b"\0"}, "yes", "advice RootHeader 0x8")
+of_pc(
+    "the DSDT's OEM Table ID begins with a zero", b"FACP", {}, "yes", "advice DsdtText 0x10 0x0 0x4141414141414100",
+    others={0x7FFE0040: changed(table(b"DSDT", b"\x5b\x80"), {16: 0}, (9, 38))},
+)
+of_pc("the FADT's Revision is left 1", b"FACP", {8: b"\1"}, "yes", "advice FadtPastRevision 0x4 0x74 0xf4")
+of_pc("the FADT of a PC says that there is PSCI", b"FACP", {129: b"\1"}, "yes", "advice ArmBootEarly 0x81 0x0 0x1")
+of_arm(
+    "the SMI port of a PC is in a FADT of reduced hardware", b"FACP", {48: number(0xB2, 4)}, "yes", "advice FixedInReduced 0x30 0x0 0xb2",
+)
+of_pc("ACPI_DISABLE is left 0", b"FACP", {53: b"\0"}, "yes", "advice SmiHandshake 0x35")
+of_pc(
+    "there is a command for S4 by firmware, which the FACS does not have", b"FACP", {54: b"\xf2"}, "yes", "advice S4BiosDiffers 0x36 0x0 0xf2",
+)
+of_pc("GPE0_BLK_LEN counts bits", b"FACP", {92: b"\x80"}, "yes", "advice GpePastEnd 0x5c 0x0 0x80")
+of_pc(
+    "PM1_EVT_LEN counts bits, of PM1a_EVT without a structure", b"FACP", {88: b"\x20", 148: bytes(12)}, "yes",
+    "advice PortsOverlap 0x38 0x40 0x604", "advice BlockTooLong 0x58 0x0 0x20",
+)
+of_pc("PM1a_EVT is in the space of PCI", b"FACP", {148: b"\2"}, "yes", "advice BlockSpace 0x94 0x0 0x2")
+of_pc("PM1a_CNT has 32 bits", b"FACP", {89: b"\4", 173: b"\x20"}, "yes", "advice BlockUsualWidth 0xad 0x0 0x20")
+of_small(
+    "the flag of reduced hardware is lost", b"FACP", {114: b"\0"}, "no 4 PmEventLength 0x58", "no 4 PmControlLength 0x59", "no 5 NoFacs",
+    "advice NoPm1Block 0x38", "advice SciZero 0x2e", "advice SleepNotReduced 0xf8 0x0 0xfea00200",
+)
+of_arm(
+    "the last GICC is said to be 75 bytes long", b"APIC", {0x275: b"\x4b"}, "no 6 MadtEntryCut 0x2bf", "advice GiccShort 0x274 0x4c 0x4b",
+)
+# The version of a GIC with redistributors, and one of each GICC.
+OWN = {0x40: b"\3", **{at + 60: number(base, 8) for at, base in zip((0x44, 0x94, 0xE4, 0x134), range(0x80A0000, 0x8120000, 0x20000))}}
+of_four("the last GICC names no redistributor", b"APIC", {**OWN, 0x134 + 60: bytes(8)}, "yes", "advice GiccNoGicr 0x134 0x3c")
+of_four(
+    "the last GICC can be added, and is where no redistributors are found", b"APIC", {**OWN, 0x134 + 12: b"\x08"}, "yes",
+    "advice CapableTooEarly 0x134 0x6 0x3", "advice CapableNoGicr 0x134 0xc 0x8",
+)
+of_four("the last GICC has no GICV", b"APIC", {0x134 + 40: bytes(8)}, "yes", "advice GiccDiffers 0x134 0x28")
+of_four(
+    "the last GICC names the redistributor of the one before", b"APIC", {**OWN, 0x134 + 60: number(0x80E0000, 8)}, "yes",
+    "advice SameGicrBase 0x134 0xe4 0x80e0000",
+)
+of_arm("a GICC has a second version of the parking protocol", b"APIC", {0x44 + 16: b"\2"}, "yes", "advice ParkingVersion 0x44 0x10 0x2")
+of_arm("the interrupt of SPE is an SPI", b"APIC", {0x44 + 78: number(53, 2)}, "yes", "advice GiccNoPpi 0x44 0x4e 0x35")
+of_arm("a GICC has a flag that there is not", b"APIC", {0x44 + 12: b"\x21"}, "yes", "advice FurtherReserved 0x44 0xc 0x21")
+of_arm("the MADT of a GIC has Revision 1", b"APIC", {8: b"\1"}, "yes", "advice MadtRevision 0x8 0x0 0x1")
+of_four("the last leaf has another type", b"PPTT", {0x74: b"\2"}, "yes", "advice NoLeaf 0x134 0x0 0x3", "advice PpttUnread 0x74 0x2")
+of_arm("both caches of a core are of instructions", b"PPTT", {0x98 + 21: b"\7"}, "yes", "advice SameCacheType 0xc8 0xb0 0x98")

@@ -3,8 +3,10 @@
 from __future__ import annotations
 
 from ..table_set import domain_of, is_enabled, slit_count
-from .facts import INITIATOR, ITS, ITS_AFFINITY, MEMORY, SRAT_LENGTHS
-from .rule import has_complete_madt, has_complete_srat, has_srat, is_of_another_length, rule, unread, wrong_entries, zeros
+from .facts import GICC_AFFINITY, INITIATOR, ITS, ITS_AFFINITY, MEMORY, PORT, RINTC_AFFINITY, SRAT_LENGTHS
+from .rule import (
+    has_complete_madt, has_complete_srat, has_srat, is_of_another_length, of_entry, rule, unread, wrong_entries, wrong_numbers, zeros,
+)
 
 
 # ---- the SRAT (5.2.16)
@@ -96,6 +98,15 @@ def nowhere_its(facts):
             yield entry.offset, 0, entry.number(8, 4)
 
 
+@rule(308, "ItsDomain", has_complete_srat)
+def domains_of_its_alone(facts):
+    """An ITS is in a domain in which nothing else is, neither a processor nor memory nor a device (5.2.16.5)."""
+    domains = {domain_of(entry) for entry in facts.with_domain if entry.kind != ITS_AFFINITY}
+    for entry in facts.of_srat(ITS_AFFINITY) if not list(unread_in_srat(facts)) else ():
+        if domain_of(entry) not in domains:
+            yield of_entry(entry, 2, 4)
+
+
 # Of each type of entry of the SRAT what it may have.
 SRAT_LIMITS = {
     0: [(4, 4, 0b1)],
@@ -111,6 +122,32 @@ def reserved_in_srat(facts):
     if one != 1:
         yield 36, 0, one
     yield from wrong_entries(facts.srat.typed(*SRAT_LIMITS), SRAT_LIMITS)
+
+
+# The same of the entries that only rules read, of which that of harts came after ACPI 6.5.
+DEVICE_LIMITS = [*zeros(2), (24, 4, 0b11), *zeros(28, 29, 30, 31)]
+FURTHER_LIMITS = {
+    GICC_AFFINITY: [(10, 4, 0b1)],
+    ITS_AFFINITY: zeros(6, 7),
+    INITIATOR: DEVICE_LIMITS,
+    PORT: DEVICE_LIMITS,
+    RINTC_AFFINITY: [*zeros(2, 3), (12, 4, 0b1)],
+}
+
+
+@rule(306, "AffinityReserved", has_srat)
+def reserved_in_affinities(facts):
+    """A reserved byte or flag of an affinity that only rules read is used (5.2.16.4 to 5.2.16.7)."""
+    for kind in FURTHER_LIMITS:
+        yield from wrong_numbers(facts.of_srat(kind), FURTHER_LIMITS)
+
+
+@rule(307, "DeviceHandle", has_srat)
+def device_handles(facts):
+    """A generic initiator or port has a handle of a kind that there is not (5.2.16.6)."""
+    for entry in facts.of_srat(INITIATOR) + facts.of_srat(PORT):
+        if entry.number(3, 1) > 1:
+            yield of_entry(entry, 3, 1)
 
 
 # ---- the SLIT (5.2.17)

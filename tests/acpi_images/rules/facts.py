@@ -11,15 +11,17 @@ from ..table_set import TableSet, domain_of, fadt_of, is_enabled
 SYSTEM_IO = 1
 
 # Types of entries of the MADT (5.2.12). Of a local SAPIC no rule reads more than that there is one. An RINTC came after ACPI 6.5.
-LAPIC, IO_APIC, OVERRIDE, NMI_SOURCE, LAPIC_NMI, IO_SAPIC, SAPIC, X2APIC, X2APIC_NMI = 0, 1, 2, 3, 4, 6, 7, 9, 10
-GICC, GICD, MSI_FRAME, GICR, ITS, CORE_PIC, RINTC = 11, 12, 13, 14, 15, 17, 24
+LAPIC, IO_APIC, OVERRIDE, NMI_SOURCE, LAPIC_NMI, ADDRESS, IO_SAPIC, SAPIC, X2APIC, X2APIC_NMI = 0, 1, 2, 3, 4, 5, 6, 7, 9, 10
+GICC, GICD, MSI_FRAME, GICR, ITS, WAKEUP, CORE_PIC, RINTC, IMSIC = 11, 12, 13, 14, 15, 16, 17, 24, 25
 # Types of entries of the SRAT (5.2.16).
 MEMORY, GICC_AFFINITY, ITS_AFFINITY, INITIATOR, PORT, RINTC_AFFINITY = 1, 3, 4, 5, 6, 7
 
-# The lengths of processors of the MADT and of its entries that only rules read, by their types, and of the entries of the SRAT.
+# The lengths of processors of the MADT and of its entries that only rules read, by their types, and of the entries of the SRAT. Of a
+# multiprocessor wakeup structure it depends on the version; the interrupt controllers of LoongArch are 18 to 23 (5.2.12.21 to 5.2.12.26),
+# those of RISC-V, which came after ACPI 6.5, 25 to 27.
 MADT_LENGTHS = {
-    LAPIC: [8], X2APIC: [16], GICC: range(40, 256), GICD: [24], MSI_FRAME: [24], GICR: [16], ITS: [20],
-    CORE_PIC: [15], RINTC: range(20, 256),
+    LAPIC: [8], X2APIC: [16], GICC: range(40, 256), GICD: [24], MSI_FRAME: [24], GICR: [16], ITS: [20], WAKEUP: [16, 24],
+    CORE_PIC: [15], 18: [23], 19: [21], 20: [13], 21: [19], 22: [17], 23: [14], RINTC: range(20, 256), IMSIC: [16], 26: [36], 27: [36],
 }
 SRAT_LENGTHS = {0: [16], MEMORY: [40], 2: [24], GICC_AFFINITY: [18], ITS_AFFINITY: [12], INITIATOR: [32], PORT: [32], RINTC_AFFINITY: [20]}
 # Of each type of processor the places, by offset and size, of its UID, its APIC ID, if it has one, and its flags, and the flags of

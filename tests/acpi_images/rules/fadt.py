@@ -7,10 +7,11 @@ from dataclasses import dataclass
 from ..faults import Numbers, served
 from ..table_set import BLOCKS, HEADER
 from .facts import GICC, OVERRIDE, RINTC, SYSTEM_IO, version_of
-from .rule import has_fadt, is_full, overlap, past_limits, rule, zeros
+from .rule import has_fadt, has_madt, is_full, of_table, overlap, past_limits, rule, wrong_names, zeros
 
-# How long a FADT of each revision is, at least (5.2.9).
+# How long a FADT of each revision is, at least (5.2.9), and those of the first two, which are no longer.
 LENGTHS = {3: 244, 4: 244, 5: 268}
+FIRST_LENGTHS = {1: 116, 2: 132}
 LAST_LENGTH = 276
 LAST_PORT = 0xFFFF
 
@@ -25,6 +26,26 @@ def fadt_of_revision(facts):
     least = LENGTHS.get(revision, LAST_LENGTH) if revision >= 3 else 0
     if length < least:
         yield 4, length, least
+
+
+@rule(282, "FadtPastRevision", has_fadt)
+def fadt_past_revision(facts):
+    """The FADT's Revision is 0, or the FADT is longer than one of its Revision is (5.2.9)."""
+    revision, length = facts.fadt.bytes.number(8, 1), len(facts.fadt.bytes)
+    if revision == 0:
+        yield of_table(facts.fadt.bytes, 8, 1)
+        return
+    most = {**FIRST_LENGTHS, **LENGTHS}.get(revision, LAST_LENGTH)
+    if length > most:
+        yield 4, most, length
+
+
+@rule(283, "ArmBootEarly", has_fadt)
+def early_arm_boot(facts):
+    """The FADT is older than its field on how Arm processors are started, ARM_BOOT_ARCH, and that is not 0 (5.2.9)."""
+    flags = facts.fadt.field(129, 2)
+    if flags and version_of(facts.fadt) < (5, 1):
+        yield 129, 0, flags
 
 
 def two_addresses(fadt, narrow, wide):
@@ -86,6 +107,14 @@ def wrong_dsdt(facts):
     held = facts.image.present(at, length)
     if header.data[:4] != b"DSDT" or length < HEADER or (held and not held.sums_to_0()):
         yield 40, 0, at
+
+
+@rule(281, "DsdtText", has_fadt)
+def dsdt_text(facts):
+    """The header of the DSDT has a name with a byte that is no text (5.2.6)."""
+    header = facts.image.present(facts.dsdt_at, HEADER) if facts.dsdt_at else None
+    if header and header.data[:4] == b"DSDT":
+        yield from wrong_names(header)
 
 
 # ---- register blocks of hardware that is not reduced (5.2.9)
@@ -198,7 +227,93 @@ def zero_sci(facts):
         yield (46,)
 
 
+@rule(285, "SmiHandshake", is_full)
+def half_handshake(facts):
+    """There is an SMI port, and of the two commands that turn ACPI on and off one is 0 (5.2.9)."""
+    commands = {at: facts.fadt.field(at, 1) for at in (52, 53)}
+    if facts.fadt.field(48, 4) and any(commands.values()):
+        for at, command in commands.items():
+            if command == 0:
+                yield (at,)
+
+
+@rule(286, "S4BiosDiffers", is_full)
+def differing_s4bios(facts):
+    """The FADT has a command for S4 by firmware, and the FACS says that firmware has no such S4, or the reverse (5.2.9, 5.2.10)."""
+    command = facts.fadt.field(54, 1)
+    if facts.facs and (command != 0) != (facts.facs.number(20, 4) & 1 == 1):
+        yield 54, 0, command
+
+
+# The most bits that the width of a generic address structure can say, and how many events of GPE0 and GPE1 can have a method (5.6.4.1).
+MOST_BITS, EVENTS = 255, 256
+# How wide the registers of each block are (4.8.3).
+USUAL_WIDTHS = {148: 32, 160: 32, 172: 16, 184: 16, 196: 8, 208: 32}
+
+
+@rule(287, "GpePastEnd", is_full)
+def events_past_end(facts):
+    """GPE0 or GPE1 has events after the last one that can have a method, of which each byte of a half of the block has eight (5.6.4.1)."""
+    first, second = blocks_of(facts.fadt)[6:]
+    base = facts.fadt.field(94, 1)
+    if first.address and 4 * first.length > EVENTS:
+        yield 92, 0, first.length
+    if second.address and base + 4 * second.length > EVENTS:
+        yield 94, 0, base
+
+
+@rule(288, "BlockTooLong", is_full)
+def long_blocks(facts):
+    """A port of PM1 events to the PM timer has more bytes than the width of a generic address structure can say (5.2.9, 5.2.3.2)."""
+    fadt = facts.fadt
+    for _, narrow, length_at, wide in BLOCKS[:6]:
+        is_port = fadt.field(wide + 4, 8) == 0 and fadt.field(narrow, 4) != 0
+        if is_port and 8 * fadt.field(length_at, 1) > MOST_BITS:
+            yield length_at, 0, fadt.field(length_at, 1)
+
+
+def used_structures(fadt):
+    """The offsets of the generic address structures of blocks that have an address."""
+    return [wide for _, _, _, wide in BLOCKS if fadt.field(wide + 4, 8)]
+
+
+@rule(289, "BlockSpace", is_full)
+def block_spaces(facts):
+    """A block is neither in memory nor in the space of ports (5.2.9)."""
+    for wide in used_structures(facts.fadt):
+        if facts.fadt.field(wide, 1) > SYSTEM_IO:
+            yield of_table(facts.fadt.bytes, wide, 1)
+
+
+@rule(290, "BlockUsualWidth", is_full)
+def unusual_widths(facts):
+    """The generic address structure of a block, but for those of events, has another width than its registers (4.8.3)."""
+    for wide in used_structures(facts.fadt):
+        width = facts.fadt.field(wide + 1, 1)
+        if width != USUAL_WIDTHS.get(wide, width):
+            yield wide + 1, 0, width
+
+
+@rule(291, "SleepNotReduced", is_full)
+def sleep_of_full_hardware(facts):
+    """Hardware that is not reduced has a sleep register, which only reduced hardware uses (5.2.9)."""
+    for at in (248, 260):
+        if facts.fadt.field(at, 8):
+            yield of_table(facts.fadt.bytes, at, 8)
+
+
 # ---- the FADT as a whole (5.2.9)
+
+
+@rule(284, "FixedInReduced", lambda facts: has_fadt(facts) and facts.fadt.reduced)
+def fixed_hardware(facts):
+    """Reduced hardware has an SMI port or a block of the fixed hardware, which it does not use (5.2.9)."""
+    fadt = facts.fadt
+    for at in (48, *(narrow for _, narrow, _, _ in BLOCKS)):
+        if fadt.field(at, 4):
+            yield of_table(fadt.bytes, at, 4)
+    for wide in used_structures(fadt):
+        yield of_table(fadt.bytes, wide + 4, 8)
 
 
 @rule(142, "ResetNowhere", has_fadt)
@@ -214,6 +329,13 @@ def fadt_for_arch(facts):
     if facts.madt_kinds & {GICC, RINTC} and not facts.fadt.reduced:
         yield (112,)
     if GICC in facts.madt_kinds and version_of(facts.fadt) < (5, 1):
+        yield 8, *version_of(facts.fadt)
+
+
+@rule(292, "FadtForRiscv", lambda facts: has_fadt(facts) and has_madt(facts))
+def fadt_for_riscv(facts):
+    """Beside a hart the FADT is older than ACPI 6.6, which has the first harts (5.2.9)."""
+    if RINTC in facts.madt_kinds and version_of(facts.fadt) < (6, 6):
         yield 8, *version_of(facts.fadt)
 
 

@@ -3,13 +3,19 @@
 from __future__ import annotations
 
 from .facts import GICC, GICD, GICR, ITS, MSI_FRAME
-from .rule import field, has_complete_madt, has_fadt, has_madt, is_of_another_length, overlap, rule, same_field
+from .rule import field, has_complete_madt, has_fadt, has_madt, is_of_another_length, of_entry, overlap, rule, same_field
 
 # Versions of a GIC that has redistributors, and of one that has none (5.2.12.15).
 WITH_REDISTRIBUTORS, WITHOUT_REDISTRIBUTORS = (3, 4), (1, 2)
 # How many bytes the registers of one redistributor take, of an ITS, of a frame, and of a distributor with and without redistributors.
 REDISTRIBUTOR_SIZE, ITS_SIZE, FRAME_SIZE, WIDE_GICD_SIZE, GICD_SIZE = 0x20000, 0x20000, 0x1000, 0x10000, 0x1000
 AFFINITY_BITS = 0xFF00FFFFFF
+# The flags of a GICC that say that it is enabled, that it may be made so, and the mode of its maintenance interrupt (5.2.12.14).
+ENABLED, VGIC_EDGE, ONLINE_CAPABLE = 1 << 0, 1 << 2, 1 << 3
+# How long a GICC with an MPIDR is, at least.
+WITH_MPIDR_LENGTH = 76
+# The interrupt numbers of one processor of its own (PPI), those of the first GICs and those that came with GICv3.
+PPIS = (*range(16, 32), *range(1056, 1120))
 
 
 @rule(115, "SecondGicd", has_madt)
@@ -58,6 +64,74 @@ def differing_bases(facts):
     for entry in giccs:
         if entry.number(32, 8) != giccs[0].number(32, 8):
             yield entry.offset, giccs[0].offset, entry.number(32, 8)
+
+
+@rule(293, "GiccShort", has_madt)
+def short_giccs(facts):
+    """A CPU interface ends before its MPIDR does, which came with ACPI 5.1 (5.2.12.14)."""
+    for entry in facts.of_madt(GICC):
+        if len(entry) < WITH_MPIDR_LENGTH:
+            yield entry.offset, WITH_MPIDR_LENGTH, len(entry)
+
+
+def giccs_with(facts, flag, without=0):
+    """The CPU interfaces with one flag, and not another."""
+    return [entry for entry in facts.of_madt(GICC) if entry.number(12, 4) & (flag | without) == flag]
+
+
+def is_named_by_giccs(facts):
+    """Whether the GIC has redistributors by its version, and no structure of them, so that each CPU interface has to name its own."""
+    return facts.gic_version in WITH_REDISTRIBUTORS and GICR not in facts.madt_kinds
+
+
+@rule(294, "GiccNoGicr", has_complete_madt)
+def giccs_without_redistributor(facts):
+    """Of the CPU interfaces that have to name their redistributors an enabled one does not, and a usable one does (5.2.12.14)."""
+    for entry in giccs_with(facts, ENABLED) if is_named_by_giccs(facts) and own_redistributors(facts) else ():
+        if field(entry, 60, 8) == 0:
+            yield of_entry(entry, 60, 8)
+
+
+@rule(295, "CapableNoGicr", has_complete_madt)
+def capable_without_redistributors(facts):
+    """A CPU interface that is not enabled is Online Capable, and there is no structure of redistributors (5.2.12.14)."""
+    for entry in giccs_with(facts, ONLINE_CAPABLE, ENABLED) if is_named_by_giccs(facts) else ():
+        yield of_entry(entry, 12, 4)
+
+
+@rule(296, "GiccDiffers", has_madt)
+def differing_giccs(facts):
+    """Of usable CPU interfaces one has another GICV, GICH or maintenance interrupt than the first one, or another mode (5.2.12.14)."""
+    giccs = [entry for entry in facts.usable_of(GICC) if len(entry) >= 60]
+    for entry in giccs:
+        for at, size, bits in ((12, 4, VGIC_EDGE), (40, 8, -1), (48, 8, -1), (56, 4, -1)):
+            if (entry.number(at, size) ^ giccs[0].number(at, size)) & bits:
+                yield of_entry(entry, at, size)
+
+
+@rule(297, "SameGicrBase", has_madt)
+def same_redistributors(facts):
+    """Two enabled CPU interfaces name one redistributor (5.2.12.14)."""
+    if facts.gic_version in WITH_REDISTRIBUTORS:
+        yield from same_field([entry for entry in giccs_with(facts, ENABLED) if field(entry, 60, 8)], 60, 8)
+
+
+@rule(298, "ParkingVersion", has_madt)
+def parking_versions(facts):
+    """A CPU interface has a version of the parking protocol that there is not (5.2.12.14)."""
+    for entry in facts.of_madt(GICC):
+        if entry.number(16, 4) > 1:
+            yield of_entry(entry, 16, 4)
+
+
+@rule(299, "GiccNoPpi", has_madt)
+def other_interrupts(facts):
+    """The interrupt of a CPU interface for statistics (SPE) or for traces (TRBE) is none of one processor (5.2.12.14)."""
+    for entry in facts.of_madt(GICC):
+        for at in (78, 80):
+            number = field(entry, at, 2)
+            if number and number not in PPIS:
+                yield of_entry(entry, at, 2)
 
 
 def with_mpidr(facts):

@@ -5,10 +5,13 @@ from __future__ import annotations
 from collections import defaultdict
 
 from .facts import (
-    GICC, GICD, IO_APIC, IO_SAPIC, LAPIC, LAPIC_NMI, MADT_LENGTHS, NMI_SOURCE, OVERRIDE, RINTC, X2APIC, X2APIC_NMI, processor_of,
-    version_of,
+    ADDRESS, CORE_PIC, GICC, GICD, GICR, IMSIC, IO_APIC, IO_SAPIC, ITS, LAPIC, LAPIC_NMI, MADT_LENGTHS, MSI_FRAME, NMI_SOURCE, OVERRIDE,
+    RINTC, WAKEUP, X2APIC, X2APIC_NMI, processor_of, version_of,
 )
-from .rule import has_complete_madt, has_fadt, has_madt, rule, same, same_field, unread, wrong_entries, zeros
+from .rule import (
+    field, has_complete_madt, has_fadt, has_madt, is_read, of_entry, of_table, rule, same, same_field, unread, wrong_entries, wrong_numbers,
+    zeros,
+)
 
 # Of each NMI of local APICs the UID that means all processors (5.2.12.7, 5.2.12.13).
 ALL_PROCESSORS = {LAPIC_NMI: 0xFF, X2APIC_NMI: 0xFFFFFFFF}
@@ -20,6 +23,7 @@ CAPABLE_SINCE = {LAPIC: (6, 3), X2APIC: (6, 3), GICC: (6, 5)}
 # Of each type of local APIC the place of its ID, and the ID to which all of them listen.
 APIC_ID = {LAPIC: (3, 1), X2APIC: (4, 4)}
 BROADCAST = {LAPIC: 0xFF, X2APIC: 0xFFFFFFFF}
+NO_HART = 2**64 - 1
 
 
 # ---- processors (5.2.12)
@@ -93,6 +97,14 @@ def enabled_and_capable(facts):
 def same_harts(facts):
     """Two usable harts have one hart ID (after ACPI 6.5)."""
     yield from same_field(facts.usable_of(RINTC), 8, 8)
+
+
+@rule(302, "HartInvalid", has_madt)
+def invalid_harts(facts):
+    """A usable hart has the hart ID that is none (after ACPI 6.5)."""
+    for entry in facts.usable_of(RINTC):
+        if entry.number(8, 8) == NO_HART:
+            yield of_entry(entry, 8, 8)
 
 
 # ---- I/O APICs, overrides and NMIs (5.2.12.3 to 5.2.12.7)
@@ -174,7 +186,41 @@ def no_io_apic(facts):
         yield ()
 
 
-# ---- entries that nothing reads, and reserved bytes
+@rule(304, "LapicAtZero", has_madt)
+def lapics_at_zero(facts):
+    """An address override puts the local APICs at 0 (5.2.12.8)."""
+    for entry in facts.madt.typed(ADDRESS):
+        if entry.number(4, 8) == 0:
+            yield of_entry(entry, 4, 8)
+
+
+# ---- the wakeup structure (5.2.12.19)
+
+
+def wakeup_length(version):
+    """How long a wakeup structure of this version is, or None if there is no such version; of one without a version the first length."""
+    return {None: 16, 0: 16, 1: 24}.get(version)
+
+
+@rule(303, "WakeupMailbox", has_madt)
+def wakeup_mailboxes(facts):
+    """A wakeup structure has another length than its version, a version that there is not, a reserved byte that is used, or a mailbox at
+    0 or at no multiple of 4096 (5.2.12.19)."""
+    for entry in facts.madt.entries:
+        if entry.kind == WAKEUP:
+            version, mailbox = field(entry, 2, 2), field(entry, 8, 8)
+            length = wakeup_length(version)
+            if length is None:
+                yield of_entry(entry, 2, 2)
+            elif len(entry) != length:
+                yield entry.offset, length, len(entry)
+            if field(entry, 4, 4):
+                yield of_entry(entry, 4, 4)
+            if mailbox is not None and (mailbox == 0 or mailbox % 4096):
+                yield of_entry(entry, 8, 8)
+
+
+# ---- entries that nothing reads, versions, and reserved bytes
 
 
 @rule(127, "MadtUnread", has_madt)
@@ -204,3 +250,45 @@ def reserved_in_madt(facts):
     if flags > 0b1:
         yield 40, 0, flags
     yield from wrong_entries([*facts.madt.typed(*MADT_LIMITS), *facts.gicds], MADT_LIMITS)
+
+
+def read_entries(facts, kinds):
+    """The entries of these types that a stage or a rule reads."""
+    return [entry for entry in facts.madt.entries if entry.kind in kinds and is_read(facts.madt, entry, MADT_LENGTHS)]
+
+
+@rule(300, "PicVersion", has_madt)
+def pic_versions(facts):
+    """An interrupt controller of LoongArch or RISC-V has another version than 1 (5.2.12.20 to 5.2.12.26, and after ACPI 6.5)."""
+    for entry in read_entries(facts, range(17, 28)):
+        if entry.number(2, 1) != 1:
+            yield of_entry(entry, 2, 1)
+
+
+# The same of the entries of which only rules read more than their type (5.2.12.14 to 5.2.12.20). Bit 4 of a GICC's flags, and bit 0 of
+# those of redistributors and of an ITS, came after ACPI 6.5, as the types from 24 on did.
+FURTHER_LIMITS = {
+    GICC: [*zeros(2, 3), (12, 4, 0b11111), *zeros(77)],
+    GICD: zeros(2, 3, 21, 22, 23),
+    MSI_FRAME: [*zeros(2, 3), (16, 4, 0b1)],
+    GICR: [(2, 1, 0b1), *zeros(3)],
+    ITS: [(2, 1, 0b1), *zeros(3, 16, 17, 18, 19)],
+    CORE_PIC: [(11, 4, 0b1)],
+    RINTC: [*zeros(3), (4, 4, 0b11)],
+    IMSIC: [*zeros(3), (4, 4, 0)],
+}
+
+
+@rule(301, "FurtherReserved", has_madt)
+def reserved_in_further(facts):
+    """A reserved byte or flag of a GIC's entry, or of a processor of LoongArch or RISC-V, is used (5.2.12.14 to 5.2.12.20)."""
+    yield from wrong_numbers(read_entries(facts, FURTHER_LIMITS), FURTHER_LIMITS)
+
+
+@rule(305, "MadtRevision", has_madt)
+def early_entries(facts):
+    """The MADT has an entry of a type that came after its Revision: from 9 to 15 with 3, from 24 to 27 with 6 (5.2.12)."""
+    table = facts.tables.table(b"APIC")
+    least = max((6 if 24 <= kind <= 27 else 3 if 9 <= kind <= 15 else 0 for kind in facts.madt_kinds), default=0)
+    if table.number(8, 1) < least:
+        yield of_table(table, 8, 1)

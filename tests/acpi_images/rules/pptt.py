@@ -5,7 +5,7 @@ from __future__ import annotations
 from collections import defaultdict
 
 from .facts import CORE_PIC, GICC, RINTC
-from .rule import has_leaf_flags, has_pptt, rule, same_field, wrong_entries, zeros
+from .rule import has_leaf_flags, has_pptt, of_entry, rule, same_field, wrong_entries, zeros
 
 
 # ---- nodes (5.2.30.1)
@@ -87,7 +87,7 @@ def leaves_outside_packages(facts):
 
 # ---- caches (5.2.30.2)
 
-SIZE_VALID, SETS_VALID, WAYS_VALID, LINE_VALID, ID_VALID = 1 << 0, 1 << 1, 1 << 2, 1 << 6, 1 << 7
+SIZE_VALID, SETS_VALID, WAYS_VALID, TYPE_VALID, LINE_VALID, ID_VALID = 1 << 0, 1 << 1, 1 << 2, 1 << 4, 1 << 6, 1 << 7
 ALL_VALID = SIZE_VALID | SETS_VALID | WAYS_VALID | LINE_VALID
 
 
@@ -100,12 +100,25 @@ def cache_shapes(facts):
             yield (cache.offset,)
 
 
+def with_cache_id(facts):
+    """The caches with a valid Cache ID, which came with Revision 3 (5.2.30.2)."""
+    if facts.tables.table(b"PPTT").number(8, 1) < 3:
+        return []
+    return [cache for cache in facts.pptt.typed(1) if len(cache) == 28 and cache.number(4, 4) & ID_VALID]
+
+
 @rule(124, "SameCacheId", has_pptt)
 def same_cache_ids(facts):
-    """Two caches have one ID, which came with Revision 3 (5.2.30.2)."""
-    if facts.tables.table(b"PPTT").number(8, 1) >= 3:
-        named = [cache for cache in facts.pptt.typed(1) if len(cache) == 28 and cache.number(4, 4) & ID_VALID]
-        yield from same_field(named, 24, 4)
+    """Two caches have one ID (5.2.30.2)."""
+    yield from same_field(with_cache_id(facts), 24, 4)
+
+
+@rule(310, "CacheIdZero", has_pptt)
+def zero_cache_ids(facts):
+    """A valid Cache ID is 0, which means that there is none (5.2.30.2)."""
+    for cache in with_cache_id(facts):
+        if cache.number(24, 4) == 0:
+            yield of_entry(cache, 24, 4)
 
 
 @rule(183, "CacheNumbers", has_pptt)
@@ -119,7 +132,40 @@ def cache_numbers(facts):
             yield cache.offset, size, product
 
 
-# ---- reserved bytes (5.2.30)
+def cache_type(cache):
+    """The type of a cache, of data, of instructions or of both, which two numbers say, or None if it is not valid (5.2.30.2)."""
+    return min(cache.number(21, 1) >> 2 & 0b11, 0b10) if cache.number(4, 4) & TYPE_VALID else None
+
+
+def nearest_caches(node, caches):
+    """The caches that a node names and that are the Next Level of none that it names, in the order of its references."""
+    named = [caches[at] for at in (node.number(20 + 4 * place, 4) for place in range(node.number(16, 4))) if at in caches]
+    further = {cache.number(8, 4) for cache in named}
+    return [cache for cache in named if cache.offset not in further]
+
+
+@rule(311, "SameCacheType", has_pptt)
+def same_cache_types(facts):
+    """A node names two caches of one level that are of one type (5.2.30.2)."""
+    caches = {cache.offset: cache for cache in facts.pptt.typed(1)}
+    for node in facts.nodes:
+        first = {}
+        for cache in nearest_caches(node, caches):
+            kind = cache_type(cache)
+            if kind is not None and first.setdefault(kind, cache.offset) != cache.offset:
+                yield node.offset, first[kind], cache.offset
+
+
+# ---- what nothing reads, and reserved bytes (5.2.30)
+
+
+@rule(309, "PpttUnread", has_pptt)
+def unread_in_pptt(facts):
+    """An entry of a type that neither a stage nor a rule reads (5.2.30)."""
+    for entry in facts.pptt.entries:
+        if entry.kind not in facts.pptt.LENGTHS:
+            yield entry.offset, entry.kind
+
 
 # Of each type of entry of the PPTT what it may have: reserved bytes, flags, and attributes of a cache.
 PPTT_LIMITS = {0: [*zeros(2, 3), (4, 4, 0x1F)], 1: [*zeros(2, 3), (4, 4, 0xFF), (21, 1, 0x1F)]}

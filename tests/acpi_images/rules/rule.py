@@ -106,11 +106,42 @@ def overlap(sized):
     return [clash] if clash else []
 
 
+def is_read(table, entry, lengths):
+    """Whether a stage or a rule reads an entry, by its type and the lengths of those that rules read."""
+    return entry.kind in table.LENGTHS or has_length(entry, lengths)
+
+
 def unread(table, lengths):
     """The entries of a type, or with a length, that neither a stage nor a rule reads, by the lengths of those that rules read."""
     for entry in table.entries:
-        if entry.kind not in table.LENGTHS and not has_length(entry, lengths):
+        if not is_read(table, entry, lengths):
             yield entry.offset, entry.kind
+
+
+def of_table(data, at, size):
+    """The numbers of a finding that is a number of a table."""
+    return at, 0, data.number(at, size)
+
+
+def of_entry(entry, at, size):
+    """The numbers of a finding that is a number of an entry."""
+    return entry.offset, at, entry.number(at, size)
+
+
+def is_text(data):
+    """Whether these bytes are printable, but for zeros at their end."""
+    return all(0x20 <= byte <= 0x7E for byte in data.rstrip(b"\0"))
+
+
+# Where the header of a table has names: the OEM ID, the OEM Table ID and the Creator ID (5.2.6).
+NAMES = ((10, 6), (16, 8), (28, 4))
+
+
+def wrong_names(data, places=NAMES):
+    """The names at these places that have a byte that is no text."""
+    for at, size in places:
+        if not is_text(data.data[at : at + size]):
+            yield of_table(data, at, size)
 
 
 # What a table or an entry may have, by rows of offset, size and the most that the number there may be: a reserved byte is 0.
@@ -123,6 +154,14 @@ def zeros(*places):
 def past_limits(data, limits):
     """The (offset, number) of each number that is more than it may be, in the order of their offsets."""
     return [(at, data.number(at, size)) for at, size, most in sorted(limits) if data.number(at, size) > most]
+
+
+def wrong_numbers(entries, limits):
+    """The numbers of entries that are more than they may be by the limits of their type. One past the end of its entry is not there."""
+    for entry in entries:
+        for at, size, most in limits[entry.kind]:
+            if (field(entry, at, size) or 0) > most:
+                yield of_entry(entry, at, size)
 
 
 def wrong_entries(entries, limits):

@@ -5,7 +5,7 @@ from __future__ import annotations
 from collections import Counter
 
 from ..table_set import HEADER, complete_table
-from .rule import overlap, past_limits, rule, same, zeros
+from .rule import NAMES, is_text, of_table, overlap, past_limits, rule, same, wrong_names, zeros
 
 
 # ---- slots (5.2.7)
@@ -128,19 +128,21 @@ def reserved_in_rsdp(facts):
         yield place, 0, number
 
 
+@rule(279, "RsdpText")
+def rsdp_text(facts):
+    """The OEM ID of the RSDP has a byte that is no text (5.2.5.3)."""
+    head = facts.image.present(facts.tables.rsdp, 20)
+    yield from wrong_names(head, [(9, 6)]) if head else ()
+
+
 # ---- headers (5.2.6)
 
-# Where a header has text: the signature, the OEM ID, the OEM Table ID and the Creator ID.
-TEXTS = ((0, 4), (10, 6), (16, 8), (28, 4))
+# Where a header has text: the signature, and the names.
+TEXTS = ((0, 4), *NAMES)
 READ_ONCE_TOO = """
     BERT BGRT CCEL CPEP DBG2 DMAR ECDT EINJ ERST FPDT GTDT HEST HMAT IORT IVRS MCFG MPST MSCT NFIT PCCT PDTT PHAT PMTT PRMT RASF RAS2
     SBST SDEI SDEV SPCR SVKL TPM2 VIOT WAET WSMT
 """.encode().split()
-
-
-def is_text(data):
-    """Whether these bytes are printable, but for zeros at their end."""
-    return all(0x20 <= byte <= 0x7E for byte in data.rstrip(b"\0"))
 
 
 @rule(148, "HeaderText")
@@ -157,3 +159,13 @@ def header_texts(facts):
 def second_other_tables(facts):
     """A second table of another kind of which a set has one (5.2.6)."""
     yield from second_tables(facts, READ_ONCE_TOO)
+
+
+@rule(280, "RootHeader")
+def root_header(facts):
+    """The header of the root has a name with a byte that is no text, or another Revision than 1 (5.2.7, 5.2.8)."""
+    root = facts.tables.root
+    if root:
+        yield from wrong_names(root)
+        if root.number(8, 1) != 1:
+            yield of_table(root, 8, 1)

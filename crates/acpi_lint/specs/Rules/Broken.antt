@@ -13,11 +13,12 @@ use Rattle.acpi_lint.specs.Rules.FadtBlocks.{IsPortPastEnd}
 use Rattle.acpi_lint.specs.Rules.SlitAdvice.{IsSlitDiffers, IsRemoteAsLocal}
 use Rattle.acpi_lint.specs.Rules.Ports.{IsPortsOverlap}
 use Rattle.acpi_lint.specs.Rules.Structures.{OfNamingFadt, IsTablesOverlap}
+use Rattle.acpi_lint.specs.Rules.CacheTypes.{IsSameCacheType}
 use Rattle.acpi_lint.specs.Rules.Hierarchy.{IsNoPackage}
-use Rattle.acpi_lint.specs.Rules.RootAdvice.{IsNullSlot, IsRsdtDiffers}
-use Rattle.acpi_lint.specs.Rules.RsdpAdvice.{IsRsdpReserved}
+use Rattle.acpi_lint.specs.Rules.RootAdvice.{IsNullSlot, IsRootHeader, IsRsdtDiffers}
+use Rattle.acpi_lint.specs.Rules.RsdpAdvice.{IsRsdpReserved, IsRsdpText}
 use Rattle.acpi_lint.specs.Rules.HeaderAdvice.{IsHeaderText, IsSecondOther}
-use Rattle.acpi_lint.specs.Rules.NamedAdvice.{IsDsdtWrong, IsFacsReserved}
+use Rattle.acpi_lint.specs.Rules.NamedAdvice.{IsDsdtText, IsDsdtWrong, IsFacsReserved, IsS4BiosDiffers}
 use Rattle.acpi_lint.specs.RowGroups.{IsRowBroken, OfKind}
 use Rattle.acpi_lint.specs.Rules.Rows.{rule_number}
 use Rattle.acpi_lint.specs.declared.rule.Rule.{Rule}
@@ -72,6 +73,11 @@ condition rule.SecondOther = Slots IsSecondOther
 condition rule.GicrTooSmall = Madt IsGicrTooSmall
 condition rule.RemoteAsLocal = Slit IsRemoteAsLocal
 condition rule.NoPackage = Pptt IsNoPackage
+condition rule.RsdpText = Set IsRsdpText
+condition rule.RootHeader = Slots IsRootHeader
+condition rule.DsdtText = FadtMemory IsDsdtText
+condition rule.S4BiosDiffers = FadtMemory IsS4BiosDiffers
+condition rule.SameCacheType = Pptt IsSameCacheType
 condition _ = Rows
 
 -- the condition holds in a set for these numbers

@@ -26,6 +26,18 @@ pub record IsNoText (text : List ℕ) : Type 0 where
 abbrev pub IsOddField : List ℕ → ℕ → Type 0
 IsOddField header offset = (size : ℕ) × IsTextField offset size × IsNoText (take size (drop offset header))
 
+-- the text of this size at an offset, `at`, has such a byte; `point` is the number there
+abbrev pub IsOddNumber : List ℕ → ℕ → ℕ → ℕ → ℕ → ℕ → Type 0
+IsOddNumber bytes offset size at other point =
+    (at ≡ offset) × (other ≡ 0) × (point ≡ field bytes offset size) × IsNoText (take size (drop offset bytes))
+
+-- one of the texts of a header behind its signature has such a byte
+abbrev pub IsOddOem : List ℕ → ℕ → ℕ → ℕ → Type 0
+IsOddOem header at other point =
+    IsOddNumber header 10 6 at other point
+    ⊎ IsOddNumber header 16 8 at other point
+    ⊎ IsOddNumber header 28 4 at other point
+
 -- the header at a is present, and has such a field at this offset
 abbrev pub IsOddText : Memory → ℕ → ℕ → Type 0
 IsOddText m a offset = (header : List ℕ) × (bytes_at m a 36 ≡ Some header) × IsOddField header offset

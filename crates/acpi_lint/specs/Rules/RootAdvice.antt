@@ -1,11 +1,34 @@
 -- Advice on the root tables that the RSDP names (ACPI 6.5, 5.2.7, 5.2.8).
-use Rattle.std.specs.Prelude.{◌≡◌, ◌≢◌, ℕ, ◌+◌, ◌*◌, ◌^◌, ◌≤◌, ◌==◌, ◌||◌, if◌then◌else◌, nat_le, List, length, Option, Some, None, option_map}
+use Rattle.std.specs.Prelude.{◌≡◌, ◌≢◌, ℕ, ◌+◌, ◌*◌, ◌^◌, ◌≤◌, ◌⊎◌, ◌==◌, ◌||◌, if◌then◌else◌, nat_le, List, length, Option, Some, None, option_map}
 use Rattle.std.specs.List.{filter_map, sum_by}
 use Rattle.acpi_base.specs.Entries.{AreUnused}
 use Rattle.acpi_base.specs.Listed.{slot_numbers}
 use Rattle.acpi_base.specs.Memory.{Memory, bytes_at}
 use Rattle.acpi_base.specs.Number.{field}
 use Rattle.acpi_base.specs.Root.{IsRoot, IsRootTable}
+use Rattle.acpi_lint.specs.Rules.HeaderAdvice.{IsOddOem}
+
+-- P of the bytes of the root table that the RSDP at p names, and of how many bytes a slot of it has
+pub record OfRoot (P : List ℕ → ℕ → ℕ → ℕ → ℕ → Type 0) (m : Memory) (p at other point : ℕ) : Type 0 where
+  pub r : ℕ
+  pub d : ℕ
+  pub whole : List ℕ
+  pub root : IsRoot m p r d
+  pub table : IsRootTable m r d whole
+  pub holds : P whole d at other point
+
+-- ---- the header
+
+-- the Revision, at 8, is not 1
+abbrev pub IsOtherRevision : List ℕ → ℕ → ℕ → ℕ → Type 0
+IsOtherRevision whole at other point = (at ≡ 8) × (other ≡ 0) × (point ≡ field whole 8 1) × (point ≢ 1)
+
+-- it is not, or a text of the header has a byte that is no text; `at` is the field's offset, `point` the number there
+abbrev pub IsOddRoot : List ℕ → ℕ → ℕ → ℕ → ℕ → Type 0
+IsOddRoot whole d at other point = IsOtherRevision whole at other point ⊎ IsOddOem whole at other point
+
+abbrev pub IsRootHeader : Memory → ℕ → ℕ → ℕ → ℕ → Type 0
+IsRootHeader = OfRoot IsOddRoot
 
 -- ---- slots that list nothing
 
@@ -15,13 +38,8 @@ IsNullIn whole d at other point =
     (36 + d * (at + 1) ≤ length whole) × (field whole (36 + d * at) d ≡ 0) × AreUnused other point
 
 -- a slot of the root table that the RSDP at p names is 0; `at` is the slot's number
-pub record IsNullSlot (m : Memory) (p at other point : ℕ) : Type 0 where
-  pub r : ℕ
-  pub d : ℕ
-  pub whole : List ℕ
-  pub root : IsRoot m p r d
-  pub table : IsRootTable m r d whole
-  pub null : IsNullIn whole d at other point
+abbrev pub IsNullSlot : Memory → ℕ → ℕ → ℕ → ℕ → Type 0
+IsNullSlot = OfRoot IsNullIn
 
 -- ---- an RSDT beside the XSDT
 

@@ -92,6 +92,39 @@ rule_row rule.LeafAsParent = (80, 181, codes "LeafAsParent")
 rule_row rule.NoPackage = (81, 182, codes "NoPackage")
 rule_row rule.CacheNumbers = (82, 183, codes "CacheNumbers")
 rule_row rule.PpttReserved = (83, 184, codes "PpttReserved")
+rule_row rule.RsdpText = (84, 279, codes "RsdpText")
+rule_row rule.RootHeader = (85, 280, codes "RootHeader")
+rule_row rule.DsdtText = (86, 281, codes "DsdtText")
+rule_row rule.FadtPastRevision = (87, 282, codes "FadtPastRevision")
+rule_row rule.ArmBootEarly = (88, 283, codes "ArmBootEarly")
+rule_row rule.FixedInReduced = (89, 284, codes "FixedInReduced")
+rule_row rule.SmiHandshake = (90, 285, codes "SmiHandshake")
+rule_row rule.S4BiosDiffers = (91, 286, codes "S4BiosDiffers")
+rule_row rule.GpePastEnd = (92, 287, codes "GpePastEnd")
+rule_row rule.BlockTooLong = (93, 288, codes "BlockTooLong")
+rule_row rule.BlockSpace = (94, 289, codes "BlockSpace")
+rule_row rule.BlockUsualWidth = (95, 290, codes "BlockUsualWidth")
+rule_row rule.SleepNotReduced = (96, 291, codes "SleepNotReduced")
+rule_row rule.FadtForRiscv = (97, 292, codes "FadtForRiscv")
+rule_row rule.GiccShort = (98, 293, codes "GiccShort")
+rule_row rule.GiccNoGicr = (99, 294, codes "GiccNoGicr")
+rule_row rule.CapableNoGicr = (100, 295, codes "CapableNoGicr")
+rule_row rule.GiccDiffers = (101, 296, codes "GiccDiffers")
+rule_row rule.SameGicrBase = (102, 297, codes "SameGicrBase")
+rule_row rule.ParkingVersion = (103, 298, codes "ParkingVersion")
+rule_row rule.GiccNoPpi = (104, 299, codes "GiccNoPpi")
+rule_row rule.PicVersion = (105, 300, codes "PicVersion")
+rule_row rule.FurtherReserved = (106, 301, codes "FurtherReserved")
+rule_row rule.HartInvalid = (107, 302, codes "HartInvalid")
+rule_row rule.WakeupMailbox = (108, 303, codes "WakeupMailbox")
+rule_row rule.LapicAtZero = (109, 304, codes "LapicAtZero")
+rule_row rule.MadtRevision = (110, 305, codes "MadtRevision")
+rule_row rule.AffinityReserved = (111, 306, codes "AffinityReserved")
+rule_row rule.DeviceHandle = (112, 307, codes "DeviceHandle")
+rule_row rule.ItsDomain = (113, 308, codes "ItsDomain")
+rule_row rule.PpttUnread = (114, 309, codes "PpttUnread")
+rule_row rule.CacheIdZero = (115, 310, codes "CacheIdZero")
+rule_row rule.SameCacheType = (116, 311, codes "SameCacheType")
 
 abbrev pub rule_place : Rule → ℕ
 rule_place r = (rule_row r).0
@@ -121,7 +154,13 @@ all_rules =
     rule.SameMsiFrame ∷ rule.GicOverlap ∷ rule.RedistributorTwice ∷ rule.NoBootMethod ∷ rule.SameHart ∷
     rule.MadtReserved ∷ rule.NoMemoryRange ∷ rule.EmptyRange ∷ rule.InitiatorOff ∷ rule.DomainPastRevision ∷
     rule.ItsNowhere ∷ rule.SratReserved ∷ rule.RemoteAsLocal ∷ rule.LeafUnflagged ∷ rule.LeafAsParent ∷
-    rule.NoPackage ∷ rule.CacheNumbers ∷ rule.PpttReserved ∷ []
+    rule.NoPackage ∷ rule.CacheNumbers ∷ rule.PpttReserved ∷ rule.RsdpText ∷ rule.RootHeader ∷ rule.DsdtText ∷
+    rule.FadtPastRevision ∷ rule.ArmBootEarly ∷ rule.FixedInReduced ∷ rule.SmiHandshake ∷ rule.S4BiosDiffers ∷
+    rule.GpePastEnd ∷ rule.BlockTooLong ∷ rule.BlockSpace ∷ rule.BlockUsualWidth ∷ rule.SleepNotReduced ∷
+    rule.FadtForRiscv ∷ rule.GiccShort ∷ rule.GiccNoGicr ∷ rule.CapableNoGicr ∷ rule.GiccDiffers ∷
+    rule.SameGicrBase ∷ rule.ParkingVersion ∷ rule.GiccNoPpi ∷ rule.PicVersion ∷ rule.FurtherReserved ∷
+    rule.HartInvalid ∷ rule.WakeupMailbox ∷ rule.LapicAtZero ∷ rule.MadtRevision ∷ rule.AffinityReserved ∷
+    rule.DeviceHandle ∷ rule.ItsDomain ∷ rule.PpttUnread ∷ rule.CacheIdZero ∷ rule.SameCacheType ∷ []
 
 -- the rule with this number
 unfoldable pub rule_numbered : ℕ → Option Rule

@@ -4,6 +4,7 @@ use Rattle.acpi_base.specs.Frames.{frame_length}
 use Rattle.acpi_base.specs.Memory.{Memory, bytes_at}
 use Rattle.acpi_base.specs.Rsdp.{IsExtended, extended_frame, revision_of}
 use Rattle.acpi_lint.specs.Rules.FixedFields.{IsUsed}
+use Rattle.acpi_lint.specs.Rules.HeaderAdvice.{IsOddNumber}
 
 -- the Revision is neither 0 nor 2
 abbrev pub IsOddRevision : Memory → ℕ → ℕ → ℕ → ℕ → Type 0
@@ -30,3 +31,7 @@ IsOddExtended m p at other point =
 -- the Revision is neither 0 nor 2, or the extended form is longer than 36 bytes or has a reserved byte that is not 0
 abbrev pub IsRsdpReserved : Memory → ℕ → ℕ → ℕ → ℕ → Type 0
 IsRsdpReserved m p at other point = IsOddRevision m p at other point ⊎ IsOddExtended m p at other point
+
+-- the OEM ID has a byte that is no text; its first 20 bytes are present
+abbrev pub IsRsdpText : Memory → ℕ → ℕ → ℕ → ℕ → Type 0
+IsRsdpText m p at other point = (head : List ℕ) × (bytes_at m p 20 ≡ Some head) × IsOddNumber head 9 6 at other point

@@ -234,8 +234,128 @@ pub static FADT: [Row<'static>; 14] = [
     }),
 ];
 
+/// Further rules on the FADT: on its Revision, and on blocks and registers that the hardware or the standard does not have.
+pub static FADT_FURTHER: [Row<'static>; 9] = [
+    // 282 FadtPastRevision, look at it (5.2.9): the FADT is longer than one of its Revision, or has the Revision 0.
+    // Numbers: for the length `at` is 0x4, the offset of Length, `other` is the length that a FADT of this Revision has,
+    // `point` is Length. For Revision 0 `at` is 0x8, the offset of Revision.
+    // If `at` is 0x8: "The FADT's Revision, at {at}, is 0."
+    // "The FADT's Length, at {at}, is {point:d}, and a FADT of its Revision has at most {other:d} bytes."
+    rule!(282 FadtPastRevision, given in TABLE: {
+        WHOLE if REVISION == 1 && (length own) > 116 => at 4 shows 116, (length own);
+        WHOLE if REVISION == 2 && (length own) > 132 => at 4 shows 132, (length own);
+        WHOLE if REVISION >= 3 && REVISION <= 4 && (length own) > 244 => at 4 shows 244, (length own);
+        WHOLE if REVISION == 5 && (length own) > 268 => at 4 shows 268, (length own);
+        WHOLE if REVISION >= 6 && (length own) > 276 => at 4 shows 276, (length own);
+        WHOLE if REVISION == 0 => at 8 shows 0, 0
+    }),
+    // 283 ArmBootEarly, look at it (5.2.9): ARM_BOOT_ARCH is not 0 in a FADT older than 5.1, which does not have it.
+    // Numbers: `at` is 0x81 (129), the offset of ARM_BOOT_ARCH, `point` is ARM_BOOT_ARCH.
+    // "ARM_BOOT_ARCH, at {at} of the FADT, is {point}, and the FADT is older than 5.1, which added it."
+    // The lower 4 bits of the byte at 131 are the minor version, 0 if it is not there.
+    rule!(283 ArmBootEarly, given in TABLE: {
+        WHOLE if ((MINOR_VERSION & 0xf) + 16 * REVISION) < 0x51 && ARM_BOOT_ARCH != 0
+            => at 129 shows 0, ARM_BOOT_ARCH;
+        WHOLE if (length own) < 132 && REVISION <= 5 && ARM_BOOT_ARCH != 0
+            => at 129 shows 0, ARM_BOOT_ARCH
+    }),
+    // 284 FixedInReduced, look at it (5.2.9): the hardware is reduced, and SMI_CMD or a register block has an address.
+    // Numbers: `at` is the offset of the address, `point` is the address.
+    // "The hardware is reduced, and the address at {at} of the FADT is {point}, not 0."
+    rule!(284 FixedInReduced, given in TABLE where REDUCED: {
+        WHOLE if SMI_CMD != 0 => at 48 shows 0, SMI_CMD;
+        WHOLE if PM1A_EVT_BLK != 0 => at 56 shows 0, PM1A_EVT_BLK;
+        WHOLE if PM1B_EVT_BLK != 0 => at 60 shows 0, PM1B_EVT_BLK;
+        WHOLE if PM1A_CNT_BLK != 0 => at 64 shows 0, PM1A_CNT_BLK;
+        WHOLE if PM1B_CNT_BLK != 0 => at 68 shows 0, PM1B_CNT_BLK;
+        WHOLE if PM2_CNT_BLK != 0 => at 72 shows 0, PM2_CNT_BLK;
+        WHOLE if PM_TMR_BLK != 0 => at 76 shows 0, PM_TMR_BLK;
+        WHOLE if GPE0_BLK != 0 => at 80 shows 0, GPE0_BLK;
+        WHOLE if GPE1_BLK != 0 => at 84 shows 0, GPE1_BLK;
+        WHOLE if X_PM1A_EVT_ADDRESS != 0 => at 152 shows 0, X_PM1A_EVT_ADDRESS;
+        WHOLE if X_PM1B_EVT_ADDRESS != 0 => at 164 shows 0, X_PM1B_EVT_ADDRESS;
+        WHOLE if X_PM1A_CNT_ADDRESS != 0 => at 176 shows 0, X_PM1A_CNT_ADDRESS;
+        WHOLE if X_PM1B_CNT_ADDRESS != 0 => at 188 shows 0, X_PM1B_CNT_ADDRESS;
+        WHOLE if X_PM2_CNT_ADDRESS != 0 => at 200 shows 0, X_PM2_CNT_ADDRESS;
+        WHOLE if X_PM_TMR_ADDRESS != 0 => at 212 shows 0, X_PM_TMR_ADDRESS;
+        WHOLE if X_GPE0_ADDRESS != 0 => at 224 shows 0, X_GPE0_ADDRESS;
+        WHOLE if X_GPE1_ADDRESS != 0 => at 236 shows 0, X_GPE1_ADDRESS
+    }),
+    // 285 SmiHandshake, look at it (5.2.9): SMI_CMD is there, and one of ACPI_ENABLE and ACPI_DISABLE is 0.
+    // Numbers: `at` is the offset of the one that is 0, 0x34 (52) or 0x35 (53).
+    // If `at` is 0x34: "ACPI_ENABLE, at {at} of the FADT, is 0, and SMI_CMD and ACPI_DISABLE are not."
+    // "ACPI_DISABLE, at {at} of the FADT, is 0, and SMI_CMD and ACPI_ENABLE are not."
+    rule!(285 SmiHandshake, given in TABLE where NOT_REDUCED: {
+        WHOLE if SMI_CMD != 0 && ACPI_ENABLE == 0 && ACPI_DISABLE != 0 => at 52 shows 0, 0;
+        WHOLE if SMI_CMD != 0 && ACPI_DISABLE == 0 && ACPI_ENABLE != 0 => at 53 shows 0, 0
+    }),
+    // 287 GpePastEnd, likely wrong (5.6.4.1): a GPE block has events above 255, for which there are no methods.
+    // Numbers: for GPE0 `at` is 0x5c (92), the offset of GPE0_BLK_LEN, `point` is GPE0_BLK_LEN. For GPE1 `at` is 0x5e
+    // (94), the offset of GPE1_BASE, `point` is GPE1_BASE.
+    // If `at` is 0x5c: "GPE0_BLK_LEN, at {at} of the FADT, is {point:d}, which gives events above 255."
+    // "GPE1_BASE, at {at} of the FADT, is {point:d}, which with GPE1_BLK_LEN gives events above 255."
+    // A block has 8 events for each byte of half its length.
+    rule!(287 GpePastEnd, given in TABLE where NOT_REDUCED: {
+        WHOLE if GPE0_BLK != 0 && GPE0_BLK_LEN > 64 => at 92 shows 0, GPE0_BLK_LEN;
+        WHOLE if X_GPE0_ADDRESS != 0 && GPE0_BLK_LEN > 64 => at 92 shows 0, GPE0_BLK_LEN;
+        WHOLE if GPE1_BLK != 0 && (GPE1_BASE + 4 * GPE1_BLK_LEN) > 256 => at 94 shows 0, GPE1_BASE;
+        WHOLE if X_GPE1_ADDRESS != 0 && (GPE1_BASE + 4 * GPE1_BLK_LEN) > 256 => at 94 shows 0, GPE1_BASE
+    }),
+    // 288 BlockTooLong, likely wrong (5.2.9, 5.2.3.2): a register block is longer than a generic address
+    // structure can describe.
+    // Numbers: `at` is the offset of the length byte, `point` is the length.
+    // "The length byte at {at} of the FADT, of a register block, is {point:d}, above 31."
+    // Looked at are blocks that only the 4-byte field gives, but for GPE0 and GPE1.
+    rule!(288 BlockTooLong, given in TABLE where NOT_REDUCED: {
+        WHOLE if PM1A_EVT_BLK != 0 && X_PM1A_EVT_ADDRESS == 0 && PM1_EVT_LEN > 31 => at 88 shows 0, PM1_EVT_LEN;
+        WHOLE if PM1A_EVT_BLK != 0 && (length own) < 160 && PM1_EVT_LEN > 31 => at 88 shows 0, PM1_EVT_LEN;
+        WHOLE if PM1B_EVT_BLK != 0 && X_PM1B_EVT_ADDRESS == 0 && PM1_EVT_LEN > 31 => at 88 shows 0, PM1_EVT_LEN;
+        WHOLE if PM1B_EVT_BLK != 0 && (length own) < 172 && PM1_EVT_LEN > 31 => at 88 shows 0, PM1_EVT_LEN;
+        WHOLE if PM1A_CNT_BLK != 0 && X_PM1A_CNT_ADDRESS == 0 && PM1_CNT_LEN > 31 => at 89 shows 0, PM1_CNT_LEN;
+        WHOLE if PM1A_CNT_BLK != 0 && (length own) < 184 && PM1_CNT_LEN > 31 => at 89 shows 0, PM1_CNT_LEN;
+        WHOLE if PM1B_CNT_BLK != 0 && X_PM1B_CNT_ADDRESS == 0 && PM1_CNT_LEN > 31 => at 89 shows 0, PM1_CNT_LEN;
+        WHOLE if PM1B_CNT_BLK != 0 && (length own) < 196 && PM1_CNT_LEN > 31 => at 89 shows 0, PM1_CNT_LEN;
+        WHOLE if PM2_CNT_BLK != 0 && X_PM2_CNT_ADDRESS == 0 && PM2_CNT_LEN > 31 => at 90 shows 0, PM2_CNT_LEN;
+        WHOLE if PM2_CNT_BLK != 0 && (length own) < 208 && PM2_CNT_LEN > 31 => at 90 shows 0, PM2_CNT_LEN;
+        WHOLE if PM_TMR_BLK != 0 && X_PM_TMR_ADDRESS == 0 && PM_TMR_LEN > 31 => at 91 shows 0, PM_TMR_LEN;
+        WHOLE if PM_TMR_BLK != 0 && (length own) < 220 && PM_TMR_LEN > 31 => at 91 shows 0, PM_TMR_LEN
+    }),
+    // 289 BlockSpace, likely wrong (5.2.9): a register block is neither in memory nor in I/O ports.
+    // Numbers: `at` is the offset of the X_ structure, which begins with its address space, `point` is this space.
+    // "The X_ structure at {at} of the FADT has the address space {point}, neither memory nor I/O ports."
+    rule!(289 BlockSpace, given in TABLE where NOT_REDUCED: {
+        WHOLE if X_PM1A_EVT_ADDRESS != 0 && X_PM1A_EVT_SPACE > 1 => at 148 shows 0, X_PM1A_EVT_SPACE;
+        WHOLE if X_PM1B_EVT_ADDRESS != 0 && X_PM1B_EVT_SPACE > 1 => at 160 shows 0, X_PM1B_EVT_SPACE;
+        WHOLE if X_PM1A_CNT_ADDRESS != 0 && X_PM1A_CNT_SPACE > 1 => at 172 shows 0, X_PM1A_CNT_SPACE;
+        WHOLE if X_PM1B_CNT_ADDRESS != 0 && X_PM1B_CNT_SPACE > 1 => at 184 shows 0, X_PM1B_CNT_SPACE;
+        WHOLE if X_PM2_CNT_ADDRESS != 0 && X_PM2_CNT_SPACE > 1 => at 196 shows 0, X_PM2_CNT_SPACE;
+        WHOLE if X_PM_TMR_ADDRESS != 0 && X_PM_TMR_SPACE > 1 => at 208 shows 0, X_PM_TMR_SPACE;
+        WHOLE if X_GPE0_ADDRESS != 0 && X_GPE0_SPACE > 1 => at 220 shows 0, X_GPE0_SPACE;
+        WHOLE if X_GPE1_ADDRESS != 0 && X_GPE1_SPACE > 1 => at 232 shows 0, X_GPE1_SPACE
+    }),
+    // 290 BlockUsualWidth, likely wrong (4.8.3): a register block has another width than the usual one.
+    // Numbers: `at` is the offset of the width in the X_ structure, `point` is the width, in bits.
+    // "The bit width at {at} of the FADT, of a register block, is {point:d}, not the usual one."
+    // Usual are 32 bits for PM1a_EVT, PM1b_EVT and PM_TMR, 16 for PM1a_CNT and PM1b_CNT, and 8 for PM2_CNT.
+    rule!(290 BlockUsualWidth, given in TABLE where NOT_REDUCED: {
+        WHOLE if X_PM1A_EVT_ADDRESS != 0 && X_PM1A_EVT_WIDTH != 32 => at 149 shows 0, X_PM1A_EVT_WIDTH;
+        WHOLE if X_PM1B_EVT_ADDRESS != 0 && X_PM1B_EVT_WIDTH != 32 => at 161 shows 0, X_PM1B_EVT_WIDTH;
+        WHOLE if X_PM1A_CNT_ADDRESS != 0 && X_PM1A_CNT_WIDTH != 16 => at 173 shows 0, X_PM1A_CNT_WIDTH;
+        WHOLE if X_PM1B_CNT_ADDRESS != 0 && X_PM1B_CNT_WIDTH != 16 => at 185 shows 0, X_PM1B_CNT_WIDTH;
+        WHOLE if X_PM2_CNT_ADDRESS != 0 && X_PM2_CNT_WIDTH != 8 => at 197 shows 0, X_PM2_CNT_WIDTH;
+        WHOLE if X_PM_TMR_ADDRESS != 0 && X_PM_TMR_WIDTH != 32 => at 209 shows 0, X_PM_TMR_WIDTH
+    }),
+    // 291 SleepNotReduced, look at it (5.2.9): a sleep register has an address, and the hardware is not reduced.
+    // Numbers: `at` is the offset of the address, `point` is the address.
+    // "The hardware is not reduced, and the address at {at} of the FADT, of a sleep register, is {point}, not 0."
+    rule!(291 SleepNotReduced, given in TABLE where NOT_REDUCED: {
+        WHOLE if SLEEP_CONTROL_ADDRESS != 0 => at 248 shows 0, SLEEP_CONTROL_ADDRESS;
+        WHOLE if SLEEP_STATUS_ADDRESS != 0 => at 260 shows 0, SLEEP_STATUS_ADDRESS
+    }),
+];
+
 /// Rules on the FADT with the MADT.
-pub static FADT_WITH_MADT: [Row<'static>; 3] = [
+pub static FADT_WITH_MADT: [Row<'static>; 4] = [
     // 143 FadtForArch, likely wrong (5.2.9): the MADT is of Arm or RISC-V, and the FADT is not of reduced hardware or
     // is too old.
     // Numbers: for HW_REDUCED_ACPI `at` is 0x70 (112), the offset of Flags. For the version `at` is 0x8, the offset of
@@ -267,5 +387,13 @@ pub static FADT_WITH_MADT: [Row<'static>; 3] = [
         OTHER_MADT_WHOLE, OTHER_MADT_LENGTHS:
     {
         WHOLE if (ARM_BOOT_ARCH & 0b1) == 0 => at 129 shows 0, ARM_BOOT_ARCH
+    }),
+    // 292 FadtForRiscv, likely wrong (5.2.9): the MADT is of RISC-V, and the FADT is older than 6.6.
+    // Numbers: `at` is 0x8, the offset of Revision, `other` is Revision, `point` is the minor version.
+    // "The MADT is of RISC-V, and the FADT, of version {other:d}.{point:d}, is older than 6.6."
+    rule!(292 FadtForRiscv, given in TABLE where (some other MADT_ENTRIES: { (any RINTC) }): {
+        WHOLE if ((MINOR_VERSION & 0xf) + 16 * REVISION) < 0x66
+            => at 8 shows REVISION, (MINOR_VERSION & 0xf);
+        WHOLE if (length own) < 132 && REVISION <= 6 => at 8 shows REVISION, 0
     }),
 ];

@@ -11,7 +11,7 @@ use crate::rows::srat::{
     OTHER_SRAT_LENGTHS, OTHER_SRAT_WHOLE, PLACED_APIC_IDS, PLACED_PROCESSORS, PLACED_UIDS,
 };
 use crate::rows::srat_fields::SRAT_ENTRIES;
-use crate::rows::table_fields::{REVISION, TABLE, TYPE, WHOLE};
+use crate::rows::table_fields::*;
 use acpi_rules::{
     Case, Clause, Form, Guard, Kind, LookUp, Need, Path, Range, Repeat, Row, Source, Term, Test,
     Value, Within,
@@ -192,11 +192,19 @@ pub static MADT: [Row<'static>; 18] = [
         (any MSI_FRAME) if (length own) != 24 => at 0 shows TYPE, 0;
         (any GICR) if (length own) != 16 => at 0 shows TYPE, 0;
         (any ITS) if (length own) != 20 => at 0 shows TYPE, 0;
-        UNREAD_16 => at 0 shows TYPE, 0;
+        (any WAKEUP) if (length own) != 16 && (length own) != 24 => at 0 shows TYPE, 0;
         (any CORE_PIC) if (length own) != 15 => at 0 shows TYPE, 0;
-        UNREAD_18_TO_23 => at 0 shows TYPE, 0;
+        (any LIO_PIC) if (length own) != 23 => at 0 shows TYPE, 0;
+        (any HT_PIC) if (length own) != 21 => at 0 shows TYPE, 0;
+        (any EIO_PIC) if (length own) != 13 => at 0 shows TYPE, 0;
+        (any MSI_PIC) if (length own) != 19 => at 0 shows TYPE, 0;
+        (any BIO_PIC) if (length own) != 17 => at 0 shows TYPE, 0;
+        (any LPC_PIC) if (length own) != 14 => at 0 shows TYPE, 0;
         (any RINTC) if (length own) < 20 => at 0 shows TYPE, 0;
-        UNREAD_FROM_25 => at 0 shows TYPE, 0
+        (any IMSIC) if (length own) != 16 => at 0 shows TYPE, 0;
+        (any APLIC) if (length own) != 36 => at 0 shows TYPE, 0;
+        (any PLIC) if (length own) != 36 => at 0 shows TYPE, 0;
+        UNREAD_FROM_28 => at 0 shows TYPE, 0
     }),
     // 150 X2ApicBelow255, likely wrong (5.2.12.12): a usable local x2APIC and a usable local APIC both have an ID below
     // 255.
@@ -281,29 +289,125 @@ pub static MADT: [Row<'static>; 18] = [
     // a flag of an entry that is not defined, or a reserved byte; `other` is its offset in the entry
     rule!(172 MadtReserved, given in MADT_ENTRIES: {
         LOCAL_APIC if LOCAL_APIC_FLAGS > 0b11 => at 0 shows 4, 0;
-        IO_APIC if IO_APIC_RESERVED != 0 => at 0 shows 3, 0;
+        IO_APIC if RESERVED_3 != 0 => at 0 shows 3, 0;
         OVERRIDE if OVERRIDE_FLAGS > 0b1111 => at 0 shows 8, 0;
         NMI_SOURCE if NMI_SOURCE_FLAGS > 0b1111 => at 0 shows 2, 0;
         LOCAL_NMI if LOCAL_NMI_FLAGS > 0b1111 => at 0 shows 3, 0;
-        ADDRESS_OVERRIDE if ADDRESS_OVERRIDE_RESERVED != 0 => at 0 shows 2, 0;
-        ADDRESS_OVERRIDE if ADDRESS_OVERRIDE_RESERVED_1 != 0 => at 0 shows 3, 0;
-        X2APIC if X2APIC_RESERVED != 0 => at 0 shows 2, 0;
-        X2APIC if X2APIC_RESERVED_1 != 0 => at 0 shows 3, 0;
+        ADDRESS_OVERRIDE if RESERVED_2 != 0 => at 0 shows 2, 0;
+        ADDRESS_OVERRIDE if RESERVED_3 != 0 => at 0 shows 3, 0;
+        X2APIC if RESERVED_2 != 0 => at 0 shows 2, 0;
+        X2APIC if RESERVED_3 != 0 => at 0 shows 3, 0;
         X2APIC if X2APIC_FLAGS > 0b11 => at 0 shows 8, 0;
         X2APIC_NMI if X2APIC_NMI_FLAGS > 0b1111 => at 0 shows 2, 0;
-        X2APIC_NMI if X2APIC_NMI_RESERVED != 0 => at 0 shows 9, 0;
-        X2APIC_NMI if X2APIC_NMI_RESERVED_1 != 0 => at 0 shows 10, 0;
-        X2APIC_NMI if X2APIC_NMI_RESERVED_2 != 0 => at 0 shows 11, 0;
-        GICD if GICD_RESERVED != 0 => at 0 shows 16, 0;
-        GICD if GICD_RESERVED_1 != 0 => at 0 shows 17, 0;
-        GICD if GICD_RESERVED_2 != 0 => at 0 shows 18, 0;
-        GICD if GICD_RESERVED_3 != 0 => at 0 shows 19, 0;
+        X2APIC_NMI if RESERVED_9 != 0 => at 0 shows 9, 0;
+        X2APIC_NMI if RESERVED_10 != 0 => at 0 shows 10, 0;
+        X2APIC_NMI if RESERVED_11 != 0 => at 0 shows 11, 0;
+        GICD if RESERVED_16 != 0 => at 0 shows 16, 0;
+        GICD if RESERVED_17 != 0 => at 0 shows 17, 0;
+        GICD if RESERVED_18 != 0 => at 0 shows 18, 0;
+        GICD if RESERVED_19 != 0 => at 0 shows 19, 0;
         GICD if GICD_VERSION > 4 => at 0 shows 20, 0
     }),
 ];
 
+/// Further rules on the MADT: on a wakeup structure, on structures of LoongArch and RISC-V, and on what the structures of a
+/// GIC and of these reserve.
+pub static MADT_FURTHER: [Row<'static>; 7] = [
+    // 300 PicVersion, look at it (5.2.12.20 to 5.2.12.26): a structure of LoongArch or RISC-V has a version that is not 1.
+    // Numbers: `at` is the structure's offset, `other` is 0x2, the offset of the version in it, `point` is the version.
+    // "The structure at {at} of the MADT has the version {point:d}, not 1."
+    rule!(300 PicVersion, given in MADT_ENTRIES: {
+        CORE_PIC if PIC_VERSION != 1 => at 0 shows 2, PIC_VERSION;
+        LIO_PIC if PIC_VERSION != 1 => at 0 shows 2, PIC_VERSION;
+        HT_PIC if PIC_VERSION != 1 => at 0 shows 2, PIC_VERSION;
+        EIO_PIC if PIC_VERSION != 1 => at 0 shows 2, PIC_VERSION;
+        MSI_PIC if PIC_VERSION != 1 => at 0 shows 2, PIC_VERSION;
+        BIO_PIC if PIC_VERSION != 1 => at 0 shows 2, PIC_VERSION;
+        LPC_PIC if PIC_VERSION != 1 => at 0 shows 2, PIC_VERSION;
+        RINTC if PIC_VERSION != 1 => at 0 shows 2, PIC_VERSION;
+        IMSIC if PIC_VERSION != 1 => at 0 shows 2, PIC_VERSION;
+        APLIC if PIC_VERSION != 1 => at 0 shows 2, PIC_VERSION;
+        PLIC if PIC_VERSION != 1 => at 0 shows 2, PIC_VERSION
+    }),
+    // 301 FurtherReserved, look at it (5.2.12.14 to 5.2.12.20): a structure of a GIC, of LoongArch or of RISC-V has a
+    // reserved value.
+    // Numbers: `at` is the structure's offset, `other` the offset in it of the first field or byte that is wrong, `point`
+    // is the value there.
+    // "The structure at {at} of the MADT has the reserved value {point} at its offset {other:d}."
+    rule!(301 FurtherReserved, given in MADT_ENTRIES: {
+        GICC if RESERVED_2 != 0 => at 0 shows 2, RESERVED_2;
+        GICC if RESERVED_3 != 0 => at 0 shows 3, RESERVED_3;
+        GICC if GICC_FLAGS > 0b1_1111 => at 0 shows 12, GICC_FLAGS;
+        GICC if RESERVED_77 != 0 => at 0 shows 77, RESERVED_77;
+        GICD if RESERVED_2 != 0 => at 0 shows 2, RESERVED_2;
+        GICD if RESERVED_3 != 0 => at 0 shows 3, RESERVED_3;
+        GICD if RESERVED_21 != 0 => at 0 shows 21, RESERVED_21;
+        GICD if RESERVED_22 != 0 => at 0 shows 22, RESERVED_22;
+        GICD if RESERVED_23 != 0 => at 0 shows 23, RESERVED_23;
+        MSI_FRAME if RESERVED_2 != 0 => at 0 shows 2, RESERVED_2;
+        MSI_FRAME if RESERVED_3 != 0 => at 0 shows 3, RESERVED_3;
+        MSI_FRAME if MSI_FRAME_FLAGS > 0b1 => at 0 shows 16, MSI_FRAME_FLAGS;
+        GICR if GICR_FLAGS > 0b1 => at 0 shows 2, GICR_FLAGS;
+        GICR if RESERVED_3 != 0 => at 0 shows 3, RESERVED_3;
+        ITS if ITS_FLAGS > 0b1 => at 0 shows 2, ITS_FLAGS;
+        ITS if RESERVED_3 != 0 => at 0 shows 3, RESERVED_3;
+        ITS if RESERVED_16 != 0 => at 0 shows 16, RESERVED_16;
+        ITS if RESERVED_17 != 0 => at 0 shows 17, RESERVED_17;
+        ITS if RESERVED_18 != 0 => at 0 shows 18, RESERVED_18;
+        ITS if RESERVED_19 != 0 => at 0 shows 19, RESERVED_19;
+        CORE_PIC if CORE_PIC_FLAGS > 0b1 => at 0 shows 11, CORE_PIC_FLAGS;
+        RINTC if RESERVED_3 != 0 => at 0 shows 3, RESERVED_3;
+        RINTC if RINTC_FLAGS > 0b11 => at 0 shows 4, RINTC_FLAGS;
+        IMSIC if RESERVED_3 != 0 => at 0 shows 3, RESERVED_3;
+        IMSIC if IMSIC_RESERVED != 0 => at 0 shows 4, IMSIC_RESERVED
+    }),
+    // 302 HartInvalid, likely wrong: a usable hart has an ID of all ones, which no hart has.
+    // Numbers: `at` is the structure's offset, `other` is 0x8, the offset of the ID in it, `point` is the ID.
+    // "The usable hart at {at} of the MADT has the ID {point}, which no hart has."
+    rule!(302 HartInvalid, given in MADT_ENTRIES: {
+        RINTC if (RINTC_FLAGS & 0b11) != 0 && RINTC_HART_ID == 0xffff_ffff_ffff_ffff
+            => at 0 shows 8, RINTC_HART_ID
+    }),
+    // 303 WakeupMailbox, likely wrong (5.2.12.19): a Multiprocessor Wakeup structure is not of the length of its version,
+    // or has a wrong version, reserved bytes or address.
+    // Numbers: `at` is the structure's offset. For its length `other` is the length of its version, `point` is its length.
+    // Otherwise `other` is the offset in it of the field that is wrong, `point` is the value there.
+    // If `other` is 0x2: "The wakeup structure at {at} of the MADT has the mailbox version {point:d}, above 1."
+    // If `other` is 0x4: "The wakeup structure at {at} of the MADT has the reserved value {point} at its offset
+    // {other:d}."
+    // If `other` is 0x8: "The wakeup structure at {at} of the MADT has the mailbox address {point}, which is 0 or no
+    // multiple of 4096."
+    // "The wakeup structure at {at} of the MADT has {point:d} bytes, and one of its version has {other:d}."
+    rule!(303 WakeupMailbox, given in MADT_ENTRIES: {
+        (any WAKEUP) if WAKEUP_VERSION > 1 => at 0 shows 2, WAKEUP_VERSION;
+        (any WAKEUP) if WAKEUP_RESERVED != 0 => at 0 shows 4, WAKEUP_RESERVED;
+        (any WAKEUP) if WAKEUP_MAILBOX == 0 => at 0 shows 8, WAKEUP_MAILBOX;
+        (any WAKEUP) if (WAKEUP_MAILBOX & 0xfff) != 0 => at 0 shows 8, WAKEUP_MAILBOX;
+        (any WAKEUP) if WAKEUP_VERSION == 0 && (length own) != 16 => at 0 shows 16, (length own);
+        (any WAKEUP) if WAKEUP_VERSION == 1 && (length own) != 24 => at 0 shows 24, (length own);
+        (any WAKEUP) if (length own) < 4 => at 0 shows 16, (length own)
+    }),
+    // 304 LapicAtZero, likely wrong (5.2.12.8): a Local APIC Address Override has the address 0.
+    // Numbers: `at` is the structure's offset, `other` is 0x4, the offset of the address in it.
+    // "The Local APIC Address Override at {at} of the MADT has the address 0."
+    rule!(304 LapicAtZero, given in MADT_ENTRIES: {
+        ADDRESS_OVERRIDE if ADDRESS_OVERRIDE_ADDRESS == 0 => at 0 shows 4, 0
+    }),
+    // 305 MadtRevision, look at it (5.2.12): the MADT has structures that its Revision does not have.
+    // Numbers: `at` is 0x8, the offset of Revision, `point` is Revision.
+    // "The MADT's Revision, at {at}, is {point:d}, and it has structures of a later one."
+    // This row: structures that Revision 3 added, the x2APIC and the GIC.
+    rule!(305 MadtRevision, given in TABLE where (some table MADT_ENTRIES: { SINCE_REVISION_3 }): {
+        WHOLE if REVISION < 3 => at 8 shows 0, REVISION
+    }),
+    // those that Revision 6 added, of RISC-V
+    rule!(305 MadtRevision, given in TABLE where (some table MADT_ENTRIES: { SINCE_REVISION_6 }): {
+        WHOLE if REVISION < 6 => at 8 shows 0, REVISION
+    }),
+];
+
 /// Rules on the parts of a GIC in it (5.2.12.14 to 5.2.12.18).
-pub static GIC: [Row<'static>; 11] = [
+pub static GIC: [Row<'static>; 22] = [
     // 115 SecondGicd, likely wrong (5.2.12.15): there is a second GIC Distributor.
     // Numbers: `at` is the structure's offset, `other` that of the first one.
     // "The GIC Distributor at {at} of the MADT is not the only one: the first is at {other}."
@@ -396,6 +500,101 @@ pub static GIC: [Row<'static>; 11] = [
     // The processor is usable.
     rule!(169 RedistributorTwice, somewhere in MADT_ENTRIES: OWN_REDISTRIBUTORS among table MADT_ENTRIES {
         GICR => at 0 shows 0, 0
+    }),
+    // 293 GiccShort, likely wrong (5.2.12.14): a GIC CPU interface has fewer than the 76 bytes of ACPI 5.1.
+    // Numbers: `at` is the structure's offset, `other` is 0x4c (76), `point` is its length.
+    // "The GIC CPU interface at {at} of the MADT has {point:d} bytes, and needs {other:d}."
+    rule!(293 GiccShort, given in MADT_ENTRIES: {
+        GICC if (length own) < 76 => at 0 shows 76, (length own)
+    }),
+    // 294 GiccNoGicr, likely wrong (5.2.12.14): an enabled processor names no redistributor, and others do.
+    // Numbers: `at` is the structure's offset, `other` is 0x3c (60), the offset of the GICR Base Address in it.
+    // "The enabled processor at {at} of the MADT names no redistributor, and another one does."
+    // There is no range of redistributors, and the GIC has version 3 or 4.
+    rule!(294 GiccNoGicr, given in MADT_ENTRIES where
+        HAS_REDISTRIBUTORS,
+        (none table MADT_ENTRIES: { (any GICR) }),
+        (some table MADT_ENTRIES: OWN_REDISTRIBUTORS),
+        MADT_WHOLE, MADT_LENGTHS:
+    {
+        GICC if (GICC_FLAGS & 0b1) != 0 && GICC_GICR_BASE == 0 => at 0 shows 60, 0
+    }),
+    // 295 CapableNoGicr, likely wrong (5.2.12.14): a processor is Online Capable, and there is no range of redistributors.
+    // Numbers: `at` is the structure's offset, `other` is 0xc (12), the offset of Flags in it, `point` is Flags.
+    // "The processor at {at} of the MADT, with the Flags {point}, is Online Capable and not Enabled, and there is no range
+    // of redistributors."
+    // It is not Enabled, and the GIC has version 3 or 4.
+    rule!(295 CapableNoGicr, given in MADT_ENTRIES where
+        HAS_REDISTRIBUTORS,
+        (none table MADT_ENTRIES: { (any GICR) }),
+        MADT_WHOLE, MADT_LENGTHS:
+    {
+        GICC if (GICC_FLAGS & 0b1001) == 0b1000 => at 0 shows 12, GICC_FLAGS
+    }),
+    // 296 GiccDiffers, likely wrong (5.2.12.14): the virtual interface, the maintenance interrupt or the mode of a usable
+    // processor is not that of the first one.
+    // Numbers: `at` is the structure's offset, `other` the offset in it of the field that differs: 0xc (12) for the mode, bit 2
+    // of Flags, 0x28 (40) for GICV, 0x30 (48) for GICH, 0x38 (56) for the maintenance interrupt; `point` is the field.
+    // If `other` is 0xc: "The usable processor at {at} of the MADT, with the Flags {point}, has another mode of the
+    // maintenance interrupt than the first one."
+    // "The usable processor at {at} of the MADT has {point} at its offset {other:d}, and the first one differs there."
+    // Both have at least the 60 bytes up to this interrupt. This row: GICV.
+    rule!(296 GiccDiffers, unlike_number in MADT_ENTRIES: {
+        GICC_WITH_GICV if (GICC_FLAGS & 0b1001) != 0 => at 0 shows GICC_GICV_BASE, 40
+    }),
+    // GICH
+    rule!(296 GiccDiffers, unlike_number in MADT_ENTRIES: {
+        GICC_WITH_GICV if (GICC_FLAGS & 0b1001) != 0 => at 0 shows GICC_GICH_BASE, 48
+    }),
+    // the maintenance interrupt
+    rule!(296 GiccDiffers, unlike_number in MADT_ENTRIES: {
+        GICC_WITH_GICV if (GICC_FLAGS & 0b1001) != 0 => at 0 shows GICC_MAINTENANCE, 56
+    }),
+    // edge-triggered, where the first one is level-triggered
+    rule!(296 GiccDiffers, given in MADT_ENTRIES where (first table MADT_ENTRIES: {
+        GICC_WITH_GICV if (GICC_FLAGS & 0b1001) != 0 && (GICC_FLAGS & 0b100) == 0 => at 0 shows 0, 1;
+        GICC_WITH_GICV if (GICC_FLAGS & 0b1001) != 0 => at 0 shows 0, 0
+    }): {
+        GICC_WITH_GICV if (GICC_FLAGS & 0b1001) != 0 && (GICC_FLAGS & 0b100) != 0
+            => at 0 shows 12, GICC_FLAGS
+    }),
+    // the other way round
+    rule!(296 GiccDiffers, given in MADT_ENTRIES where (first table MADT_ENTRIES: {
+        GICC_WITH_GICV if (GICC_FLAGS & 0b1001) != 0 => at 0 shows 0, (GICC_FLAGS & 0b100)
+    }): {
+        GICC_WITH_GICV if (GICC_FLAGS & 0b1001) != 0 && (GICC_FLAGS & 0b100) == 0
+            => at 0 shows 12, GICC_FLAGS
+    }),
+    // 297 SameGicrBase, likely wrong (5.2.12.14): two enabled processors name the same redistributor.
+    // Numbers: `at` is the structure's offset, `other` that of the first enabled one with this redistributor, `point` is
+    // its address.
+    // "The enabled processor at {at} of the MADT names the redistributor at {point}, as the one at {other} does."
+    // The GIC has version 3 or 4.
+    rule!(297 SameGicrBase, repeated in MADT_ENTRIES where HAS_REDISTRIBUTORS: {
+        GICC if (GICC_FLAGS & 0b1) != 0 && GICC_GICR_BASE != 0 => at 0 shows GICC_GICR_BASE, GICC_GICR_BASE
+    }),
+    // 298 ParkingVersion, look at it (5.2.12.14): a GIC CPU interface has a version of the parking protocol above 1.
+    // Numbers: `at` is the structure's offset, `other` is 0x10 (16), the offset of the version in it, `point` is the
+    // version.
+    // "The GIC CPU interface at {at} of the MADT has version {point:d} of the parking protocol, above 1."
+    rule!(298 ParkingVersion, given in MADT_ENTRIES: {
+        GICC if GICC_PARKING_VERSION > 1 => at 0 shows 16, GICC_PARKING_VERSION
+    }),
+    // 299 GiccNoPpi, likely wrong (5.2.12.14): an interrupt of a processor's profiling or trace is not private to it.
+    // Numbers: `at` is the structure's offset, `other` the offset in it of the interrupt, 0x4e (78) for that of profiling,
+    // 0x50 (80) for that of the trace buffer, `point` is the interrupt.
+    // If `other` is 0x4e: "The GIC CPU interface at {at} of the MADT has the profiling interrupt {point:d}, which is not
+    // private to a processor."
+    // "The GIC CPU interface at {at} of the MADT has the trace buffer interrupt {point:d}, which is not private to a
+    // processor."
+    // Private are 16 to 31 and 1056 to 1119; 0 says that there is none.
+    rule!(299 GiccNoPpi, given in MADT_ENTRIES: {
+        GICC if GICC_SPE != 0 && GICC_SPE < 16 => at 0 shows 78, GICC_SPE;
+        GICC if GICC_SPE > 31 && GICC_SPE < 1056 => at 0 shows 78, GICC_SPE;
+        GICC if GICC_SPE > 1119 => at 0 shows 78, GICC_SPE;
+        GICC if GICC_TRBE != 0 && GICC_TRBE < 16 => at 0 shows 80, GICC_TRBE;
+        GICC if GICC_TRBE > 31 && GICC_TRBE < 1056 => at 0 shows 80, GICC_TRBE;
+        GICC if GICC_TRBE > 1119 => at 0 shows 80, GICC_TRBE
     }),
 ];
 

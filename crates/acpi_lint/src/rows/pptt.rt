@@ -3,7 +3,7 @@
 use crate::rows::madt::{OTHER_MADT_LENGTHS, OTHER_MADT_WHOLE, OTHER_PROCESSORS_READ, UIDS};
 use crate::rows::madt_fields::{CORE_PIC, GICC, MADT_ENTRIES, RINTC};
 use crate::rows::pptt_fields::*;
-use crate::rows::table_fields::{REVISION, TABLE, WHOLE};
+use crate::rows::table_fields::{RESERVED_2, RESERVED_3, REVISION, TABLE, TYPE, WHOLE};
 use acpi_rules::{
     Case, Clause, Form, Guard, Kind, LookUp, Need, Path, Repeat, Row, Source, Term, Test, Value,
     Within,
@@ -80,10 +80,34 @@ pub const OUTER_PARENTS: &[Case<'static>] = cases!({
         => at 0 shows 0, NODE_PARENT
 });
 
+// ---- for SameCacheType, which is not a row
+
+/// What each private resource of a node is, with the node's offset.
+pub const RESOURCES: &[Case<'static>] = cases!({
+    RESOURCE if (length around) == (20 + 4 * (around NODE_RESOURCES))
+        => at 0 shows (offset around), RESOURCE_OFFSET
+});
+
+/// The offset of each cache, with its Next Level.
+pub const NEXT_LEVELS: &[Case<'static>] = cases!({
+    CACHE_24 => at 0 shows CACHE_NEXT_LEVEL, (offset own);
+    CACHE_28 => at 0 shows CACHE_NEXT_LEVEL, (offset own)
+});
+
+/// The offset of each cache that says, validly, of which type it is: 0 for data, 1 for instructions, 2 for both.
+pub const CACHE_TYPES: &[Case<'static>] = cases!({
+    CACHE_24 if (CACHE_FLAGS & 0b1_0000) != 0 && (CACHE_ATTRIBUTES & 0b1100) == 0 => at 0 shows 0, (offset own);
+    CACHE_24 if (CACHE_FLAGS & 0b1_0000) != 0 && (CACHE_ATTRIBUTES & 0b1100) == 0b100 => at 0 shows 1, (offset own);
+    CACHE_24 if (CACHE_FLAGS & 0b1_0000) != 0 && (CACHE_ATTRIBUTES & 0b1000) != 0 => at 0 shows 2, (offset own);
+    CACHE_28 if (CACHE_FLAGS & 0b1_0000) != 0 && (CACHE_ATTRIBUTES & 0b1100) == 0 => at 0 shows 0, (offset own);
+    CACHE_28 if (CACHE_FLAGS & 0b1_0000) != 0 && (CACHE_ATTRIBUTES & 0b1100) == 0b100 => at 0 shows 1, (offset own);
+    CACHE_28 if (CACHE_FLAGS & 0b1_0000) != 0 && (CACHE_ATTRIBUTES & 0b1000) != 0 => at 0 shows 2, (offset own)
+});
+
 // ---- the rules
 
 /// Rules on the PPTT.
-pub static PPTT: [Row<'static>; 8] = [
+pub static PPTT: [Row<'static>; 10] = [
     // 122 SameLeaf, likely wrong (5.2.30.1): two leaves of the PPTT have the same ACPI Processor ID.
     // Numbers: `at` is the leaf's offset, `other` that of the first leaf with this ID, `point` is the ID.
     // "The leaf at {at} of the PPTT has the ACPI Processor ID {point:d}, as the one at {other} does."
@@ -169,17 +193,32 @@ pub static PPTT: [Row<'static>; 8] = [
     // Numbers: `at` is the structure's offset, `other` the offset in it of the first field or byte that is wrong.
     // "The structure at {at} of the PPTT has a reserved value at its offset {other:d}."
     rule!(184 PpttReserved, given in PPTT_ENTRIES: {
-        NODE if NODE_RESERVED != 0 && (length own) == (20 + 4 * NODE_RESOURCES) => at 0 shows 2, 0;
-        NODE if NODE_RESERVED_1 != 0 && (length own) == (20 + 4 * NODE_RESOURCES) => at 0 shows 3, 0;
+        NODE if RESERVED_2 != 0 && (length own) == (20 + 4 * NODE_RESOURCES) => at 0 shows 2, 0;
+        NODE if RESERVED_3 != 0 && (length own) == (20 + 4 * NODE_RESOURCES) => at 0 shows 3, 0;
         NODE if NODE_FLAGS > 0b1_1111 && (length own) == (20 + 4 * NODE_RESOURCES) => at 0 shows 4, 0;
-        CACHE_24 if CACHE_RESERVED != 0 => at 0 shows 2, 0;
-        CACHE_24 if CACHE_RESERVED_1 != 0 => at 0 shows 3, 0;
+        CACHE_24 if RESERVED_2 != 0 => at 0 shows 2, 0;
+        CACHE_24 if RESERVED_3 != 0 => at 0 shows 3, 0;
         CACHE_24 if CACHE_FLAGS > 0b1111_1111 => at 0 shows 4, 0;
         CACHE_24 if CACHE_ATTRIBUTES > 0b1_1111 => at 0 shows 21, 0;
-        CACHE_28 if CACHE_RESERVED != 0 => at 0 shows 2, 0;
-        CACHE_28 if CACHE_RESERVED_1 != 0 => at 0 shows 3, 0;
+        CACHE_28 if RESERVED_2 != 0 => at 0 shows 2, 0;
+        CACHE_28 if RESERVED_3 != 0 => at 0 shows 3, 0;
         CACHE_28 if CACHE_FLAGS > 0b1111_1111 => at 0 shows 4, 0;
         CACHE_28 if CACHE_ATTRIBUTES > 0b1_1111 => at 0 shows 21, 0
+    }),
+    // 309 PpttUnread, not looked at (5.2.30): a structure of the PPTT of a type that is not read.
+    // Numbers: `at` is the offset of the first one, `other` its type.
+    // "The structure at {at} of the PPTT, of type {other:d}, is the first that is not looked at."
+    rule!(309 PpttUnread, given in PPTT_ENTRIES: {
+        PPTT_FROM_2 => at 0 shows TYPE, 0
+    }),
+    // 310 CacheIdZero, look at it (5.2.30.2): a cache has the Cache ID 0, and its flags say that the ID is
+    // valid.
+    // Numbers: `at` is the cache's offset, `other` is 0x18 (24), the offset of the Cache ID in it.
+    // "The cache at {at} of the PPTT has the Cache ID 0, and its flags say that the ID is valid."
+    // Applies from Revision 3 on.
+    rule!(310 CacheIdZero, given in PPTT_ENTRIES: {
+        CACHE_28 if (table REVISION) >= 3 && (CACHE_FLAGS & 0b1000_0000) != 0 && CACHE_ID == 0
+            => at 0 shows 24, 0
     }),
 ];
 

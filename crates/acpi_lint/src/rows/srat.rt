@@ -6,7 +6,7 @@ use crate::rows::madt::{
 use crate::rows::madt_fields::{ITS, ITS_ID, MADT_ENTRIES};
 use crate::rows::slit_fields::LOCALITIES;
 use crate::rows::srat_fields::*;
-use crate::rows::table_fields::{REVISION, TABLE, TYPE, WHOLE};
+use crate::rows::table_fields::*;
 use acpi_rules::{
     Case, Clause, Form, Guard, Kind, LookUp, Need, Path, Repeat, Row, Source, Term, Test, Value,
     Within,
@@ -60,10 +60,32 @@ const OTHER_ITS_READ: Guard<'static> = guard!((none other MADT_ENTRIES: {
     (any ITS) if (length own) != 20
 }));
 
+/// An entry that no rule reads.
+const UNREAD: &[Case<'static>] = cases!({
+    (any GICC_AFFINITY) if (length own) != 18 => at 0 shows TYPE, 0;
+    (any ITS_AFFINITY) if (length own) != 12 => at 0 shows TYPE, 0;
+    (any INITIATOR) if (length own) != 32 => at 0 shows TYPE, 0;
+    (any PORT) if (length own) != 32 => at 0 shows TYPE, 0;
+    (any RINTC_AFFINITY) if (length own) != 20 => at 0 shows TYPE, 0;
+    SRAT_FROM_8 => at 0 shows TYPE, 0
+});
+
+/// The domain of each affinity of a processor, memory range, initiator and port that is enabled.
+const DOMAINS: &[Case<'static>] = cases!({
+    APIC_AFFINITY if (APIC_AFFINITY_FLAGS & 0b1) != 0
+        => at 0 shows 0, (APIC_AFFINITY_DOMAIN + 256 * APIC_AFFINITY_DOMAIN_HIGH);
+    MEMORY if (MEMORY_FLAGS & 0b1) != 0 => at 0 shows 0, MEMORY_DOMAIN;
+    X2APIC_AFFINITY if (X2APIC_AFFINITY_FLAGS & 0b1) != 0 => at 0 shows 0, X2APIC_AFFINITY_DOMAIN;
+    GICC_AFFINITY if (GICC_AFFINITY_FLAGS & 0b1) != 0 => at 0 shows 0, GICC_AFFINITY_DOMAIN;
+    INITIATOR if (INITIATOR_FLAGS & 0b1) != 0 => at 0 shows 0, INITIATOR_DOMAIN;
+    PORT if (PORT_FLAGS & 0b1) != 0 => at 0 shows 0, PORT_DOMAIN;
+    RINTC_AFFINITY if (RINTC_AFFINITY_FLAGS & 0b1) != 0 => at 0 shows 0, RINTC_AFFINITY_DOMAIN
+});
+
 // ---- the rules
 
 /// Rules on the SRAT.
-pub static SRAT: [Row<'static>; 8] = [
+pub static SRAT: [Row<'static>; 11] = [
     // 117 TwoUidDomains, likely wrong (5.2.16.4): two affinities put the processor of one UID in two proximity domains.
     // Numbers: `at` is the offset of the first affinity with this UID, `other` that of the one with another domain,
     // `point` is the UID.
@@ -78,14 +100,7 @@ pub static SRAT: [Row<'static>; 8] = [
     // 128 SratUnread, not looked at (5.2.16): a structure of the SRAT of a type or length that is not read.
     // Numbers: `at` is the offset of the first one, `other` its type.
     // "The structure at {at} of the SRAT, of type {other:d}, is the first that is not looked at."
-    rule!(128 SratUnread, given in SRAT_ENTRIES: {
-        (any GICC_AFFINITY) if (length own) != 18 => at 0 shows TYPE, 0;
-        (any ITS_AFFINITY) if (length own) != 12 => at 0 shows TYPE, 0;
-        (any INITIATOR) if (length own) != 32 => at 0 shows TYPE, 0;
-        (any PORT) if (length own) != 32 => at 0 shows TYPE, 0;
-        (any RINTC_AFFINITY) if (length own) != 20 => at 0 shows TYPE, 0;
-        SRAT_FROM_8 => at 0 shows TYPE, 0
-    }),
+    rule!(128 SratUnread, given in SRAT_ENTRIES: UNREAD),
     // 173 NoMemoryRange, likely wrong (5.2.16.2): an SRAT with affinities has no enabled memory range of a length above
     // 0.
     // Numbers: all 0.
@@ -133,29 +148,71 @@ pub static SRAT: [Row<'static>; 8] = [
     // a flag of an entry that is not defined, or a reserved byte; `other` is its offset in the entry
     rule!(178 SratReserved, given in SRAT_ENTRIES: {
         APIC_AFFINITY if APIC_AFFINITY_FLAGS > 0b1 => at 0 shows 4, 0;
-        MEMORY if MEMORY_RESERVED != 0 => at 0 shows 6, 0;
-        MEMORY if MEMORY_RESERVED_1 != 0 => at 0 shows 7, 0;
-        MEMORY if MEMORY_RESERVED_2 != 0 => at 0 shows 24, 0;
-        MEMORY if MEMORY_RESERVED_3 != 0 => at 0 shows 25, 0;
-        MEMORY if MEMORY_RESERVED_4 != 0 => at 0 shows 26, 0;
-        MEMORY if MEMORY_RESERVED_5 != 0 => at 0 shows 27, 0;
+        MEMORY if RESERVED_6 != 0 => at 0 shows 6, 0;
+        MEMORY if RESERVED_7 != 0 => at 0 shows 7, 0;
+        MEMORY if RESERVED_24 != 0 => at 0 shows 24, 0;
+        MEMORY if RESERVED_25 != 0 => at 0 shows 25, 0;
+        MEMORY if RESERVED_26 != 0 => at 0 shows 26, 0;
+        MEMORY if RESERVED_27 != 0 => at 0 shows 27, 0;
         MEMORY if MEMORY_FLAGS > 0b111 => at 0 shows 28, 0;
-        MEMORY if MEMORY_RESERVED_6 != 0 => at 0 shows 32, 0;
-        MEMORY if MEMORY_RESERVED_7 != 0 => at 0 shows 33, 0;
-        MEMORY if MEMORY_RESERVED_8 != 0 => at 0 shows 34, 0;
-        MEMORY if MEMORY_RESERVED_9 != 0 => at 0 shows 35, 0;
-        MEMORY if MEMORY_RESERVED_10 != 0 => at 0 shows 36, 0;
-        MEMORY if MEMORY_RESERVED_11 != 0 => at 0 shows 37, 0;
-        MEMORY if MEMORY_RESERVED_12 != 0 => at 0 shows 38, 0;
-        MEMORY if MEMORY_RESERVED_13 != 0 => at 0 shows 39, 0;
-        X2APIC_AFFINITY if X2APIC_AFFINITY_RESERVED != 0 => at 0 shows 2, 0;
-        X2APIC_AFFINITY if X2APIC_AFFINITY_RESERVED_1 != 0 => at 0 shows 3, 0;
+        MEMORY if RESERVED_32 != 0 => at 0 shows 32, 0;
+        MEMORY if RESERVED_33 != 0 => at 0 shows 33, 0;
+        MEMORY if RESERVED_34 != 0 => at 0 shows 34, 0;
+        MEMORY if RESERVED_35 != 0 => at 0 shows 35, 0;
+        MEMORY if RESERVED_36 != 0 => at 0 shows 36, 0;
+        MEMORY if RESERVED_37 != 0 => at 0 shows 37, 0;
+        MEMORY if RESERVED_38 != 0 => at 0 shows 38, 0;
+        MEMORY if RESERVED_39 != 0 => at 0 shows 39, 0;
+        X2APIC_AFFINITY if RESERVED_2 != 0 => at 0 shows 2, 0;
+        X2APIC_AFFINITY if RESERVED_3 != 0 => at 0 shows 3, 0;
         X2APIC_AFFINITY if X2APIC_AFFINITY_FLAGS > 0b1 => at 0 shows 12, 0;
-        X2APIC_AFFINITY if X2APIC_AFFINITY_RESERVED_2 != 0 => at 0 shows 20, 0;
-        X2APIC_AFFINITY if X2APIC_AFFINITY_RESERVED_3 != 0 => at 0 shows 21, 0;
-        X2APIC_AFFINITY if X2APIC_AFFINITY_RESERVED_4 != 0 => at 0 shows 22, 0;
-        X2APIC_AFFINITY if X2APIC_AFFINITY_RESERVED_5 != 0 => at 0 shows 23, 0
+        X2APIC_AFFINITY if RESERVED_20 != 0 => at 0 shows 20, 0;
+        X2APIC_AFFINITY if RESERVED_21 != 0 => at 0 shows 21, 0;
+        X2APIC_AFFINITY if RESERVED_22 != 0 => at 0 shows 22, 0;
+        X2APIC_AFFINITY if RESERVED_23 != 0 => at 0 shows 23, 0
     }),
+    // 306 AffinityReserved, look at it (5.2.16.4 to 5.2.16.7): a structure of a GIC, of RISC-V, or of an initiator or a
+    // port has a reserved value.
+    // Numbers: `at` is the structure's offset, `other` the offset in it of the first field or byte that is wrong, `point`
+    // is the value there.
+    // "The structure at {at} of the SRAT has the reserved value {point} at its offset {other:d}."
+    rule!(306 AffinityReserved, given in SRAT_ENTRIES: {
+        GICC_AFFINITY if GICC_AFFINITY_FLAGS > 0b1 => at 0 shows 10, GICC_AFFINITY_FLAGS;
+        ITS_AFFINITY if RESERVED_6 != 0 => at 0 shows 6, RESERVED_6;
+        ITS_AFFINITY if RESERVED_7 != 0 => at 0 shows 7, RESERVED_7;
+        INITIATOR if RESERVED_2 != 0 => at 0 shows 2, RESERVED_2;
+        INITIATOR if INITIATOR_FLAGS > 0b11 => at 0 shows 24, INITIATOR_FLAGS;
+        INITIATOR if RESERVED_28 != 0 => at 0 shows 28, RESERVED_28;
+        INITIATOR if RESERVED_29 != 0 => at 0 shows 29, RESERVED_29;
+        INITIATOR if RESERVED_30 != 0 => at 0 shows 30, RESERVED_30;
+        INITIATOR if RESERVED_31 != 0 => at 0 shows 31, RESERVED_31;
+        PORT if RESERVED_2 != 0 => at 0 shows 2, RESERVED_2;
+        PORT if PORT_FLAGS > 0b11 => at 0 shows 24, PORT_FLAGS;
+        PORT if RESERVED_28 != 0 => at 0 shows 28, RESERVED_28;
+        PORT if RESERVED_29 != 0 => at 0 shows 29, RESERVED_29;
+        PORT if RESERVED_30 != 0 => at 0 shows 30, RESERVED_30;
+        PORT if RESERVED_31 != 0 => at 0 shows 31, RESERVED_31;
+        RINTC_AFFINITY if RESERVED_2 != 0 => at 0 shows 2, RESERVED_2;
+        RINTC_AFFINITY if RESERVED_3 != 0 => at 0 shows 3, RESERVED_3;
+        RINTC_AFFINITY if RINTC_AFFINITY_FLAGS > 0b1 => at 0 shows 12, RINTC_AFFINITY_FLAGS
+    }),
+    // 307 DeviceHandle, look at it (5.2.16.6, 5.2.16.7): a device handle is neither of ACPI nor of PCI.
+    // Numbers: `at` is the structure's offset, `other` is 0x3, the offset of Device Handle Type in it, `point` is this type.
+    // "The structure at {at} of the SRAT has the Device Handle Type {point:d}, neither ACPI nor PCI."
+    rule!(307 DeviceHandle, given in SRAT_ENTRIES: {
+        INITIATOR if INITIATOR_HANDLE_TYPE > 1 => at 0 shows 3, INITIATOR_HANDLE_TYPE;
+        PORT if PORT_HANDLE_TYPE > 1 => at 0 shows 3, PORT_HANDLE_TYPE
+    }),
+    // 308 ItsDomain, likely wrong (5.2.16.5): an ITS is in a proximity domain that nothing else is in.
+    // Numbers: `at` is the structure's offset, `other` is 0x2, the offset of the domain in it, `point` is the domain.
+    // "The ITS affinity at {at} of the SRAT has the domain {point:d}, and nothing else is in it."
+    // Something else is in it if it is enabled. Applies if all structures are read.
+    rule!(308 ItsDomain, nowhere in SRAT_ENTRIES where
+        (none table SRAT_ENTRIES: UNREAD), SRAT_WHOLE, SRAT_LENGTHS:
+        {
+            ITS_AFFINITY => at 0 shows 2, ITS_AFFINITY_DOMAIN
+        }
+        among table SRAT_ENTRIES DOMAINS),
 ];
 
 /// Rules on the SRAT with the MADT.

@@ -37,34 +37,6 @@ pub const MEMORY_LENGTH: Field = field!(16, 8);
 
 pub const MEMORY_FLAGS: Field = field!(28, 4);
 
-pub const MEMORY_RESERVED: Field = field!(6, 1);
-
-pub const MEMORY_RESERVED_1: Field = field!(7, 1);
-
-pub const MEMORY_RESERVED_2: Field = field!(24, 1);
-
-pub const MEMORY_RESERVED_3: Field = field!(25, 1);
-
-pub const MEMORY_RESERVED_4: Field = field!(26, 1);
-
-pub const MEMORY_RESERVED_5: Field = field!(27, 1);
-
-pub const MEMORY_RESERVED_6: Field = field!(32, 1);
-
-pub const MEMORY_RESERVED_7: Field = field!(33, 1);
-
-pub const MEMORY_RESERVED_8: Field = field!(34, 1);
-
-pub const MEMORY_RESERVED_9: Field = field!(35, 1);
-
-pub const MEMORY_RESERVED_10: Field = field!(36, 1);
-
-pub const MEMORY_RESERVED_11: Field = field!(37, 1);
-
-pub const MEMORY_RESERVED_12: Field = field!(38, 1);
-
-pub const MEMORY_RESERVED_13: Field = field!(39, 1);
-
 /// Processor Local x2APIC Affinity (5.2.16.3).
 pub const X2APIC_AFFINITY: Kind = kind!(2, 24);
 
@@ -73,18 +45,6 @@ pub const X2APIC_AFFINITY_DOMAIN: Field = field!(4, 4);
 pub const X2APIC_AFFINITY_ID: Field = field!(8, 4);
 
 pub const X2APIC_AFFINITY_FLAGS: Field = field!(12, 4);
-
-pub const X2APIC_AFFINITY_RESERVED: Field = field!(2, 1);
-
-pub const X2APIC_AFFINITY_RESERVED_1: Field = field!(3, 1);
-
-pub const X2APIC_AFFINITY_RESERVED_2: Field = field!(20, 1);
-
-pub const X2APIC_AFFINITY_RESERVED_3: Field = field!(21, 1);
-
-pub const X2APIC_AFFINITY_RESERVED_4: Field = field!(22, 1);
-
-pub const X2APIC_AFFINITY_RESERVED_5: Field = field!(23, 1);
 
 /// GICC Affinity (5.2.16.4).
 pub const GICC_AFFINITY: Kind = kind!(3, 18);
@@ -105,12 +65,16 @@ pub const ITS_AFFINITY_ID: Field = field!(8, 4);
 /// Generic Initiator Affinity (5.2.16.6).
 pub const INITIATOR: Kind = kind!(5, 32);
 
+pub const INITIATOR_HANDLE_TYPE: Field = field!(3, 1);
+
 pub const INITIATOR_DOMAIN: Field = field!(4, 4);
 
 pub const INITIATOR_FLAGS: Field = field!(24, 4);
 
 /// Generic Port Affinity (5.2.16.7).
 pub const PORT: Kind = kind!(6, 32);
+
+pub const PORT_HANDLE_TYPE: Field = field!(3, 1);
 
 pub const PORT_DOMAIN: Field = field!(4, 4);
 
