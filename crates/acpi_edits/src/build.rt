@@ -3,7 +3,7 @@
 use crate::changes::{changes_of_clause, is_of_entries};
 use crate::lists::List;
 use crate::pair::{Pair, Structure, structures};
-use acpi_rules::{Case, Clause, Form, Kind, Path, Row, Source, Tables, Term, Value, first_finding};
+use acpi_rules::{Case, Clause, Form, Kind, Row, Source, Tables, Value, first_finding};
 use std::alloc::{AllocError, Global};
 
 /// The tables as a path through one of them sees them.
@@ -26,15 +26,14 @@ pub fn first_with(
     kind: Kind,
     clauses: &[Clause],
 ) -> Result<Option<u64>, AllocError> {
-    let nothing = Value::Only(Term::Number(0));
+    let nothing = Value::Number(0);
     let cases: [Case<'_>; 1] = [(kind, clauses, 0, nothing, nothing)];
     let row: Row<'_> = (
         0,
         Form::Given,
         &[],
         (list.path, &cases, &[]),
-        Source::Table,
-        (Path::Table, &[], &[]),
+        None,
     );
     let found = first_finding(alloc, &row, &seen(pair, list.source))?;
     Ok(found.map(|place| place.at))
@@ -47,7 +46,7 @@ fn structure_at(
     list: &List,
     at: u64,
 ) -> Result<Option<Structure>, AllocError> {
-    for structure in structures(alloc, &list.path, pair.bytes(list.source))? {
+    for structure in structures(alloc, list.path, pair.bytes(list.source))? {
         if structure.at as u64 == at {
             return Ok(Some(structure));
         }

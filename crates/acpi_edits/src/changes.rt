@@ -3,7 +3,7 @@
 use crate::lists::List;
 use crate::pair::{Change, Pair, Structure};
 use acpi_base::TableKind;
-use acpi_rules::{Case, Clause, Field, Path, Source, Term, Value, Within};
+use acpi_rules::{Addend, Case, Clause, Field, Path, Source, Value, Within};
 use std::alloc::{AllocError, Global};
 
 /// The table that a field is in, if it is not in the structure itself.
@@ -26,24 +26,17 @@ struct Spot {
     width: usize,
 }
 
-/// The fields that a term reads.
-fn push_term_fields(term: Term, fields: &mut Vec<(Within, Field)>) -> Result<(), AllocError> {
-    match term {
-        Term::Of(within, field) | Term::Bits(within, field, _) => {
-            fields.push((within, field))?;
-        }
-        _ => {}
-    }
-    Ok(())
-}
-
 /// The fields that a value reads.
 fn push_fields(value: &Value, fields: &mut Vec<(Within, Field)>) -> Result<(), AllocError> {
     match *value {
-        Value::Only(term) => push_term_fields(term, fields)?,
-        Value::Sum(within, field, _, term) => {
+        Value::Of(within, field) | Value::Bits(within, field, _) => {
             fields.push((within, field))?;
-            push_term_fields(term, fields)?;
+        }
+        Value::Sum(within, field, _, addend) => {
+            fields.push((within, field))?;
+            if let Addend::Of(field) | Addend::Bits(field, _) = addend {
+                fields.push((within, field))?;
+            }
         }
         Value::Product(one, other, third) => {
             fields.push((Within::Own, one))?;
@@ -52,6 +45,7 @@ fn push_fields(value: &Value, fields: &mut Vec<(Within, Field)>) -> Result<(), A
                 fields.push((Within::Own, third))?;
             }
         }
+        Value::Number(_) | Value::Length(_) | Value::Behind(..) | Value::Offset(_) => {}
     }
     Ok(())
 }
@@ -83,22 +77,26 @@ fn number_at(pair: &Pair, spot: Spot) -> u64 {
     number
 }
 
-/// The numbers that a term names.
-fn push_term_numbers(term: Term, numbers: &mut Vec<u64>) -> Result<(), AllocError> {
-    if let Term::Number(number) | Term::Bits(_, _, number) | Term::Behind(_, number) = term {
+/// The number that a value names, of one with fields what is added or the mask.
+fn named_number(value: &Value) -> Option<u64> {
+    match *value {
+        Value::Number(number) | Value::Bits(_, _, number) | Value::Behind(_, number) => {
+            Some(number)
+        }
+        Value::Sum(_, _, _, Addend::Number(number)) => Some(u64::from(number)),
+        Value::Sum(_, _, _, Addend::Bits(_, mask)) => Some(u64::from(mask)),
+        _ => None,
+    }
+}
+
+/// The number that a value names, and those next to it.
+fn push_numbers(value: &Value, numbers: &mut Vec<u64>) -> Result<(), AllocError> {
+    if let Some(number) = named_number(value) {
         for near in [number, number.wrapping_sub(1), number.wrapping_add(1)] {
             numbers.push(near)?;
         }
     }
     Ok(())
-}
-
-/// The numbers that a value names.
-fn push_numbers(value: &Value, numbers: &mut Vec<u64>) -> Result<(), AllocError> {
-    match *value {
-        Value::Only(term) | Value::Sum(_, _, _, term) => push_term_numbers(term, numbers),
-        Value::Product(..) => Ok(()),
-    }
 }
 
 /// The fields that a case reads.
@@ -120,7 +118,7 @@ pub fn is_of_entries(list: &List) -> bool {
 
 /// Whether a value is the length of the other table.
 fn is_other_length(value: &Value) -> bool {
-    matches!(value, Value::Only(Term::Length(Within::Other)))
+    matches!(value, Value::Length(Within::Other))
 }
 
 /// What is changed of a structure: the fields of clauses or of a case, and numbers that are tried in them.
@@ -184,7 +182,7 @@ impl Around {
     }
 
     /// Adds a number and those next to it.
-    fn add_number(&mut self, number: u32) -> Result<(), AllocError> {
+    fn add_number(&mut self, number: u16) -> Result<(), AllocError> {
         let number = u64::from(number);
         for near in [number, number.wrapping_sub(1), number.wrapping_add(1)] {
             self.numbers.push(near)?;

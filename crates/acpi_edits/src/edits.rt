@@ -2,7 +2,7 @@
 //! that it has the type of the rows themselves.
 
 use crate::near::{clauses_near, values_near};
-use acpi_rules::{Case, Clause, Field, Guard, Kind, Row, Term, Value, Within};
+use acpi_rules::{Addend, Case, Clause, Field, Guard, Kind, Known, Row, Value, Within};
 use std::alloc::{AllocError, Global};
 
 /// A change of one number or one comparison of a case.
@@ -137,7 +137,7 @@ pub struct Swap {
     /// The one that takes its place.
     pub to: Field,
     /// The type of the structures of which it is a field; none if it is not a field of the structures.
-    pub own: Option<u32>,
+    pub own: Option<u16>,
     /// Whether it is a field of their table.
     pub is_of_table: bool,
     /// Whether it is a field of the other table.
@@ -146,7 +146,7 @@ pub struct Swap {
 
 impl Swap {
     /// The field that a case about a kind of structures reads.
-    fn field(&self, kind: u32, within: Within, field: Field) -> Field {
+    fn field(&self, kind: u16, within: Within, field: Field) -> Field {
         let is_meant = match within {
             Within::Own => self.own == Some(kind),
             Within::Other => self.is_of_other,
@@ -159,37 +159,34 @@ impl Swap {
         }
     }
 
-    /// The term.
-    fn term(&self, kind: u32, term: Term) -> Term {
-        match term {
-            Term::Of(within, field) => Term::Of(within, self.field(kind, within, field)),
-            Term::Bits(within, field, mask) => {
-                Term::Bits(within, self.field(kind, within, field), mask)
-            }
-            _ => term,
+    /// What is added to a multiple of a field of a structure.
+    fn addend(&self, kind: u16, within: Within, addend: Addend) -> Addend {
+        match addend {
+            Addend::Number(_) => addend,
+            Addend::Of(field) => Addend::Of(self.field(kind, within, field)),
+            Addend::Bits(field, mask) => Addend::Bits(self.field(kind, within, field), mask),
         }
     }
 
     /// The value.
-    fn value(&self, kind: u32, value: &Value) -> Value {
+    fn value(&self, kind: u16, value: &Value) -> Value {
         match *value {
-            Value::Only(term) => Value::Only(self.term(kind, term)),
-            Value::Sum(within, field, times, term) => Value::Sum(
+            Value::Of(within, field) => Value::Of(within, self.field(kind, within, field)),
+            Value::Bits(within, field, mask) => {
+                Value::Bits(within, self.field(kind, within, field), mask)
+            }
+            Value::Sum(within, field, times, addend) => Value::Sum(
                 within,
                 self.field(kind, within, field),
                 times,
-                self.term(kind, term),
+                self.addend(kind, within, addend),
             ),
-            Value::Product(one, other, None) => Value::Product(
+            Value::Product(one, other, third) => Value::Product(
                 self.field(kind, Within::Own, one),
                 self.field(kind, Within::Own, other),
-                None,
+                third.map(|third| self.field(kind, Within::Own, third)),
             ),
-            Value::Product(one, other, Some(third)) => Value::Product(
-                self.field(kind, Within::Own, one),
-                self.field(kind, Within::Own, other),
-                Some(self.field(kind, Within::Own, third)),
-            ),
+            Value::Number(_) | Value::Length(_) | Value::Behind(..) | Value::Offset(_) => *value,
         }
     }
 }
@@ -258,6 +255,25 @@ fn guards_with(
     Ok(kept_guards(edited))
 }
 
+/// What numbers are looked up in, with other cases in the first of its lists or in the second one.
+fn known_with(
+    alloc: Global,
+    known: Option<&'static Known<'static>>,
+    is_first: bool,
+    cases: &'static [Case<'static>],
+) -> Result<Option<&'static Known<'static>>, AllocError> {
+    let Some((source, (path, among, except))) = known else {
+        return Ok(None);
+    };
+    let numbers = if is_first {
+        (*path, cases, *except)
+    } else {
+        (*path, *among, cases)
+    };
+    let kept = vec![in alloc; (*source, numbers)]?;
+    Ok(kept.leak().first())
+}
+
 /// A row with other cases in one of its lists, which are counted as `lists_of` does.
 pub fn row_with(
     alloc: Global,
@@ -265,24 +281,19 @@ pub fn row_with(
     list: usize,
     cases: &'static [Case<'static>],
 ) -> Result<Row<'static>, AllocError> {
-    let (number, form, guards, numbers, source, known) = *row;
+    let (number, form, guards, numbers, known) = *row;
     let (path, given, except) = numbers;
-    let (known_path, among, known_except) = known;
     let count = guards.len();
     if list < count {
         let guards = guards_with(alloc, guards, list, cases)?;
-        return Ok((number, form, guards, numbers, source, known));
+        return Ok((number, form, guards, numbers, known));
     }
     Ok(match list - count {
-        0 => (number, form, guards, (path, cases, except), source, known),
-        1 => (number, form, guards, (path, given, cases), source, known),
-        2 => {
-            let known = (known_path, cases, known_except);
-            (number, form, guards, numbers, source, known)
-        }
-        _ => {
-            let known = (known_path, among, cases);
-            (number, form, guards, numbers, source, known)
+        0 => (number, form, guards, (path, cases, except), known),
+        1 => (number, form, guards, (path, given, cases), known),
+        behind => {
+            let known = known_with(alloc, known, behind == 2, cases)?;
+            (number, form, guards, numbers, known)
         }
     })
 }

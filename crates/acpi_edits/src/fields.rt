@@ -18,7 +18,7 @@ pub struct Owner {
     /// The table.
     pub table: TableKind,
     /// The lowest type of the entries, if it is a field of entries.
-    pub kind: Option<u32>,
+    pub kind: Option<u16>,
 }
 
 /// The edits of a field, and whether each is seen.
@@ -35,7 +35,7 @@ pub struct FieldEdits {
 }
 
 /// Of what a field is one that a case of a list reads.
-pub fn owner_of(group: &RowGroup<'static>, list: &List, kind: u32, within: Within) -> Owner {
+pub fn owner_of(group: &RowGroup<'static>, list: &List, kind: u16, within: Within) -> Owner {
     let table = match within {
         Within::Other => other_table(group, list.source),
         _ => table_of(group, list.source),

@@ -1,6 +1,6 @@
 //! The lists of cases of a row.
 
-use acpi_rules::{Case, Form, LookUp, Need, Path, Row, Source};
+use acpi_rules::{Case, Form, Known, LookUp, Need, Path, Row, Source};
 use std::alloc::{AllocError, Global};
 
 /// What a list of cases of a row is for.
@@ -26,10 +26,13 @@ pub struct List {
     /// In which table the structures are.
     pub source: Source,
     /// The path to them.
-    pub path: Path,
+    pub path: &'static Path,
     /// The cases.
     pub cases: &'static [Case<'static>],
 }
+
+/// What numbers are looked up in where they are not looked up.
+const NOWHERE: Known<'static> = (Source::Table, (&Path::Table, &[], &[]));
 
 /// The lists of a row: those of its conditions in their order, and four more.
 pub fn lists_of(alloc: Global, row: &Row<'static>) -> Result<Vec<List>, AllocError> {
@@ -42,11 +45,13 @@ pub fn lists_of(alloc: Global, row: &Row<'static>) -> Result<Vec<List>, AllocErr
             cases: guard.3,
         })?;
     }
+    let (path, given, except) = row.3;
+    let (source, (known_path, among, known_except)) = *row.4.unwrap_or(&NOWHERE);
     for (role, source, path, cases) in [
-        (Role::Given, Source::Table, row.3.0, row.3.1),
-        (Role::Except, Source::Table, row.3.0, row.3.2),
-        (Role::Known, row.4, row.5.0, row.5.1),
-        (Role::KnownExcept, row.4, row.5.0, row.5.2),
+        (Role::Given, Source::Table, path, given),
+        (Role::Except, Source::Table, path, except),
+        (Role::Known, source, known_path, among),
+        (Role::KnownExcept, source, known_path, known_except),
     ] {
         lists.push(List {
             role,

@@ -1,6 +1,6 @@
 //! Parts of rows, each with one of its numbers changed by one or with another comparison.
 
-use acpi_rules::{Clause, Field, Kind, Term, Test, Value, Within};
+use acpi_rules::{Addend, Clause, Field, Kind, Test, Value, Within};
 use std::alloc::{AllocError, Global};
 
 /// A field at the next offsets and of the next widths, of those from 1 to 8 bytes.
@@ -36,64 +36,75 @@ fn numbers_near(alloc: Global, number: u64) -> Result<Vec<u64>, AllocError> {
     Ok(near)
 }
 
-/// A term with each of its numbers changed, but those of its field.
-fn terms_near(alloc: Global, term: Term) -> Result<Vec<Term>, AllocError> {
+/// What is added to a multiple, with each of its numbers changed, but those of its field.
+fn addends_near(alloc: Global, addend: Addend) -> Result<Vec<Addend>, AllocError> {
     let mut near = Vec::new(alloc);
-    match term {
-        Term::Number(number) => {
-            for number in numbers_near(alloc, number)? {
-                near.push(Term::Number(number))?;
+    match addend {
+        Addend::Number(number) => {
+            for number in numbers_near(alloc, u64::from(number))? {
+                if let Ok(number) = u32::try_from(number) {
+                    near.push(Addend::Number(number))?;
+                }
             }
         }
-        Term::Bits(within, field, mask) => {
-            for mask in numbers_near(alloc, mask)? {
-                near.push(Term::Bits(within, field, mask))?;
+        Addend::Bits(field, mask) => {
+            for mask in numbers_near(alloc, u64::from(mask))? {
+                if let Ok(mask) = u16::try_from(mask) {
+                    near.push(Addend::Bits(field, mask))?;
+                }
             }
         }
-        Term::Behind(within, offset) => {
-            for offset in numbers_near(alloc, offset)? {
-                near.push(Term::Behind(within, offset))?;
-            }
-        }
-        Term::Of(..) | Term::Length(_) | Term::Offset(_) => {}
+        Addend::Of(_) => {}
     }
     Ok(near)
 }
 
-/// A multiple of a field and a term, with each of its numbers changed, but those of fields.
+/// A multiple of a field and what is added to it, with each of its numbers changed, but those of fields.
 fn sums_near(
     alloc: Global,
     within: Within,
     field: Field,
     times: u16,
-    term: Term,
+    addend: Addend,
 ) -> Result<Vec<Value>, AllocError> {
     let mut near = Vec::new(alloc);
     if let Some(times) = times.checked_sub(1) {
-        near.push(Value::Sum(within, field, times, term))?;
+        near.push(Value::Sum(within, field, times, addend))?;
     }
     if let Some(times) = times.checked_add(1) {
-        near.push(Value::Sum(within, field, times, term))?;
+        near.push(Value::Sum(within, field, times, addend))?;
     }
-    for term in terms_near(alloc, term)? {
-        near.push(Value::Sum(within, field, times, term))?;
+    for addend in addends_near(alloc, addend)? {
+        near.push(Value::Sum(within, field, times, addend))?;
     }
     Ok(near)
 }
 
 /// A value with each of its numbers changed, but those of fields.
 pub fn values_near(alloc: Global, value: &Value) -> Result<Vec<Value>, AllocError> {
+    let mut near = Vec::new(alloc);
     match *value {
-        Value::Only(term) => {
-            let mut near = Vec::new(alloc);
-            for term in terms_near(alloc, term)? {
-                near.push(Value::Only(term))?;
+        Value::Number(number) => {
+            for number in numbers_near(alloc, number)? {
+                near.push(Value::Number(number))?;
             }
-            Ok(near)
         }
-        Value::Sum(within, field, times, term) => sums_near(alloc, within, field, times, term),
-        Value::Product(..) => Ok(Vec::new(alloc)),
+        Value::Bits(within, field, mask) => {
+            for mask in numbers_near(alloc, mask)? {
+                near.push(Value::Bits(within, field, mask))?;
+            }
+        }
+        Value::Behind(within, offset) => {
+            for offset in numbers_near(alloc, offset)? {
+                near.push(Value::Behind(within, offset))?;
+            }
+        }
+        Value::Sum(within, field, times, addend) => {
+            return sums_near(alloc, within, field, times, addend);
+        }
+        Value::Of(..) | Value::Length(_) | Value::Offset(_) | Value::Product(..) => {}
     }
+    Ok(near)
 }
 
 /// A comparison with each of its numbers changed, but those of fields, and each other comparison of its values.
@@ -115,8 +126,8 @@ pub fn clauses_near(alloc: Global, clause: &Clause) -> Result<Vec<Clause>, Alloc
     Ok(near)
 }
 
-/// A number of 32 bits, and those next to it.
-fn next_to(alloc: Global, number: u32) -> Result<Vec<u32>, AllocError> {
+/// The numbers of 16 bits next to one.
+fn next_to(alloc: Global, number: u16) -> Result<Vec<u16>, AllocError> {
     let mut near = Vec::new(alloc);
     if let Some(less) = number.checked_sub(1) {
         near.push(less)?;
@@ -128,7 +139,7 @@ fn next_to(alloc: Global, number: u32) -> Result<Vec<u32>, AllocError> {
 }
 
 /// What stands for no bound in a kind.
-const NO_BOUND: u32 = 0xffff_ffff;
+const NO_BOUND: u16 = u16::MAX;
 
 /// A kind with each of its numbers changed, but those that stand for no bound.
 pub fn kinds_near(alloc: Global, kind: &Kind) -> Result<Vec<Kind>, AllocError> {

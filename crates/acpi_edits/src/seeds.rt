@@ -171,7 +171,7 @@ fn structures_near(
     case: &Case<'_>,
 ) -> Result<Vec<Structure>, AllocError> {
     let mut near = Vec::new(alloc);
-    for of in structures(alloc, &list.path, pair.bytes(list.source))? {
+    for of in structures(alloc, list.path, pair.bytes(list.source))? {
         if of.kind.saturating_add(1) >= u64::from(case.0.first)
             && u64::from(case.0.last).saturating_add(1) >= of.kind
         {

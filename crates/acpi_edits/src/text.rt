@@ -1,6 +1,6 @@
 //! Parts of rows as text.
 
-use acpi_rules::{Clause, Field, Kind, Term, Test, Value, Within};
+use acpi_rules::{Addend, Clause, Field, Kind, Test, Value, Within};
 use std::fmt;
 
 /// A value as text: fields as their structure, their offset and their width.
@@ -47,51 +47,66 @@ fn write_field<W: fmt::Write>(
     write!(f, "{word} {at}:{width}")
 }
 
-/// Writes a term.
-fn write_term<W: fmt::Write>(f: &mut fmt::Formatter<W>, term: Term) -> fmt::Result {
-    match term {
-        Term::Number(number) => write!(f, "{number:#x}"),
-        Term::Of(within, field) => write_field(f, within, field),
-        Term::Bits(within, field, mask) => {
+/// Writes what is added to a multiple of a field of a structure.
+fn write_addend<W: fmt::Write>(
+    f: &mut fmt::Formatter<W>,
+    within: Within,
+    addend: Addend,
+) -> fmt::Result {
+    match addend {
+        Addend::Number(number) => write!(f, "{number:#x}"),
+        Addend::Of(field) => write_field(f, within, field),
+        Addend::Bits(field, mask) => {
             write_field(f, within, field)?;
             write!(f, " & {mask:#x}")
         }
-        Term::Length(within) => {
-            let word = within_word(within);
-            write!(f, "length {word}")
-        }
-        Term::Behind(within, offset) => {
-            let word = within_word(within);
-            write!(f, "length {word} - {offset}")
-        }
-        Term::Offset(within) => {
-            let word = within_word(within);
-            write!(f, "offset {word}")
-        }
     }
+}
+
+/// Writes a product.
+fn write_product<W: fmt::Write>(
+    f: &mut fmt::Formatter<W>,
+    one: Field,
+    other: Field,
+    third: Option<Field>,
+) -> fmt::Result {
+    write_field(f, Within::Own, one)?;
+    write!(f, " * ")?;
+    write_field(f, Within::Own, other)?;
+    if let Some(third) = third {
+        write!(f, " * ")?;
+        write_field(f, Within::Own, third)?;
+    }
+    Ok(())
 }
 
 impl<'a> fmt::Display for ValueText<'a> {
     fn fmt<W: fmt::Write>(&self, f: &mut fmt::Formatter<W>) -> fmt::Result {
         match *self.0 {
-            Value::Only(term) => write_term(f, term),
-            Value::Sum(within, field, times, term) => {
-                write_term(f, term)?;
+            Value::Number(number) => write!(f, "{number:#x}"),
+            Value::Of(within, field) => write_field(f, within, field),
+            Value::Bits(within, field, mask) => {
+                write_field(f, within, field)?;
+                write!(f, " & {mask:#x}")
+            }
+            Value::Length(within) => {
+                let word = within_word(within);
+                write!(f, "length {word}")
+            }
+            Value::Behind(within, offset) => {
+                let word = within_word(within);
+                write!(f, "length {word} - {offset}")
+            }
+            Value::Offset(within) => {
+                let word = within_word(within);
+                write!(f, "offset {word}")
+            }
+            Value::Sum(within, field, times, addend) => {
+                write_addend(f, within, addend)?;
                 write!(f, " + {times} * ")?;
                 write_field(f, within, field)
             }
-            Value::Product(one, other, third) => {
-                write_field(f, Within::Own, one)?;
-                write!(f, " * ")?;
-                write_field(f, Within::Own, other)?;
-                match third {
-                    Some(third) => {
-                        write!(f, " * ")?;
-                        write_field(f, Within::Own, third)
-                    }
-                    None => Ok(()),
-                }
-            }
+            Value::Product(one, other, third) => write_product(f, one, other, third),
         }
     }
 }

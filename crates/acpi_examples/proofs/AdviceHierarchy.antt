@@ -7,7 +7,7 @@ use Rattle.std.proofs.lemmas.Option.{none-some}
 use Rattle.acpi_base.specs.Chains.{Ends, IsChain}
 use Rattle.acpi_base.specs.Number.{field, number_bytes}
 use Rattle.acpi_base.proofs.Elements.{first_or_later, no_element}
-use Rattle.acpi_rules.specs.Cases.{Said, SaidCase, case_said, gives, in_case, is_kind}
+use Rattle.acpi_rules.specs.Cases.{Said, SaidCase, case_said, gives, has_length, has_type, in_case, is_kind}
 use Rattle.acpi_rules.specs.Clauses.{all_hold, holds, passes}
 use Rattle.acpi_rules.specs.Fields.{reading}
 use Rattle.acpi_rules.specs.Numbered.{IsFirst, IsNoLater}
@@ -15,7 +15,7 @@ use Rattle.acpi_rules.specs.Numbers.{GivenIn}
 use Rattle.acpi_rules.specs.Rows.{guard_holds, row_said}
 use Rattle.acpi_rules.specs.Series.{first_bytes, head_said, kind_in, most_of, said_in, size_in, start_of}
 use Rattle.acpi_rules.specs.Sites.{SiteValue, sites_inside, sites_inside_all, sites_of}
-use Rattle.acpi_rules.specs.Terms.{shown, term_number, value_number}
+use Rattle.acpi_rules.specs.Terms.{value_number}
 use Rattle.acpi_rules.specs.Walks.{cut_from, structures_from}
 use Rattle.acpi_rules.specs.declared.numbered.Numbered.{Numbered}
 use Rattle.acpi_rules.specs.declared.series.Path.{Path}
@@ -119,9 +119,9 @@ leaf_there pptt at id each off (other, inl broken) = each_given _ PPTT_ENTRIES L
 leaf_there pptt at id each off (other, inr broken) = absurd (both_ways _ off broken.about)
 
 no_packages : AreNoPackages
-unfolding field number_bytes gives in_case is_kind all_hold holds passes reading
+unfolding field number_bytes gives has_length has_type in_case is_kind all_hold holds passes reading
     guard_holds first_bytes head_said kind_in most_of said_in size_in start_of
-    shown term_number value_number cut_from structures_from
+    value_number cut_from structures_from
 no_packages = record {
   none = (
     (
@@ -235,9 +235,9 @@ one_near pptt here cache levels each =
     leads = (_, _, here, first, refl, refl, refl)
 
 same_types : AreSameCacheTypes
-unfolding field number_bytes gives in_case is_kind all_hold holds passes reading
+unfolding field number_bytes gives has_length has_type in_case is_kind all_hold holds passes reading
     first_bytes head_said kind_in most_of said_in size_in start_of
-    shown term_number value_number structures_from sites_inside sites_inside_all
+    value_number structures_from sites_inside sites_inside_all
 same_types = record {
   of_data =
       inl (same_of (caches 0 0 16 0) 0 (_, (0, omega arith, refl), refl) (_, (1, omega arith, refl), refl)

@@ -3,12 +3,12 @@ use Rattle.std.proofs.Common.{◌≡◌, ◌∷◌, [], List, Option, ap, drop, 
 use Rattle.std.specs.Prelude.{Contains}
 use Rattle.acpi_base.specs.Number.{field, number_bytes}
 use Rattle.acpi_base.proofs.Elements.{first_or_later, no_element}
-use Rattle.acpi_rules.specs.Cases.{gives, in_case, is_kind}
+use Rattle.acpi_rules.specs.Cases.{gives, has_length, has_type, in_case, is_kind}
 use Rattle.acpi_rules.specs.Clauses.{all_hold, holds, passes}
 use Rattle.acpi_rules.specs.Fields.{reading}
 use Rattle.acpi_rules.specs.Rows.{Row, guard_holds}
 use Rattle.acpi_rules.specs.Series.{first_bytes, head_said, kind_in, most_of, said_in, size_in, start_of}
-use Rattle.acpi_rules.specs.Terms.{shown, term_number, value_number}
+use Rattle.acpi_rules.specs.Terms.{value_number}
 use Rattle.acpi_rules.specs.Walks.{cut_from, structures_from}
 use Rattle.acpi_rules.proofs.Computed.{finds_broken, first_broken}
 use Rattle.acpi_rules.specs.declared.place.Place.{Place}
@@ -37,8 +37,8 @@ all_computed rows examples same = λ e listed.
     (finds_broken (rule_number e.rule) rows (tables_of e))
 
 pub rows_found : AreRowsFound
-unfolding field number_bytes gives in_case is_kind all_hold holds passes reading guard_holds first_bytes head_said
-    kind_in most_of said_in size_in start_of shown term_number value_number cut_from structures_from computed madt_group
+unfolding field number_bytes gives has_length has_type in_case is_kind all_hold holds passes reading guard_holds
+    first_bytes head_said kind_in most_of said_in size_in start_of value_number cut_from structures_from computed madt_group
     madt_further_group gic_group madt_with_fadt_group fadt_with_madt_group madt_with_srat_group srat_with_madt_group
     srat_group srat_with_slit_group madt_with_pptt_group pptt_with_madt_group pptt_group fadt_group fadt_further_group
 rows_found = record {

@@ -30,7 +30,7 @@ macro_rules! kind {
             first: $kind,
             last: $kind,
             least: $least,
-            most: 0xffff_ffff,
+            most: 0xffff,
         }
     };
     ($first:literal ..= $last:literal) => {
@@ -38,7 +38,7 @@ macro_rules! kind {
             first: $first,
             last: $last,
             least: 0,
-            most: 0xffff_ffff,
+            most: 0xffff,
         }
     };
 }
@@ -50,7 +50,7 @@ macro_rules! kind_of {
             first: $kind.first,
             last: $kind.last,
             least: 0,
-            most: 0xffff_ffff,
+            most: 0xffff,
         }
     };
     ($kind:ident) => {
@@ -74,50 +74,54 @@ macro_rules! within {
     };
 }
 
-/// A number, a field, bits of a field, the length of a structure or what of it is behind an offset, or its offset.
-macro_rules! term {
-    ((length $within:ident)) => {
-        Term::Length(within!($within))
-    };
-    ((length $within:ident - $offset:literal)) => {
-        Term::Behind(within!($within), $offset)
-    };
-    ((offset $within:ident)) => {
-        Term::Offset(within!($within))
-    };
-    ((table $field:ident)) => {
-        Term::Of(Within::Table, $field)
-    };
-    ((other $field:ident)) => {
-        Term::Of(Within::Other, $field)
-    };
-    (((table $field:ident) & $mask:literal)) => {
-        Term::Bits(Within::Table, $field, $mask)
-    };
-    (((other $field:ident) & $mask:literal)) => {
-        Term::Bits(Within::Other, $field, $mask)
-    };
-    (($field:ident & $mask:literal)) => {
-        Term::Bits(Within::Own, $field, $mask)
-    };
+/// What is added to a multiple of a field: a number, a field of the same structure, or bits of it.
+macro_rules! addend {
     ($number:literal) => {
-        Term::Number($number)
+        Addend::Number($number)
     };
     ($field:ident) => {
-        Term::Of(Within::Own, $field)
+        Addend::Of($field)
+    };
+    (($field:ident & $mask:literal)) => {
+        Addend::Bits($field, $mask)
     };
 }
 
-/// A term, a multiple of a field with or without a term, or a product of two or three fields.
+/// A number, a field, bits of a field, the length of a structure or what of it is behind an offset, its offset, a multiple
+/// of a field with or without something added, or a product of two or three fields.
 macro_rules! value {
-    (($one:tt + $times:literal * ($within:ident $field:ident))) => {
-        Value::Sum(within!($within), $field, $times, term!($one))
+    ((length $within:ident)) => {
+        Value::Length(within!($within))
+    };
+    ((length $within:ident - $offset:literal)) => {
+        Value::Behind(within!($within), $offset)
+    };
+    ((offset $within:ident)) => {
+        Value::Offset(within!($within))
+    };
+    ((table $field:ident)) => {
+        Value::Of(Within::Table, $field)
+    };
+    ((other $field:ident)) => {
+        Value::Of(Within::Other, $field)
+    };
+    (((table $field:ident) & $mask:literal)) => {
+        Value::Bits(Within::Table, $field, $mask)
+    };
+    (((other $field:ident) & $mask:literal)) => {
+        Value::Bits(Within::Other, $field, $mask)
+    };
+    (($field:ident & $mask:literal)) => {
+        Value::Bits(Within::Own, $field, $mask)
+    };
+    (($within:ident $one:tt + $times:literal * $field:ident)) => {
+        Value::Sum(within!($within), $field, $times, addend!($one))
     };
     (($one:tt + $times:literal * $field:ident)) => {
-        Value::Sum(Within::Own, $field, $times, term!($one))
+        Value::Sum(Within::Own, $field, $times, addend!($one))
     };
     (($times:literal * $field:ident)) => {
-        Value::Sum(Within::Own, $field, $times, Term::Number(0))
+        Value::Sum(Within::Own, $field, $times, Addend::Number(0))
     };
     (($one:ident * $other:ident * $third:ident)) => {
         Value::Product($one, $other, Some($third))
@@ -125,8 +129,11 @@ macro_rules! value {
     (($one:ident * $other:ident)) => {
         Value::Product($one, $other, None)
     };
-    ($term:tt) => {
-        Value::Only(term!($term))
+    ($number:literal) => {
+        Value::Number($number)
+    };
+    ($field:ident) => {
+        Value::Of(Within::Own, $field)
     };
 }
 
@@ -221,19 +228,19 @@ macro_rules! source {
 /// CASES)` or `(whole SOURCE PATH)`, or one with a name.
 macro_rules! guard {
     ((some $source:ident $path:ident: $cases:tt)) => {
-        (Need::Some, source!($source), $path, any!($cases))
+        (Need::Some, source!($source), &$path, any!($cases))
     };
     ((none $source:ident $path:ident: $cases:tt)) => {
-        (Need::None, source!($source), $path, any!($cases))
+        (Need::None, source!($source), &$path, any!($cases))
     };
     ((two $source:ident $path:ident: $cases:tt)) => {
-        (Need::Two, source!($source), $path, any!($cases))
+        (Need::Two, source!($source), &$path, any!($cases))
     };
     ((first $source:ident $path:ident: $cases:tt)) => {
-        (Need::First, source!($source), $path, cases!($cases))
+        (Need::First, source!($source), &$path, cases!($cases))
     };
     ((whole $source:ident $path:ident)) => {
-        (Need::Whole, source!($source), $path, &[])
+        (Need::Whole, source!($source), &$path, &[])
     };
     ($guard:ident) => {
         $guard
@@ -274,10 +281,10 @@ macro_rules! form {
 /// The numbers that structures of a path give by cases, but those at places that they give by others.
 macro_rules! numbers {
     ($path:ident, $cases:tt) => {
-        ($path, cases!($cases), &[])
+        (&$path, cases!($cases), &[])
     };
     ($path:ident, $cases:tt, $except:tt) => {
-        ($path, cases!($cases), cases!($except))
+        (&$path, cases!($cases), cases!($except))
     };
 }
 
@@ -294,8 +301,7 @@ macro_rules! rule {
             form!($form),
             &[$($(guard!($guard)),+)?],
             numbers!($path, $cases $(, $except)?),
-            source!($source),
-            numbers!($known_path, $known $(, $known_except)?),
+            Some(&(source!($source), numbers!($known_path, $known $(, $known_except)?))),
         )
     };
     (
@@ -307,8 +313,7 @@ macro_rules! rule {
             form!($form),
             &[$($(guard!($guard)),+)?],
             numbers!($path, $cases $(, $except)?),
-            Source::Table,
-            (Path::Table, &[], &[]),
+            None,
         )
     };
 }

@@ -1,6 +1,6 @@
 -- Cases for structures of other types give nothing.
 use Rattle.std.proofs.Common.{◌≡◌, ◌∙◌, ℕ, zero, suc, ◌+◌, ◌-◌, ◌<◌, ◌≤◌, List, [], ◌∷◌, length, map, take, drop, get_or, Option, None, Bool, true, false, refl, sym, ap, subst, arith}
-use Rattle.std.specs.Prelude.{◌&&◌, ◌==◌, Contains, nat_le}
+use Rattle.std.specs.Prelude.{◌==◌, Contains}
 use Rattle.std.specs.List.{cons_option, filter_map}
 use Rattle.std.specs.Option.{option_or}
 use Rattle.std.proofs.lemmas.Bool.{and_parts, eqb-true}
@@ -18,10 +18,8 @@ use Rattle.acpi_rules.specs.declared.numbered.Numbered.{Numbered}
 
 -- a structure of a kind has one of its types
 kind_typed : (kind : Kind) (s : SiteValue) → is_kind kind s ≡ true → has_type kind s.kind ≡ true
-unfolding has_type is_kind
-kind_typed kind s is =
-    let outer = and_parts (nat_le kind.first s.kind && nat_le s.kind kind.last && _) _ is in
-    (and_parts (nat_le kind.first s.kind && nat_le s.kind kind.last) _ outer.0).0
+unfolding is_kind
+kind_typed kind s is = (and_parts (has_type kind s.kind) _ is).0
 
 -- one of another type gives nothing in a case
 pub other_type : (t : TwoTables) (s : SiteValue) (case : Case) → has_type case.kind s.kind ≡ false

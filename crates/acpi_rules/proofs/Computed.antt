@@ -11,7 +11,7 @@ use Rattle.acpi_rules.specs.Cases.{Case, gives}
 use Rattle.acpi_rules.specs.Numbered.{IsNoLater, IsRepeated, IsTold, repeat_place}
 use Rattle.acpi_rules.specs.Places.{FindsLeast, IsNotAfter}
 use Rattle.acpi_rules.specs.Numbers.{Counts, GivenIn, Numbers}
-use Rattle.acpi_rules.specs.Rows.{InForm, IsBroken, IsLookedUp, Knows, Row, guard_holds, of_source, reported}
+use Rattle.acpi_rules.specs.Rows.{InForm, IsBroken, IsKnown, IsLookedUp, Known, Knows, Row, guard_holds, of_source, reported}
 use Rattle.acpi_rules.specs.Sites.{first_cut, sites_of}
 use Rattle.acpi_rules.specs.Terms.{TwoTables}
 use Rattle.acpi_rules.specs.declared.known.LookUp.{LookUp}
@@ -300,21 +300,36 @@ repeats_from r all Has there back at other point among =
 
 -- ---- the forms
 
+-- those that are looked up in
+abbrev known_counted : Option Known → TwoTables → List Numbered
+known_counted None t = []
+known_counted (Some k) t = counted (of_source k.source t) k.numbers
+
+known_has : (known : Option Known) (t : TwoTables) (g : Numbered) → IsKnown known t g
+    → Contains (known_counted known t) g
+known_has None t g knows = absurd knows
+known_has (Some k) t g knows = counted_has (of_source k.source t) k.numbers g knows
+
+known_from : (known : Option Known) (t : TwoTables) (g : Numbered) → Contains (known_counted known t) g
+    → IsKnown known t g
+known_from None t g (x, below, same) = absurd (omega (arith, below))
+known_from (Some k) t g listed = counted_from (of_source k.source t) k.numbers g listed
+
 abbrev unknown : List Numbered → Numbered → Bool
 unknown known g = not (has_number known g.number)
 
 decides_unknown : (row : Row) (t : TwoTables) (g : Numbered)
-    → Decides (unknown (counted (of_source row.source t) row.known) g)
+    → Decides (unknown (known_counted row.known t) g)
     ((x : Numbered) → Knows row t x → ¬ (x.number ≡ g.number))
 decides_unknown row t g =
     let not_one = Decides-not (has_number known g.number) (decides_number known g.number) in (
-      λ passes x knows same. not_one.0 passes (x, counted_has (of_source row.source t) row.known x knows, same),
+      λ passes x knows same. not_one.0 passes (x, known_has row.known t x knows, same),
       λ none. not_one.1
-          (λ (k, listed, same). none k (counted_from (of_source row.source t) row.known k listed) same),
+          (λ (k, listed, same). none k (known_from row.known t k listed) same),
     )
   where
     known : List Numbered
-    known = counted (of_source row.source t) row.known
+    known = known_counted row.known t
 
 -- the place of g, that of f, and the value of g
 abbrev found_place : Numbered → Numbered → Place
@@ -332,21 +347,21 @@ abbrev somewhere : List Numbered → List Numbered → List Place
 somewhere known all = over (λ g. filter_map (found_here known g) known) all
 
 somewhere_has : (row : Row) (t : TwoTables) (at other point : ℕ) → IsLookedUp lookup.Somewhere row t at other point
-    → IsAmong (somewhere (counted (of_source row.source t) row.known) (counted t row.numbers)) at other point
+    → IsAmong (somewhere (known_counted row.known t) (counted t row.numbers)) at other point
 somewhere_has row t at other point (g, f, (counts, first, same), p, q, r) =
     over_has (λ h. filter_map (found_here known h) known) (counted t row.numbers) g _
     (counted_has t row.numbers g counts)
-    (kept_has (found_here known g) known f _ (counted_has (of_source row.source t) row.known f first.here)
+    (kept_has (found_here known g) known f _ (known_has row.known t f first.here)
     (of (is_found known g f)
     ((Decides-and (g.number == f.number) _ (Decides-eqb g.number f.number) (decides_first known f)).1 (same, firsts))))
   where
     known : List Numbered
-    known = counted (of_source row.source t) row.known
+    known = known_counted row.known t
 
     firsts : (h : Numbered) → Contains known h → (¬ (h.number ≡ f.number)) ⊎ IsNoLater f h
     firsts h listed =
         elim (eqb_tells h.number f.number) [
-          | inl (_, equal) ↦ inr (first.least h (counted_from (of_source row.source t) row.known h listed) equal)
+          | inl (_, equal) ↦ inr (first.least h (known_from row.known t h listed) equal)
           | inr (_, differ) ↦ inl differ
         ]
 
@@ -356,7 +371,7 @@ somewhere_has row t at other point (g, f, (counts, first, same), p, q, r) =
     of b passes = rw passes (ap Some (λ i. record { at = sym p i; other = sym q i; point = sym r i }))
 
 somewhere_from : (row : Row) (t : TwoTables) (at other point : ℕ)
-    → IsAmong (somewhere (counted (of_source row.source t) row.known) (counted t row.numbers)) at other point
+    → IsAmong (somewhere (known_counted row.known t) (counted t row.numbers)) at other point
     → IsLookedUp lookup.Somewhere row t at other point
 somewhere_from row t at other point among =
     let (g, in_all, within) = over_from (λ h. filter_map (found_here known h) known) (counted t row.numbers) _ among in
@@ -365,7 +380,7 @@ somewhere_from row t at other point among =
     (Decides-and (g.number == f.number) _ (Decides-eqb g.number f.number) (decides_first known f)) is
   where
     known : List Numbered
-    known = counted (of_source row.source t) row.known
+    known = known_counted row.known t
 
     of : (g : Numbered) → Contains (counted t row.numbers) g → (f : Numbered) → Contains known f → (b : Bool)
         → Decides b ((g.number ≡ f.number)
@@ -382,9 +397,9 @@ somewhere_from row t at other point among =
           (
             counted_from t row.numbers g in_all,
             record {
-              here = counted_from (of_source row.source t) row.known f listed;
+              here = known_from row.known t f listed;
               least = λ h knows equal.
-                  elim (firsts h (counted_has (of_source row.source t) row.known h knows)) [
+                  elim (firsts h (known_has row.known t h knows)) [
                     | inl differ ↦ absurd (differ equal)
                     | inr before ↦ before
                   ];
@@ -402,8 +417,8 @@ cut_place (Some cut) = record { at = cut.at; other = cut.said; point = cut.end }
 
 abbrev looked_up : LookUp → Row → TwoTables → List Place
 looked_up lookup.Nowhere row t =
-    filter_map (passed (unknown (counted (of_source row.source t) row.known))) (counted t row.numbers)
-looked_up lookup.Somewhere row t = somewhere (counted (of_source row.source t) row.known) (counted t row.numbers)
+    filter_map (passed (unknown (known_counted row.known t))) (counted t row.numbers)
+looked_up lookup.Somewhere row t = somewhere (known_counted row.known t) (counted t row.numbers)
 
 abbrev places : Form → Row → TwoTables → List Place
 places form.Given row t = filter_map (passed (λ g. true)) (counted t row.numbers)
@@ -418,7 +433,7 @@ always g = (λ passes. tt, λ holds. refl)
 looked_up_has : (l : LookUp) (row : Row) (t : TwoTables) (at other point : ℕ) → IsLookedUp l row t at other point
     → IsAmong (looked_up l row t) at other point
 looked_up_has lookup.Nowhere row t at other point (counts, none) =
-    passed_has (unknown (counted (of_source row.source t) row.known))
+    passed_has (unknown (known_counted row.known t))
     (λ g. (x : Numbered) → Knows row t x → ¬ (x.number ≡ g.number)) (decides_unknown row t) (counted t row.numbers)
     at other point
     (counted_has t row.numbers _ counts) none
@@ -427,7 +442,7 @@ looked_up_has lookup.Somewhere row t at other point is = somewhere_has row t at 
 looked_up_from : (l : LookUp) (row : Row) (t : TwoTables) (at other point : ℕ)
     → IsAmong (looked_up l row t) at other point → IsLookedUp l row t at other point
 looked_up_from lookup.Nowhere row t at other point among =
-    let (listed, none) = passed_from (unknown (counted (of_source row.source t) row.known))
+    let (listed, none) = passed_from (unknown (known_counted row.known t))
     (λ g. (x : Numbered) → Knows row t x → ¬ (x.number ≡ g.number)) (decides_unknown row t) (counted t row.numbers)
     at other point among in
     (counted_from t row.numbers _ listed, none)

@@ -10,7 +10,7 @@ use Rattle.acpi_rules.specs.Known.{first_of, place_by, told}
 use Rattle.acpi_rules.specs.Numbered.{IsFirst, IsNotAbove, IsRepeated, Repeats}
 use Rattle.acpi_rules.specs.Numbers.{AreExcepted, Counts, GivenBeside, GivenIn, IsGiven, IsToldOf, Numbers, gives_any}
 use Rattle.acpi_rules.specs.Places.{FindsLeast}
-use Rattle.acpi_rules.specs.Rows.{IsCut, IsLookedUp, Knows, Row, of_source, reported}
+use Rattle.acpi_rules.specs.Rows.{IsCut, IsKnown, IsLookedUp, Known, Knows, Row, of_source, reported}
 use Rattle.acpi_rules.specs.Sites.{first_cut}
 use Rattle.acpi_rules.specs.Terms.{TwoTables}
 use Rattle.acpi_rules.specs.declared.known.LookUp.{LookUp}
@@ -92,15 +92,15 @@ given_as t n except found excepted least =
 abbrev pub AreKnown : Row → TwoTables → List Numbered → Type 0
 AreKnown row t known = (g : Numbered) → Contains known g ↔ Knows row t g
 
-pub known_of : (row : Row) (t u : TwoTables) (counted known : List Numbered) → u ≡ of_source row.source t
-    → ((g : Numbered) → Contains counted g ↔ Counts u row.known g) → IsPermutation counted known
-    → AreKnown row t known
-known_of row t u counted known is are moved g = (
+pub known_of : (k : Known) (t u : TwoTables) (counted known : List Numbered) → u ≡ of_source k.source t
+    → ((g : Numbered) → Contains counted g ↔ Counts u k.numbers g) → IsPermutation counted known
+    → (g : Numbered) → Contains known g ↔ IsKnown (Some k) t g
+known_of k t u counted known is are moved g = (
   λ listed.
-      subst (λ v. Counts v row.known g) is
+      subst (λ v. Counts v k.numbers g) is
       ((are g).0 (Contains-permutation known counted g (IsPermutation-sym counted known moved) listed)),
   λ knows.
-      Contains-permutation counted known g moved ((are g).1 (subst (λ v. Counts v row.known g) (sym is) knows)),
+      Contains-permutation counted known g moved ((are g).1 (subst (λ v. Counts v k.numbers g) (sym is) knows)),
 )
 
 first_moved : {P Q : Numbered → Type 0} (f : Numbered) → ((x : Numbered) → P x ↔ Q x) → IsFirst P f → IsFirst Q f

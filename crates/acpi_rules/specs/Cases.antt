@@ -1,10 +1,10 @@
 -- What a structure gives: a number, with a value, at a place.
-use Rattle.std.specs.Prelude.{◌≡◌, ℕ, ◌+◌, Bool, List, [], ◌∷◌, length, Option, Some, None, nat_le, nat_lt, ◌&&◌, if◌then◌else◌}
+use Rattle.std.specs.Prelude.{◌≡◌, ℕ, ◌+◌, Bool, List, [], ◌∷◌, length, Option, Some, None, nat_le, nat_lt, ◌&&◌, ◌||◌, ◌==◌, if◌then◌else◌}
 use Rattle.std.specs.Option.{option_or}
 use denote.Ref.{Bor}
 use Rattle.acpi_rules.specs.Clauses.{all_hold}
 use Rattle.acpi_rules.specs.Sites.{SiteValue}
-use Rattle.acpi_rules.specs.Terms.{TwoTables, shown, value_number}
+use Rattle.acpi_rules.specs.Terms.{TwoTables, value_number}
 use Rattle.acpi_rules.specs.declared.case.Kind.{Kind}
 use Rattle.acpi_rules.specs.declared.clause.Clause.{Clause}
 use Rattle.acpi_rules.specs.declared.numbered.Numbered.{Numbered}
@@ -23,14 +23,17 @@ pub record Case : Type 0 where
 unfoldable pub has_type : Kind → ℕ → Bool
 has_type k kind = nat_le k.first kind && nat_le kind k.last
 
+-- whether a kind has this length; a greatest length of 65535 says that there is none
+unfoldable pub has_length : Kind → ℕ → Bool
+has_length k size = nat_le k.least size && (k.most == 65535 || nat_le size k.most)
+
 -- whether a structure is of this kind: its type and its length
 unfoldable pub is_kind : Kind → SiteValue → Bool
-is_kind k s =
-    nat_le k.first s.kind && nat_le s.kind k.last && nat_le k.least (length s.own.entry) && nat_le (length s.own.entry) k.most
+is_kind k s = has_type k s.kind && has_length k (length s.own.entry)
 
 -- a number and a value at a place, if both are there
 abbrev pub numbered_at : ℕ → Option ℕ → Option ℕ → Option Numbered
-numbered_at at (Some value) (Some number) = Some (record { number = shown number; at = at; value = shown value })
+numbered_at at (Some value) (Some number) = Some (record { number = number; at = at; value = value })
 numbered_at at _ _ = None
 
 -- what a structure gives in a case: it is of that kind, has the byte that is the place, and all clauses hold
@@ -56,9 +59,12 @@ BorCase = Kind × Bor (List Clause) × ℕ × Value × Value
 abbrev pub case_value : BorCase → Case
 case_value c = record { kind = c.0; all = c.1.now; at = c.2; value = c.3; number = c.4 }
 
--- a case as a constant has it
+-- what a constant refers to, and a case as a constant has it
+abbrev pub SaidOne : Type 0 → Type 0
+SaidOne A = record { now : A }
+
 abbrev pub Said : Type 0 → Type 0
-Said A = record { now : List A }
+Said A = SaidOne (List A)
 
 abbrev pub SaidCase : Type 0
 SaidCase = Kind × Said Clause × ℕ × Value × Value

@@ -3,7 +3,7 @@ use Rattle.std.specs.Prelude.{◌≡◌, ℕ, ◌↔◌, Bool, not, ◌==◌, Li
 use Rattle.std.specs.List.{list_any}
 use Rattle.std.specs.Option.{is_some}
 use denote.Ref.{Bor}
-use Rattle.acpi_rules.specs.Cases.{BorCase, Case, SaidCase, Said, case_said, case_value, gives}
+use Rattle.acpi_rules.specs.Cases.{BorCase, Case, Said, SaidCase, SaidOne, case_said, case_value, gives}
 use Rattle.acpi_rules.specs.Known.{first_of, told}
 use Rattle.acpi_rules.specs.Sites.{SiteValue, sites_of}
 use Rattle.acpi_rules.specs.Terms.{TwoTables}
@@ -41,12 +41,12 @@ has_except n = not (length n.except_cases == 0)
 -- ---- the code's
 
 abbrev pub BorNumbers : Type 0
-BorNumbers = Path × Bor (List BorCase) × Bor (List BorCase)
+BorNumbers = Bor Path × Bor (List BorCase) × Bor (List BorCase)
 
 abbrev pub numbers_value : BorNumbers → Numbers
 numbers_value n =
     record {
-      path = n.0;
+      path = n.0.now;
       cases = map case_value n.1.now;
       except_cases = map case_value n.2.now;
     }
@@ -70,12 +70,12 @@ IsToldOf l t path cases except known at other point =
 -- ---- the same as a constant has it
 
 abbrev pub SaidNumbers : Type 0
-SaidNumbers = Path × Said SaidCase × Said SaidCase
+SaidNumbers = SaidOne Path × Said SaidCase × Said SaidCase
 
 abbrev pub numbers_said : SaidNumbers → Numbers
 numbers_said n =
     record {
-      path = n.0;
+      path = n.0.now;
       cases = map case_said n.1.now;
       except_cases = map case_said n.2.now;
     }

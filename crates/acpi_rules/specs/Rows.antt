@@ -1,9 +1,9 @@
 -- Rules as rows: what a row says of its tables.
-use Rattle.std.specs.Prelude.{◌≡◌, ℕ, Bool, true, false, not, ◌||◌, ◌==◌, List, length, map, nat_le, Some}
+use Rattle.std.specs.Prelude.{◌≡◌, ℕ, Bool, true, false, not, ◌||◌, ◌==◌, List, length, map, nat_le, Option, Some, option_map, IsSomeAnd}
 use Rattle.std.specs.List.{filter_map, list_all}
 use Rattle.std.specs.Option.{is_none, option_map_or}
 use denote.Ref.{Bor}
-use Rattle.acpi_rules.specs.Cases.{BorCase, Case, Said, SaidCase, case_said, case_value, first_some, gives}
+use Rattle.acpi_rules.specs.Cases.{BorCase, Case, Said, SaidCase, SaidOne, case_said, case_value, first_some, gives}
 use Rattle.acpi_rules.specs.Numbered.{IsFirst, IsRepeated}
 use Rattle.acpi_rules.specs.Numbers.{BorNumbers, Counts, Numbers, SaidNumbers, gives_any, has_except, numbers_said, numbers_value}
 use Rattle.acpi_rules.specs.Overlaps.{IsOverlap}
@@ -27,15 +27,19 @@ pub record Guard : Type 0 where
   pub path : Path
   pub cases : List Case
 
+-- numbers among which others are looked up, and the table that they are in
+pub record Known : Type 0 where
+  pub source : Source
+  pub numbers : Numbers
+
 -- a rule: its number, what is reported, conditions that all hold, the numbers that it is about, and those among which they are
--- looked up, with the table that these are in
+-- looked up, if they are
 pub record Row : Type 0 where
   pub number : ℕ
   pub form : Form
   pub guards : List Guard
   pub numbers : Numbers
-  pub source : Source
-  pub known : Numbers
+  pub known : Option Known
 
 -- the tables as a path through one of them sees them
 abbrev pub of_source : Source → TwoTables → TwoTables
@@ -66,8 +70,11 @@ abbrev pub reported : ℕ → ℕ → ℕ → Numbered
 reported at other point = record { number = point; at = at; value = other }
 
 -- the number g is among those that are looked up in
+abbrev pub IsKnown : Option Known → TwoTables → Numbered → Type 0
+IsKnown known t g = IsSomeAnd known (λ k. Counts (of_source k.source t) k.numbers g)
+
 abbrev pub Knows : Row → TwoTables → Numbered → Type 0
-Knows row t g = Counts (of_source row.source t) row.known g
+Knows row t g = IsKnown row.known t g
 
 -- the number g counts, and f is the first one that is the same, of those that are looked up in; the place of f is told
 abbrev pub IsFound : Row → TwoTables → Numbered → Numbered → Type 0
@@ -117,13 +124,19 @@ needs_memory row = keeps_numbers row.form || has_except row.numbers
 -- ---- the code's
 
 abbrev pub BorGuard : Type 0
-BorGuard = Need × Source × Path × Bor (List BorCase)
+BorGuard = Need × Source × Bor Path × Bor (List BorCase)
 
 abbrev pub guard_value : BorGuard → Guard
-guard_value g = record { need = g.0; source = g.1; path = g.2; cases = map case_value g.3.now }
+guard_value g = record { need = g.0; source = g.1; path = g.2.now; cases = map case_value g.3.now }
+
+abbrev pub BorKnown : Type 0
+BorKnown = Option (Bor (Source × BorNumbers))
+
+abbrev pub known_value : BorKnown → Option Known
+known_value = option_map (λ k. record { source = k.now.0; numbers = numbers_value k.now.1 })
 
 abbrev pub BorRow : Type 0
-BorRow = ℕ × Form × Bor (List BorGuard) × BorNumbers × Source × BorNumbers
+BorRow = ℕ × Form × Bor (List BorGuard) × BorNumbers × BorKnown
 
 abbrev pub row_value : BorRow → Row
 row_value r =
@@ -132,20 +145,25 @@ row_value r =
       form = r.1;
       guards = map guard_value r.2.now;
       numbers = numbers_value r.3;
-      source = r.4;
-      known = numbers_value r.5;
+      known = known_value r.4;
     }
 
 -- ---- the same as a constant has it
 
 abbrev pub SaidGuard : Type 0
-SaidGuard = Need × Source × Path × Said SaidCase
+SaidGuard = Need × Source × SaidOne Path × Said SaidCase
 
 abbrev pub guard_said : SaidGuard → Guard
-guard_said g = record { need = g.0; source = g.1; path = g.2; cases = map case_said g.3.now }
+guard_said g = record { need = g.0; source = g.1; path = g.2.now; cases = map case_said g.3.now }
+
+abbrev pub SaidKnown : Type 0
+SaidKnown = Option (SaidOne (Source × SaidNumbers))
+
+abbrev pub known_said : SaidKnown → Option Known
+known_said = option_map (λ k. record { source = k.now.0; numbers = numbers_said k.now.1 })
 
 abbrev pub SaidRow : Type 0
-SaidRow = ℕ × Form × Said SaidGuard × SaidNumbers × Source × SaidNumbers
+SaidRow = ℕ × Form × Said SaidGuard × SaidNumbers × SaidKnown
 
 abbrev pub row_said : SaidRow → Row
 row_said r =
@@ -154,8 +172,7 @@ row_said r =
       form = r.1;
       guards = map guard_said r.2.now;
       numbers = numbers_said r.3;
-      source = r.4;
-      known = numbers_said r.5;
+      known = known_said r.4;
     }
 
 -- the rows of a constant

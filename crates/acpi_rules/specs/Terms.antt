@@ -7,8 +7,8 @@ use Rattle.acpi_rules.specs.declared.field.Field.{Field}
 use Rattle.acpi_rules.specs.declared.term.Tables.{Tables}
 use Rattle.acpi_rules.specs.declared.term.Within.{Within}
 use Rattle.acpi_rules.specs.declared.term.Within.TheVariants as within
-use Rattle.acpi_rules.specs.declared.term.Term.{Term}
-use Rattle.acpi_rules.specs.declared.term.Term.TheVariants as term
+use Rattle.acpi_rules.specs.declared.term.Addend.{Addend}
+use Rattle.acpi_rules.specs.declared.term.Addend.TheVariants as addend
 use Rattle.acpi_rules.specs.declared.term.Value.{Value}
 use Rattle.acpi_rules.specs.declared.term.Value.TheVariants as value
 
@@ -28,37 +28,42 @@ window_of t s within.Outer = s.outer
 window_of t s within.Table = whole_table t.table
 window_of t s within.Other = whole_table t.other
 
--- the number of a term, if its field is there
-unfoldable pub term_number : TwoTables → SiteValue → Term → Option ℕ
-term_number t s (term.Number n) = Some n
-term_number t s (term.Of w f) = reading f (window_of t s w).entry
-term_number t s (term.Bits w f mask) = option_map (λ n. bit_and n mask) (reading f (window_of t s w).entry)
-term_number t s (term.Length w) = Some (length (window_of t s w).entry)
-term_number t s (term.Behind w n) =
-    let size = length (window_of t s w).entry in if nat_le n size then Some (size - n) else None
-term_number t s (term.Offset w) = Some (window_of t s w).offset
-
 -- an operation on two numbers, if both are there
 abbrev pub of_both : (ℕ → ℕ → ℕ) → Option ℕ → Option ℕ → Option ℕ
 of_both f (Some m) (Some n) = Some (f m n)
 of_both f _ _ = None
 
--- the product of two fields of a structure, and of three
-abbrev pub product_of_two : List ℕ → Field → Field → Option ℕ
-product_of_two bytes one other = of_both (λ m n. m * n) (reading one bytes) (reading other bytes)
+-- a number, or 2 ^ 64 - 1 if it is above that
+abbrev pub within_64_bits : ℕ → ℕ
+within_64_bits n = min n (2 ^ 64 - 1)
+
+-- what is added to a multiple, if its field is there
+abbrev pub addend_number : List ℕ → Addend → Option ℕ
+addend_number bytes (addend.Number n) = Some n
+addend_number bytes (addend.Of f) = reading f bytes
+addend_number bytes (addend.Bits f mask) = option_map (λ n. bit_and n mask) (reading f bytes)
+
+-- a multiple of a field, with what is added to it
+abbrev pub sum_of : List ℕ → Field → ℕ → Addend → Option ℕ
+sum_of bytes f times one =
+    of_both (λ m n. within_64_bits (n + times * m)) (reading f bytes) (addend_number bytes one)
+
+-- the product of two numbers that are there, and that of two or three fields
+abbrev pub product : Option ℕ → Option ℕ → Option ℕ
+product = of_both (λ m n. within_64_bits (m * n))
 
 abbrev pub product_in : List ℕ → Field → Field → Option Field → Option ℕ
-product_in bytes one other None = product_of_two bytes one other
-product_in bytes one other (Some third) =
-    of_both (λ m n. min (m * n) (2 ^ 128 - 1)) (product_of_two bytes one other) (reading third bytes)
+product_in bytes one other None = product (reading one bytes) (reading other bytes)
+product_in bytes one other (Some third) = product (product (reading one bytes) (reading other bytes)) (reading third bytes)
 
--- the number of a value; a sum does not wrap
+-- the number of a value, if its fields are there
 unfoldable pub value_number : TwoTables → SiteValue → Value → Option ℕ
-value_number t s (value.Only one) = term_number t s one
-value_number t s (value.Sum w f times one) =
-    of_both (λ m n. n + times * m) (reading f (window_of t s w).entry) (term_number t s one)
+value_number t s (value.Number n) = Some n
+value_number t s (value.Of w f) = reading f (window_of t s w).entry
+value_number t s (value.Bits w f mask) = option_map (λ n. bit_and n mask) (reading f (window_of t s w).entry)
+value_number t s (value.Length w) = Some (length (window_of t s w).entry)
+value_number t s (value.Behind w n) =
+    let size = length (window_of t s w).entry in if nat_le n size then Some (size - n) else None
+value_number t s (value.Offset w) = Some (window_of t s w).offset
+value_number t s (value.Sum w f times one) = sum_of (window_of t s w).entry f times one
 value_number t s (value.Product one other third) = product_in s.own.entry one other third
-
--- a number as a finding shows it
-unfoldable pub shown : ℕ → ℕ
-shown n = min n (2 ^ 64 - 1)

@@ -1,7 +1,7 @@
 //! What a structure gives: a number, with a value, at a place.
 
 ghost use Rattle.std.specs.Prelude.{◌≡◌, map};
-ghost use Rattle.acpi_rules.specs.Cases.{GiveSame, case_value, gives, has_type, in_case, is_kind};
+ghost use Rattle.acpi_rules.specs.Cases.{GiveSame, case_value, gives, has_length, has_type, in_case, is_kind};
 ghost use Rattle.acpi_rules.specs.Sites.{site_value};
 ghost use Rattle.acpi_rules.specs.Terms.{tables_value};
 
@@ -14,13 +14,13 @@ use crate::term::{Tables, Value};
 #[derive(Clone, Copy, Debug, PartialEq, Eq)]
 pub struct Kind {
     /// The lowest type.
-    pub first: u32,
+    pub first: u16,
     /// The highest type.
-    pub last: u32,
+    pub last: u16,
     /// The least length, in bytes.
-    pub least: u32,
-    /// The greatest length, in bytes.
-    pub most: u32,
+    pub least: u16,
+    /// The greatest length, in bytes; 65,535 says that there is none.
+    pub most: u16,
 }
 
 /// A case in which a structure gives a number: its kind, clauses that all hold, the offset in it that is the place, the
@@ -39,17 +39,22 @@ impl Kind {
         u64::from(self.first) <= kind && kind <= u64::from(self.last)
     }
 
+    /// Whether structures of this length may be of this kind.
+    #[inline(always)]
+    #[tactic(auto, unfolding(crate::specs::Cases::has_length))]
+    fn has_length(&self, length: u64) -> bool
+        ensures { result ≡ has_length self.now length }
+    {
+        u64::from(self.least) <= length && (self.most == u16::MAX || length <= u64::from(self.most))
+    }
+
     /// Whether a structure is of this kind.
     #[inline(always)]
     #[tactic(auto, unfolding(crate::specs::Cases::is_kind))]
     pub(crate) fn has(&self, site: &Site<'_>) -> bool
         ensures { result ≡ is_kind self.now (site_value site.now) }
     {
-        let length = site.own.bytes.len() as u64;
-        u64::from(self.first) <= site.kind
-            && site.kind <= u64::from(self.last)
-            && u64::from(self.least) <= length
-            && length <= u64::from(self.most)
+        self.has_type(site.kind) && self.has_length(site.own.bytes.len() as u64)
     }
 }
 
@@ -67,8 +72,8 @@ fn in_case(case: &Case<'_>, tables: &Tables<'_>, site: &Site<'_>) -> Option<Numb
     {
         return None;
     }
-    let value = case.3.shown_number(tables, site)?;
-    let number = case.4.shown_number(tables, site)?;
+    let value = case.3.number(tables, site)?;
+    let number = case.4.number(tables, site)?;
     Some(Numbered {
         number,
         at: site.own.at + u64::from(case.2),

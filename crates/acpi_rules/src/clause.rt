@@ -1,12 +1,12 @@
 //! Comparisons of numbers.
 
 ghost use Rattle.std.specs.Prelude.{◌≡◌};
-ghost use Rattle.acpi_rules.specs.Clauses.{all_hold, holds, pass, passes};
+ghost use Rattle.acpi_rules.specs.Clauses.{all_hold, holds, passes};
 ghost use Rattle.acpi_rules.specs.Sites.{site_value};
-ghost use Rattle.acpi_rules.specs.Terms.{tables_value, term_number};
+ghost use Rattle.acpi_rules.specs.Terms.{tables_value};
 
 use crate::sites::Site;
-use crate::term::{Tables, Term, Value};
+use crate::term::{Tables, Value};
 
 /// How two numbers compare.
 #[derive(Clone, Copy, Debug, PartialEq, Eq)]
@@ -34,8 +34,9 @@ pub struct Clause {
 
 impl Test {
     /// Whether two numbers pass the test.
+    #[inline(always)]
     #[tactic(auto, unfolding(crate::specs::Clauses::passes))]
-    fn passes(self, one: u128, other: u128) -> bool
+    fn passes(self, one: u64, other: u64) -> bool
         ensures { result ≡ passes self one other }
     {
         match self {
@@ -45,42 +46,14 @@ impl Test {
             Test::UpTo => one <= other,
         }
     }
-
-    /// Whether two terms are there and pass the test.
-    #[inline(always)]
-    #[tactic(auto, unfolding(crate::specs::Clauses::passes))]
-    fn terms_pass(self, left: &Term, right: &Term, tables: &Tables<'_>, site: &Site<'_>) -> bool
-        ensures { result ≡ pass self
-            (term_number (tables_value tables.now) (site_value site.now) left.now)
-            (term_number (tables_value tables.now) (site_value site.now) right.now) }
-    {
-        let Some(left) = left.number(tables, site) else {
-            return false;
-        };
-        let Some(right) = right.number(tables, site) else {
-            return false;
-        };
-        match self {
-            Test::Is => left == right,
-            Test::IsNot => left != right,
-            Test::Below => left < right,
-            Test::UpTo => left <= right,
-        }
-    }
 }
 
 impl Clause {
     /// Whether the clause holds for a structure.
-    #[tactic(auto, unfolding(crate::specs::Clauses::holds, crate::specs::Terms::value_number))]
+    #[tactic(auto, unfolding(crate::specs::Clauses::holds))]
     pub(crate) fn holds(&self, tables: &Tables<'_>, site: &Site<'_>) -> bool
         ensures { result ≡ holds (tables_value tables.now) (site_value site.now) self.now }
     {
-        // Most clauses compare two terms, which takes no numbers of 128 bits.
-        if let Value::Only(left) = &self.left
-            && let Value::Only(right) = &self.right
-        {
-            return self.test.terms_pass(left, right, tables, site);
-        }
         let Some(left) = self.left.number(tables, site) else {
             return false;
         };

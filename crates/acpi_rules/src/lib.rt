@@ -13,14 +13,14 @@
 //!     table: IndexedTable::new(MADT),
 //!     other: IndexedTable::new(&[]),
 //! };
+//! let path = Path::Entries(ENTRIES);
 //! let cases: [Case<'_>; 1] = [(IO_APIC, &[], 0, ID, ID)];
 //! let row: Row<'_> = (
 //!     112,
 //!     Form::Repeated(Repeat::Twice),
 //!     &[],
-//!     (Path::Entries(ENTRIES), &cases, &[]),
-//!     Source::Table,
-//!     (Path::Table, &[], &[]),
+//!     (&path, &cases, &[]),
+//!     None,
 //! );
 //! let found = first_finding(alloc, &row, &tables)?;
 //! assert_eq!(rt; found, Some(SECOND));
@@ -59,11 +59,13 @@ pub use numbered::{Numbered, Repeat, first_repeated, lesser, sort_numbers};
 pub use numbers::{Numbers, numbers_in_order, sorted_given};
 pub use overlap::{Range, first_overlap};
 pub use place::Place;
-pub use row::{Form, Guard, Need, Row, Source, all_guards_hold, first_finding, given_by_row};
+pub use row::{
+    Form, Guard, Known, Need, Row, Source, all_guards_hold, first_finding, given_by_row,
+};
 pub use series::{
     Extent, Head, Inner, LengthRows, Multiple, Path, Series, Shape, Start, Sum, Types,
 };
 pub use sites::Site;
 pub use structures::Cut;
-pub use term::{Tables, Term, Value, Within};
+pub use term::{Addend, Tables, Value, Within};
 pub use window::Window;

@@ -22,7 +22,7 @@ use std::alloc::{AllocError, Global};
 /// one gives a place at which none of these counts. Mostly there are no such cases.
 ///
 /// It is a tuple since a clause cannot name a constant of a struct that has references.
-pub type Numbers<'a> = (Path, &'a [Case<'a>], &'a [Case<'a>]);
+pub type Numbers<'a> = (&'a Path, &'a [Case<'a>], &'a [Case<'a>]);
 
 /// The numbers that structures give, in order. Refuses if out of memory.
 pub fn sorted_given(

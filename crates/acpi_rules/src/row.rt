@@ -1,12 +1,13 @@
 //! Rules as rows, and the finding of each.
 
-ghost use Rattle.std.specs.Prelude.{◌≡◌, ◌↔◌, false, Contains, IfOk, IsTrue, OnErr, map};
+ghost use Rattle.std.specs.Prelude.{◌≡◌, ◌↔◌, false, AllPairs, Contains, IfOk, IsTrue, OnErr, map};
 ghost use Rattle.std.specs.List.{list_all};
 ghost use Rattle.std.specs.Option.{is_none};
 ghost use Rattle.acpi_rules.specs.Cases.{case_value};
+ghost use Rattle.acpi_rules.specs.Numbered.{IsNotAbove};
 ghost use Rattle.acpi_rules.specs.Numbers.{Counts, has_except, numbers_value};
 ghost use Rattle.acpi_rules.specs.Places.{FindsLeast};
-ghost use Rattle.acpi_rules.specs.Rows.{InForm, IsBroken, IsCut, IsGivenByRow, IsLookedUp, first_is_some, gives_two, guard_holds, guard_value, needs_memory, of_source, reported, row_value};
+ghost use Rattle.acpi_rules.specs.Rows.{InForm, IsBroken, IsCut, IsGivenByRow, IsKnown, IsLookedUp, first_is_some, gives_two, guard_holds, guard_value, known_value, needs_memory, of_source, reported, row_value};
 ghost use Rattle.acpi_rules.specs.Sites.{first_cut};
 ghost use Rattle.acpi_rules.specs.Terms.{tables_value};
 ghost use Rattle.acpi_rules.specs.declared.numbered.Numbered.{Numbered};
@@ -50,7 +51,7 @@ pub enum Need {
 }
 
 /// A condition: what is wanted, of the structures of which table and path, and the cases in which one gives a number.
-pub type Guard<'a> = (Need, Source, Path, &'a [Case<'a>]);
+pub type Guard<'a> = (Need, Source, &'a Path, &'a [Case<'a>]);
 
 /// What is reported of the numbers that structures give.
 #[derive(Clone, Copy, Debug, PartialEq, Eq)]
@@ -68,11 +69,20 @@ pub enum Form {
     Cut,
 }
 
+/// Numbers among which others are looked up, and the table that they are in.
+pub type Known<'a> = (Source, Numbers<'a>);
+
 /// A rule: its number, what is reported, conditions that all hold, the numbers that it is about; and those among which
-/// they are looked up, with the table that these are in.
+/// they are looked up, if they are.
 ///
 /// It is a tuple since a clause cannot name a constant of a struct that has references.
-pub type Row<'a> = (u16, Form, &'a [Guard<'a>], Numbers<'a>, Source, Numbers<'a>);
+pub type Row<'a> = (
+    u16,
+    Form,
+    &'a [Guard<'a>],
+    Numbers<'a>,
+    Option<&'a Known<'a>>,
+);
 
 impl Need {
     /// Whether a condition ends with the first structure that decides it, mostly.
@@ -187,6 +197,24 @@ fn quick_guards_hold(guards: &[Guard<'_>], tables: &Tables<'_>) -> bool
     true
 }
 
+/// The numbers among which others are looked up, in order. Refuses if out of memory.
+fn sorted_known(
+    alloc: Global,
+    known: &Option<&Known<'_>>,
+    tables: &Tables<'_>,
+) -> Result<Vec<Numbered>, AllocError>
+    ensures order { IfOk result (λ all. AllPairs IsNotAbove all.items) }
+    ensures all { IfOk result (λ all. (g : Numbered) → Contains all.items g
+        ↔ IsKnown (known_value known.now) (tables_value tables.now) g) }
+{
+    let Some(known) = known else {
+        return Ok(Vec::new(alloc));
+    };
+    let mut all = counted(alloc, &known.1, &known.0.of(tables))?;
+    sort_numbers(&mut all)?;
+    Ok(all)
+}
+
 /// The lowest place of what is told of numbers that are looked up. Refuses if out of memory: it allocates for those
 /// among which they are.
 fn first_looked_up(
@@ -198,15 +226,14 @@ fn first_looked_up(
     ensures { IfOk result
         (FindsLeast (IsLookedUp look_up (row_value row.now) (tables_value tables.now))) }
 {
-    let (_, _, _, numbers, source, known) = row;
+    let (_, _, _, numbers, known) = row;
     let (path, cases, ..) = numbers;
     // Mostly nothing is looked up.
     if !gives_any(path, cases, tables) {
         return Ok(None);
     }
     let except = excepted(alloc, numbers, tables)?;
-    let mut known = counted(alloc, known, &source.of(tables))?;
-    sort_numbers(&mut known)?;
+    let known = sorted_known(alloc, known, tables)?;
     Ok(first_told(look_up, path, cases, tables, &except, &known))
 }
 
@@ -253,7 +280,7 @@ fn first_in_form(
         Form::Repeated(repeat) => first_repeated(counted(alloc, numbers, tables)?, repeat),
         Form::LookedUp(look_up) => first_looked_up(alloc, look_up, row, tables),
         Form::Overlap(range) => first_overlap(counted(alloc, numbers, tables)?, range),
-        Form::Cut => Ok(cut_place(&numbers.0, tables.table.bytes)),
+        Form::Cut => Ok(cut_place(numbers.0, tables.table.bytes)),
     }
 }
 

@@ -1,9 +1,9 @@
 //! The numbers that rules compare and findings show.
 
-ghost use Rattle.std.specs.Prelude.{◌≡◌, option_map};
+ghost use Rattle.std.specs.Prelude.{◌≡◌};
 ghost use Rattle.acpi_rules.specs.Walks.{placed};
 ghost use Rattle.acpi_rules.specs.Sites.{site_value};
-ghost use Rattle.acpi_rules.specs.Terms.{shown, tables_value, term_number, value_number, window_of};
+ghost use Rattle.acpi_rules.specs.Terms.{addend_number, product_in, sum_of, tables_value, value_number, window_of, within_64_bits};
 
 use crate::field::Field;
 use crate::indexed_table::IndexedTable;
@@ -34,9 +34,22 @@ pub enum Within {
     Other,
 }
 
-/// A number that a clause compares or a finding shows.
+/// What is added to a multiple of a field.
 #[derive(Clone, Copy, Debug, PartialEq, Eq)]
-pub enum Term {
+pub enum Addend {
+    /// This number.
+    Number(u32),
+    /// The number of a field of the same structure.
+    Of(Field),
+    /// The bits of such a field's number that are set in a mask.
+    Bits(Field, u16),
+}
+
+/// A number that a clause compares or a finding shows: at most 2^64 - 1.
+///
+/// The parts stand in an order in which they take 16 bytes, since the rows have thousands of values.
+#[derive(Clone, Copy, Debug, PartialEq, Eq)]
+pub enum Value {
     /// This number.
     Number(u64),
     /// The number of a field.
@@ -49,18 +62,9 @@ pub enum Term {
     Behind(Within, u64),
     /// The offset of a structure from its table's start, in bytes.
     Offset(Within),
-}
-
-/// A term, or what is computed of fields.
-///
-/// The parts stand in an order in which they take 24 bytes, since the rows have thousands of values.
-#[derive(Clone, Copy, Debug, PartialEq, Eq)]
-pub enum Value {
-    /// The term.
-    Only(Term),
-    /// A multiple of a field's number, and a term. It does not wrap.
-    Sum(Within, Field, u16, Term),
-    /// The product of two fields of the structure that the rule is about, or of three; at most 2^128 - 1.
+    /// A multiple of a field's number, and what is added to it. A sum above 2^64 - 1 counts as that.
+    Sum(Within, Field, u16, Addend),
+    /// The product of two fields of the structure that the rule is about, or of three. One above 2^64 - 1 counts as that.
     Product(Field, Field, Option<Field>),
 }
 
@@ -87,82 +91,78 @@ impl Within {
     }
 }
 
-impl Term {
-    /// The number, if its field is within its structure.
-    #[inline(always)]
-    #[tactic(auto, unfolding(crate::specs::Terms::term_number))]
-    pub(crate) fn number(&self, tables: &Tables<'_>, site: &Site<'_>) -> Option<u64>
-        ensures { result ≡ term_number (tables_value tables.now) (site_value site.now) self.now }
+impl Addend {
+    /// The number, if its field is within the structure that has these bytes.
+    fn number(&self, bytes: &[u8]) -> Option<u64>
+        ensures { result ≡ addend_number bytes.now self.now }
     {
         match *self {
-            Term::Number(number) => Some(number),
-            Term::Of(within, field) => field.read(within.window(tables, site).bytes),
-            Term::Bits(within, field, mask) => {
-                let number = field.read(within.window(tables, site).bytes)?;
-                Some(number & mask)
+            Addend::Number(number) => Some(u64::from(number)),
+            Addend::Of(field) => field.read(bytes),
+            Addend::Bits(field, mask) => {
+                let number = field.read(bytes)?;
+                Some(number & u64::from(mask))
             }
-            Term::Length(within) => Some(within.window(tables, site).bytes.len() as u64),
-            Term::Behind(within, offset) => {
-                (within.window(tables, site).bytes.len() as u64).checked_sub(offset)
-            }
-            Term::Offset(within) => Some(within.window(tables, site).at),
         }
     }
+}
+
+/// The multiple of a field of a structure with these bytes, and what is added to it.
+fn sum_in(bytes: &[u8], field: Field, times: u16, addend: &Addend) -> Option<u64>
+    ensures { result ≡ sum_of bytes.now field times addend.now }
+{
+    let number = field.read(bytes)?;
+    let addend = addend.number(bytes)?;
+    Some(within_64_bits(u128::from(addend) + u128::from(times) * u128::from(number)))
+}
+
+/// The product of two fields of a structure with these bytes, or of three.
+fn product_in(bytes: &[u8], one: Field, other: Field, third: Option<Field>) -> Option<u64>
+    ensures { result ≡ product_in bytes.now one other third }
+{
+    let one = one.read(bytes)?;
+    let other = other.read(bytes)?;
+    let two = within_64_bits(u128::from(one) * u128::from(other));
+    let Some(third) = third else {
+        return Some(two);
+    };
+    let third = third.read(bytes)?;
+    Some(within_64_bits(u128::from(two) * u128::from(third)))
 }
 
 impl Value {
     /// The number, if each field is within its structure.
+    #[inline(always)]
     #[tactic(auto, unfolding(crate::specs::Terms::value_number))]
-    pub(crate) fn number(&self, tables: &Tables<'_>, site: &Site<'_>) -> Option<u128>
+    pub(crate) fn number(&self, tables: &Tables<'_>, site: &Site<'_>) -> Option<u64>
         ensures { result ≡ value_number (tables_value tables.now) (site_value site.now) self.now }
     {
         match *self {
-            Value::Only(term) => {
-                let number = term.number(tables, site)?;
-                Some(u128::from(number))
-            }
-            Value::Sum(within, field, times, one) => {
+            Value::Number(number) => Some(number),
+            Value::Of(within, field) => field.read(within.window(tables, site).bytes),
+            Value::Bits(within, field, mask) => {
                 let number = field.read(within.window(tables, site).bytes)?;
-                let one = one.number(tables, site)?;
-                Some(u128::from(one) + u128::from(times) * u128::from(number))
+                Some(number & mask)
             }
-            Value::Product(one, other, None) => {
-                let one = one.read(site.own.bytes)?;
-                let other = other.read(site.own.bytes)?;
-                Some(u128::from(one) * u128::from(other))
+            Value::Length(within) => Some(within.window(tables, site).bytes.len() as u64),
+            Value::Behind(within, offset) => {
+                (within.window(tables, site).bytes.len() as u64).checked_sub(offset)
             }
-            Value::Product(one, other, Some(third)) => {
-                let one = one.read(site.own.bytes)?;
-                let other = other.read(site.own.bytes)?;
-                let third = third.read(site.own.bytes)?;
-                let two = u128::from(one) * u128::from(other);
-                Some(two.saturating_mul(u128::from(third)))
-            }
+            Value::Offset(within) => Some(within.window(tables, site).at),
+            Value::Sum(within, field, times, addend) => sum_in(
+                within.window(tables, site).bytes,
+                field,
+                times,
+                &addend,
+            ),
+            Value::Product(one, other, third) => product_in(site.own.bytes, one, other, third),
         }
     }
 }
 
-impl Value {
-    /// The number as a finding shows it, if each field is within its structure.
-    #[inline(always)]
-    #[tactic(auto, unfolding(crate::specs::Terms::value_number, crate::specs::Terms::shown))]
-    pub(crate) fn shown_number(&self, tables: &Tables<'_>, site: &Site<'_>) -> Option<u64>
-        ensures { result ≡ option_map shown
-            (value_number (tables_value tables.now) (site_value site.now) self.now) }
-    {
-        // Most values are a term, which takes no numbers of 128 bits.
-        if let Value::Only(term) = self {
-            return term.number(tables, site);
-        }
-        let number = self.number(tables, site)?;
-        Some(shown(number))
-    }
-}
-
-/// A number as a finding shows it: at most 2^64 - 1.
-#[tactic(auto, unfolding(crate::specs::Terms::shown))]
-pub(crate) fn shown(number: u128) -> u64
-    ensures { result ≡ shown number }
+/// A number, or 2^64 - 1 if it is above that.
+fn within_64_bits(number: u128) -> u64
+    ensures { result ≡ within_64_bits number }
 {
     number.min(u128::from(u64::MAX)) as u64
 }

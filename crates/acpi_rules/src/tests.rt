@@ -4,8 +4,7 @@ ghost use Rattle.acpi_rules.specs.Indexes.{IsIndexOf};
 
 use crate::{
     Case, Extent, Field, Form, Head, Index, IndexedTable, Kind, Numbered, Path, Place, Range,
-    Repeat, Row, Series, Shape, Source, Start, Tables, Term, Value, Within, first_finding,
-    first_overlap,
+    Repeat, Row, Series, Shape, Start, Tables, Value, Within, first_finding, first_overlap,
 };
 use std::alloc::{AllocError, Global};
 use std::test::*;
@@ -30,7 +29,7 @@ const IO_APIC: Kind = Kind {
 };
 
 /// Its ID.
-const ID: Value = Value::Only(Term::Of(Within::Own, Field { at: 2, width: 1 }));
+const ID: Value = Value::Of(Within::Own, Field { at: 2, width: 1 });
 
 /// A MADT with two I/O APICs, at 44 and at 56, which both have the ID 7.
 const MADT: &[u8] = b"APIC\x44\0\0\0\x05\0AAAAAABBBBBBBBCCCCDDDDEEEE\0\0\xe0\xfe\0\0\0\0\
@@ -50,14 +49,14 @@ fn example_finds_the_same_id_twice(rt: HostRuntime) -> Result<(), Fail> {
         table: IndexedTable::new(MADT),
         other: IndexedTable::new(&[]),
     };
+    let path = Path::Entries(ENTRIES);
     let cases: [Case<'_>; 1] = [(IO_APIC, &[], 0, ID, ID)];
     let row: Row<'_> = (
         112,
         Form::Repeated(Repeat::Twice),
         &[],
-        (Path::Entries(ENTRIES), &cases, &[]),
-        Source::Table,
-        (Path::Table, &[], &[]),
+        (&path, &cases, &[]),
+        None,
     );
     let found = first_finding(alloc, &row, &tables)?;
     assert_eq!(rt; found, Some(SECOND));
@@ -72,14 +71,14 @@ fn found_by_index(alloc: Global, index: &Index) -> Result<Option<Place>, AllocEr
         table: IndexedTable::with(MADT, index),
         other: IndexedTable::new(&[]),
     };
+    let path = Path::Entries(ENTRIES);
     let cases: [Case<'_>; 1] = [(IO_APIC, &[], 0, ID, ID)];
     let row: Row<'_> = (
         112,
         Form::Repeated(Repeat::Twice),
         &[],
-        (Path::Entries(ENTRIES), &cases, &[]),
-        Source::Table,
-        (Path::Table, &[], &[]),
+        (&path, &cases, &[]),
+        None,
     );
     first_finding(alloc, &row, &tables)
 }

@@ -13,8 +13,8 @@ use crate::rows::srat::{
 use crate::rows::srat_fields::SRAT_ENTRIES;
 use crate::rows::table_fields::*;
 use acpi_rules::{
-    Case, Clause, Form, Guard, Kind, LookUp, Need, Path, Range, Repeat, Row, Source, Term, Test,
-    Value, Within,
+    Addend, Case, Clause, Form, Guard, Kind, LookUp, Need, Range, Repeat, Row, Source, Test, Value,
+    Within,
 };
 
 // ---- what entries give
@@ -608,19 +608,19 @@ pub static MADT_WITH_FADT: [Row<'static>; 2] = [
     // lower 4 bits of the byte at 131 are the minor one, 0 if it is not there.
     rule!(152 CapableTooEarly, given in MADT_ENTRIES: {
         LOCAL_APIC if (LOCAL_APIC_FLAGS & 0b11) == 0b10
-            && (((other MINOR_VERSION) & 0xf) + 16 * (other REVISION)) < 0x63
+            && (other (MINOR_VERSION & 0xf) + 16 * REVISION) < 0x63
             => at 0 shows (other REVISION), ((other MINOR_VERSION) & 0xf);
         LOCAL_APIC if (LOCAL_APIC_FLAGS & 0b11) == 0b10
             && (length other) < 132 && (other REVISION) <= 6
             => at 0 shows (other REVISION), 0;
         X2APIC if (X2APIC_FLAGS & 0b11) == 0b10
-            && (((other MINOR_VERSION) & 0xf) + 16 * (other REVISION)) < 0x63
+            && (other (MINOR_VERSION & 0xf) + 16 * REVISION) < 0x63
             => at 0 shows (other REVISION), ((other MINOR_VERSION) & 0xf);
         X2APIC if (X2APIC_FLAGS & 0b11) == 0b10
             && (length other) < 132 && (other REVISION) <= 6
             => at 0 shows (other REVISION), 0;
         GICC if (GICC_FLAGS & 0b1001) == 0b1000
-            && (((other MINOR_VERSION) & 0xf) + 16 * (other REVISION)) < 0x65
+            && (other (MINOR_VERSION & 0xf) + 16 * REVISION) < 0x65
             => at 0 shows (other REVISION), ((other MINOR_VERSION) & 0xf);
         GICC if (GICC_FLAGS & 0b1001) == 0b1000
             && (length other) < 132 && (other REVISION) <= 6

@@ -205,7 +205,7 @@ pub const LOCAL_SAPIC: Kind = kind!(7, 2..);
 /// Entries of types that neither `check` nor these rules read.
 pub const UNREAD_6_TO_8: Kind = kind!(6..=8);
 
-pub const UNREAD_FROM_28: Kind = kind!(28..=0xffff_ffff);
+pub const UNREAD_FROM_28: Kind = kind!(28..=0xffff);
 
 /// Entries of types that the MADT has from Revision 3 on, and from 6 on.
 pub const SINCE_REVISION_3: Kind = kind!(9..=15);

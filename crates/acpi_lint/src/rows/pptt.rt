@@ -5,8 +5,7 @@ use crate::rows::madt_fields::{CORE_PIC, GICC, MADT_ENTRIES, RINTC};
 use crate::rows::pptt_fields::*;
 use crate::rows::table_fields::{RESERVED_2, RESERVED_3, REVISION, TABLE, TYPE, WHOLE};
 use acpi_rules::{
-    Case, Clause, Form, Guard, Kind, LookUp, Need, Path, Repeat, Row, Source, Term, Test, Value,
-    Within,
+    Addend, Case, Clause, Form, Guard, Kind, LookUp, Need, Repeat, Row, Source, Test, Value, Within,
 };
 
 // ---- what entries give
@@ -84,7 +83,7 @@ pub const OUTER_PARENTS: &[Case<'static>] = cases!({
 
 /// What each private resource of a node is, with the node's offset.
 pub const RESOURCES: &[Case<'static>] = cases!({
-    RESOURCE if (length around) == (20 + 4 * (around NODE_RESOURCES))
+    RESOURCE if (length around) == (around 20 + 4 * NODE_RESOURCES)
         => at 0 shows (offset around), RESOURCE_OFFSET
 });
 

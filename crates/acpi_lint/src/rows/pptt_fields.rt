@@ -63,4 +63,4 @@ pub const CACHE_LINE_SIZE: Field = field!(22, 2);
 pub const CACHE_ID: Field = field!(24, 4);
 
 /// Entries of a type that neither `check` nor these rules read: the ID structure, of type 2, went with ACPI 6.4.
-pub const PPTT_FROM_2: Kind = kind!(2..=0xffff_ffff);
+pub const PPTT_FROM_2: Kind = kind!(2..=0xffff);

@@ -8,8 +8,7 @@ use crate::rows::slit_fields::LOCALITIES;
 use crate::rows::srat_fields::*;
 use crate::rows::table_fields::*;
 use acpi_rules::{
-    Case, Clause, Form, Guard, Kind, LookUp, Need, Path, Repeat, Row, Source, Term, Test, Value,
-    Within,
+    Addend, Case, Clause, Form, Guard, Kind, LookUp, Need, Repeat, Row, Source, Test, Value, Within,
 };
 
 // ---- what entries give

@@ -90,4 +90,4 @@ pub const RINTC_AFFINITY_UID: Field = field!(8, 4);
 pub const RINTC_AFFINITY_FLAGS: Field = field!(12, 4);
 
 /// Entries of a type that neither `check` nor these rules read.
-pub const SRAT_FROM_8: Kind = kind!(8..=0xffff_ffff);
+pub const SRAT_FROM_8: Kind = kind!(8..=0xffff);

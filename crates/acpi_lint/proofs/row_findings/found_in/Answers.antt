@@ -11,13 +11,13 @@ loop-row-preserved c =
     let rows = c.args.rows.now in
     elim c.match-branch-2.branch [
       | in-Some+in_ok-push w ↦
-          rw (w.found-is, w.in_ok-push.ensures.items)
+          rw (w.found-is, w.in_ok-push.ensures.items, c.row-item.is)
           (one_row t rows c.loop-row.row-index _ c.loop-row.found.items w.in-Some.place c.loop-row-test.true
-          (rw w.in-Some.is at c.in_ok-place.ensures.found) c.loop-row.invariant)
+          (rw (w.in-Some.is, c.row-item.is) at c.in_ok-place.ensures.found) c.loop-row.invariant)
       | in_default w ↦
           rw w.found-is
           (no_row t rows c.loop-row.row-index _ c.loop-row.found.items c.loop-row-test.true
-          (rw w.in_default.is at c.in_ok-place.ensures.found) c.loop-row.invariant)
+          (rw (w.in_default.is, c.row-item.is) at c.in_ok-place.ensures.found) c.loop-row.invariant)
     ]
 
 pub returns : goal.returns
