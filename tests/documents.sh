@@ -209,7 +209,11 @@ listed=$(sed -n '/^## Advice$/,/^## /s/^| \([0-9]* [A-Za-z0-9]*\) | .*/\1/p' doc
 agree 'rules of advice (<) and those that TABLES.md lists (>)' "$rules" "$listed"
 agree 'rules of advice (<) and their parts in FAULTS.md (>)' "$rules" "$advised"
 # Of a rule without a definition by hand nothing would be found if it had no row either. A row that is a constant is a part of one.
-by_hand=$(sed -n 's/^condition rule\.\([A-Za-z0-9]*\) = .*/\1/p' crates/acpi_lint/specs/Rules/Broken.antt)
+# Two rules are both: what no row says of them is by hand.
+conditions=$(sed -n 's/^condition rule\.\([A-Za-z0-9]*\) = .*/\1/p' crates/acpi_lint/specs/Rules/Broken.antt)
+in_part=$'SpcrGsi\nSpcrName'
+agree 'rules that are by hand in part (<) and those of them with a condition (>)' "$in_part" "$(grep -xF "$in_part" <<<"$conditions")"
+by_hand=$(grep -vxF "$in_part" <<<"$conditions")
 agree 'rules of advice that are not by hand (<) and those with a row (>)' "$(grep -vwF "$by_hand" <<<"$rules")" \
   "$(sed -n '/^pub static/,/^];$/p' crates/acpi_lint/src/rows/*.rt | grep -oE 'rule!\([0-9]+ [A-Za-z0-9]+' | cut -d '(' -f 2)"
 awk -f man/faults.awk docs/FAULTS.md >"$scratch/acpiset-faults.7"

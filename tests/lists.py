@@ -61,6 +61,8 @@ WRITTEN = [
     (FAULTS, "- Found: the override of Source 0,", "- Found: that override of Source 0,", [EXPLAINED, PYTHON, RUST]),
     (MADT, TIMER, TIMER.replace("likely wrong", "look at it"), [FAULTS, TABLES, EXPLAINED, HEADER, PYTHON, RUST]),
     (MADT, TIMER, TIMER.replace("5.2.12.5", "5.2.12"), [TABLES, RULE]),
+    (MADT, TIMER, TIMER.replace("5.2.12.5", "IA-PC HPET 1.0a, 3.2.4"), [TABLES, RULE]),
+    (MADT, TIMER, TIMER.replace("5.2.12.5", "Microsoft's SPCR 1.10"), [TABLES, RULE]),
     (MADT, TIMER, TIMER.replace("level-triggered", "wrong"), [RULE, HEADER, PYTHON]),
     (MADT, "is level-triggered: its Flags are {point}.", "has the Flags {point}.", [SENTENCES]),
     (MADT, "`at` is the override's offset, `point` is its Flags.", "`at` is where it is, `point` its Flags.", [FAULTS, PYTHON, RUST]),
@@ -84,6 +86,7 @@ REFUSED = [
     (MADT, TIMER, "The override.", "the first row of 155 TimerLevel has no comment of it"),
     (MADT, TIMER, TIMER.replace("likely wrong", "wrong"), "is not: NUMBER NAME, SEVERITY (SECTIONS): SENTENCE."),
     (MADT, TIMER, TIMER.replace("(5.2.12.5)", "(FADT)"), "is not: NUMBER NAME, SEVERITY (SECTIONS): SENTENCE."),
+    (MADT, TIMER, TIMER.replace("(5.2.12.5)", "(HPET 3)"), "is not: NUMBER NAME, SEVERITY (SECTIONS): SENTENCE."),
     (MADT, TIMER, TIMER + "\n    // Found in real sets.", "is not: NUMBER NAME, SEVERITY (SECTIONS): SENTENCE."),
     (MADT, "its Flags are {point}", "its Flags are {other}", "is none of its numbers"),
     (MADT, "its Flags are {point}", "its Flags are {flags}", "is none of its numbers"),
@@ -185,7 +188,7 @@ def large_number(lists):
     lists.is_silent("a number beyond 999, after a gap, that is written")
     lists.is_silent("a number beyond 999, after a gap", "--check")
     for name, text in (
-        (RULE, '1000, "SameCacheType"),\n    // end: rules'), (ROWS, '(116, 1000, codes "SameCacheType")'), (BOUNDS, "rule_number r ≤ 1000"),
+        (RULE, '1000, "SameCacheType"),\n    // end: rules'), (ROWS, '(132, 1000, codes "SameCacheType")'), (BOUNDS, "rule_number r ≤ 1000"),
         (HEADER, "ACPISET_SAME_CACHE_TYPE = 1000"), (PYTHON, "    SameCacheType = 1000  #"), (RUST, "        SameCacheType = 1000,"),
         (SENTENCES, "    1000: ("), (FAULTS, "1000 [SameCacheType](#1000-samec"),
     ):

@@ -25,7 +25,7 @@ def build_object(scratch):
 
 
 # This many requests are refused each in its turn, and those after them in steps of a twentieth.
-EACH = 210
+EACH = 220
 
 
 def numbers():

@@ -66,6 +66,10 @@ ovmf-q35 f77e014 1 none yes
 mv-acpi f4a10 0 0xf4a10 yes
 q10-efi-virt-smp4 4f0b0018 1 none yes
 q11-efi-virt-caches 47fe0000 1 none yes
+sb-q35-hmat f5990 0 0xf5990 yes
+sb-q35-intel-iommu f59e0 0 0xf59e0 yes
+sb-q35-amd-iommu f59e0 0 0xf59e0 yes
+q102-virt-smmuv3 f5ac0 0 0xf5ac0 yes
 LIST
 gzip -dc images/sb-q35-default.region.img.txt.gz >"$scratch/region"
 runs "firmware sb-q35-default, its whole region" 0 'yes\n' '' "$scratch/region" check --rsdp f59e0

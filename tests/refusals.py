@@ -349,8 +349,6 @@ def wrong_sweep(sweep, answer, spared, spared_after=0):
 # The runs that make more requests than are refused each in its turn, beside those whose arguments are refused.
 # docs/PROMISES.md names them.
 SAMPLED = {
-    "rebuild, a set of entries of each kind",
-    "rebuild, sb-q35-numa4-dist",
     "rebuild, q11-efi-virt-caches",
     "check with 400 counts of inputs",
 }

@@ -128,7 +128,7 @@ struct acpiset_answer acpiset_confirm(const struct acpiset_piece *pieces, size_t
 
 /* The most findings that acpiset_lint of this version reports. A shared library of a later version may count more. */
 /* begin: most, made by scripts/lists.py */
-#define ACPISET_MOST_FINDINGS 176
+#define ACPISET_MOST_FINDINGS 192
 /* end: most */
 
 /* All that is wrong: the first fault of each code that has one, and then the first finding of each rule of advice that is
@@ -346,6 +346,22 @@ enum acpiset_rule {
     ACPISET_NO_PACKAGE = 182,           /* no node from a leaf to its root is a package */
     ACPISET_CACHE_NUMBERS = 183,        /* a cache's size or associativity is 0, or its size is not sets * ways * line size */
     ACPISET_PPTT_RESERVED = 184,        /* a field of the PPTT has a reserved value */
+    ACPISET_MCFG_LENGTH = 185,          /* the MCFG's Length is not 44 plus 16 for each of one or more entries */
+    ACPISET_ECAM_ADDRESS = 186,         /* an entry of the MCFG has a base address that is 0 or no multiple of 1 MiB */
+    ACPISET_BUSES_REVERSED = 187,       /* an entry of the MCFG has an end bus number below its start bus number */
+    ACPISET_ECAM_WRAPS = 188,           /* the address range of an entry of the MCFG ends above the highest address */
+    ACPISET_ECAM_TOO_HIGH = 189,        /* the MCFG has the Revision 0, and an entry's base address does not lie below 0xffffffff */
+    ACPISET_SAME_BUS = 190,             /* two entries of the MCFG have the same bus of the same PCI segment */
+    ACPISET_ECAM_OVERLAP = 191,         /* the ECAMs of two entries of the MCFG share an address */
+    ACPISET_HPET_LENGTH = 192,          /* the HPET is shorter than 56 bytes */
+    ACPISET_HPET_SPACE = 193,           /* the HPET's base address is not in memory */
+    ACPISET_HPET_ADDRESS = 194,         /* the HPET's base address is 0, has its halves swapped, or is no multiple of 1024 */
+    ACPISET_SPCR_LENGTH = 271,          /* the SPCR is too short for its Revision */
+    ACPISET_SPCR_ADDRESS = 272,         /* the SPCR's base address is neither in memory nor in I/O ports, or is in memory with an access size above 3 (32 bits) */
+    ACPISET_SPCR_BAUD = 273,            /* the SPCR's baud rate has a reserved value, and there is no precise baud rate */
+    ACPISET_SPCR_GSI = 274,             /* the SPCR names an interrupt that its interrupt controller does not have, or another controller than the MADT's GIC */
+    ACPISET_SPCR_PCI = 275,             /* just one of the SPCR's PCI device ID and PCI vendor ID is 0xffff, or its PCI device or function number is too large */
+    ACPISET_SPCR_NAME = 276,            /* the SPCR's namespace string is too short, does not lie within the table, or does not end with 0 */
     ACPISET_RSDP_TEXT = 279,            /* the OEMID of the RSDP has a byte that is not printable */
     ACPISET_ROOT_HEADER = 280,          /* the root table has a Revision that is not 1, or a text of its header has a byte that is not printable */
     ACPISET_DSDT_TEXT = 281,            /* a text of the DSDT's header has a byte that is not printable */
@@ -529,6 +545,22 @@ static inline const char *acpiset_number_name(uint32_t number) {
     case ACPISET_NO_PACKAGE: return "NoPackage";
     case ACPISET_CACHE_NUMBERS: return "CacheNumbers";
     case ACPISET_PPTT_RESERVED: return "PpttReserved";
+    case ACPISET_MCFG_LENGTH: return "McfgLength";
+    case ACPISET_ECAM_ADDRESS: return "EcamAddress";
+    case ACPISET_BUSES_REVERSED: return "BusesReversed";
+    case ACPISET_ECAM_WRAPS: return "EcamWraps";
+    case ACPISET_ECAM_TOO_HIGH: return "EcamTooHigh";
+    case ACPISET_SAME_BUS: return "SameBus";
+    case ACPISET_ECAM_OVERLAP: return "EcamOverlap";
+    case ACPISET_HPET_LENGTH: return "HpetLength";
+    case ACPISET_HPET_SPACE: return "HpetSpace";
+    case ACPISET_HPET_ADDRESS: return "HpetAddress";
+    case ACPISET_SPCR_LENGTH: return "SpcrLength";
+    case ACPISET_SPCR_ADDRESS: return "SpcrAddress";
+    case ACPISET_SPCR_BAUD: return "SpcrBaud";
+    case ACPISET_SPCR_GSI: return "SpcrGsi";
+    case ACPISET_SPCR_PCI: return "SpcrPci";
+    case ACPISET_SPCR_NAME: return "SpcrName";
     case ACPISET_RSDP_TEXT: return "RsdpText";
     case ACPISET_ROOT_HEADER: return "RootHeader";
     case ACPISET_DSDT_TEXT: return "DsdtText";
@@ -611,6 +643,7 @@ static inline uint32_t acpiset_severity_of(uint32_t number) {
     case ACPISET_LEAF_AS_PARENT:
     case ACPISET_CACHE_NUMBERS:
     case ACPISET_PPTT_RESERVED:
+    case ACPISET_SPCR_PCI:
     case ACPISET_RSDP_TEXT:
     case ACPISET_ROOT_HEADER:
     case ACPISET_DSDT_TEXT:
@@ -695,6 +728,21 @@ static inline uint32_t acpiset_severity_of(uint32_t number) {
     case ACPISET_REMOTE_AS_LOCAL:
     case ACPISET_LEAF_UNFLAGGED:
     case ACPISET_NO_PACKAGE:
+    case ACPISET_MCFG_LENGTH:
+    case ACPISET_ECAM_ADDRESS:
+    case ACPISET_BUSES_REVERSED:
+    case ACPISET_ECAM_WRAPS:
+    case ACPISET_ECAM_TOO_HIGH:
+    case ACPISET_SAME_BUS:
+    case ACPISET_ECAM_OVERLAP:
+    case ACPISET_HPET_LENGTH:
+    case ACPISET_HPET_SPACE:
+    case ACPISET_HPET_ADDRESS:
+    case ACPISET_SPCR_LENGTH:
+    case ACPISET_SPCR_ADDRESS:
+    case ACPISET_SPCR_BAUD:
+    case ACPISET_SPCR_GSI:
+    case ACPISET_SPCR_NAME:
     case ACPISET_GPE_PAST_END:
     case ACPISET_BLOCK_TOO_LONG:
     case ACPISET_BLOCK_SPACE:

@@ -4,7 +4,7 @@ severities and sections in docs/TABLES.md."""
 import re
 from itertools import groupby
 
-from .rules import SEVERITIES
+from .rules import SECTIONS, SEVERITIES
 from .tree import FAULTS, Wrong, lines_of, named, plain, replaced, wrapped
 
 WIDTH = 138
@@ -12,8 +12,8 @@ PART = re.compile(r"^### (\d+) (\w+)\n(.*?)(?=^##|\Z)", re.M | re.S)
 POINT = re.compile(r"^- ([A-Z]\w*): (.*?)(?=^- |^\n|\Z)", re.M | re.S)
 # A section whose parts are on rules: what it is on. Sections of the standard follow.
 CHAPTER = re.compile(r"^## (?:Advice on (?:the )?)?(.*?)(?: \([\d., ]+\))?\n(.*?)(?=^## |\Z)", re.M | re.S)
-# A row of docs/TABLES.md on a rule, which ends with sections of the standard.
-ROW = re.compile(r"^(\| (\d+) ([A-Z]\w*) \|.*\|)([\d., to]*\|)$", re.M)
+# A row of docs/TABLES.md on a rule, which ends with sections of the standard, or with another one.
+ROW = re.compile(rf"^(\| (\d+) ([A-Z]\w*) \|.*\|)( (?:(?:{SECTIONS}) )?\|)$", re.M)
 
 
 # ---- what the page says

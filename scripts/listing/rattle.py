@@ -1,6 +1,8 @@
 """The parts of the crates that are written: the rules of acpi_lint, and the texts of acpi_c."""
 
 import re
+from itertools import accumulate
+from textwrap import wrap
 
 from .rules import SEVERITIES
 from .tree import CRATES, SCRIPT, Wrong, lines_of, named, quoted, replaced, wrapped
@@ -10,6 +12,7 @@ ROWS = CRATES / "acpi_lint/specs/Rules/Rows.antt"
 RULE_NUMBERS = CRATES / "acpi_lint/proofs/RuleNumbers.antt"
 EXPLAINED = CRATES / "acpi_c/src/explained.rt"
 BEGIN, END = f"    // begin: rules, made by {SCRIPT}", "    // end: rules"
+COLUMNS_OF_NUMBERS = 96  # of a line of numbers, as `rt fmt` fills it
 WIDEST = 60  # characters between parentheses, beyond which `rt fmt` writes a line for each item
 
 
@@ -72,9 +75,26 @@ def rule_bounds(text, rules):
     return replaced(highest, text, str(rules[-1].number), f"{named(RULE_NUMBERS)}: the highest number of a rule")
 
 
+def texts_of(page, name, count, what, some):
+    """The texts of some, one after another, and where each begins, and the last ends, in bytes."""
+    texts = [page.explained(one.number) for one in some]
+    starts = [0, *accumulate(len(text.encode()) for text in texts)]
+    return [
+        f"/// {what}, one text after another.",
+        f'pub const {name}_TEXTS: &str = "\\',
+        *(f"    {quoted(text)[1:-1]}\\" for text in texts[:-1]),
+        f'    {quoted(texts[-1])[1:]};',
+        "",
+        "/// The offsets in bytes where these begin, and where the last one ends.",
+        f"pub const {name}_STARTS: [u32; {count} + 1] = [",
+        *(f"    {line}" for line in wrap(" ".join(f"{start}," for start in starts), COLUMNS_OF_NUMBERS)),
+        "];",
+        "",
+    ]
+
+
 def explained(codes, rules, page):
     """What src/explained.rt of acpi_c has to be."""
-    texts_of = {one.number: quoted(page.explained(one.number)) for one in (*codes, *rules)}
     variants_of = {severity: severity.title().replace(" ", "") for severity in SEVERITIES}
     return lines_of(
         [
@@ -84,16 +104,8 @@ def explained(codes, rules, page):
             "use acpi_base::Code;",
             "use acpi_lint::Rule;",
             "",
-            "/// What is wrong and how it is mended, by the number of the code.",
-            "pub const CODES: [&str; Code::COUNT] = [",
-            *(f"    {texts_of[code.number]}," for code in codes),
-            "];",
-            "",
-            "/// What is found and how it is mended, by the number of the rule.",
-            "pub const RULES: [&str; Rule::COUNT] = [",
-            *(f"    {texts_of[rule.number]}," for rule in rules),
-            "];",
-            "",
+            *texts_of(page, "CODE", "Code::COUNT", "What is wrong and how it is mended, of each code by its number", codes),
+            *texts_of(page, "RULE", "Rule::COUNT", "What is found and how it is mended, of each rule by its number", rules),
             "/// The severity of each rule, by its number.",
             "pub const SEVERITIES: [Severity; Rule::COUNT] = [",
             *(f"    Severity::{variants_of[rule.severity]}," for rule in rules),

@@ -7,9 +7,9 @@ the comment of the function that finds it, followed by an empty line:
     // If `point` is 0: "SMI_CMD, at {at} of the FADT, is 0, and the command at {other} is not."
     // "SMI_CMD, at {at} of the FADT, is {point}, and .."
 
-These are its number, name and severity, the sections of the standard, and what it finds; what its three numbers are; and what a line of it
-says: the first sentence whose condition holds. A place is filled in hexadecimal; {at:d} is decimal, {point:s} the characters of a
-signature. What follows them is for readers alone."""
+These are its number, name and severity, the sections of ACPI, or another standard and its sections, as (IA-PC HPET 1.0a, 3.2.4), and what
+it finds; what its three numbers are; and what a line of it says: the first sentence whose condition holds. A place is filled in
+hexadecimal; {at:d} is decimal, {point:s} the characters of a signature. What follows them is for readers alone."""
 
 import re
 from dataclasses import dataclass
@@ -19,7 +19,9 @@ from .tree import CRATES, Wrong, capital, named, text_of
 
 SOURCE = CRATES / "acpi_lint" / "src"
 SEVERITIES = ("not looked at", "look at it", "likely wrong")
-HEAD = re.compile(rf"(\d+) ([A-Z]\w*), ({'|'.join(SEVERITIES)})(?: \((\d[\d., to]*)\))?: ((?:(?!\. ).)+)\.")
+# Sections of ACPI, or another standard with its version, and mostly its sections.
+SECTIONS = r"\d[\d., to]*|[A-Z][\w' -]* \d+\.\d+\w?(?:, \d[\d., to]*)?"
+HEAD = re.compile(rf"(\d+) ([A-Z]\w*), ({'|'.join(SEVERITIES)})(?: \(({SECTIONS})\))?: ((?:(?!\. ).)+)\.")
 TOLD = re.compile(r'(?:If `(at|other|point)` is (0x[1-9a-f][0-9a-f]*|0): )?"([A-Z][^"]*\.)"')
 PLACE = re.compile(r"\{(at|other|point)(?::[ds])?\}")
 COMMENT = re.compile(r" *///? ?(.*)")

@@ -18,6 +18,10 @@ IMAGES = {
     "mv-acpi": "f4a10",
     "q10-efi-virt-smp4": "4f0b0018",
     "q11-efi-virt-caches": "47fe0000",
+    "sb-q35-hmat": "f5990",
+    "sb-q35-intel-iommu": "f59e0",
+    "sb-q35-amd-iommu": "f59e0",
+    "q102-virt-smmuv3": "f5ac0",
 }
 GOOD = ("yes", "rsdp 0x", "true")
 

@@ -54,15 +54,30 @@ def find_rsdp(image):
     return None
 
 
-# ---- entries: byte 0 is the type and byte 1 the length (5.2.12, 5.2.16, 5.2.30)
+# ---- structures of a fixed size
 
 
-class Entry(Bytes):
-    """An entry of a table, with its offset."""
+class Structure(Bytes):
+    """A structure of a table, with its offset."""
 
     def __init__(self, offset, data):
         super().__init__(data)
         self.offset = offset
+
+
+def structures_of(table, first, size):
+    """The structures of this size that a table has from this offset on, one after another. A part of one at the end is none."""
+    return [Structure(at, table.data[at : at + size]) for at in range(first, len(table) - size + 1, size)]
+
+
+# ---- entries: byte 0 is the type and byte 1 the length (5.2.12, 5.2.16, 5.2.30)
+
+
+class Entry(Structure):
+    """An entry of a table: a structure with its type."""
+
+    def __init__(self, offset, data):
+        super().__init__(offset, data)
         self.kind = self.data[0]
 
 

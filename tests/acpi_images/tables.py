@@ -135,11 +135,6 @@ def facs():
     return b"FACS" + number(64, 4) + bytes(24) + b"\1" + bytes(31)
 
 
-def hpet():
-    """A table that only its header, length and sum are checked of."""
-    return table(b"HPET", bytes(20))
-
-
 # ---- MADT (5.2.12). Of entries the reserved bytes are 0, unless another byte is given.
 
 
@@ -338,6 +333,36 @@ def cache(next_level=0, length=24, flags=0, size=0, sets=0, ways=0, attributes=0
 def shaped_cache(flags, sets=64, line=64, cache_id=0, length=28):
     """A cache with these flags, Number of Sets, Line Size and Cache ID, of the size that one way has, but at least a byte."""
     return cache(0, length, flags, max(sets * line, 1), sets, 1, line=line, cache_id=cache_id)
+
+
+# ---- MCFG, HPET and SPCR (PCI Firmware 3.3, 4.1.2; IA-PC HPET 1.0a, 3.2.4; Microsoft's SPCR 1.10)
+
+
+def mcfg(*entries, revision=1):
+    return table(b"MCFG", bytes(8) + b"".join(entries), revision)
+
+
+def ecam(base, segment=0, first=0, last=255):
+    """An entry of the MCFG."""
+    return number(base, 8) + number(segment, 2) + bytes([first, last]) + bytes(4)
+
+
+def hpet(address=0xFED00000, space=0):
+    """An HPET, on which there is no advice unless its address or space is another one."""
+    return table(b"HPET", number(0x8086A201, 4) + generic_address(address, space, 0) + bytes(4))
+
+
+# Of an SPCR the fields of a serial port of a PC, and from Revision 4 on those of the name of no device.
+OF_PORT = {"_40": generic_address(0x3F8, 1, 8, 0, 1), "_52": b"\3\4" + number(4, 4), "_58": b"\7", "_64": b"\xff" * 4}
+OF_NAME = {"_84": number(2, 2) + number(88, 2), "_88": b".\0"}
+
+
+def spcr(revision=2, length=None, **fields):
+    """An SPCR of a serial port of a PC, on which there is no advice but for what other fields make. A field is given as its bytes and its
+    offset, such as _53=b"\4". Of a shorter one the end is cut off."""
+    length = (90 if revision >= 4 else 80) if length is None else length
+    usual = placed(bytes(length), **OF_PORT, **(OF_NAME if revision >= 4 else {}))
+    return table(b"SPCR", placed(usual, **fields)[36:], revision)
 
 
 # ---- images

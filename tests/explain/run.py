@@ -14,6 +14,7 @@ from pathlib import Path
 sys.path.insert(0, str(Path(__file__).resolve().parents[1]))
 
 import further
+import further_tables
 import sets
 from acpi_images.program import IMAGES as FIRMWARE_AT, finish
 from explained import IMAGES, TOP, Tests
@@ -94,6 +95,19 @@ SENTENCES = [
     ("GiccNoPpi 0x90 0x50 0x20", "..has the trace buffer interrupt 32, which is not private to a processor."),
     ("WakeupMailbox 0x2c 0x18 0x10", "The wakeup structure at 0x2c of the MADT has 16 bytes, and one of its version has 24."),
     ("WakeupMailbox 0x2c 0x8 0x1001", "..has the mailbox address 0x1001, which is 0 or no multiple of 4096."),
+    ("McfgLength 0x4 0x5c 0x50", "..is 80, not 44 plus 16 for each of one or more entries: the next such length is 92."),
+    ("EcamAddress 0x3c 0x0 0x0", "The entry at 0x3c of the MCFG has the base address 0."),
+    ("EcamAddress 0x3c 0x0 0x80000", "The entry at 0x3c of the MCFG has the base address 0x80000, which is no multiple of 1 MiB."),
+    ("SameBus 0x2c 0x3c 0x340", "The entries at 0x2c and 0x3c of the MCFG both have the bus of which 256 * segment + bus is 0x340."),
+    ("HpetAddress 0x2c 0x0 0x0", "The base address at 0x2c of the HPET is 0."),
+    ("HpetAddress 0x2c 0x0 0xfed0000000000000", "The base address at 0x2c of the HPET is 0xfed0000000000000, whose halves are swapped."),
+    ("HpetAddress 0x2c 0x0 0xfed00200", "The base address at 0x2c of the HPET is 0xfed00200, which is no multiple of 1024."),
+    ("SpcrAddress 0x28 0x0 0x2", "The SPCR's base address, at 0x28, has the address space 0x2, neither memory nor I/O ports."),
+    ("SpcrAddress 0x2b 0x0 0x4", "The access size at 0x2b of the SPCR is 4, above 3 (32 bits)."),
+    ("SpcrGsi 0x34 0x0 0x3", "The interrupt type at 0x34 of the SPCR is 0x3, neither 0 nor 8, the GIC that the MADT has."),
+    ("SpcrGsi 0x36 0x0 0x1f", "The GSI at 0x36 of the SPCR is 31, which no I/O APIC of the MADT serves, or which is no SPI of its GIC."),
+    ("SpcrPci 0x46 0x0 0x8", "The PCI function number at 0x46 of the SPCR is 8, above 7."),
+    ("SpcrName 0x59 0x0 0x41", "The last byte of the namespace string, at 0x59 of the SPCR, is 0x41, not 0."),
 ]
 
 
@@ -454,13 +468,16 @@ def advised(tests):
 
 def numbered(tests):
     """Fields and lengths that a line names by their offsets, and texts of headers."""
-    for line, texts, image in further.CASES:
+    for line, texts, image in (*further.CASES, *further_tables.CASES):
         tests.says(f"advice {line}", texts, image, without=[MISMATCH])
     for line, texts, image in further.FIELDS:
         tests.says(f"advice {line}", texts, image)
-    for line, text, image in further.MISMATCHES:
+    for line, text, image in (*further.MISMATCHES, *further_tables.MISMATCHES):
         tests.says(f"advice {line}", f"{text}: i{MISMATCH}", image)
     tests.says("advice MadtRevision 0x8 0x0 0x5", "Revision is 5", further.REVISION_5, without=["of Revision 3:"])
+    tests.says("advice EcamOverlap 0x2c 0x3c 0x0", *further_tables.WITHOUT_ECAM)
+    tests.says("advice SpcrBaud 0x3a 0x0 0x5", "the baud rate is 5", further_tables.SLOW, without=["the precise baud rate"])
+    tests.says("advice SpcrGsi 0x35 0x0 0x8", "..IRQ is 8", further_tables.IRQ_8, without=["signature APIC"])
 
 
 def unread(tests):

@@ -18,7 +18,7 @@ import acpiset
 from acpi_images.known.judged import JUDGED
 from acpi_images.program import FIRMWARE, Cases, finish
 from acpi_images.text import read
-from examples import ADVICE, EXAMPLE, FIRST_RULE, PART, TOP, changed
+from examples import EXAMPLE, FIRST_RULE, PART, TOP, beginnings, changed
 from jobs import all_findings, confirmations, firmware, lines_of_sets, rows
 
 CHOICES = {"--hotplug": {"counted": 0, "apart": 1}, "--processors": {"enabled": 0, "usable": 1}}
@@ -156,13 +156,14 @@ def of_judged(cases):
 
 def of_faults(cases):
     """The examples of docs/FAULTS.md: the line of each, and that its text is that of its part."""
-    image = read((FIRMWARE / "example.img.txt").read_bytes())
     document = (TOP / "docs" / "FAULTS.md").read_text()
-    advised = changed(image, ADVICE.search(document).group(1))
-    for number, name, part in PART.findall(document):
+    sets = [*beginnings(document, read((FIRMWARE / "example.img.txt").read_bytes()))]
+    for found_part in PART.finditer(document):
+        number, name, part = found_part.groups()
         is_fault = int(number) < FIRST_RULE
         changes, line = EXAMPLE.search(part).groups()
-        pieces = list(changed(image if is_fault else advised, changes).pieces().items())
+        image = [image for place, _, image in sets if place <= found_part.start()][-1]
+        pieces = list(changed(image, changes).pieces().items())
         settings = acpiset.Settings(0xE0000)
         found = [acpiset.check(pieces, settings)] if is_fault else acpiset.lint(pieces, settings).advice
         told = [f"{'no' if is_fault else 'advice'} {it}" for it in found]

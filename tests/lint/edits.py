@@ -19,17 +19,17 @@ from pathlib import Path
 sys.path.insert(0, str(Path(__file__).resolve().parents[1]))
 
 from acpi_images.generated.near import (
-    APIC_AFFINITY, BESIDE_IN_MADT, BESIDE_IN_SRAT, CACHES, CHILD, GICC, GICC_AFFINITY, LAPIC, MADT_LENGTHS, NODES, OVERRIDE, PAIRS, RINTC, SRAT_LENGTHS,
-    blocks_fadt, entry, madt, of_length, pptt, slit, srat,
+    APIC_AFFINITY, ARM_PORT, BESIDE_IN_MADT, BESIDE_IN_SRAT, BUS, CACHES, CHILD, GICC, GICC_AFFINITY, LAPIC, MADT_LENGTHS, NODES, OVERRIDE, PAIRS,
+    PCI_PORT, RINTC, SRAT_LENGTHS, blocks_fadt, entry, madt, of_length, pptt, slit, srat,
 )  # fmt: skip
 from acpi_images.program import SECONDS, Cases, finish
-from acpi_images.tables import number, table
+from acpi_images.tables import ecam, generic_address, hpet, mcfg, number, spcr, table
 
 UNSEEN = Path(__file__).with_name("unseen.txt")
 # How many edits of 100 may be unseen.
 MOST_IN_100 = 3
 # The order of the tables of a set.
-ORDER = (b"FACP", b"APIC", b"SRAT", b"SLIT", b"PPTT")
+ORDER = (b"FACP", b"APIC", b"SRAT", b"SLIT", b"PPTT", b"MCFG", b"HPET", b"SPCR")
 
 
 def fadts():
@@ -79,6 +79,20 @@ def pptts():
         yield pptt(node, *beside, revision=revision)
 
 
+def mcfgs():
+    """MCFGs of each Length modulo 16, of one entry, and of two that share a bus."""
+    yield from (table(b"MCFG", bytes(length - 36), 1) for length in range(60, 78))
+    yield from (mcfg(ecam(base, 0, 1, 2), revision=revision) for base, revision in product((BUS, 2**64 - 3 * BUS), (0, 1)))
+    yield mcfg(ecam(BUS, 1, 2, 4), ecam(2**32, 1, 3, 5))
+
+
+def spcrs():
+    """SPCRs of each size, of a port of a PC, of an Arm machine and of a PCI device, one that has no port in memory, and with other rates."""
+    yield from (spcr(revision, length, **fields) for revision, length in ((3, 80), (4, 92)) for fields in ({}, ARM_PORT, PCI_PORT))
+    yield spcr(3, 80, _36=b"\x15\1", _40=generic_address(0x1000, 2))
+    yield from (spcr(revision, 92, _58=b"\1", _80=number(rate, 4)) for revision, rate in product((4, 5), (1, 0x1010100)))
+
+
 def sets():
     """The sets from which more are built: tables of each kind, alone and beside one of each other kind."""
     slits = [slit(count, length) for count, length in ((1, 1), (2, 4), (3, 9), (0, 0), (2, 1), (1, 256))]
@@ -89,6 +103,8 @@ def sets():
     yield from product(pptts(), some_madts)
     for (one, affinity), beside in product(PAIRS, ((), (APIC_AFFINITY,), (GICC_AFFINITY,))):
         yield madt(one), srat(*beside, affinity)
+    yield from ((it,) for it in (*mcfgs(), hpet()))
+    yield from product(spcrs(), (madt(), madt(entry(12, 24))))
     for length in (131, 132, 133):
         data = blocks_fadt()
         data[131] = 6

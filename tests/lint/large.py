@@ -225,9 +225,25 @@ def caches():
     yield "the last", pptt(right * LAST, wrong), advised(f"CacheNumbers {36 + 24 * LAST:#x} 0x8001 0x8000")
 
 
+# ---- the MCFG
+
+
+def ecams():
+    """Entries of one bus each, in no order, of which the last one has that of the first; all of one bus; and of buses that are reversed."""
+    entry = struct.Struct("<QHBB4x")
+    of_bus = lambda place: entry.pack((place // 256 + 1) << 28, place // 256, place % 256, place % 256)
+    order = random.Random(6).sample(range(COUNT), COUNT)
+    alike, last = [*map(of_bus, order)], 44 + 16 * LAST
+    yield "clean", mcfg(*alike), advised()
+    shared = f"SameBus 0x2c {last:#x} {order[0]:#x}", f"EcamOverlap 0x2c {last:#x} {(order[0] + 256) << 20:#x}"
+    yield "the last", mcfg(*alike[:-1], alike[0]), advised(*shared)
+    yield "all", mcfg(of_bus(0) * COUNT), advised("SameBus 0x2c 0x3c", "EcamOverlap 0x2c 0x3c 0x10000000")
+    yield "all reversed", mcfg(entry.pack(1 << 20, 0, 1, 0) * COUNT), advised("BusesReversed 0x2c 0xb")
+
+
 OF_ENTRIES = (
     interrupt_sources, processors, io_apics, x2apics, unread_entries, giccs, harts, overrides, redistributors, its_and_frames,
-    distributors, ranges, affinities_of_its, localities, nodes, caches,
+    distributors, ranges, affinities_of_its, localities, nodes, caches, ecams,
 )
 
 

@@ -6,6 +6,7 @@ from __future__ import annotations
 import random
 from dataclasses import dataclass
 
+from acpi_images.known.devices import DEVICES, WHOLE_DEVICES
 from acpi_images.known.further import FURTHER, WHOLE
 from acpi_images.known.judged import JUDGED
 from acpi_images.known.linted import EXPECTED
@@ -51,9 +52,9 @@ def by_hand():
         yield Case(it.name, text_of(it.pieces()), it.words.split(), it.lines)
     for name, words, lines in UNCHANGED:
         yield Case(f"{name} {words}", firmware_text(name), f"--rsdp {IMAGES[name]} {words}".split(), lines)
-    for it in FURTHER:
+    for it in (*FURTHER, *DEVICES):
         yield Case(f"{it.rule}, {it.name}", text_of(it.pieces), it.words.split(), rule=it.rule, line=it.line or "")
-    for name, pieces, lines in WHOLE:
+    for name, pieces, lines in (*WHOLE, *WHOLE_DEVICES):
         yield Case(name, text_of(pieces), AT_SEED, lines)
     for count in range(18, 24):
         yield from of_few(count)

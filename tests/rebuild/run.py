@@ -1,5 +1,5 @@
 #!/usr/bin/env python3
-"""Runs the built program's `rebuild`. Its text is compared with texts written by hand, and on seven images of real firmware and every
+"""Runs the built program's `rebuild`. Its text is compared with texts written by hand, and on eleven images of real firmware and every
 known set with that of a second program, rebuilt.py of tests/acpi_images. Each new image is checked, shown and rebuilt again.
 
 usage: run.py PROGRAM; the last line is 'rebuild: N passed, M failed'."""

@@ -1,7 +1,7 @@
 #!/usr/bin/env python3
 """Runs the built program on the examples of docs/FAULTS.md: each one's bytes put into the set of
 tests/images/example.img.txt make it print the line that the example has. And tools/explain finds in each image what the
-line is about. The examples of advice begin with that set and the bytes that the document puts into it first: `lint` prints
+line is about. The examples of advice begin with that set and the bytes that the sections before them put into it: `lint` prints
 `yes` and the line of the example.
 
 usage: examples.py PROGRAM; the last line is 'examples: N passed, M failed'."""
@@ -22,7 +22,8 @@ TOP = TESTS.parent
 PART = re.compile(r"^### (\d+) (\w+)$(.*?)(?=^##|\Z)", re.M | re.S)
 EXAMPLE = re.compile(r"^- Example: (.*?): `([^`]*)`\.$", re.M | re.S)
 CHANGE = re.compile(r"`@([0-9a-f]+) ([-0-9a-f\s]+)`")
-ADVICE = re.compile(r"^### Examples of advice$(.*?)^##", re.M | re.S)
+# Sections with the bytes that are put into the set before those of the examples below.
+BEGIN = re.compile(r"^### (Examples of advice[^\n]*)$(.*?)(?=^##)", re.M | re.S)
 FIRST_RULE = 101
 
 
@@ -67,15 +68,25 @@ def wrong_example(cases, image, name, changes, line, command):
     return unexplained(cases.program, line, text) if found == due else f"{found}, not {line}"
 
 
+def beginnings(document, image):
+    """The sets with which examples begin, each with where these are in the document, and what it is called."""
+    yield 0, "the set itself", image
+    for section in BEGIN.finditer(document):
+        image = changed(image, section[2])
+        yield section.end(), f"the set of the {section[1]}", image
+
+
 def examples(cases):
-    image = read((FIRMWARE / "example.img.txt").read_bytes())
     document = (TOP / "docs" / "FAULTS.md").read_text()
-    advised = changed(image, ADVICE.search(document).group(1))
-    for number, name, part in PART.findall(document):
-        is_fault = int(number) < FIRST_RULE
-        cases.count(f"{number} {name}", wrong(cases, image if is_fault else advised, name, part, "check" if is_fault else "lint"))
-    cases.writes("the set of the examples of advice", "lint --rsdp e0000", advised.pieces(), ["yes"])
-    cases.writes("the set itself", "check", image.pieces(), ["yes"])
+    sets = [*beginnings(document, read((FIRMWARE / "example.img.txt").read_bytes()))]
+    for part in PART.finditer(document):
+        number, name, text = part.groups()
+        image = [image for place, _, image in sets if place <= part.start()][-1]
+        cases.count(f"{number} {name}", wrong(cases, image, name, text, "check" if int(number) < FIRST_RULE else "lint"))
+    for place, what, image in sets:
+        command = "lint --rsdp e0000" if place else "check"
+        cases.writes(what, command, image.pieces(), ["yes"])
+    cases.count("sets of examples", len(sets) != 3 and f"{len(sets)}")
 
 
 if __name__ == "__main__":

@@ -1,6 +1,6 @@
 #!/usr/bin/env python3
 """Runs the built program's `show`. Its text is compared with texts written by hand (known/shown.py of tests/acpi_images), with those of
-seven images of real firmware (images/), and on every known set with that of a second program (shown.py), without and with `--anyway`; then a set with a
+eleven images of real firmware (images/), and on every known set with that of a second program (shown.py), without and with `--anyway`; then a set with a
 million entries.
 
 usage: run.py PROGRAM; the last line is 'show: N passed, M failed'."""

@@ -6,6 +6,7 @@ import struct
 import subprocess
 import sys
 
+from acpi_images.known.devices import DEVICES, WHOLE_DEVICES
 from acpi_images.known.further import FURTHER, WHOLE
 from acpi_images.known.judged import JUDGED
 from acpi_images.known.linted import EXPECTED
@@ -141,11 +142,11 @@ def known_sets():
         if words[0] == "check":
             yield row.name, row.pieces, words
             yield row.name, row.pieces, ["lint", *words[1:3]]
-    for it in (*EXPECTED, *FURTHER):
+    for it in (*EXPECTED, *FURTHER, *DEVICES):
         yield it.name, it.pieces, ["lint", *it.words.split()]
     for it in MISTAKES:
         yield it.name, it.pieces(), ["lint", *it.words.split()]
-    for name, pieces, *_ in (*JUDGED, *WHOLE):
+    for name, pieces, *_ in (*JUDGED, *WHOLE, *WHOLE_DEVICES):
         yield name, pieces, ["lint", "--rsdp", "e0000"]
     for it in SHOWN:
         yield it.name, it.pieces, ["show", *it.words.split()]

@@ -178,11 +178,11 @@ def examples():
     """The images of the examples of FAULTS.md, with their lines."""
     with open(os.path.join(TOP, "docs", "FAULTS.md"), encoding="utf-8") as file:
         page = file.read()
-    # The advice's examples begin with these bytes, so that the example itself breaks no rule.
-    without_advice = re.search(r"^### Examples of advice$(.*?)^##", page, re.M | re.S)[1]
+    # The advice's examples begin with the bytes of the sections before them, so that the example itself breaks no rule.
+    sections = [*re.finditer(r"^### Examples of advice[^\n]*$(.*?)^##", page, re.M | re.S)]
     for found in re.finditer(r"^- Example: (.*?): `((?:no|advice) [^`]*)`\.$", page, re.M | re.S):
-        changes = (without_advice if found[2].startswith("advice") else "") + found[1]
-        yield found[2], changed_example(changes)
+        first = "".join(section[1] for section in sections if section.end() < found.start())
+        yield found[2], changed_example(first + found[1])
 
 
 def changed_example(changes):
@@ -231,6 +231,18 @@ def marked_twice(cases):
         found = [title for title in made(cases, known[name], ["--rsdp", "e0000"]).titles(picture) if f"; advice 1: {name}" in title]
         missing = [title for title in titles if not any(one.startswith(title) for one in found)]
         cases.count(f"the places of {name}", missing and f"{missing} are not in {found}", len(found) != len(titles) and f"{found}")
+
+
+def read_by_advice(cases):
+    """Of tables that only rules of advice read the first one of a kind is drawn as checked in part, and marked; a later one is not."""
+    mcfg, spcr = "PCI Memory-Mapped Configuration Space Table", "Serial Port Console Redirection Table"
+    page = page_of("q10-efi-virt-smp4", cases)
+    has_titles(cases, page, map=[f"{title}, contents checked in part" for title in (f"{mcfg} at 0x4f0b0a98", f"{spcr} at 0x4f0b0918")])
+    cases.count("tables checked by advice", "60 bytes: checked by advice" not in page.text and page.titles("map"))
+    twice = [table(b"MCFG", bytes(8) + number(0xE0000000, 8) + bytes(8))] * 2
+    page = made(cases, text_of(image_of(sound_fadt(), *twice)), ["--rsdp", "e0000"], 0)
+    titles = [f"{mcfg} at 0x3000, contents checked in part", f"{mcfg} at 0x4000, header, Length, checksum"]
+    has_titles(cases, page, map=[f"{title}; advice 1: SecondOther" for title in titles])
 
 
 def cards_have(cases):
@@ -473,8 +485,8 @@ def opened(cases):
 
 
 PARTS = (
-    read_back, from_bytes, findings, marked_twice, cards_have, pictures_have, from_lines, dumps, bad_files, ways_on, alone, hostile, large,
-    opened,
+    read_back, from_bytes, findings, marked_twice, read_by_advice, cards_have, pictures_have, from_lines, dumps, bad_files, ways_on, alone,
+    hostile, large, opened,
 )
 
 

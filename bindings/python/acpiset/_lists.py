@@ -157,6 +157,22 @@ class Rule(IntEnum):
     NoPackage = 182  # no node from a leaf to its root is a package
     CacheNumbers = 183  # a cache's size or associativity is 0, or its size is not sets * ways * line size
     PpttReserved = 184  # a field of the PPTT has a reserved value
+    McfgLength = 185  # the MCFG's Length is not 44 plus 16 for each of one or more entries
+    EcamAddress = 186  # an entry of the MCFG has a base address that is 0 or no multiple of 1 MiB
+    BusesReversed = 187  # an entry of the MCFG has an end bus number below its start bus number
+    EcamWraps = 188  # the address range of an entry of the MCFG ends above the highest address
+    EcamTooHigh = 189  # the MCFG has the Revision 0, and an entry's base address does not lie below 0xffffffff
+    SameBus = 190  # two entries of the MCFG have the same bus of the same PCI segment
+    EcamOverlap = 191  # the ECAMs of two entries of the MCFG share an address
+    HpetLength = 192  # the HPET is shorter than 56 bytes
+    HpetSpace = 193  # the HPET's base address is not in memory
+    HpetAddress = 194  # the HPET's base address is 0, has its halves swapped, or is no multiple of 1024
+    SpcrLength = 271  # the SPCR is too short for its Revision
+    SpcrAddress = 272  # the SPCR's base address is neither in memory nor in I/O ports, or is in memory with an access size above 3 (32 bits)
+    SpcrBaud = 273  # the SPCR's baud rate has a reserved value, and there is no precise baud rate
+    SpcrGsi = 274  # the SPCR names an interrupt that its interrupt controller does not have, or another controller than the MADT's GIC
+    SpcrPci = 275  # just one of the SPCR's PCI device ID and PCI vendor ID is 0xffff, or its PCI device or function number is too large
+    SpcrName = 276  # the SPCR's namespace string is too short, does not lie within the table, or does not end with 0
     RsdpText = 279  # the OEMID of the RSDP has a byte that is not printable
     RootHeader = 280  # the root table has a Revision that is not 1, or a text of its header has a byte that is not printable
     DsdtText = 281  # a text of the DSDT's header has a byte that is not printable
@@ -210,9 +226,11 @@ SEVERITY_OF: Dict[int, int] = {
     149: 2, 150: 3, 151: 3, 152: 3, 153: 2, 154: 3, 155: 3, 156: 3, 157: 2, 158: 2, 159: 3, 160: 3,
     161: 3, 162: 3, 163: 3, 164: 3, 165: 3, 166: 3, 167: 3, 168: 3, 169: 3, 170: 3, 171: 3, 172: 2,
     173: 3, 174: 3, 175: 3, 176: 3, 177: 3, 178: 2, 179: 3, 180: 3, 181: 2, 182: 3, 183: 2, 184: 2,
-    279: 2, 280: 2, 281: 2, 282: 2, 283: 2, 284: 2, 285: 2, 286: 2, 287: 3, 288: 3, 289: 3, 290: 3,
-    291: 2, 292: 3, 293: 3, 294: 3, 295: 3, 296: 3, 297: 3, 298: 2, 299: 3, 300: 2, 301: 2, 302: 3,
-    303: 3, 304: 3, 305: 2, 306: 2, 307: 2, 308: 3, 309: 1, 310: 2, 311: 2,
+    185: 3, 186: 3, 187: 3, 188: 3, 189: 3, 190: 3, 191: 3, 192: 3, 193: 3, 194: 3, 271: 3, 272: 3,
+    273: 3, 274: 3, 275: 2, 276: 3, 279: 2, 280: 2, 281: 2, 282: 2, 283: 2, 284: 2, 285: 2, 286: 2,
+    287: 3, 288: 3, 289: 3, 290: 3, 291: 2, 292: 3, 293: 3, 294: 3, 295: 3, 296: 3, 297: 3, 298: 2,
+    299: 3, 300: 2, 301: 2, 302: 3, 303: 3, 304: 3, 305: 2, 306: 2, 307: 2, 308: 3, 309: 1, 310: 2,
+    311: 2,
 }
 
 # What each means and what to fix: lines of text, with an LF between any two.
@@ -1080,6 +1098,107 @@ TEXT_OF: Dict[int, str] = {
         "bit 4 in the flags of a node, above bit 7 in those of a cache, above bit 4 in the attributes of a cache.\n"
         "Numbers: `at` is the structure's offset, `other` the offset in it of the first field or byte that is wrong.\n"
         "Fix: write 0 to reserved bytes and bits."
+    ),
+    185: (
+        "The MCFG's Length is not 44 plus 16 for each of one or more entries: there is no entry, or bytes are left over after the "
+        "last one.\n"
+        "Numbers: `at` is 0x4, the offset of Length, `other` is the next length above Length that is right, `point` is Length.\n"
+        "Fix: set Length to 44 plus 16 times the number of entries."
+    ),
+    186: (
+        "The base address of an entry of the MCFG is 0 or no multiple of 1 MiB.\n"
+        "Numbers: `at` is the entry's offset, `point` is its base address.\n"
+        "Fix: write the address to which the host bridge maps bus 0 of the segment."
+    ),
+    187: (
+        "An entry of the MCFG has an end bus number below its start bus number.\n"
+        "Numbers: `at` is the entry's offset, `other` is 0xb (11), the offset of the end bus number in it, `point` is the end bus "
+        "number.\n"
+        "Fix: write the entry's first bus to Start Bus Number, and its last one to End Bus Number."
+    ),
+    188: (
+        "The address range of an entry of the MCFG ends above the highest address: its base address plus 1 MiB for each bus from "
+        "0 to its end bus number is above 2^64.\n"
+        "Numbers: `at` is the entry's offset, `point` is its base address.\n"
+        "Fix: correct the base address or the end bus number."
+    ),
+    189: (
+        "The MCFG's Revision is 0, and an entry's base address is 0xffffffff or above. Applies if OEMID does not begin with "
+        "`SGI`.\n"
+        "Numbers: `at` is the entry's offset, `point` is its base address.\n"
+        "Fix: write Revision 1, or an address below 4 GiB."
+    ),
+    190: (
+        "Two entries of the MCFG have the same bus of the same segment. An entry whose end bus number is below its start bus "
+        "number has no bus.\n"
+        "Numbers: `at` and `other` are the offsets of two such entries, first the one whose buses begin lower, and of two that "
+        "begin together the one at the lower offset; `point` is 256 * segment + bus of the lowest bus that two have.\n"
+        "Fix: give each bus of a segment to one entry."
+    ),
+    191: (
+        "The ECAMs of two entries of the MCFG share an address.\n"
+        "Numbers: `at` and `other` are the offsets of two such entries, first the one whose ECAM begins lower, and of two that "
+        "begin together the one at the lower offset; `point` is the lowest address at which two overlap.\n"
+        "Fix: write to each entry the address to which the host bridge maps bus 0 of its segment."
+    ),
+    192: (
+        "The HPET's Length is below 56.\n"
+        "Numbers: `at` is 0x4, the offset of Length, `other` is 0x38 (56), `point` is Length.\n"
+        "Fix: write all fields, and set Length to 56."
+    ),
+    193: (
+        "The HPET's base address is not in memory: its address space is not 0.\n"
+        "Numbers: `at` is 0x28 (40), the offset of the address space, `point` is the address space.\n"
+        "Fix: write the address space 0, since the registers are in memory."
+    ),
+    194: (
+        "The HPET's base address is 0; or 0xfed0000000000000, which is 0xfed00000 with its halves swapped; or no multiple of "
+        "1024, the size of its registers.\n"
+        "Numbers: `at` is 0x2c (44), the offset of the base address, `point` is the base address.\n"
+        "Fix: write the address to which the chipset maps the registers, 0xfed00000 on most PCs."
+    ),
+    271: (
+        "The SPCR's Length is below 80, or, from Revision 4 on, below 88.\n"
+        "Numbers: `at` is 0x4, the offset of Length, `other` is the length that the Revision needs, `point` is Length.\n"
+        "Fix: write all fields of the Revision, and set Length; or set the Revision to that of the fields."
+    ),
+    272: (
+        "The SPCR's base address is neither in memory (address space 0) nor in I/O ports (1); or it is in memory, and its access "
+        "size is above 3 (32 bits). Applies if the address is not 0 and the interface type is not 0x15, the RISC-V SBI console.\n"
+        "Numbers: `at` is the offset of the address space, 0x28 (40), or of the access size, 0x2b (43); `point` is the space or "
+        "the size.\n"
+        "Fix: write the address space and the access size of the serial port's registers."
+    ),
+    273: (
+        "The SPCR's baud rate is none of 0, 3, 4, 6 and 7, and there is no precise one: the Revision is below 4, or the number at "
+        "80 is 0.\n"
+        "Numbers: `at` is 0x3a (58), the offset of the baud rate, `point` is its value.\n"
+        "Fix: write 3 for 9600, 4 for 19200, 6 for 57600, 7 for 115200, or 0 for the rate that the firmware has set."
+    ),
+    274: (
+        "Bit 0 (8259) of the SPCR's interrupt type is set, and IRQ is none of 2 to 7, 9 to 12, 14 and 15. Or, with a well-formed "
+        "MADT, bit 1 (I/O APIC) is set, and the MADT has I/O APICs, none of which serves the GSI; or it has a GICD (type 12), the "
+        "base address is not 0, and the interrupt type is neither 0 nor 8 (GIC), or is 8 with a GSI that is no SPI, 32 to 1019 or "
+        "4096 to 5119.\n"
+        "Numbers: `at` is the field's offset: 0x34 (52) of the interrupt type, 0x35 (53) of IRQ, 0x36 (54) of the GSI; `point` is "
+        "the field.\n"
+        "Fix: write the interrupt and the type of its controller, or 0 for none; or give `acpiset` the I/O APIC's inputs as "
+        "`ADDRESS=COUNT`."
+    ),
+    275: (
+        "Just one of the SPCR's PCI device ID and PCI vendor ID is 0xffff, which means no PCI device; or neither is, and the PCI "
+        "device number is above 31 or the PCI function number above 7.\n"
+        "Numbers: for the IDs `at` is 0x40 (64), the offset of the PCI device ID, `point` is the PCI device ID. For the numbers "
+        "`at` is 0x45 (69) for the device or 0x46 (70) for the function, the offset of the number, `point` is the number.\n"
+        "Fix: write both IDs and the numbers of the PCI device; or, if the serial port is no PCI device, 0xffff to both IDs."
+    ),
+    276: (
+        "The SPCR's namespace string has fewer than 2 bytes, or does not lie between byte 88 and the table's end; or it lies "
+        "there, and its last byte is not 0. Applies from Revision 4 on.\n"
+        "Numbers: `at` is the offset of what is wrong, 0x54 (84) of NamespaceStringLength, 0x56 (86) of NamespaceStringOffset, or "
+        "that of the string's last byte; `point` is its value.\n"
+        "Fix: write the device's path in the ACPI namespace, or `.` for none, and a 0; and its offset in the table and its length "
+        "with the 0."
     ),
     279: (
         "The OEMID of the RSDP has a byte that is not printable ASCII, 0x20 to 0x7e. Zeros at its end are allowed. Applies if 20 "

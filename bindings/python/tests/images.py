@@ -18,6 +18,10 @@ FIRMWARE = {
     "mv-acpi": (0xF4A10, "yes"),
     "q10-efi-virt-smp4": (0x4F0B0018, "yes"),
     "q11-efi-virt-caches": (0x47FE0000, "yes"),
+    "sb-q35-hmat": (0xF5990, "yes"),
+    "sb-q35-intel-iommu": (0xF59E0, "yes"),
+    "sb-q35-amd-iommu": (0xF59E0, "yes"),
+    "q102-virt-smmuv3": (0xF5AC0, "yes"),
 }
 
 
@@ -26,7 +30,7 @@ def text(name):
 
 
 class Image:
-    """Pieces by their addresses. Each line of a text with an address begins one."""
+    """Pieces by their addresses. Each line of a text with an address begins one, but where the one before it ends there."""
 
     def __init__(self, content):
         self.parts = {}
@@ -34,8 +38,10 @@ class Image:
         for line in content.splitlines():
             row = line.partition("#")[0].strip()
             if row.startswith("@"):
-                address = int(row[1:], 16)
-                self.parts[address] = bytearray()
+                start = int(row[1:], 16)
+                if address is None or address + len(self.parts[address]) != start:
+                    address = start
+                    self.parts[address] = bytearray()
             elif row:
                 self.parts[address] += bytes.fromhex(row)
 

@@ -46,7 +46,7 @@ ALL_FINDINGS = """
 import acpiset
 found = acpiset.lint([], acpiset.Settings(0xE0000))
 print([(it.number, it.at) for it in found.faults] == [(own + 1, own) for own in range(70)])
-print([(it.number, it.at) for it in found.advice] == [(own + 31, own) for own in range(70, 170)])
+print([(it.number, it.at) for it in found.advice] == [(own + (31 if own < 154 else 847), own) for own in range(70, 170)])
 print(found.faults[58].name, found.faults[59].name, found.advice[83].name, found.advice[84].name, found.advice[84].severity)
 """
 
@@ -78,7 +78,7 @@ class LaterLibraries(unittest.TestCase):
         self.assertEqual((told.splitlines(), problems), (lines, ""))
 
     def test_all_findings_of_a_later_library_are_reported(self):
-        told = "True\nTrue\nLeafUnknown Unknown(60) PpttReserved Unknown(185) None\n"
+        told = "True\nTrue\nLeafUnknown Unknown(60) PpttReserved Unknown(1001) None\n"
         self.assertEqual(self.told_by(ALL_FINDINGS, 1), (told, ""))
 
     def test_a_file_a_folder_and_a_path_from_here_name_a_library(self):

@@ -842,6 +842,94 @@ numbered! {
         ///
         /// Numbers: `at` is the structure's offset, `other` the offset in it of the first field or byte that is wrong.
         PpttReserved = 184,
+        /// The MCFG's Length is not 44 plus 16 for each of one or more entries: there is no entry, or bytes are left
+        /// over after the last one.
+        ///
+        /// Numbers: `at` is 0x4, the offset of Length, `other` is the next length above Length that is right, `point`
+        /// is Length.
+        McfgLength = 185,
+        /// The base address of an entry of the MCFG is 0 or no multiple of 1 MiB.
+        ///
+        /// Numbers: `at` is the entry's offset, `point` is its base address.
+        EcamAddress = 186,
+        /// An entry of the MCFG has an end bus number below its start bus number.
+        ///
+        /// Numbers: `at` is the entry's offset, `other` is 0xb (11), the offset of the end bus number in it, `point` is
+        /// the end bus number.
+        BusesReversed = 187,
+        /// The address range of an entry of the MCFG ends above the highest address: its base address plus 1 MiB for
+        /// each bus from 0 to its end bus number is above 2^64.
+        ///
+        /// Numbers: `at` is the entry's offset, `point` is its base address.
+        EcamWraps = 188,
+        /// The MCFG's Revision is 0, and an entry's base address is 0xffffffff or above. Applies if OEMID does not
+        /// begin with `SGI`.
+        ///
+        /// Numbers: `at` is the entry's offset, `point` is its base address.
+        EcamTooHigh = 189,
+        /// Two entries of the MCFG have the same bus of the same segment. An entry whose end bus number is below its
+        /// start bus number has no bus.
+        ///
+        /// Numbers: `at` and `other` are the offsets of two such entries, first the one whose buses begin lower, and of
+        /// two that begin together the one at the lower offset; `point` is 256 * segment + bus of the lowest bus that
+        /// two have.
+        SameBus = 190,
+        /// The ECAMs of two entries of the MCFG share an address.
+        ///
+        /// Numbers: `at` and `other` are the offsets of two such entries, first the one whose ECAM begins lower, and of
+        /// two that begin together the one at the lower offset; `point` is the lowest address at which two overlap.
+        EcamOverlap = 191,
+        /// The HPET's Length is below 56.
+        ///
+        /// Numbers: `at` is 0x4, the offset of Length, `other` is 0x38 (56), `point` is Length.
+        HpetLength = 192,
+        /// The HPET's base address is not in memory: its address space is not 0.
+        ///
+        /// Numbers: `at` is 0x28 (40), the offset of the address space, `point` is the address space.
+        HpetSpace = 193,
+        /// The HPET's base address is 0; or 0xfed0000000000000, which is 0xfed00000 with its halves swapped; or no
+        /// multiple of 1024, the size of its registers.
+        ///
+        /// Numbers: `at` is 0x2c (44), the offset of the base address, `point` is the base address.
+        HpetAddress = 194,
+        /// The SPCR's Length is below 80, or, from Revision 4 on, below 88.
+        ///
+        /// Numbers: `at` is 0x4, the offset of Length, `other` is the length that the Revision needs, `point` is
+        /// Length.
+        SpcrLength = 271,
+        /// The SPCR's base address is neither in memory (address space 0) nor in I/O ports (1); or it is in memory, and
+        /// its access size is above 3 (32 bits). Applies if the address is not 0 and the interface type is not 0x15,
+        /// the RISC-V SBI console.
+        ///
+        /// Numbers: `at` is the offset of the address space, 0x28 (40), or of the access size, 0x2b (43); `point` is
+        /// the space or the size.
+        SpcrAddress = 272,
+        /// The SPCR's baud rate is none of 0, 3, 4, 6 and 7, and there is no precise one: the Revision is below 4, or
+        /// the number at 80 is 0.
+        ///
+        /// Numbers: `at` is 0x3a (58), the offset of the baud rate, `point` is its value.
+        SpcrBaud = 273,
+        /// Bit 0 (8259) of the SPCR's interrupt type is set, and IRQ is none of 2 to 7, 9 to 12, 14 and 15. Or, with a
+        /// well-formed MADT, bit 1 (I/O APIC) is set, and the MADT has I/O APICs, none of which serves the GSI; or it
+        /// has a GICD (type 12), the base address is not 0, and the interrupt type is neither 0 nor 8 (GIC), or is 8
+        /// with a GSI that is no SPI, 32 to 1019 or 4096 to 5119.
+        ///
+        /// Numbers: `at` is the field's offset: 0x34 (52) of the interrupt type, 0x35 (53) of IRQ, 0x36 (54) of the
+        /// GSI; `point` is the field.
+        SpcrGsi = 274,
+        /// Just one of the SPCR's PCI device ID and PCI vendor ID is 0xffff, which means no PCI device; or neither is,
+        /// and the PCI device number is above 31 or the PCI function number above 7.
+        ///
+        /// Numbers: for the IDs `at` is 0x40 (64), the offset of the PCI device ID, `point` is the PCI device ID. For
+        /// the numbers `at` is 0x45 (69) for the device or 0x46 (70) for the function, the offset of the number,
+        /// `point` is the number.
+        SpcrPci = 275,
+        /// The SPCR's namespace string has fewer than 2 bytes, or does not lie between byte 88 and the table's end; or
+        /// it lies there, and its last byte is not 0. Applies from Revision 4 on.
+        ///
+        /// Numbers: `at` is the offset of what is wrong, 0x54 (84) of NamespaceStringLength, 0x56 (86) of
+        /// NamespaceStringOffset, or that of the string's last byte; `point` is its value.
+        SpcrName = 276,
         /// The OEMID of the RSDP has a byte that is not printable ASCII, 0x20 to 0x7e. Zeros at its end are allowed.
         /// Applies if 20 bytes of the RSDP are in the image.
         ///
@@ -1044,6 +1132,7 @@ impl Rule {
             | Rule::LeafAsParent
             | Rule::CacheNumbers
             | Rule::PpttReserved
+            | Rule::SpcrPci
             | Rule::RsdpText
             | Rule::RootHeader
             | Rule::DsdtText
@@ -1127,6 +1216,21 @@ impl Rule {
             | Rule::RemoteAsLocal
             | Rule::LeafUnflagged
             | Rule::NoPackage
+            | Rule::McfgLength
+            | Rule::EcamAddress
+            | Rule::BusesReversed
+            | Rule::EcamWraps
+            | Rule::EcamTooHigh
+            | Rule::SameBus
+            | Rule::EcamOverlap
+            | Rule::HpetLength
+            | Rule::HpetSpace
+            | Rule::HpetAddress
+            | Rule::SpcrLength
+            | Rule::SpcrAddress
+            | Rule::SpcrBaud
+            | Rule::SpcrGsi
+            | Rule::SpcrName
             | Rule::GpePastEnd
             | Rule::BlockTooLong
             | Rule::BlockSpace

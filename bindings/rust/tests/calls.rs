@@ -186,6 +186,10 @@ fn images_of_real_firmware_have_the_verdicts_of_the_program() {
         ("mv-acpi", 0xf4a10, "yes"),
         ("q10-efi-virt-smp4", 0x4f0b0018, "yes"),
         ("q11-efi-virt-caches", 0x47fe0000, "yes"),
+        ("sb-q35-hmat", 0xf5990, "yes"),
+        ("sb-q35-intel-iommu", 0xf59e0, "yes"),
+        ("sb-q35-amd-iommu", 0xf59e0, "yes"),
+        ("q102-virt-smmuv3", 0xf5ac0, "yes"),
     ];
     for (name, rsdp, said) in images {
         let settings = Settings::new(rsdp);

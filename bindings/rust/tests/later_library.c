@@ -31,7 +31,7 @@ struct acpiset_answer acpiset_confirm(const struct acpiset_piece *pieces, size_t
     return (struct acpiset_answer){ACPISET_BAD_SIZE, 0, 0, 0, 0, 0};
 }
 
-/* 70 faults, of the codes 1 to 70, and 100 findings of advice, of the rules 101 to 200. */
+/* 70 faults, of the codes 1 to 70, and 100 findings of advice, of the rules 101 to 184 and 1001 to 1016. */
 struct acpiset_answer acpiset_lint(const struct acpiset_piece *pieces, size_t pieces_count,
                                    const struct acpiset_inputs *inputs, size_t inputs_count,
                                    const struct acpiset_settings *settings,
@@ -39,7 +39,7 @@ struct acpiset_answer acpiset_lint(const struct acpiset_piece *pieces, size_t pi
 {
     (void)pieces, (void)pieces_count, (void)inputs, (void)inputs_count, (void)settings;
     for (uint32_t own = 0; own < 170 && own < findings_count; own++)
-        findings[own] = (struct acpiset_finding){own < 70 ? own + 1 : own + 31, own, 0, 0};
+        findings[own] = (struct acpiset_finding){own + (own < 70 ? 1 : own < 154 ? 31 : 847), own, 0, 0};
     return (struct acpiset_answer){ACPISET_NO, 0, 0, 70, 100, 0};
 }
 

@@ -5,7 +5,7 @@ ghost use Rattle.acpi_c.specs.Answers.{written_over};
 ghost use Rattle.acpi_c.specs.Meanings.{IsNumbered, IsStageOf, IsSeverityOf, IsNameOf, IsNoNumber, IsWrittenTo};
 
 use crate::answer::copy_to;
-use crate::explained::{CODES, RULES, SEVERITIES};
+use crate::explained::{CODE_STARTS, CODE_TEXTS, RULE_STARTS, RULE_TEXTS, SEVERITIES};
 use acpi_base::Code;
 use acpi_lint::Rule;
 
@@ -93,31 +93,48 @@ fn rule_severity(rule: Rule) -> Severity {
     }
 }
 
-/// The text that explains a code.
-fn code_text(code: Code) -> &'static str {
-    let rows = CODES.as_slice();
-    match rows.get(usize::from(code.number() - 1)) {
-        Some(text) => *text,
-        None => "",
+/// One of texts that stand one after another, of which it is known where each begins. A table of references to them would
+/// be larger, since the library can be loaded at any address.
+fn nth_text(texts: &'static str, starts: &[u32], place: usize) -> &'static [u8] {
+    let Some(start) = starts.get(place) else {
+        return b"";
+    };
+    let Some(end) = starts.get(place.saturating_add(1)) else {
+        return b"";
+    };
+    match texts.as_bytes().get(*start as usize..*end as usize) {
+        Some(text) => text,
+        None => b"",
     }
+}
+
+/// The text that explains a code.
+fn code_text(code: Code) -> &'static [u8] {
+    nth_text(
+        CODE_TEXTS,
+        CODE_STARTS.as_slice(),
+        usize::from(code.number() - 1),
+    )
 }
 
 /// The text that explains a rule.
-fn rule_text(rule: Rule) -> &'static str {
-    let rows = RULES.as_slice();
-    match rows.get(rule.place()) {
-        Some(text) => *text,
-        None => "",
-    }
+fn rule_text(rule: Rule) -> &'static [u8] {
+    nth_text(RULE_TEXTS, RULE_STARTS.as_slice(), rule.place())
 }
 
-/// Writes a text to the room, as much of it as fits, and returns how many bytes it has.
+/// Writes the bytes of a text to the room, as many as fit, and returns how many there are.
+fn write_bytes(room: &mut [u8], bytes: &[u8]) -> usize
+    ensures { IsWrittenTo bytes.now room.old room.new result }
+{
+    copy_to(room, bytes);
+    bytes.len()
+}
+
+/// The same of a text.
 fn write_to(room: &mut [u8], text: &str) -> usize
     ensures { IsWrittenTo text.now room.old room.new result }
 {
-    let bytes = text.as_bytes();
-    copy_to(room, bytes);
-    bytes.len()
+    write_bytes(room, text.as_bytes())
 }
 
 /// Writes the name of the code or the rule with this number to the room, as many bytes of it as fit, without a final
@@ -145,7 +162,7 @@ pub extern "C" fn acpiset_explain(number: u32, room: &mut [u8]) -> usize
     let text = match with_number(number) {
         Some(Numbered::Code(code)) => code_text(code),
         Some(Numbered::Rule(rule)) => rule_text(rule),
-        None => "",
+        None => b"",
     };
-    write_to(room, text)
+    write_bytes(room, text)
 }

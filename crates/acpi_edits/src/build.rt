@@ -28,13 +28,7 @@ pub fn first_with(
 ) -> Result<Option<u64>, AllocError> {
     let nothing = Value::Number(0);
     let cases: [Case<'_>; 1] = [(kind, clauses, 0, nothing, nothing)];
-    let row: Row<'_> = (
-        0,
-        Form::Given,
-        &[],
-        (list.path, &cases, &[]),
-        None,
-    );
+    let row: Row<'_> = (0, Form::Given, &[], (list.path, &cases, &[]), None);
     let found = first_finding(alloc, &row, &seen(pair, list.source))?;
     Ok(found.map(|place| place.at))
 }

@@ -7,8 +7,7 @@ use crate::near::fields_near;
 use crate::search::search;
 use crate::seeds::{Aim, Seed};
 use crate::shared::{other_table, table_of};
-use acpi_base::TableKind;
-use acpi_lint::RowGroup;
+use acpi_lint::{RowGroup, RowTable};
 use acpi_rules::{Field, Row, Within};
 use std::alloc::{AllocError, Global};
 
@@ -16,7 +15,7 @@ use std::alloc::{AllocError, Global};
 #[derive(Clone, Copy, Debug, PartialEq, Eq)]
 pub struct Owner {
     /// The table.
-    pub table: TableKind,
+    pub table: RowTable,
     /// The lowest type of the entries, if it is a field of entries.
     pub kind: Option<u16>,
 }

@@ -10,9 +10,8 @@ use crate::search::{search, search_deep};
 use crate::seeds::{Aim, Seed, seeds_of};
 use crate::sets::{Set, pairs_of};
 use crate::shared::{Shared, Use, shared_lists, table_of};
-use crate::text::{ClauseText, KindText, ValueText};
-use acpi_base::TableKind;
-use acpi_lint::RowGroup;
+use crate::text::{ClauseText, KindText, TableText, ValueText};
+use acpi_lint::{RowGroup, RowTable};
 use acpi_rules::{Case, Clause, Field, Kind, Row};
 use std::alloc::{AllocError, Global};
 use std::io;
@@ -20,7 +19,7 @@ use std::io;
 /// The edits of a kind of structures of a table, and whether each is seen.
 #[derive(Debug, Drop)]
 struct KindEdits {
-    table: TableKind,
+    table: RowTable,
     kind: Kind,
     edits: Vec<Kind>,
     seen: Vec<bool>,
@@ -163,7 +162,7 @@ fn mark_kinds(
 fn index_of_kind(
     alloc: Global,
     all: &mut Vec<KindEdits>,
-    table: TableKind,
+    table: RowTable,
     kind: Kind,
 ) -> Result<usize, AllocError> {
     for (index, of) in all.iter().enumerate() {
@@ -254,10 +253,10 @@ fn print_kinds(rt: &impl Print, of: &KindEdits, counts: &mut Counts) -> io::Resu
         counts.tried = counts.tried.saturating_add(1);
         if !*is_seen {
             counts.unseen = counts.unseen.saturating_add(1);
-            let table = of.table;
+            let table = TableText(of.table);
             let from = KindText(&of.kind);
             let to = KindText(to);
-            println!(rt; "{table:?}: {from} -> {to}")?;
+            println!(rt; "{table}: {from} -> {to}")?;
         }
     }
     Ok(())
@@ -355,11 +354,12 @@ fn print_fields(rt: &impl Print, of: &FieldEdits, counts: &mut Counts) -> io::Re
         if !*is_seen {
             counts.unseen = counts.unseen.saturating_add(1);
             let Owner { table, kind } = of.owner;
+            let table = TableText(table);
             let Field { at, width } = of.field;
             let (to_at, to_width) = (to.at, to.width);
             match kind {
-                Some(kind) => print!(rt; "{table:?} type {kind} ")?,
-                None => print!(rt; "{table:?} ")?,
+                Some(kind) => print!(rt; "{table} type {kind} ")?,
+                None => print!(rt; "{table} ")?,
             }
             println!(rt; "field: {at}:{width} -> {to_at}:{to_width}")?;
         }

@@ -2,24 +2,29 @@
 
 use crate::pair::Pair;
 use acpi_base::TableKind;
+use acpi_lint::{FurtherTable, RowTable};
 use std::alloc::{AllocError, Global};
 
-/// The tables of a set, in the order FADT, MADT, SRAT, SLIT, PPTT; one that the set does not have has no bytes.
+/// The tables of a set, in the order FADT, MADT, SRAT, SLIT, PPTT, MCFG, HPET, SPCR; one that the set does not have has no
+/// bytes.
 #[derive(Clone, Copy, Debug)]
 pub struct Set<'a> {
-    tables: [&'a [u8]; 5],
+    tables: [&'a [u8]; 8],
 }
 
 impl<'a> Set<'a> {
-    /// The table of a kind.
-    pub fn table(&self, kind: TableKind) -> &'a [u8] {
-        let [fadt, madt, srat, slit, pptt] = self.tables;
-        match kind {
-            TableKind::Fadt => fadt,
-            TableKind::Madt => madt,
-            TableKind::Srat => srat,
-            TableKind::Slit => slit,
-            TableKind::Pptt => pptt,
+    /// One of its tables.
+    pub fn table(&self, table: RowTable) -> &'a [u8] {
+        let [fadt, madt, srat, slit, pptt, mcfg, hpet, spcr] = self.tables;
+        match table {
+            RowTable::Kind(TableKind::Fadt) => fadt,
+            RowTable::Kind(TableKind::Madt) => madt,
+            RowTable::Kind(TableKind::Srat) => srat,
+            RowTable::Kind(TableKind::Slit) => slit,
+            RowTable::Kind(TableKind::Pptt) => pptt,
+            RowTable::Further(FurtherTable::Mcfg) => mcfg,
+            RowTable::Further(FurtherTable::Hpet) => hpet,
+            RowTable::Further(FurtherTable::Spcr) => spcr,
         }
     }
 }
@@ -43,7 +48,10 @@ fn split_set(bytes: &[u8]) -> Option<(Set<'_>, &[u8])> {
     let (srat, rest) = split_table(rest)?;
     let (slit, rest) = split_table(rest)?;
     let (pptt, rest) = split_table(rest)?;
-    let tables = [fadt, madt, srat, slit, pptt];
+    let (mcfg, rest) = split_table(rest)?;
+    let (hpet, rest) = split_table(rest)?;
+    let (spcr, rest) = split_table(rest)?;
+    let tables = [fadt, madt, srat, slit, pptt, mcfg, hpet, spcr];
     Some((Set { tables }, rest))
 }
 
@@ -61,18 +69,18 @@ pub fn read_sets(alloc: Global, bytes: &[u8]) -> Result<Vec<Set<'_>>, AllocError
     Ok(sets)
 }
 
-/// The tables of these kinds, of each set that has them; each two once.
+/// Two of its tables, of each set that has them; each two once.
 pub fn pairs_of(
     alloc: Global,
     sets: &[Set<'_>],
-    table: TableKind,
-    other: Option<TableKind>,
+    table: RowTable,
+    other: Option<RowTable>,
 ) -> Result<Vec<Pair>, AllocError> {
     let mut pairs: Vec<Pair> = Vec::new(alloc);
     for set in sets {
         let bytes = set.table(table);
         let beside: &[u8] = match other {
-            Some(kind) => set.table(kind),
+            Some(other) => set.table(other),
             None => &[],
         };
         let is_there = !bytes.is_empty() && (other.is_none() || !beside.is_empty());

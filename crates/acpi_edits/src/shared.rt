@@ -1,8 +1,7 @@
 //! The lists of cases of all rows: a condition that several rows share is one list.
 
 use crate::lists::{Role, lists_of};
-use acpi_base::TableKind;
-use acpi_lint::RowGroup;
+use acpi_lint::{RowGroup, RowTable};
 use acpi_rules::{Case, Row, Source};
 use std::alloc::{AllocError, Global};
 
@@ -25,7 +24,7 @@ pub struct Use {
 #[derive(Debug, Drop)]
 pub struct Shared {
     /// The table of the structures.
-    pub table: TableKind,
+    pub table: RowTable,
     /// The cases.
     pub cases: &'static [Case<'static>],
     /// Whether it is a condition, or numbers among which others are looked up.
@@ -47,7 +46,7 @@ fn are_same(one: &[Case<'_>], other: &[Case<'_>]) -> bool {
 }
 
 /// The table that a list of a group is about.
-pub fn table_of(group: &RowGroup<'_>, source: Source) -> TableKind {
+pub fn table_of(group: &RowGroup<'_>, source: Source) -> RowTable {
     match (source, group.1) {
         (Source::Other, Some(other)) => other,
         _ => group.0,
@@ -55,7 +54,7 @@ pub fn table_of(group: &RowGroup<'_>, source: Source) -> TableKind {
 }
 
 /// The other table of a list of a group; its own where there is none.
-pub fn other_table(group: &RowGroup<'_>, source: Source) -> TableKind {
+pub fn other_table(group: &RowGroup<'_>, source: Source) -> RowTable {
     match (source, group.1) {
         (Source::Table, Some(other)) => other,
         _ => group.0,
@@ -66,7 +65,7 @@ pub fn other_table(group: &RowGroup<'_>, source: Source) -> TableKind {
 fn add(
     alloc: Global,
     all: &mut Vec<Shared>,
-    table: TableKind,
+    table: RowTable,
     cases: &'static [Case<'static>],
     used: Use,
 ) -> Result<(), AllocError> {

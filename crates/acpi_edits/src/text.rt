@@ -1,5 +1,6 @@
 //! Parts of rows as text.
 
+use acpi_lint::RowTable;
 use acpi_rules::{Addend, Clause, Field, Kind, Test, Value, Within};
 use std::fmt;
 
@@ -14,6 +15,10 @@ pub struct ClauseText<'a>(pub &'a Clause);
 /// A kind as text: its types and its lengths.
 #[derive(Clone, Copy)]
 pub struct KindText<'a>(pub &'a Kind);
+
+/// A table as text: its name.
+#[derive(Clone, Copy)]
+pub struct TableText(pub RowTable);
 
 /// The word for a structure.
 fn within_word(within: Within) -> &'static str {
@@ -117,6 +122,15 @@ impl<'a> fmt::Display for ClauseText<'a> {
         let sign = test_sign(self.0.test);
         let right = ValueText(&self.0.right);
         write!(f, "{left} {sign} {right}")
+    }
+}
+
+impl fmt::Display for TableText {
+    fn fmt<W: fmt::Write>(&self, f: &mut fmt::Formatter<W>) -> fmt::Result {
+        match self.0 {
+            RowTable::Kind(kind) => write!(f, "{kind:?}"),
+            RowTable::Further(table) => write!(f, "{table:?}"),
+        }
     }
 }
 

@@ -17,12 +17,12 @@ use Rattle.acpi_examples.proofs.NamedEntries.{each_entry, none_stands, never}
 
 -- ---- SCI_INT
 
-not_served : (q : PolicyValue) (bus : ℕ) → inputs_of q 0xfec00000 ≡ 24 → ¬ IsServed q (overridden bus) 24
+pub not_served : (q : PolicyValue) (bus : ℕ) → inputs_of q 0xfec00000 ≡ 24 → ¬ IsServed q (overridden bus) 24
 not_served q bus inputs (o, start, here) =
     none_stands (overridden bus).entries o (λ o e. ServesFrom q start 24 e)
     ((λ h. omega (arith, h.0, h.2, inputs)), (never, tt)) here
 
-is_served : (q : PolicyValue) (n : ℕ) → inputs_of q 0xfec00000 ≡ 25 → 24 ≡ n → IsServed q (overridden 0) n
+pub is_served : (q : PolicyValue) (n : ℕ) → inputs_of q 0xfec00000 ≡ 25 → 24 ≡ n → IsServed q (overridden 0) n
 is_served q n inputs is =
     subst (IsServed q (overridden 0)) is
     (44, 0, (_, (0, omega arith, refl), (refl, omega arith, omega (arith, inputs))))
@@ -46,6 +46,9 @@ own_gsi : (c : MadtContents) (g : ℕ) → AllByRecursion (λ s. ¬ IsOverrideOf
 own_gsi c g none (inl it) =
     absurd (none_stands c.entries it.at (λ o e. IsOverrideOf 9 e) none (Override it.v, it.stands, it.of))
 own_gsi c g none (inr (_, is)) = sym is
+
+pub well_formed : (bus : ℕ) → IsWellFormedMadt (overridden bus)
+well_formed bus = (refl, λ o. none_stands (overridden bus).entries o (λ o e. HasOtherMadtLength e) (never, (never, tt)))
 
 scis_nowhere : (q : PolicyValue) → AreScisNowhere q
 unfolding field has_flag
@@ -106,10 +109,6 @@ scis_nowhere q = record {
       it.some.1;
   cut = λ at other point it. none-some 66 (sym it.well_formed.0);
 }
-  where
-    well_formed : (bus : ℕ) → IsWellFormedMadt (overridden bus)
-    well_formed bus =
-        (refl, λ o. none_stands (overridden bus).entries o (λ o e. HasOtherMadtLength e) (never, (never, tt)))
 
 pub fadt_advised : (q : PolicyValue) → IsFadtAdvised q
 fadt_advised q = record {

@@ -91,7 +91,7 @@ leads_nowhere nodes o next all some none (rest, chain) = by rest chain
         none_begins nodes next none q (subst (λ (n : ℕ). HasParent nodes n q) (named p step.names) there)
 
 -- what is computed of all that structures give holds of each
-each_given : (P : Numbered → Type 0) (path : Path) (cases : Said SaidCase) (pptt : List ℕ)
+pub each_given : (P : Numbered → Type 0) (path : Path) (cases : Said SaidCase) (pptt : List ℕ)
     → AllByRecursion P (entries_give path cases pptt) → (g : Numbered)
     → GivenIn (alone pptt) path (map case_said cases.now) g → P g
 each_given P path cases pptt each g (s, listed, is) = of (sites_of path pptt) each listed

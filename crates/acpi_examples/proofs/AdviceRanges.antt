@@ -8,6 +8,7 @@ use Rattle.std.proofs.lemmas.Bool.Decides.{Decides-and, Decides-eqb, Decides-or}
 use Rattle.acpi_base.specs.Fadt.{has_flag, block_value, wide_address}
 use Rattle.acpi_base.specs.Number.{field}
 use Rattle.acpi_rules.specs.declared.numbered.Numbered.{Numbered}
+use Rattle.acpi_rules.specs.declared.overlap.Range.TheVariants as range
 use Rattle.acpi_rules.proofs.ComputedLists.{decides_all}
 use Rattle.acpi_rules.proofs.RepeatedNumbers.{same_numbered}
 use Rattle.acpi_lint.specs.Rules.Ports.{block_ranges}
@@ -31,7 +32,7 @@ is_one a b g = is_same g a || (is_same g b || (g.value == 0))
 
 -- two blocks of a FADT have these ranges, and the others are empty
 two_blocks : (whole : List ℕ) (a b : Numbered) → list_all (is_one a b) (block_ranges whole) ≡ true
-    → AreTwoRanges (λ g. Contains (block_ranges whole) g) 0 a b 0
+    → AreTwoRanges range.Count (λ g. Contains (block_ranges whole) g) 0 a b 0
 two_blocks whole a b are g listed =
     elim ((decides_all (is_one a b)
     (λ h. ((h.number ≡ a.number) × ((h.at ≡ a.at) × (h.value ≡ a.value)))
@@ -42,7 +43,7 @@ two_blocks whole a b are g listed =
     (block_ranges whole)).0 are g listed) [
       | inl (number, (at, value)) ↦ inl (same_numbered g a number at value)
       | inr (inl (number, (at, value))) ↦ inr (inl (same_numbered g b number at value))
-      | inr (inr none) ↦ inr (inr (inr (inr none)))
+      | inr (inr none) ↦ inr (inr (inr (inr (omega (arith, none)))))
     ]
 
 ports_overlapping : ArePortsOverlapping
@@ -51,29 +52,31 @@ ports_overlapping =
     record {
       shared = (
         refl,
-        two_overlap (λ g. Contains (block_ranges (ports_fadt 3 0)) g) 0 (range_of 56 0x400 4) (range_of 64 0x403 2) 0
-            (two_blocks (ports_fadt 3 0) (range_of 56 0x400 4) (range_of 64 0x403 2) refl) (0, omega arith, refl)
-            (2, omega arith, refl) (λ same. omega arith) (omega arith) (omega arith) (omega arith),
+        two_overlap range.Count (λ g. Contains (block_ranges (ports_fadt 3 0)) g) 0 (range_of 56 0x400 4)
+            (range_of 64 0x403 2) 0 (two_blocks (ports_fadt 3 0) (range_of 56 0x400 4) (range_of 64 0x403 2) refl)
+            (0, omega arith, refl) (2, omega arith, refl) (λ same. omega arith) (omega arith) (omega arith)
+            (omega arith),
       );
       apart = λ at other point it.
-          two_apart (λ g. Contains (block_ranges (ports_fadt 4 0)) g) 0 (range_of 56 0x400 4) (range_of 64 0x404 2) 0
-          (two_blocks (ports_fadt 4 0) (range_of 56 0x400 4) (range_of 64 0x404 2) refl) (omega arith) at other point
-          it.1;
+          two_apart range.Count (λ g. Contains (block_ranges (ports_fadt 4 0)) g) 0 (range_of 56 0x400 4)
+          (range_of 64 0x404 2) 0 (two_blocks (ports_fadt 4 0) (range_of 56 0x400 4) (range_of 64 0x404 2) refl)
+          (omega arith) (omega arith, omega arith) at other point it.1;
       reduced = λ at other point it. both_ways _ it.0 refl;
       bits = (
         refl,
-        two_overlap (λ g. Contains (block_ranges (wide_fadt 1 9)) g) 0 (range_of 64 0x3ff 2) (range_of 56 0x400 4) 0
-            (two_blocks (wide_fadt 1 9) (range_of 64 0x3ff 2) (range_of 56 0x400 4) refl) (2, omega arith, refl)
-            (0, omega arith, refl) (λ same. omega arith) (omega arith) (omega arith) (omega arith),
+        two_overlap range.Count (λ g. Contains (block_ranges (wide_fadt 1 9)) g) 0 (range_of 64 0x3ff 2)
+            (range_of 56 0x400 4) 0 (two_blocks (wide_fadt 1 9) (range_of 64 0x3ff 2) (range_of 56 0x400 4) refl)
+            (2, omega arith, refl) (0, omega arith, refl) (λ same. omega arith) (omega arith) (omega arith)
+            (omega arith),
       );
       byte = λ at other point it.
-          two_apart (λ g. Contains (block_ranges (wide_fadt 1 8)) g) 0 (range_of 64 0x3ff 1) (range_of 56 0x400 4) 0
-          (two_blocks (wide_fadt 1 8) (range_of 64 0x3ff 1) (range_of 56 0x400 4) refl) (omega arith) at other point
-          it.1;
+          two_apart range.Count (λ g. Contains (block_ranges (wide_fadt 1 8)) g) 0 (range_of 64 0x3ff 1)
+          (range_of 56 0x400 4) 0 (two_blocks (wide_fadt 1 8) (range_of 64 0x3ff 1) (range_of 56 0x400 4) refl)
+          (omega arith) (omega arith, omega arith) at other point it.1;
       memory = λ at other point it.
-          two_apart (λ g. Contains (block_ranges (wide_fadt 0 9)) g) 0 (range_of 64 0x3ff 0) (range_of 56 0x400 4) 0
-          (two_blocks (wide_fadt 0 9) (range_of 64 0x3ff 0) (range_of 56 0x400 4) refl) (omega arith) at other point
-          it.1;
+          two_apart range.Count (λ g. Contains (block_ranges (wide_fadt 0 9)) g) 0 (range_of 64 0x3ff 0)
+          (range_of 56 0x400 4) 0 (two_blocks (wide_fadt 0 9) (range_of 64 0x3ff 0) (range_of 56 0x400 4) refl)
+          (omega arith) (omega arith, omega arith) at other point it.1;
     }
 
 pub ranges_advised : AreRangesAdvised

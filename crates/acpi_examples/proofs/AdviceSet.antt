@@ -8,10 +8,10 @@ use Rattle.std.proofs.lemmas.Option.{none-some}
 use Rattle.acpi_base.specs.Facs.{IsFacs}
 use Rattle.acpi_base.specs.Fadt.{has_flag, wide_address}
 use Rattle.acpi_base.specs.Frames.{IsFrame}
-use Rattle.acpi_base.specs.Image.Runs.{Run, lookup, memory_of}
-use Rattle.acpi_base.specs.Memory.{Memory, run_of, cons_both, bytes_at}
+use Rattle.acpi_base.specs.Image.Runs.{lookup, memory_of}
+use Rattle.acpi_base.specs.Memory.{run_of, cons_both, bytes_at}
 use Rattle.acpi_base.specs.Number.{field, byte_sum, has_bit}
-use Rattle.acpi_base.specs.Root.{chosen_root, root_signature, IsRoot, IsRootTable, HasSlot, IsSlot}
+use Rattle.acpi_base.specs.Root.{chosen_root, IsRoot, IsRootTable, HasSlot, IsSlot}
 use Rattle.acpi_base.specs.Rsdp.{addresses_at}
 use Rattle.acpi_base.specs.Signature.{has_signature}
 use Rattle.acpi_base.specs.Tables.{table_frame}
@@ -25,16 +25,13 @@ use Rattle.acpi_examples.specs.AdviceSet.{oem_of, named_rsdp, short_rsdp, sized_
 use Rattle.acpi_examples.specs.AdviceSlots.{twice_bytes}
 use Rattle.acpi_examples.specs.Sets.{rsdp_at, rsdt_bytes, set_of, uid_bytes, new_leaf_bytes}
 use Rattle.acpi_examples.specs.Tables.{table}
-use Rattle.acpi_examples.proofs.AdviceSlots.{twice_root, twice_table}
-use Rattle.acpi_examples.proofs.Sets.{bytes_of_runs, root, root_table, slot_0, slot_1}
+use Rattle.acpi_examples.proofs.AdviceSlots.{in_two, twice_root, twice_table}
+use Rattle.acpi_examples.proofs.Sets.{bytes_of_runs, root_table_of, root, root_table, slot_0, slot_1}
 use Rattle.acpi_base.proofs.Frames.{one_frame, stands_wrong}
-use Rattle.acpi_base.proofs.Images.RunBytes.{byte_of_memory_of}
+use Rattle.acpi_base.proofs.Images.RunMemory.{bytes_at_present as bytes_in}
 use Rattle.acpi_base.proofs.Options.{same_value}
 use Rattle.acpi_base.proofs.Root.Named.{of_root, one_root_table}
-use Rattle.acpi_base.proofs.Root.Slots.{one_slot, root_slot, slot_of_root}
-
-bytes_in : (runs : List Run) (a n : ℕ) → bytes_at (memory_of runs) a n ≡ run_of (lookup runs) a n
-bytes_in runs a n = λ i. run_of (λ x. byte_of_memory_of runs x i) a n
+use Rattle.acpi_base.proofs.Root.Slots.{root_slot, slot_of_root}
 
 -- ---- bytes that are all of a kind
 
@@ -126,17 +123,6 @@ none_null at other point (inside, null, unused) =
       | inl first ↦ (let here : 0x2000 ≡ 0 = rw first at null in omega (arith, here))
       | inr second ↦ (let here : 0x3000 ≡ 0 = rw second at null in omega (arith, here))
     ]
-
--- one of these bytes, by what is there
-root_table_of : {m : Memory} {r d : ℕ} (whole : List ℕ) → bytes_at m r 36 ≡ Some (take 36 whole)
-    → 36 ≤ field (take 36 whole) 4 4 → bytes_at m r (field (take 36 whole) 4 4) ≡ Some whole
-    → has_signature (take 36 whole) (root_signature d) ≡ true → IsRootTable m r d whole
-root_table_of whole head least all signed =
-    record {
-      header = take 36 whole;
-      table = record { header_present = head; least = least; present = all };
-      signed = signed;
-    }
 
 -- an RSDT alone
 rsdt_root : (rsdt bytes : List ℕ) → IsRoot (memory_of (rsdt_runs rsdt bytes)) rsdp_at 0x1000 4
@@ -330,6 +316,10 @@ roots_advised = record {
 
 -- ---- the RSDP
 
+rsdp_is : (rsdp : List ℕ) (n : ℕ)
+    → bytes_at (memory_of (rsdp_runs rsdp)) rsdp_at n ≡ run_of (lookup (rsdp_runs rsdp)) rsdp_at n
+rsdp_is rsdp n = bytes_in (rsdp_runs rsdp) rsdp_at n
+
 rsdps_advised : AreRsdpsAdvised
 unfolding run_of cons_both field
 rsdps_advised = record {
@@ -338,90 +328,60 @@ rsdps_advised = record {
     refl,
     λ same. omega (arith, same),
     λ same. omega (arith, same),
-    (short_rsdp 1, bytes_in (rsdp_runs (short_rsdp 1)) rsdp_at 20, refl),
+    (short_rsdp 1, rsdp_is (short_rsdp 1) 20, refl),
   );
   reserved = inr (
     long_rsdp 7,
-    (
-      (take 20 (long_rsdp 7), bytes_in (rsdp_runs (long_rsdp 7)) rsdp_at 20, omega arith),
-      bytes_in (rsdp_runs (long_rsdp 7)) rsdp_at 36,
-    ),
+    ((take 20 (long_rsdp 7), rsdp_is (long_rsdp 7) 20, omega arith), rsdp_is (long_rsdp 7) 36),
     inr (omega arith, omega arith, refl, refl, λ same. omega (arith, same)),
   );
   long = inr (
     sized_rsdp 37 0,
     (
-      (
-        take 20 (sized_rsdp 37 0),
-        bytes_in (rsdp_runs (sized_rsdp 37 0 ++ 0 ∷ [])) rsdp_at 20,
-        omega arith,
-      ),
-      bytes_in (rsdp_runs (sized_rsdp 37 0 ++ 0 ∷ [])) rsdp_at 36,
+      (take 20 (sized_rsdp 37 0), rsdp_is (sized_rsdp 37 0 ++ 0 ∷ []) 20, omega arith),
+      rsdp_is (sized_rsdp 37 0 ++ 0 ∷ []) 36,
     ),
-    inl (
-      refl,
-      refl,
-      refl,
-      omega arith,
-      (sized_rsdp 37 0 ++ 0 ∷ [], bytes_in (rsdp_runs (sized_rsdp 37 0 ++ 0 ∷ [])) rsdp_at 37),
-    ),
+    inl (refl, refl, refl, omega arith, (sized_rsdp 37 0 ++ 0 ∷ [], rsdp_is (sized_rsdp 37 0 ++ 0 ∷ []) 37)),
   );
   cut = λ at other point it. elim it [
     | inl (place, unused, some, other_form, (head, present, is)) ↦
-        let same : head ≡ take 20 (sized_rsdp 37 0) =
-        same_value head (take 20 (sized_rsdp 37 0)) present (bytes_in (rsdp_runs (sized_rsdp 37 0)) rsdp_at 20) in
+        let same : head ≡ take 20 (sized_rsdp 37 0) = same_value head _ present (rsdp_is (sized_rsdp 37 0) 20) in
         let two : point ≡ 2 = rw same at is in
         other_form two
     | inr (bytes, there, odd) ↦
-        let same : bytes ≡ sized_rsdp 37 0 =
-        same_value bytes (sized_rsdp 37 0) there.1 (bytes_in (rsdp_runs (sized_rsdp 37 0)) rsdp_at 36) in
+        let same : bytes ≡ sized_rsdp 37 0 = same_value bytes _ there.1 (rsdp_is (sized_rsdp 37 0) 36) in
         elim odd [
           | inl (place, unused, is, more, (whole, present)) ↦
               let size : point ≡ 37 = rw same at is in
-              none-some whole (sym (bytes_in (rsdp_runs (sized_rsdp 37 0)) rsdp_at 37) ∙ (rw size at present))
+              none-some whole (sym (rsdp_is (sized_rsdp 37 0) 37) ∙ (rw size at present))
           | inr used ↦ none_used (sized_rsdp 37 0) 33 3 36 at other point refl refl (rw same at used)
         ]
   ];
   none_reserved = λ at other point it. elim it [
     | inl (place, unused, some, other_form, (head, present, is)) ↦
-        let same : head ≡ take 20 (long_rsdp 0) =
-        same_value head (take 20 (long_rsdp 0)) present (bytes_in (rsdp_runs (long_rsdp 0)) rsdp_at 20) in
+        let same : head ≡ take 20 (long_rsdp 0) = same_value head _ present (rsdp_is (long_rsdp 0) 20) in
         let two : point ≡ 2 = rw same at is in
         other_form two
     | inr (bytes, there, odd) ↦
-        let same : bytes ≡ long_rsdp 0 =
-        same_value bytes (long_rsdp 0) there.1 (bytes_in (rsdp_runs (long_rsdp 0)) rsdp_at 36) in
+        let same : bytes ≡ long_rsdp 0 = same_value bytes _ there.1 (rsdp_is (long_rsdp 0) 36) in
         elim odd [
-          | inl (place, unused, is, more, whole) ↦
-              let size : point ≡ 36 = rw same at is in
-              omega (arith, size, more)
+          | inl (place, unused, is, more, whole) ↦ (let size : point ≡ 36 = rw same at is in omega (arith, size, more))
           | inr used ↦ none_used (long_rsdp 0) 33 3 36 at other point refl refl (rw same at used)
         ]
   ];
-  text = (
-    named_rsdp 0,
-    bytes_in (rsdp_runs (named_rsdp 0)) rsdp_at 20,
-    (refl, refl, refl, no_text (oem_of 0) 1 2 refl),
-  );
+  text = (named_rsdp 0, rsdp_is (named_rsdp 0) 20, (refl, refl, refl, no_text (oem_of 0) 1 2 refl));
   plain = λ at other point (head, present, odd).
-      let same : head ≡ named_rsdp 0x41 =
-      same_value head (named_rsdp 0x41) present (bytes_in (rsdp_runs (named_rsdp 0x41)) rsdp_at 20) in
+      let same : head ≡ named_rsdp 0x41 = same_value head _ present (rsdp_is (named_rsdp 0x41) 20) in
       is_text (oem_of 0x41) 3 3 refl refl refl (subst (λ (b : List ℕ). IsNoText (take 6 (drop 9 b))) same odd.3);
 }
 
 -- ---- headers
 
-in_two : (one other : List ℕ) (k a : ℕ) → IsSlot (set_of one other) rsdp_at k a
-    → ((k ≡ 0) × (a ≡ 0x2000)) ⊎ ((k ≡ 1) × (a ≡ 0x3000))
-in_two one other k a slot = of k (slot_of_root (set_of one other) rsdp_at 0x1000 4 k a rsdt_bytes (root one other)
-    (root_table one other) slot)
-  where
-    of : (k : ℕ) → HasSlot rsdt_bytes 4 k a → ((k ≡ 0) × (a ≡ 0x2000)) ⊎ ((k ≡ 1) × (a ≡ 0x3000))
-    of zero slot = inl (refl, one_slot rsdt_bytes 4 0 a 0x2000 slot slot_0)
-    of (suc zero) slot = inr (refl, one_slot rsdt_bytes 4 1 a 0x3000 slot slot_1)
-    of (suc (suc k)) slot = absurd (omega (arith, slot.inside))
+-- the header of an MCFG
+abbrev cfg : List ℕ
+cfg = plain_header (codes "MCFG")
 
-no_odd_field : (offset : ℕ) → ¬ IsOddField (plain_header (codes "MCFG")) offset
+no_odd_field : (offset : ℕ) → ¬ IsOddField cfg offset
 no_odd_field offset (size, inl (here, is), odd) = is_text (codes "MCFG") 4 0 refl refl refl (rw (here, is) at odd)
 no_odd_field offset (size, inr (inl (here, is)), odd) =
     is_text (replicate 6 0x41) 6 0 refl refl refl (rw (here, is) at odd)
@@ -472,40 +432,21 @@ headers_advised = record {
   letters = λ at other point (slot, (header, present, odd)).
       no_odd_field other
       (rw
-      (header_in_two (plain_header (codes "MCFG")) header at point
-      (bytes_of_runs (plain_header (codes "MCFG")) (plain_header (codes "MCFG")) 0x2000 36)
-      (bytes_of_runs (plain_header (codes "MCFG")) (plain_header (codes "MCFG")) 0x3000 36) slot present)
-      at odd);
+      (header_in_two cfg header at point (bytes_of_runs cfg cfg 0x2000 36) (bytes_of_runs cfg cfg 0x3000 36) slot
+      present) at odd);
   second = (
     0x4746434d,
     refl,
     record {
-      here = (
-        root_slot (root (plain_header (codes "MCFG")) (plain_header (codes "MCFG")))
-            (root_table (plain_header (codes "MCFG")) (plain_header (codes "MCFG"))) slot_1,
-        (
-          plain_header (codes "MCFG"),
-          bytes_of_runs (plain_header (codes "MCFG")) (plain_header (codes "MCFG")) 0x3000 36,
-          refl,
-        ),
-      );
+      here = (root_slot (root cfg cfg) (root_table cfg cfg) slot_1, (cfg, bytes_of_runs cfg cfg 0x3000 36, refl));
       a = 0x2000;
-      there = (
-        root_slot (root (plain_header (codes "MCFG")) (plain_header (codes "MCFG")))
-            (root_table (plain_header (codes "MCFG")) (plain_header (codes "MCFG"))) slot_0,
-        (
-          plain_header (codes "MCFG"),
-          bytes_of_runs (plain_header (codes "MCFG")) (plain_header (codes "MCFG")) 0x2000 36,
-          refl,
-        ),
-      );
+      there = (root_slot (root cfg cfg) (root_table cfg cfg) slot_0, (cfg, bytes_of_runs cfg cfg 0x2000 36, refl));
       first = λ k b lists. omega arith;
       differs = λ same. omega (arith, same);
     },
   );
   same = λ at other point (signature, once, it).
-      it.differs (same_slot (plain_header (codes "MCFG")) other it.a it.there.0
-      ∙ sym (same_slot (plain_header (codes "MCFG")) at point it.here.0));
+      it.differs (same_slot cfg other it.a it.there.0 ∙ sym (same_slot cfg at point it.here.0));
   several = λ at other point (signature, once, it). no_once signature (ssdts at point signature it.here) once;
 }
 
@@ -585,8 +526,7 @@ named_advised = record {
       table dsdt_signature 36 2 0 [],
       table dsdt_signature 36 2 0 [],
       dsdt_frame 0,
-      λ same.
-          (let here : 233 ≡ 0 = same in omega (arith, here)),
+      λ same. (let here : 233 ≡ 0 = same in omega (arith, here)),
     )),
   );
   right = λ at other point (place, unused, is, some, wrong). right_dsdt (rw is at wrong);

@@ -7,18 +7,17 @@ use Rattle.acpi_base.specs.Number.{field}
 use Rattle.acpi_base.specs.Signature.{has_signature}
 use Rattle.acpi_base.specs.Facs.{facs_signature}
 use Rattle.acpi_base.specs.Image.Runs.{Run, run_at, lookup}
-use Rattle.acpi_base.specs.Rsdp.{addresses_at}
-use Rattle.acpi_base.specs.Root.{chosen_root, IsRoot, IsRootTable, HasSlot, IsSlot}
+use Rattle.acpi_base.specs.Root.{IsRoot, IsRootTable, HasSlot, IsSlot}
 use Rattle.acpi_base.specs.TableKinds.{signature_of}
 use Rattle.acpi_base.specs.Tables.{IsSigned}
 use Rattle.acpi_lint.specs.Rules.Slots.{IsSecondTable, ListsSigned, dsdt_signature}
 use Rattle.acpi_examples.specs.Madts.{two_io_apics_bytes}
-use Rattle.acpi_examples.specs.Sets.{rsdp_at, rsdp_bytes, rsdt_bytes, named_bytes, uid_bytes, new_leaf_bytes, leaf_set}
+use Rattle.acpi_examples.specs.Sets.{rsdp_at, rsdp_bytes, rsdt_bytes, set_of, named_bytes, uid_bytes, new_leaf_bytes, leaf_set}
 use Rattle.acpi_examples.specs.ExampleSet.{facs_bytes}
 use Rattle.acpi_examples.specs.AdviceSlots.{twice_bytes, twice_set, dsdt_bytes, AreSlotsAdvised}
 use Rattle.acpi_base.specs.declared.table_kind.TableKind.{TableKind}
 use Rattle.acpi_base.specs.declared.table_kind.TableKind.TheVariants as kind
-use Rattle.acpi_examples.proofs.Sets.{bytes_of_runs, root, root_table, slot_0, slot_1, madt_tables, leaf_tables}
+use Rattle.acpi_examples.proofs.Sets.{bytes_of_runs, root_in, root_table_of, root, root_table, slot_0, slot_1, madt_tables, leaf_tables}
 use Rattle.acpi_base.proofs.Options.{same_value}
 use Rattle.acpi_base.proofs.Images.RunBytes.{byte_of_memory_of}
 use Rattle.acpi_base.proofs.Root.Slots.{one_slot, root_slot, slot_of_root}
@@ -33,23 +32,12 @@ bytes_of_twice : (a n : ℕ) → bytes_at twice_set a n ≡ run_of (lookup twice
 bytes_of_twice a n = λ i. run_of (λ x. byte_of_memory_of twice_runs x i) a n
 
 pub twice_root : IsRoot twice_set rsdp_at 0x1000 4
-unfolding run_of cons_both addresses_at chosen_root field
-twice_root = record { named = record { rsdt = 0x1000; xsdt = 0 }; read = rw present refl; chosen = refl }
-  where
-    present : bytes_at twice_set rsdp_at 20 ≡ Some rsdp_bytes
-    present = bytes_of_twice rsdp_at 20
+unfolding run_of cons_both
+twice_root = root_in (bytes_of_twice rsdp_at 20)
 
 pub twice_table : IsRootTable twice_set 0x1000 4 twice_bytes
 unfolding run_of cons_both has_signature field
-twice_table = record {
-  header = take 36 twice_bytes;
-  table = record {
-    header_present = bytes_of_twice 0x1000 36;
-    least = omega arith;
-    present = bytes_of_twice 0x1000 48;
-  };
-  signed = refl;
-}
+twice_table = root_table_of twice_bytes (bytes_of_twice 0x1000 36) (omega arith) (bytes_of_twice 0x1000 48) refl
 
 twice_slot : (k : ℕ) → 36 + 4 * (k + 1) ≤ 48 → field twice_bytes (36 + 4 * k) 4 ≡ 0x2000
     → IsSlot twice_set rsdp_at k 0x2000
@@ -65,15 +53,18 @@ not_first (suc k) slot = omega arith
 
 -- ---- the slots of two tables
 
-leaf_slot : (k a : ℕ) → IsSlot leaf_set rsdp_at k a → ((k ≡ 0) × (a ≡ 0x2000)) ⊎ ((k ≡ 1) × (a ≡ 0x3000))
-leaf_slot k a slot =
-    of k (slot_of_root leaf_set rsdp_at 0x1000 4 k a rsdt_bytes (root uid_bytes new_leaf_bytes)
-    (root_table uid_bytes new_leaf_bytes) slot)
+pub in_two : (one other : List ℕ) (k a : ℕ) → IsSlot (set_of one other) rsdp_at k a
+    → ((k ≡ 0) × (a ≡ 0x2000)) ⊎ ((k ≡ 1) × (a ≡ 0x3000))
+in_two one other k a slot = of k (slot_of_root (set_of one other) rsdp_at 0x1000 4 k a rsdt_bytes (root one other)
+    (root_table one other) slot)
   where
     of : (k : ℕ) → HasSlot rsdt_bytes 4 k a → ((k ≡ 0) × (a ≡ 0x2000)) ⊎ ((k ≡ 1) × (a ≡ 0x3000))
     of zero slot = inl (refl, one_slot rsdt_bytes 4 0 a 0x2000 slot slot_0)
     of (suc zero) slot = inr (refl, one_slot rsdt_bytes 4 1 a 0x3000 slot slot_1)
     of (suc (suc k)) slot = absurd (omega (arith, slot.inside))
+
+leaf_slot : (k a : ℕ) → IsSlot leaf_set rsdp_at k a → ((k ≡ 0) × (a ≡ 0x2000)) ⊎ ((k ≡ 1) × (a ≡ 0x3000))
+leaf_slot k a slot = in_two uid_bytes new_leaf_bytes k a slot
 
 signed_as : {m : Memory} {signature : List ℕ} (a : ℕ) (header : List ℕ) → bytes_at m a 36 ≡ Some header
     → IsSigned m a signature → has_signature header signature ≡ true

@@ -1,14 +1,12 @@
 -- The clean set is an image, and each stage holds for it.
-use Rattle.std.proofs.Common.{◌≡◌, ℕ, ◌+◌, ◌^◌, ◌<◌, ◌≤◌, true, List, [], length, take, Some, None, refl, sym, ◌∙◌, ap, subst, inl, inr, arith}
-use Rattle.std.specs.Prelude.{◌⊎◌, ◌≢◌, nat_lt}
-use Rattle.std.specs.List.{list_all}
+use Rattle.std.proofs.Common.{◌≡◌, ℕ, List, [], take, Some, None, refl, sym, ◌∙◌, ap, subst, inl, inr, arith}
+use Rattle.std.specs.Prelude.{◌⊎◌, ◌≢◌}
 use Rattle.std.specs.Ordering.{nat_cmp}
 use Rattle.std.specs.FinMap.{get-empty}
 use Rattle.std.proofs.lemmas.Option.{none-some, same_Some}
 use Rattle.acpi_base.specs.Memory.{IsImage, run_of, cons_both}
 use Rattle.acpi_base.specs.Number.{field, byte_sum}
 use Rattle.acpi_base.specs.Policy.{IsPolicy, inputs_of}
-use Rattle.acpi_base.specs.Image.Runs.{run_at, IsComplete}
 use Rattle.acpi_base.specs.Signature.{has_signature}
 use Rattle.acpi_base.specs.Rsdp.{IsValidRsdp}
 use Rattle.acpi_base.specs.Root.{IsValidRoot}
@@ -31,7 +29,7 @@ use Rattle.acpi_examples.specs.Slits.{one_locality_bytes}
 use Rattle.acpi_base.specs.declared.policy.HotPlug.TheVariants.{Counted}
 use Rattle.acpi_base.specs.declared.policy.Processors.TheVariants.{Enabled}
 use Rattle.acpi_base.specs.declared.stage.Stage.TheVariants as stage
-use Rattle.acpi_examples.proofs.NamedEntries.{each_entry, none_stands, never, all_below}
+use Rattle.acpi_examples.proofs.NamedEntries.{each_entry, none_stands, never, all_whole}
 use Rattle.acpi_examples.proofs.Sets.{inputs_are, leaf}
 use Rattle.acpi_examples.proofs.Slits.{one}
 use Rattle.acpi_examples.proofs.ExampleSet as set
@@ -43,34 +41,9 @@ use Rattle.acpi_base.proofs.Tables.Listed.{one_listed}
 
 -- ---- an image, and a policy
 
-whole_run : (a : ℕ) (bytes : List ℕ) → 0 < length bytes → a + length bytes ≤ 2 ^ 64
-    → list_all (λ b. nat_lt b 256) bytes ≡ true → IsComplete (run_at a bytes)
-whole_run a bytes filled fits below = record { filled = filled; fits = fits; bytes = all_below bytes below }
-
 pub is_image : IsImage example_set
 unfolding example_set
-is_image = image_of whole_runs (
-  whole_run rsdp_at rsdp_bytes (omega arith) (omega arith) refl,
-  (
-    whole_run 0x1000 xsdt_bytes (omega arith) (omega arith) refl,
-    (
-      whole_run 0x2000 fadt_bytes (omega arith) (omega arith) refl,
-      (
-        whole_run 0x3000 facs_bytes (omega arith) (omega arith) refl,
-        (
-          whole_run 0x4000 madt_bytes (omega arith) (omega arith) refl,
-          (
-            whole_run 0x5000 srat_bytes (omega arith) (omega arith) refl,
-            (
-              whole_run 0x6000 one_locality_bytes (omega arith) (omega arith) refl,
-              (whole_run 0x7000 new_leaf_bytes (omega arith) (omega arith) refl, tt),
-            ),
-          ),
-        ),
-      ),
-    ),
-  ),
-)
+is_image = image_of whole_runs (all_whole whole_runs refl)
 
 pub is_policy : IsPolicy example_policy
 is_policy = record {

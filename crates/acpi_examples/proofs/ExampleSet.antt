@@ -22,7 +22,7 @@ use Rattle.acpi_examples.specs.Sets.{rsdp_at, new_leaf_bytes}
 use Rattle.acpi_examples.specs.Madts.{said_madt}
 use Rattle.acpi_examples.specs.Srats.{said_srat}
 use Rattle.acpi_examples.specs.Slits.{said_slit, one_locality_bytes}
-use Rattle.acpi_examples.proofs.Sets.{leaf}
+use Rattle.acpi_examples.proofs.Sets.{leaf, table_of}
 use Rattle.acpi_base.proofs.Options.{same_value}
 use Rattle.acpi_base.proofs.Images.RunBytes.{byte_of_memory_of}
 use Rattle.acpi_base.proofs.Tables.Listed.{listed_in_root}
@@ -99,31 +99,11 @@ pub record AreTables : Type 0 where
 pub tables : AreTables
 unfolding run_of cons_both field
 tables = record {
-  fadt = record {
-    header_present = bytes_at_example_set 0x2000 36;
-    least = omega arith;
-    present = bytes_at_example_set 0x2000 129;
-  };
-  madt = record {
-    header_present = bytes_at_example_set 0x4000 36;
-    least = omega arith;
-    present = bytes_at_example_set 0x4000 74;
-  };
-  srat = record {
-    header_present = bytes_at_example_set 0x5000 36;
-    least = omega arith;
-    present = bytes_at_example_set 0x5000 104;
-  };
-  slit = record {
-    header_present = bytes_at_example_set 0x6000 36;
-    least = omega arith;
-    present = bytes_at_example_set 0x6000 45;
-  };
-  pptt = record {
-    header_present = bytes_at_example_set 0x7000 36;
-    least = omega arith;
-    present = bytes_at_example_set 0x7000 56;
-  };
+  fadt = table_of fadt_bytes (bytes_at_example_set 0x2000 36) (omega arith) (bytes_at_example_set 0x2000 129);
+  madt = table_of madt_bytes (bytes_at_example_set 0x4000 36) (omega arith) (bytes_at_example_set 0x4000 74);
+  srat = table_of srat_bytes (bytes_at_example_set 0x5000 36) (omega arith) (bytes_at_example_set 0x5000 104);
+  slit = table_of one_locality_bytes (bytes_at_example_set 0x6000 36) (omega arith) (bytes_at_example_set 0x6000 45);
+  pptt = table_of new_leaf_bytes (bytes_at_example_set 0x7000 36) (omega arith) (bytes_at_example_set 0x7000 56);
 }
 
 pub not_signed : {m : Memory} {a : ℕ} (header signature : List ℕ) → bytes_at m a 36 ≡ Some header

@@ -1,4 +1,5 @@
 -- Proofs of the examples.
+pub mod AdviceDevices
 pub mod AdviceFadt
 pub mod AdviceFadtFields
 pub mod AdviceGic

@@ -1,29 +1,26 @@
 -- The examples of the MADT, by computing.
 use Rattle.std.proofs.Common.{◌≡◌, ℕ, ◌<◌, [], ◌∷◌, refl, sym, ◌∙◌, subst, inl, inr, arith}
 use Rattle.std.specs.Prelude.{◌≢◌}
-use Rattle.std.proofs.lemmas.List.Elements.{All-from_recursion}
 use Rattle.std.proofs.lemmas.Option.{none-some}
 use Rattle.std.proofs.lemmas.Bool.{cases_lt}
 use Rattle.acpi_base.specs.Number.{field, byte_sum}
 use Rattle.acpi_base.specs.Policy.{PolicyValue}
 use Rattle.acpi_base.specs.Listed.{madt_signature}
 use Rattle.acpi_base.specs.Entries.{StandsWith, first_entry, entries_from, entries_of, end_of_entries, cut_of, has_form}
-use Rattle.acpi_base.specs.Madt.{MadtContents, madt_entry, madt_contents, MadtFault, MadtEntryFault, IsAddressOverride, ServesFrom, Serves, InterruptFault, OverrideFault}
+use Rattle.acpi_base.specs.Madt.{MadtContents, madt_entry, madt_contents, MadtFault, MadtEntryFault, IsAddressOverride, ServesFrom, Serves}
 use Rattle.acpi_base.specs.Overlaps.{ComesBefore}
-use Rattle.acpi_examples.specs.Tables.{table, IsValidExample}
-use Rattle.acpi_examples.specs.Madts.{AreMadtContents, AreMadtFaults, IsFirstInterrupt, HasNoMadtFault, example_madts, faulty_madt_bytes, all_kinds, two_io_apics, faulty_madt}
+use Rattle.acpi_examples.specs.Tables.{table}
+use Rattle.acpi_examples.specs.Madts.{AreMadtContents, AreMadtFaults, IsFirstInterrupt, HasNoMadtFault, example_madts, all_kinds, two_io_apics}
 use Rattle.acpi_base.specs.declared.code.Code.{Code}
 use Rattle.acpi_base.specs.declared.code.Code.TheVariants as code
-use Rattle.acpi_examples.proofs.NamedEntries.{each_entry, none_stands, never}
+use Rattle.acpi_examples.proofs.NamedEntries.{each_entry, none_stands, never, all_valid}
 
 pub madt_said : AreMadtContents
 unfolding first_entry entries_from entries_of end_of_entries cut_of has_form field byte_sum madt_entry madt_contents
 madt_said = record {
-  valid = All-from_recursion IsValidExample example_madts
-      ((refl, refl), ((refl, refl), ((refl, refl), ((refl, refl), ((refl, refl), tt)))));
+  valid = all_valid example_madts refl;
   kinds_say = refl;
-  io_apics_say =
-      refl;
+  io_apics_say = refl;
   cut_says = refl;
   overrides_say = refl;
   faulty_says = refl;
@@ -37,24 +34,21 @@ short_madt q = (omega arith, refl, (refl, refl))
 pub madt_faults : (q : PolicyValue) → AreMadtFaults q
 madt_faults q = record {
   short = short_madt q;
-  cut = subst (λ (c : MadtContents). MadtFault q c code.MadtEntryCut 0x34 0 0) (sym madt_said.cut_says)
-      (refl, (refl, refl));
-  size = of_faulty code.MadtEntryLength 0x2c 0 ((_, (0, omega arith, refl), inl refl), (refl, refl));
-  bus = of_faulty code.OverrideBus 0x38 0 ((_, (1, omega arith, refl), λ is. omega arith), (refl, refl));
-  inti = of_faulty code.ReservedInti 0x38 0 ((_, (1, omega arith, refl), inl refl), (refl, refl));
-  second = of_faulty code.SecondAddressOverride 0x4e 0x42
-      ((_, (3, omega arith, refl), tt), (_, (2, omega arith, refl), tt), omega arith, refl);
-  gsi = λ inputs. of_faulty code.GsiPastEnd 0x5a 0 ((_, (4, omega arith, refl), omega arith), (refl, refl));
-  overlap = λ first second. subst (λ (c : MadtContents). InterruptFault q c code.GsiClash 0x2c 0x38 0x18)
-      (sym madt_said.io_apics_say)
-      (record {
-        s = 0;
-        t = 24;
-        one_holds = (_, (0, omega arith, refl), (refl, omega arith, omega arith));
-        other_holds = (_, (1, omega arith, refl), (refl, omega arith, omega arith));
-        two = λ same. omega arith;
-      });
-  sources = subst (λ (c : MadtContents). OverrideFault c code.OverrideClash 0x36 0x2c 9) (sym madt_said.overrides_say) (
+  cut = rw madt_said.cut_says (refl, (refl, refl));
+  size = rw madt_said.faulty_says ((_, (0, omega arith, refl), inl refl), (refl, refl));
+  bus = rw madt_said.faulty_says ((_, (1, omega arith, refl), λ is. omega arith), (refl, refl));
+  inti = rw madt_said.faulty_says ((_, (1, omega arith, refl), inl refl), (refl, refl));
+  second =
+      rw madt_said.faulty_says ((_, (3, omega arith, refl), tt), (_, (2, omega arith, refl), tt), omega arith, refl);
+  gsi = λ inputs. rw madt_said.faulty_says ((_, (4, omega arith, refl), omega arith), (refl, refl));
+  overlap = λ first second. rw madt_said.io_apics_say (record {
+    s = 0;
+    t = 24;
+    one_holds = (_, (0, omega arith, refl), (refl, omega arith, omega arith));
+    other_holds = (_, (1, omega arith, refl), (refl, omega arith, omega arith));
+    two = λ same. omega arith;
+  });
+  sources = rw madt_said.overrides_say (
     20,
     9,
     (_, (1, omega arith, refl), (refl, refl)),
@@ -63,10 +57,6 @@ madt_faults q = record {
     λ same. omega arith,
   );
 }
-  where
-    of_faulty : (fault : Code) (at other : ℕ) → MadtFault q faulty_madt fault at other 0
-        → MadtFault q (madt_contents faulty_madt_bytes) fault at other 0
-    of_faulty fault at other = subst (λ (c : MadtContents). MadtFault q c fault at other 0) (sym madt_said.faulty_says)
 
 -- ---- which interrupt number is reported
 
@@ -87,8 +77,7 @@ first_interrupt q thirty_two twenty_four = record {
       not_other here.2;
   least = λ o p x it. elim (cases_lt x 0x18) [
     | inr most ↦ most
-    | inl less ↦
-        absurd (it.two (only x less o it.s it.one_holds ∙ sym (only x less p it.t it.other_holds)))
+    | inl less ↦ absurd (it.two (only x less o it.s it.one_holds ∙ sym (only x less p it.t it.other_holds)))
   ];
 }
   where

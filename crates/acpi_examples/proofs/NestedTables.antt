@@ -1,5 +1,5 @@
 -- The example of a table inside another one, by computing.
-use Rattle.std.proofs.Common.{◌≡◌, ℕ, zero, suc, true, List, [], ◌∷◌, take, length, Some, refl, sym, ◌∙◌, ap, subst, inl, inr, arith}
+use Rattle.std.proofs.Common.{◌≡◌, ℕ, zero, suc, true, List, [], ◌∷◌, take, length, refl, sym, ◌∙◌, ap, subst, inl, inr, arith}
 use Rattle.std.specs.Prelude.{◌⊎◌}
 use Rattle.std.proofs.lemmas.Bool.{both_ways}
 use Rattle.acpi_base.specs.Memory.{run_of, cons_both, bytes_at}
@@ -7,18 +7,19 @@ use Rattle.acpi_base.specs.Number.{field}
 use Rattle.acpi_base.specs.Signature.{has_signature}
 use Rattle.acpi_base.specs.Image.Runs.{Run, run_at, lookup}
 use Rattle.acpi_base.specs.Listed.{fadt_signature, IsListedTable}
-use Rattle.acpi_base.specs.Rsdp.{addresses_at}
-use Rattle.acpi_base.specs.Root.{chosen_root, IsRoot, IsRootTable, HasSlot, IsSlot}
+use Rattle.acpi_base.specs.Root.{IsRoot, IsRootTable, HasSlot, IsSlot}
 use Rattle.acpi_base.specs.Tables.{IsTable, IsSigned}
 use Rattle.acpi_base.proofs.Frames.{one_frame}
 use Rattle.acpi_base.proofs.Options.{same_value}
 use Rattle.acpi_base.proofs.Images.RunBytes.{byte_of_memory_of}
 use Rattle.acpi_base.proofs.Root.Named.{one_root, one_root_table}
 use Rattle.acpi_base.proofs.Root.Slots.{one_slot, root_slot, slot_of_root}
+use Rattle.acpi_rules.specs.declared.overlap.Range.TheVariants as range
 use Rattle.acpi_rules.proofs.RepeatedNumbers.{same_numbered}
 use Rattle.acpi_lint.specs.Rules.Structures.{IsStructure, IsFirstStructure}
 use Rattle.acpi_examples.specs.AdviceRanges.{near_bytes, inner_bytes, nested_bytes, nested_set, AreStructuresOverlapping}
 use Rattle.acpi_examples.specs.Sets.{rsdp_at, rsdp_bytes}
+use Rattle.acpi_examples.proofs.Sets.{root_in, root_table_of, table_of}
 use Rattle.acpi_examples.proofs.TwoRanges.{AreTwoRanges, range_of, two_overlap, two_apart}
 
 -- ---- the image
@@ -31,23 +32,13 @@ bytes_of_nested : (size a n : ℕ) → bytes_at (nested_set size) a n ≡ run_of
 bytes_of_nested size a n = λ i. run_of (λ x. byte_of_memory_of (nested_runs size) x i) a n
 
 nested_root : (size : ℕ) → IsRoot (nested_set size) rsdp_at 0x1000 4
-unfolding run_of cons_both addresses_at chosen_root field
-nested_root size = record { named = record { rsdt = 0x1000; xsdt = 0 }; read = rw present refl; chosen = refl }
-  where
-    present : bytes_at (nested_set size) rsdp_at 20 ≡ Some rsdp_bytes
-    present = bytes_of_nested size rsdp_at 20
+unfolding run_of cons_both
+nested_root size = root_in (bytes_of_nested size rsdp_at 20)
 
 near_table : (size : ℕ) → IsRootTable (nested_set size) 0x1000 4 near_bytes
 unfolding run_of cons_both has_signature field
-near_table size = record {
-  header = take 36 near_bytes;
-  table = record {
-    header_present = bytes_of_nested size 0x1000 36;
-    least = omega arith;
-    present = bytes_of_nested size 0x1000 44;
-  };
-  signed = refl;
-}
+near_table size =
+    root_table_of near_bytes (bytes_of_nested size 0x1000 36) (omega arith) (bytes_of_nested size 0x1000 44) refl
 
 outer_slot : HasSlot near_bytes 4 0 0x2000
 unfolding field
@@ -75,32 +66,17 @@ record AreNested (size : ℕ) (whole : List ℕ) : Type 0 where
 inside_tables : AreNested 72 (nested_bytes 72)
 unfolding run_of cons_both field
 inside_tables = record {
-  outer = record {
-    header_present = bytes_of_nested 72 0x2000 36;
-    least = omega arith;
-    present = bytes_of_nested 72 0x2000 72;
-  };
-  inner = record {
-    header_present = bytes_of_nested 72 0x2024 36;
-    least = omega arith;
-    present = bytes_of_nested 72 0x2024 36;
-  };
+  outer = table_of (nested_bytes 72) (bytes_of_nested 72 0x2000 36) (omega arith) (bytes_of_nested 72 0x2000 72);
+  inner = table_of inner_bytes (bytes_of_nested 72 0x2024 36) (omega arith) (bytes_of_nested 72 0x2024 36);
   count = refl;
 }
 
 behind_tables : AreNested 36 (take 36 (nested_bytes 36))
 unfolding run_of cons_both field
 behind_tables = record {
-  outer = record {
-    header_present = bytes_of_nested 36 0x2000 36;
-    least = omega arith;
-    present = bytes_of_nested 36 0x2000 36;
-  };
-  inner = record {
-    header_present = bytes_of_nested 36 0x2024 36;
-    least = omega arith;
-    present = bytes_of_nested 36 0x2024 36;
-  };
+  outer =
+      table_of (take 36 (nested_bytes 36)) (bytes_of_nested 36 0x2000 36) (omega arith) (bytes_of_nested 36 0x2000 36);
+  inner = table_of inner_bytes (bytes_of_nested 36 0x2024 36) (omega arith) (bytes_of_nested 36 0x2024 36);
   count = refl;
 }
 
@@ -160,7 +136,7 @@ structures size whole are o s n (inr (inr (inr (inr (is, (k, slot), (header, byt
 
 -- each begins elsewhere
 nested_ranges : (size : ℕ) (whole : List ℕ) → AreNested size whole
-    → AreTwoRanges (IsFirstStructure (nested_set size) rsdp_at) 0x1000 (range_of 0x2000 0x2000 size)
+    → AreTwoRanges range.Count (IsFirstStructure (nested_set size) rsdp_at) 0x1000 (range_of 0x2000 0x2000 size)
     (range_of 0x2024 0x2024 36) rsdp_at
 nested_ranges size whole are g is =
     elim (structures size whole are is.o g.number g.value is.here) [
@@ -213,11 +189,11 @@ inner_first size whole are =
 pub structures_overlapping : AreStructuresOverlapping
 structures_overlapping =
     record {
-      shared = two_overlap (IsFirstStructure (nested_set 72) rsdp_at) 0x1000 (range_of 0x2000 0x2000 72)
+      shared = two_overlap range.Count (IsFirstStructure (nested_set 72) rsdp_at) 0x1000 (range_of 0x2000 0x2000 72)
           (range_of 0x2024 0x2024 36) rsdp_at (nested_ranges 72 (nested_bytes 72) inside_tables)
           (outer_first 72 (nested_bytes 72) inside_tables) (inner_first 72 (nested_bytes 72) inside_tables)
           (λ same. omega arith) (omega arith) (omega arith) (omega arith);
-      apart = two_apart (IsFirstStructure (nested_set 36) rsdp_at) 0x1000 (range_of 0x2000 0x2000 36)
+      apart = two_apart range.Count (IsFirstStructure (nested_set 36) rsdp_at) 0x1000 (range_of 0x2000 0x2000 36)
           (range_of 0x2024 0x2024 36) rsdp_at (nested_ranges 36 (take 36 (nested_bytes 36)) behind_tables)
-          (omega arith);
+          (omega arith) (omega arith, omega arith);
     }

@@ -2,36 +2,21 @@
 use Rattle.std.proofs.Common.{◌≡◌, ℕ, zero, suc, [], ◌∷◌, refl, sym, subst, inl, inr, arith}
 use Rattle.std.specs.Prelude.{◌≢◌, ◌⊎◌, slice_get, Some, None}
 use Rattle.std.proofs.lemmas.Option.{none-some, same_Some}
-use Rattle.std.proofs.lemmas.List.Elements.{All-from_recursion}
 use Rattle.acpi_base.specs.Number.{field, byte_sum}
 use Rattle.acpi_base.specs.Entries.{first_entry, entries_from, entries_of, end_of_entries, cut_of, has_form}
-use Rattle.acpi_base.specs.Pptt.{PpttContents, HasOtherPpttLength, has_node_form, has_cache_form, pptt_entry, pptt_contents, parent_of, resource_of, next_level_of, pptt_type, IsResourceAt, NamesParent, NamesNextLevel, IsCutPptt, DoParentsEnd, DoCachesEnd, AreReferencesValid, PpttFaultAt, PpttFault, ReferenceFault, ParentFault, CacheFault}
-use Rattle.acpi_base.specs.Chains.{IsStep, IsAt, IsCycle, Ends}
-use Rattle.acpi_examples.specs.Tables.{IsValidExample}
-use Rattle.acpi_examples.specs.Pptts.{example_pptts, ArePpttContents, ArePpttFaults, AreCycleFaults, HasNoPpttFault, all_kinds_bytes, all_kinds, faulty_bytes, faulty_pptt, hidden_node, with_resource, own_parent_bytes, own_parent, five_nodes_bytes, five_nodes, own_next_level_bytes, with_next_level}
-use Rattle.acpi_base.specs.declared.code.Code.{Code}
+use Rattle.acpi_base.specs.Pptt.{HasOtherPpttLength, has_node_form, has_cache_form, pptt_entry, pptt_contents, parent_of, resource_of, next_level_of, pptt_type, IsResourceAt, NamesParent, NamesNextLevel, IsCutPptt, DoParentsEnd, DoCachesEnd, AreReferencesValid, ReferenceFault}
+use Rattle.acpi_base.specs.Chains.{IsStep, IsAt, Ends}
+use Rattle.acpi_examples.specs.Pptts.{example_pptts, ArePpttContents, ArePpttFaults, AreCycleFaults, HasNoPpttFault, all_kinds_bytes, all_kinds, hidden_node, with_resource, own_parent, five_nodes, with_next_level}
 use Rattle.acpi_base.specs.declared.code.Code.TheVariants as code
 use Rattle.acpi_base.proofs.Pptt.Faults.{cut_excludes, references_excludes}
 use Rattle.acpi_base.proofs.Pptt.Chains.{parents_excludes, caches_excludes}
-use Rattle.acpi_examples.proofs.NamedEntries.{each_entry, none_at, never}
+use Rattle.acpi_examples.proofs.NamedEntries.{each_entry, none_at, never, all_valid}
 
 pub pptt_said : ArePpttContents
 unfolding first_entry entries_from entries_of end_of_entries cut_of has_form field byte_sum has_node_form has_cache_form
     pptt_entry pptt_contents
 pptt_said = record {
-  valid = All-from_recursion IsValidExample example_pptts (
-    (refl, refl),
-    (
-      (refl, refl),
-      (
-        (refl, refl),
-        (
-          (refl, refl),
-          ((refl, refl), ((refl, refl), ((refl, refl), ((refl, refl), ((refl, refl), ((refl, refl), tt)))))),
-        ),
-      ),
-    ),
-  );
+  valid = all_valid example_pptts refl;
   kinds_say = refl;
   faulty_says = refl;
   hidden_says = refl;
@@ -79,29 +64,16 @@ no_resource = ((_, (0, omega arith, refl), refl), nowhere)
 
 pub pptt_faults : ArePpttFaults
 pptt_faults = record {
-  cut = of_faulty code.PpttEntryCut 0x6a refl;
-  node_size = of_faulty code.PpttEntryLength 0x24 (_, (0, omega arith, refl), omega arith);
-  resources_size = of_faulty code.PpttEntryLength 0x3c (_, (1, omega arith, refl), omega arith);
-  cache_size = of_faulty code.PpttEntryLength 0x50 (_, (2, omega arith, refl), omega arith);
-  parent = subst (λ (c : PpttContents). ReferenceFault c code.DanglingParent 0x24 0x3a 0) (sym pptt_said.hidden_says)
-      hidden;
-  own_resource =
-      subst (λ (c : PpttContents). ReferenceFault c code.DanglingResource 0x24 0 0x24) (sym pptt_said.own_resource_says)
-      own_resource;
-  no_resource =
-      subst (λ (c : PpttContents). ReferenceFault c code.DanglingResource 0x24 0 0) (sym pptt_said.no_resource_says)
-      no_resource;
-  cache_resource =
-      subst (λ (c : PpttContents). ¬ ReferenceFault c code.DanglingResource 0x24 0 0x3c)
-      (sym pptt_said.cache_resource_says) (λ fault. fault.1 (_, (1, omega arith, refl), λ same. omega arith));
-  next_level = subst (λ (c : PpttContents). ReferenceFault c code.DanglingCache 0x24 0x25 0)
-      (sym pptt_said.no_next_level_says) no_next_level;
+  cut = rw pptt_said.faulty_says (refl, refl, refl);
+  node_size = rw pptt_said.faulty_says ((_, (0, omega arith, refl), omega arith), refl, refl);
+  resources_size = rw pptt_said.faulty_says ((_, (1, omega arith, refl), omega arith), refl, refl);
+  cache_size = rw pptt_said.faulty_says ((_, (2, omega arith, refl), omega arith), refl, refl);
+  parent = rw pptt_said.hidden_says hidden;
+  own_resource = rw pptt_said.own_resource_says own_resource;
+  no_resource = rw pptt_said.no_resource_says no_resource;
+  cache_resource = rw pptt_said.cache_resource_says (λ fault. fault.1 (_, (1, omega arith, refl), λ same. omega arith));
+  next_level = rw pptt_said.no_next_level_says no_next_level;
 }
-  where
-    of_faulty : (fault : Code) (at : ℕ) → PpttFaultAt faulty_pptt fault at
-        → PpttFault (pptt_contents faulty_bytes) fault at 0 0
-    of_faulty fault at wrong =
-        subst (λ (c : PpttContents). PpttFault c fault at 0 0) (sym pptt_said.faulty_says) (wrong, refl, refl)
 
 -- ---- chains
 
@@ -141,78 +113,49 @@ fifth = step (NamesParent five_nodes) 116 76 96 (_, (4, omega arith, refl), refl
 
 pub cycle_faults : AreCycleFaults
 cycle_faults = record {
-  own_parent = of_own 0 1 (record {
-    there = 36;
-    once = refl;
-    back = (36, to_own_parent, refl);
-    some = omega arith;
-    fits = omega arith;
-  });
-  two_rounds = of_own 0 2 (record {
+  own_parent =
+      rw pptt_said.own_parent_says
+      (record { there = 36; once = refl; back = (36, to_own_parent, refl); some = omega arith; fits = omega arith });
+  two_rounds = rw pptt_said.own_parent_says (record {
     there = 36;
     once = refl;
     back = (36, to_own_parent, (36, to_own_parent, refl));
     some = omega arith;
     fits = omega arith;
   });
-  three_rounds = not_own 0 3 (λ cycle. omega (arith, cycle.fits));
-  no_steps = not_own 0 0 (λ cycle. omega (arith, cycle.some));
-  five_nodes = of_five 2 3 (record {
+  three_rounds = rw pptt_said.own_parent_says (λ cycle. omega (arith, cycle.fits));
+  no_steps = rw pptt_said.own_parent_says (λ cycle. omega (arith, cycle.some));
+  five_nodes = rw pptt_said.five_say (record {
     there = 76;
     once = (56, first, (76, second, refl));
     back = (96, third, (116, fourth, (76, fifth, refl)));
     some = omega arith;
     fits = omega arith;
   });
-  longer_lead =
-      of_five 3 3 (record {
-        there = 96;
-        once = (56, first, (76, second, (96, third, refl)));
-        back = (116, fourth, (76, fifth, (96, third, refl)));
-        some = omega arith;
-        fits = omega arith;
-      });
-  longest_lead =
-      subst (λ (c : PpttContents). ¬ ParentFault c code.ParentCycle 0x24 4 3) (sym pptt_said.five_say)
-      (λ cycle. omega (arith, cycle.fits));
-  own_next_level =
-      of_cache 0 1 (record {
-        there = 36;
-        once = refl;
-        back = (36, to_own_next_level, refl);
-        some = omega arith;
-        fits = omega arith;
-      });
-  one_step = of_cache 1 1 (record {
+  longer_lead = rw pptt_said.five_say (record {
+    there = 96;
+    once = (56, first, (76, second, (96, third, refl)));
+    back = (116, fourth, (76, fifth, (96, third, refl)));
+    some = omega arith;
+    fits = omega arith;
+  });
+  longest_lead = rw pptt_said.five_say (λ cycle. omega (arith, cycle.fits));
+  own_next_level = rw pptt_said.own_next_level_says (record {
+    there = 36;
+    once = refl;
+    back = (36, to_own_next_level, refl);
+    some = omega arith;
+    fits = omega arith;
+  });
+  one_step = rw pptt_said.own_next_level_says (record {
     there = 36;
     once = (36, to_own_next_level, refl);
     back = (36, to_own_next_level, refl);
     some = omega arith;
     fits = omega arith;
   });
-  two_steps = subst (λ (c : PpttContents). ¬ CacheFault c code.CacheCycle 0x24 2 1) (sym pptt_said.own_next_level_says)
-      (λ cycle. omega (arith, cycle.fits));
+  two_steps = rw pptt_said.own_next_level_says (λ cycle. omega (arith, cycle.fits));
 }
-  where
-    of_own : (lead round : ℕ) → IsCycle (NamesParent own_parent) 2 36 lead round
-        → ParentFault (pptt_contents own_parent_bytes) code.ParentCycle 0x24 lead round
-    of_own lead round =
-        subst (λ (c : PpttContents). ParentFault c code.ParentCycle 0x24 lead round) (sym pptt_said.own_parent_says)
-
-    not_own : (lead round : ℕ) → ¬ IsCycle (NamesParent own_parent) 2 36 lead round
-        → ¬ ParentFault (pptt_contents own_parent_bytes) code.ParentCycle 0x24 lead round
-    not_own lead round =
-        subst (λ (c : PpttContents). ¬ ParentFault c code.ParentCycle 0x24 lead round) (sym pptt_said.own_parent_says)
-
-    of_five : (lead round : ℕ) → IsCycle (NamesParent five_nodes) 6 36 lead round
-        → ParentFault (pptt_contents five_nodes_bytes) code.ParentCycle 0x24 lead round
-    of_five lead round =
-        subst (λ (c : PpttContents). ParentFault c code.ParentCycle 0x24 lead round) (sym pptt_said.five_say)
-
-    of_cache : (lead round : ℕ) → IsCycle (NamesNextLevel (with_next_level 36)) 2 36 lead round
-        → CacheFault (pptt_contents own_next_level_bytes) code.CacheCycle 0x24 lead round
-    of_cache lead round =
-        subst (λ (c : PpttContents). CacheFault c code.CacheCycle 0x24 lead round) (sym pptt_said.own_next_level_says)
 
 -- ---- a PPTT without a fault
 

@@ -1,8 +1,8 @@
 -- The examples of complete sets, by computing.
 use Rattle.std.proofs.Common.{◌≡◌, ℕ, zero, suc, ◌<◌, ◌≤◌, true, false, List, [], ◌∷◌, take, length, Some, refl, sym, ◌∙◌, subst, ap, arith}
 use Rattle.std.proofs.lemmas.List.Elements.{All-from_recursion}
-use Rattle.std.specs.Prelude.{◌≢◌, nat_lt}
-use Rattle.std.specs.List.{list_all, AllByRecursion}
+use Rattle.std.specs.Prelude.{◌≢◌}
+use Rattle.std.specs.List.{list_all}
 use Rattle.std.specs.Ordering.{nat_cmp}
 use Rattle.std.specs.FinMap.{get-empty}
 use Rattle.std.proofs.lemmas.Bool.{both_ways}
@@ -14,13 +14,13 @@ use Rattle.acpi_base.specs.Pptt.{Node, PpttContents, has_node_form, has_cache_fo
 use Rattle.acpi_base.specs.Across.{IsEnabled, DomainFault, IsServed, ServedFault, IsUid, LeafFault}
 use Rattle.acpi_base.specs.Memory.{Memory, IsImage, run_of, cons_both, bytes_at}
 use Rattle.acpi_base.specs.Number.{field, byte_sum, has_bit}
-use Rattle.acpi_base.specs.Image.Runs.{Run, run_at, lookup, IsComplete}
+use Rattle.acpi_base.specs.Image.Runs.{Run, run_at, lookup}
 use Rattle.acpi_base.specs.Signature.{has_signature}
 use Rattle.acpi_base.specs.Rsdp.{addresses_at}
 use Rattle.acpi_base.specs.Tables.{IsTable, IsSigned, length_of}
-use Rattle.acpi_base.specs.Root.{chosen_root, IsRoot, IsRootTable, HasSlot}
+use Rattle.acpi_base.specs.Root.{chosen_root, root_signature, IsRoot, IsRootTable, HasSlot}
 use Rattle.acpi_base.specs.Listed.{madt_signature, srat_signature, pptt_signature, IsListedTable, HasListed}
-use Rattle.acpi_examples.specs.Tables.{placed_entry, IsValidExample}
+use Rattle.acpi_examples.specs.Tables.{placed_entry}
 use Rattle.acpi_examples.specs.Sets.{rsdp_bytes, rsdt_bytes, rsdp_at, set_of, ListsBoth, processor_bytes, leaf_bytes, enabled_bytes, capable_bytes, disabled_bytes, named_bytes, uid_bytes, new_leaf_bytes, old_leaf_bytes, policy, AreListedTables, AreSetFaults, enabled_set, capable_set, disabled_set, two_madts, leaf_set, old_leaf_set}
 use Rattle.acpi_examples.specs.Madts.{said_madt, two_io_apics_bytes}
 use Rattle.acpi_examples.specs.Srats.{two_processors_bytes, two_processors}
@@ -28,7 +28,7 @@ use Rattle.acpi_examples.specs.Pptts.{said_pptt}
 use Rattle.acpi_base.specs.declared.policy.Processors.{Processors}
 use Rattle.acpi_base.specs.declared.policy.Processors.TheVariants.{Enabled, Usable}
 use Rattle.acpi_base.specs.declared.code.Code.TheVariants as code
-use Rattle.acpi_examples.proofs.NamedEntries.{each_entry, none_stands, never, all_below}
+use Rattle.acpi_examples.proofs.NamedEntries.{each_entry, none_stands, never, is_whole, all_whole, all_valid}
 use Rattle.acpi_examples.proofs.Srats.{srat_said}
 use Rattle.acpi_base.proofs.Options.{same_value}
 use Rattle.acpi_base.proofs.Images.RunBytes.{byte_of_memory_of}
@@ -46,41 +46,33 @@ pub bytes_of_runs : (one other : List ℕ) (a n : ℕ)
     → bytes_at (set_of one other) a n ≡ run_of (lookup (runs one other)) a n
 bytes_of_runs one other a n = λ i. run_of (λ x. byte_of_memory_of (runs one other) x i) a n
 
-is_image : (one other : List ℕ) → (0 < length one) × (length one < 0x1000)
-    → (0 < length other) × (length other < 0x1000)
-    → list_all (λ b. nat_lt b 256) one ≡ true → list_all (λ b. nat_lt b 256) other ≡ true → IsImage (set_of one other)
-is_image one other size other_size bytes other_bytes = image_of (runs one other) whole
-  where
-    whole : AllByRecursion IsComplete (runs one other)
-    whole = (
-      record { filled = omega arith; fits = omega arith; bytes = all_below rsdp_bytes refl },
-      (
-        record { filled = omega arith; fits = omega arith; bytes = all_below rsdt_bytes refl },
-        (
-          record { filled = omega arith; fits = omega arith; bytes = all_below one bytes },
-          (record { filled = omega arith; fits = omega arith; bytes = all_below other other_bytes }, tt),
-        ),
-      ),
-    )
+is_image : (one other : List ℕ) → list_all is_whole (runs one other) ≡ true → IsImage (set_of one other)
+is_image one other whole = image_of (runs one other) (all_whole (runs one other) whole)
+
+-- an RSDP that names an RSDT, a table, and a root table, by their bytes
+pub root_in : {m : Memory} → bytes_at m rsdp_at 20 ≡ Some rsdp_bytes → IsRoot m rsdp_at 0x1000 4
+unfolding addresses_at chosen_root field
+root_in present = record { named = record { rsdt = 0x1000; xsdt = 0 }; read = rw present refl; chosen = refl }
+
+pub table_of : {m : Memory} {a : ℕ} (whole : List ℕ) → bytes_at m a 36 ≡ Some (take 36 whole)
+    → 36 ≤ field (take 36 whole) 4 4 → bytes_at m a (field (take 36 whole) 4 4) ≡ Some whole
+    → IsTable m a (take 36 whole) whole
+table_of whole head least all = record { header_present = head; least = least; present = all }
+
+pub root_table_of : {m : Memory} {r d : ℕ} (whole : List ℕ) → bytes_at m r 36 ≡ Some (take 36 whole)
+    → 36 ≤ field (take 36 whole) 4 4 → bytes_at m r (field (take 36 whole) 4 4) ≡ Some whole
+    → has_signature (take 36 whole) (root_signature d) ≡ true → IsRootTable m r d whole
+root_table_of whole head least all signed =
+    record { header = take 36 whole; table = table_of whole head least all; signed = signed }
 
 pub root : (one other : List ℕ) → IsRoot (set_of one other) rsdp_at 0x1000 4
-unfolding run_of cons_both addresses_at chosen_root field
-root one other = record { named = record { rsdt = 0x1000; xsdt = 0 }; read = rw present refl; chosen = refl }
-  where
-    present : bytes_at (set_of one other) rsdp_at 20 ≡ Some rsdp_bytes
-    present = bytes_of_runs one other rsdp_at 20
+unfolding run_of cons_both
+root one other = root_in (bytes_of_runs one other rsdp_at 20)
 
 pub root_table : (one other : List ℕ) → IsRootTable (set_of one other) 0x1000 4 rsdt_bytes
 unfolding run_of cons_both has_signature field
-root_table one other = record {
-  header = take 36 rsdt_bytes;
-  table = record {
-    header_present = bytes_of_runs one other 0x1000 36;
-    least = omega arith;
-    present = bytes_of_runs one other 0x1000 44;
-  };
-  signed = refl;
-}
+root_table one other =
+    root_table_of rsdt_bytes (bytes_of_runs one other 0x1000 36) (omega arith) (bytes_of_runs one other 0x1000 44) refl
 
 pub slot_0 : HasSlot rsdt_bytes 4 0 0x2000
 unfolding field
@@ -102,16 +94,12 @@ tables_of : (one other : List ℕ) → run_of (lookup (runs one other)) 0x2000 3
     → run_of (lookup (runs one other)) 0x3000 (length_of (take 36 other)) ≡ Some other
     → 36 ≤ length_of (take 36 one) → 36 ≤ length_of (take 36 other) → AreTables one other
 tables_of one other header whole other_header other_whole least other_least = record {
-  first = record {
-    header_present = bytes_of_runs one other 0x2000 36 ∙ header;
-    least = least;
-    present = bytes_of_runs one other 0x2000 (length_of (take 36 one)) ∙ whole;
-  };
-  second = record {
-    header_present = bytes_of_runs one other 0x3000 36 ∙ other_header;
-    least = other_least;
-    present = bytes_of_runs one other 0x3000 (length_of (take 36 other)) ∙ other_whole;
-  };
+  first =
+      table_of one (bytes_of_runs one other 0x2000 36 ∙ header) least
+      (bytes_of_runs one other 0x2000 (length_of (take 36 one)) ∙ whole);
+  second =
+      table_of other (bytes_of_runs one other 0x3000 36 ∙ other_header) other_least
+      (bytes_of_runs one other 0x3000 (length_of (take 36 other)) ∙ other_whole);
 }
 
 first_is_listed : (one other signature header : List ℕ) → IsTable (set_of one other) 0x2000 header one
@@ -122,8 +110,7 @@ first_is_listed one other signature header table signed =
       k = 0;
       slot = slot_0;
       signed = record { header = header; header_present = table.header_present; signed = signed };
-      none_before =
-          λ j b less. absurd (omega arith);
+      none_before = λ j b less. absurd (omega arith);
     })
     table
 
@@ -138,8 +125,7 @@ second_listed one other signature header header' first differs second signed =
       k = 1;
       slot = slot_1;
       signed = record { header = header'; header_present = second.header_present; signed = signed };
-      none_before =
-          none_before;
+      none_before = none_before;
     })
     second
   where
@@ -184,35 +170,23 @@ unfolding byte_sum field has_signature
 listed = record {
   images = All-from_recursion IsImage
       (enabled_set ∷ capable_set ∷ disabled_set ∷ two_madts ∷ leaf_set ∷ old_leaf_set ∷ []) (
-        is_image enabled_bytes two_processors_bytes (omega arith, omega arith) (omega arith, omega arith) refl refl,
+        is_image enabled_bytes two_processors_bytes refl,
         (
-          is_image capable_bytes two_processors_bytes (omega arith, omega arith) (omega arith, omega arith) refl refl,
+          is_image capable_bytes two_processors_bytes refl,
           (
-            is_image disabled_bytes two_processors_bytes (omega arith, omega arith) (omega arith, omega arith) refl
-                refl,
+            is_image disabled_bytes two_processors_bytes refl,
             (
-              is_image named_bytes two_io_apics_bytes (omega arith, omega arith) (omega arith, omega arith) refl refl,
-              (
-                is_image uid_bytes new_leaf_bytes (omega arith, omega arith) (omega arith, omega arith) refl refl,
-                (is_image uid_bytes old_leaf_bytes (omega arith, omega arith) (omega arith, omega arith) refl refl, tt),
-              ),
+              is_image named_bytes two_io_apics_bytes refl,
+              (is_image uid_bytes new_leaf_bytes refl, (is_image uid_bytes old_leaf_bytes refl, tt)),
             ),
           ),
         ),
       );
   rsdp_sum = refl;
-  valid = All-from_recursion IsValidExample
+  valid =
+      all_valid
       (rsdt_bytes ∷ enabled_bytes ∷ capable_bytes ∷ disabled_bytes ∷ named_bytes ∷ uid_bytes ∷ new_leaf_bytes
-      ∷ old_leaf_bytes ∷ []) (
-        (refl, refl),
-        (
-          (refl, refl),
-          (
-            (refl, refl),
-            ((refl, refl), ((refl, refl), ((refl, refl), ((refl, refl), ((refl, refl), tt))))),
-          ),
-        ),
-      );
+      ∷ old_leaf_bytes ∷ []) refl;
   enabled_lists =
       both_listed enabled_bytes two_processors_bytes madt_signature srat_signature (processor_tables 45 1) refl refl
       refl;

@@ -3,21 +3,15 @@ use Rattle.std.proofs.Common.{◌≡◌, ℕ, zero, suc, ◌+◌, ◌<◌, ◌�
 use Rattle.std.proofs.lemmas.List.Elements.{All-from_recursion}
 use Rattle.acpi_base.specs.Number.{field, byte_sum}
 use Rattle.acpi_base.specs.Slit.{SlitContents, slit_contents, cell_place, distance, IsCell, IsValidSlit, SlitFault}
-use Rattle.acpi_examples.specs.Tables.{IsValidExample}
 use Rattle.acpi_examples.specs.Slits.{said_slit, empty_bytes, one_locality_bytes, two_localities_bytes, two_localities, high_diagonal, low_cell, low_diagonal, example_slits, AreSlitContents, AreSlitFaults, HasNoSlitFault, AreValidSlits}
 use Rattle.acpi_base.specs.declared.code.Code.TheVariants as code
 use Rattle.acpi_base.proofs.Slit.{excludes}
+use Rattle.acpi_examples.proofs.NamedEntries.{all_valid}
 
 pub slit_said : AreSlitContents
 unfolding slit_contents field byte_sum
 slit_said = record {
-  valid = All-from_recursion IsValidExample example_slits (
-    (refl, refl),
-    (
-      (refl, refl),
-      ((refl, refl), ((refl, refl), ((refl, refl), ((refl, refl), ((refl, refl), tt))))),
-    ),
-  );
+  valid = all_valid example_slits refl;
   empty_says = refl;
   one_says = refl;
   two_say = refl;

@@ -1,7 +1,6 @@
 -- The examples of the SRAT, by computing.
 use Rattle.std.proofs.Common.{◌≡◌, ℕ, ◌<◌, [], ◌∷◌, refl, sym, ◌∙◌, subst, inl, inr, arith}
 use Rattle.std.specs.Prelude.{◌≢◌}
-use Rattle.std.proofs.lemmas.List.Elements.{All-from_recursion}
 use Rattle.std.proofs.lemmas.Option.{none-some}
 use Rattle.std.proofs.lemmas.Bool.{both_ways, cases_lt}
 use Rattle.acpi_base.specs.Number.{field, byte_sum, has_bit}
@@ -9,19 +8,18 @@ use Rattle.acpi_base.specs.Listed.{srat_signature}
 use Rattle.acpi_base.specs.Entries.{first_entry, entries_from, entries_of, end_of_entries, cut_of, has_form}
 use Rattle.acpi_base.specs.Overlaps.{IsIntervalOverlap, ComesBefore}
 use Rattle.acpi_base.specs.Srat.{MemoryValue, CoversFrom, Covers, IsAny, IsHotPluggable, IsNotHotPluggable, SratContents, srat_entry, srat_contents, SratFault, SratEntryFault, RangeFault, IsFirstOverlap}
-use Rattle.acpi_examples.specs.Tables.{table, IsValidExample}
-use Rattle.acpi_examples.specs.Srats.{AreSratContents, AreSratFaults, AreFirstOverlaps, HasNoSratFault, example_srats, four_ranges_bytes, faulty_srat_bytes, two_processors, four_ranges, overlapping_ranges, hot_ranges, faulty_srat}
+use Rattle.acpi_examples.specs.Tables.{table}
+use Rattle.acpi_examples.specs.Srats.{AreSratContents, AreSratFaults, AreFirstOverlaps, HasNoSratFault, example_srats, two_processors, four_ranges, overlapping_ranges, hot_ranges, faulty_srat}
 use Rattle.acpi_base.specs.declared.policy.HotPlug.{HotPlug}
 use Rattle.acpi_base.specs.declared.policy.HotPlug.TheVariants.{Counted, Apart}
 use Rattle.acpi_base.specs.declared.code.Code.{Code}
 use Rattle.acpi_base.specs.declared.code.Code.TheVariants as code
-use Rattle.acpi_examples.proofs.NamedEntries.{each_entry, none_at, none_stands, never}
+use Rattle.acpi_examples.proofs.NamedEntries.{each_entry, none_at, none_stands, never, all_valid}
 
 pub srat_said : AreSratContents
 unfolding first_entry entries_from entries_of end_of_entries cut_of has_form field byte_sum srat_entry srat_contents
 srat_said = record {
-  valid = All-from_recursion IsValidExample example_srats
-      ((refl, refl), ((refl, refl), ((refl, refl), ((refl, refl), ((refl, refl), tt)))));
+  valid = all_valid example_srats refl;
   processors_say = refl;
   ranges_say = refl;
   overlapping_say = refl;
@@ -110,34 +108,16 @@ overlaps_too Apart = (omega arith, inl (exchanged IsNotHotPluggable four_ranges 
 pub srat_faults : AreSratFaults
 srat_faults = record {
   short = short_srat;
-  cut = of_faulty code.SratEntryCut 0x68 (refl, (refl, refl));
-  size = of_faulty code.SratEntryLength 0x30 ((_, (0, omega arith, refl), inr (inl refl)), (refl, refl));
-  past_end = of_faulty code.RangePastEnd 0x40 past_end;
-  overlap = by_setting;
-  exchanged = by_setting_too;
-  least = subst (λ (c : SratContents). RangeFault Counted c code.Overlap 0x58 0x30 0x1000)
-      (sym srat_said.overlapping_say) first_overlap;
-  counted = subst (λ (c : SratContents). RangeFault Counted c code.Overlap 0x30 0x80 0) (sym srat_said.hot_ranges_say)
-      counted_overlap;
-  apart = subst (λ (c : SratContents). RangeFault Apart c code.Overlap 0x80 0xa8 0) (sym srat_said.hot_ranges_say)
-      apart_overlap;
-  not_mixed = subst (λ (c : SratContents). ¬ RangeFault Apart c code.Overlap 0x30 0x80 0) (sym srat_said.hot_ranges_say)
-      mixed_overlap;
+  cut = rw srat_said.faulty_says (refl, (refl, refl));
+  size = rw srat_said.faulty_says ((_, (0, omega arith, refl), inr (inl refl)), (refl, refl));
+  past_end = rw srat_said.faulty_says past_end;
+  overlap = λ h. rw srat_said.ranges_say (overlaps h);
+  exchanged = λ h. rw srat_said.ranges_say (overlaps_too h);
+  least = rw srat_said.overlapping_say first_overlap;
+  counted = rw srat_said.hot_ranges_say counted_overlap;
+  apart = rw srat_said.hot_ranges_say apart_overlap;
+  not_mixed = rw srat_said.hot_ranges_say mixed_overlap;
 }
-  where
-    of_faulty : (fault : Code) (at : ℕ) → SratFault faulty_srat fault at 0 0
-        → SratFault (srat_contents faulty_srat_bytes) fault at 0 0
-    of_faulty fault at = subst (λ (c : SratContents). SratFault c fault at 0 0) (sym srat_said.faulty_says)
-
-    by_setting : (h : HotPlug) → RangeFault h (srat_contents four_ranges_bytes) code.Overlap 0x80 0xa8 0x3fffffff
-    by_setting h =
-        subst (λ (c : SratContents). RangeFault h c code.Overlap 0x80 0xa8 0x3fffffff) (sym srat_said.ranges_say)
-        (overlaps h)
-
-    by_setting_too : (h : HotPlug) → RangeFault h (srat_contents four_ranges_bytes) code.Overlap 0xa8 0x80 0x3fffffff
-    by_setting_too h =
-        subst (λ (c : SratContents). RangeFault h c code.Overlap 0xa8 0x80 0x3fffffff) (sym srat_said.ranges_say)
-        (overlaps_too h)
 
 -- ---- which overlap is reported
 
@@ -155,8 +135,7 @@ first_addresses = record {
       not_at not_other here.2;
   least = λ o p x it. elim (cases_lt x 0x1000) [
     | inr most ↦ most
-    | inl less ↦
-        absurd (it.two (only x less o it.s it.one_holds ∙ sym (only x less p it.t it.other_holds)))
+    | inl less ↦ absurd (it.two (only x less o it.s it.one_holds ∙ sym (only x less p it.t it.other_holds)))
   ];
 }
   where

@@ -1,5 +1,6 @@
 -- The examples of each table, and of sets of tables.
 pub mod Advice
+pub mod AdviceDevices
 pub mod AdviceFadt
 pub mod AdviceFadtFields
 pub mod AdviceGic

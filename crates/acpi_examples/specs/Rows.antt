@@ -6,7 +6,7 @@ use Rattle.acpi_rules.specs.Places.{FindsLeast}
 use Rattle.acpi_rules.specs.Rows.{Row}
 use Rattle.acpi_rules.specs.Terms.{TwoTables}
 use Rattle.acpi_rules.specs.declared.place.Place.{Place}
-use Rattle.acpi_lint.specs.RowGroups.{BreaksRow, OfAny, fadt_further_group, fadt_group, fadt_with_madt_group, gic_group, madt_further_group, madt_group, madt_with_fadt_group, madt_with_pptt_group, madt_with_srat_group, pptt_group, pptt_with_madt_group, srat_group, srat_with_madt_group, srat_with_slit_group}
+use Rattle.acpi_lint.specs.RowGroups.{BreaksRow, OfAny, fadt_further_group, fadt_group, fadt_with_madt_group, gic_group, hpet_group, madt_further_group, madt_group, madt_with_fadt_group, madt_with_pptt_group, madt_with_srat_group, mcfg_group, pptt_group, pptt_with_madt_group, spcr_group, spcr_with_madt_group, srat_group, srat_with_madt_group, srat_with_slit_group}
 use Rattle.acpi_lint.specs.Rules.Rows.{rule_number}
 use Rattle.acpi_lint.specs.declared.rule.Rule.{Rule}
 use Rattle.acpi_lint.specs.declared.rule.Rule.TheVariants as rule
@@ -36,6 +36,10 @@ AreFound rows examples =
     (e : Example) → Contains examples e
     → FindsLeast (OfAny (BreaksRow (tables_of e)) rows (rule_number e.rule)) e.found
 
+-- a table that breaks the rule, first at these numbers, and one that keeps it
+abbrev pub edge : Rule → List ℕ → ℕ × ℕ × ℕ → List ℕ → List Example
+edge r broken place kept = breaks r broken [] place.0 place.1 place.2 ∷ keeps r kept [] ∷ []
+
 -- ---- tables
 
 -- bytes, with others from an offset on
@@ -46,6 +50,11 @@ patched at bytes table = take at table ++ bytes ++ drop (at + length bytes) tabl
 -- there
 abbrev pub breaks_at : Rule → List ℕ → ℕ × ℕ × ℕ → Example
 breaks_at r table place = breaks r (patched (place.0 + place.1) (place.2 ∷ []) table) [] place.0 place.1 place.2
+
+-- a table with these bytes at these offsets
+abbrev pub set_bytes : List (ℕ × ℕ) → List ℕ → List ℕ
+set_bytes [] table = table
+set_bytes (b ∷ more) table = patched b.0 (b.1 ∷ []) (set_bytes more table)
 
 abbrev pub joined : List (List ℕ) → List ℕ
 joined [] = []
@@ -58,9 +67,12 @@ zeros = replicate 8 0
 abbrev pub byte : ℕ → ℕ → List ℕ
 byte at n = patched at (n ∷ []) zeros
 
--- a FADT of this Revision and Length, and one of reduced hardware
+-- a FADT of this Revision and Length, one of Revision 6 with these bytes, and one of reduced hardware
 abbrev pub fadt : ℕ → ℕ → List ℕ
 fadt revision size = patched 8 (revision ∷ []) (replicate size 0)
+
+abbrev pub fadt_with : List (ℕ × ℕ) → List ℕ
+fadt_with bytes = set_bytes bytes (fadt 6 276)
 
 abbrev pub reduced : List ℕ → List ℕ
 reduced table = patched 114 (16 ∷ []) table
@@ -210,6 +222,34 @@ abbrev pub sized_cache : ℕ → ℕ → ℕ → ℕ → ℕ → List ℕ
 sized_cache flags size sets ways line =
     1 ∷ 24 ∷ 0 ∷ 0 ∷ flags ∷ replicate 7 0 ++ size ∷ 0 ∷ 0 ∷ 0 ∷ sets ∷ 0 ∷ 0 ∷ 0 ∷ ways ∷ 0 ∷ line ∷ 0 ∷ []
 
+-- ---- further tables
+
+-- a table of this Revision and this Length, 0 behind them
+abbrev pub sized : ℕ → ℕ → List ℕ
+sized revision size = patched 4 (number_bytes 4 size ++ revision ∷ []) (replicate size 0)
+
+-- an entry of an MCFG, with a base address, a segment, and the first and the last bus, and an MCFG with such entries
+abbrev pub ecam : ℕ → ℕ → ℕ → ℕ → List ℕ
+ecam base segment first last = number_bytes 8 base ++ segment ∷ 0 ∷ first ∷ last ∷ replicate 4 0
+
+abbrev pub mcfg : ℕ → List (List ℕ) → List ℕ
+mcfg revision entries = patched 8 (revision ∷ []) (replicate 44 0) ++ joined entries
+
+-- one with a single entry, of segment 0
+abbrev pub one_ecam : ℕ → ℕ → ℕ → ℕ → List ℕ
+one_ecam revision base first last = mcfg revision (ecam base 0 first last ∷ [])
+
+-- an HPET with an address space and a base address
+abbrev pub hpet : ℕ → ℕ → List ℕ
+hpet space address = patched 40 (space ∷ 0 ∷ 0 ∷ 0 ∷ number_bytes 8 address) (sized 1 56)
+
+-- an SPCR with these bytes, and one with a base address, an interrupt type and a GSI
+abbrev pub spcr : ℕ → ℕ → List (ℕ × ℕ) → List ℕ
+spcr revision size bytes = set_bytes bytes (sized revision size)
+
+abbrev pub console : ℕ → ℕ → List ℕ
+console kind gsi = patched 44 (1 ∷ replicate 7 0 ++ kind ∷ 0 ∷ number_bytes 4 gsi) (sized 4 88)
+
 -- ---- the rules, by the tables of their rows
 
 -- the MADT (5.2.12)
@@ -219,39 +259,26 @@ madt_examples =
     ∷ keeps rule.SameUid (madt (local_apic 3 5 1 ∷ local_apic 3 6 0 ∷ [])) []
     ∷ breaks rule.SameApicId (madt (local_apic 3 5 1 ∷ local_apic 4 5 2 ∷ [])) [] 52 44 5
     ∷ keeps rule.SameApicId (madt (local_apic 3 5 1 ∷ local_apic 4 5 0 ∷ [])) []
-    ∷ breaks rule.IoApicAtZero (madt (io_apic 7 0 ∷ [])) [] 44 0 0
-    ∷ keeps rule.IoApicAtZero (madt (io_apic 7 1 ∷ [])) []
-    ∷ breaks rule.SameIoApicId (madt (io_apic 7 1 ∷ io_apic 7 2 ∷ [])) [] 56 44 7
-    ∷ keeps rule.SameIoApicId (madt (io_apic 7 1 ∷ io_apic 8 2 ∷ [])) []
-    ∷ breaks rule.SameIoApicAddress (madt (io_apic 7 1 ∷ io_apic 8 1 ∷ [])) [] 56 44 1
-    ∷ keeps rule.SameIoApicAddress (madt (io_apic 7 0 ∷ io_apic 8 0 ∷ [])) []
-    ∷ breaks rule.NmiNowhere (madt (local_apic 3 5 0 ∷ nmi 4 1 ∷ [])) [] 52 0 4
-    ∷ keeps rule.NmiNowhere (madt (local_apic 3 5 0 ∷ nmi 255 1 ∷ [])) []
-    ∷ breaks rule.NoProcessor (madt (local_apic 3 5 0 ∷ [])) [] 0 0 0
-    ∷ keeps rule.NoProcessor (madt (local_apic 3 5 2 ∷ [])) []
-    ∷ breaks rule.MadtUnread (madt ((16 ∷ 4 ∷ 0 ∷ 0 ∷ []) ∷ [])) [] 44 16 0
-    ∷ keeps rule.MadtUnread (madt (gicd 3 ∷ [])) []
-    ∷ breaks rule.X2ApicBelow255 (madt (local_apic 3 5 1 ∷ x2apic 254 1 4 ∷ [])) [] 52 0 254
+    ∷ edge rule.IoApicAtZero (madt (io_apic 7 0 ∷ [])) (44, 0, 0) (madt (io_apic 7 1 ∷ []))
+    ++ edge rule.SameIoApicId (madt (io_apic 7 1 ∷ io_apic 7 2 ∷ [])) (56, 44, 7) (madt (io_apic 7 1 ∷ io_apic 8 2 ∷ []))
+    ++ edge rule.SameIoApicAddress (madt (io_apic 7 1 ∷ io_apic 8 1 ∷ [])) (56, 44, 1) (madt (io_apic 7 0 ∷ io_apic 8 0 ∷ []))
+    ++ edge rule.NmiNowhere (madt (local_apic 3 5 0 ∷ nmi 4 1 ∷ [])) (52, 0, 4) (madt (local_apic 3 5 0 ∷ nmi 255 1 ∷ []))
+    ++ edge rule.NoProcessor (madt (local_apic 3 5 0 ∷ [])) (0, 0, 0) (madt (local_apic 3 5 2 ∷ []))
+    ++ edge rule.MadtUnread (madt ((16 ∷ 4 ∷ 0 ∷ 0 ∷ []) ∷ [])) (44, 16, 0) (madt (gicd 3 ∷ []))
+    ++ breaks rule.X2ApicBelow255 (madt (local_apic 3 5 1 ∷ x2apic 254 1 4 ∷ [])) [] 52 0 254
     ∷ keeps rule.X2ApicBelow255 (madt (local_apic 3 5 1 ∷ x2apic 255 1 4 ∷ [])) []
-    ∷ breaks rule.BroadcastId (madt (local_apic 3 255 1 ∷ [])) [] 44 0 255
-    ∷ keeps rule.BroadcastId (madt (local_apic 3 254 1 ∷ [])) []
-    ∷ breaks rule.EnabledAndCapable (madt (local_apic 3 5 3 ∷ [])) [] 44 0 3
-    ∷ keeps rule.EnabledAndCapable (madt (local_apic 3 5 2 ∷ [])) []
-    ∷ breaks rule.TimerLevel (madt (override 0 2 13 ∷ [])) [] 44 0 13
-    ∷ keeps rule.TimerLevel (madt (override 0 2 5 ∷ [])) []
-    ∷ breaks rule.TwoSourcesOneGsi (madt (override 0 2 0 ∷ override 1 2 0 ∷ [])) [] 54 44 2
+    ∷ edge rule.BroadcastId (madt (local_apic 3 255 1 ∷ [])) (44, 0, 255) (madt (local_apic 3 254 1 ∷ []))
+    ++ edge rule.EnabledAndCapable (madt (local_apic 3 5 3 ∷ [])) (44, 0, 3) (madt (local_apic 3 5 2 ∷ []))
+    ++ edge rule.TimerLevel (madt (override 0 2 13 ∷ [])) (44, 0, 13) (madt (override 0 2 5 ∷ []))
+    ++ breaks rule.TwoSourcesOneGsi (madt (override 0 2 0 ∷ override 1 2 0 ∷ [])) [] 54 44 2
     ∷ keeps rule.TwoSourcesOneGsi (madt (override 0 2 0 ∷ override 0 2 0 ∷ [])) []
-    ∷ breaks rule.LintNotOne (madt (nmi 255 0 ∷ [])) [] 44 0 0
-    ∷ keeps rule.LintNotOne (madt (nmi 255 1 ∷ [])) []
-    ∷ breaks rule.NoIoApic (madt (local_apic 3 5 1 ∷ override 0 2 0 ∷ [])) [] 0 0 0
+    ∷ edge rule.LintNotOne (madt (nmi 255 0 ∷ [])) (44, 0, 0) (madt (nmi 255 1 ∷ []))
+    ++ breaks rule.NoIoApic (madt (local_apic 3 5 1 ∷ override 0 2 0 ∷ [])) [] 0 0 0
     ∷ keeps rule.NoIoApic (madt (local_apic 3 5 1 ∷ override 0 2 0 ∷ io_apic 7 1 ∷ [])) []
-    ∷ breaks rule.SameHart (madt (rintc 1 5 1 ∷ rintc 2 5 2 ∷ [])) [] 64 44 5
-    ∷ keeps rule.SameHart (madt (rintc 1 5 1 ∷ rintc 0 5 2 ∷ [])) []
-    ∷ breaks rule.MadtReserved (patched 40 (2 ∷ []) (madt [])) [] 40 0 2
-    ∷ keeps rule.MadtReserved (patched 40 (1 ∷ []) (madt [])) []
-    ∷ breaks rule.MadtReserved (madt (local_apic 3 5 4 ∷ [])) [] 44 4 0
-    ∷ keeps rule.MadtReserved (madt (local_apic 3 5 3 ∷ [])) []
-    ∷ map (λ (e : ℕ × ℕ). breaks rule.MadtUnread (madt (entry e.0 e.1 ∷ [])) [] 44 e.0 0)
+    ∷ edge rule.SameHart (madt (rintc 1 5 1 ∷ rintc 2 5 2 ∷ [])) (64, 44, 5) (madt (rintc 1 5 1 ∷ rintc 0 5 2 ∷ []))
+    ++ edge rule.MadtReserved (patched 40 (2 ∷ []) (madt [])) (40, 0, 2) (patched 40 (1 ∷ []) (madt []))
+    ++ edge rule.MadtReserved (madt (local_apic 3 5 4 ∷ [])) (44, 4, 0) (madt (local_apic 3 5 3 ∷ []))
+    ++ map (λ (e : ℕ × ℕ). breaks rule.MadtUnread (madt (entry e.0 e.1 ∷ [])) [] 44 e.0 0)
     ((6, 4) ∷ (8, 4) ∷ (11, 39) ∷ (12, 25) ∷ (13, 23) ∷ (14, 15) ∷ (15, 21) ∷ (17, 14) ∷ (24, 19) ∷ (28, 4) ∷ (255, 2)
     ∷ (16, 15) ∷ (16, 20) ∷ (16, 28) ∷ (18, 22) ∷ (18, 24) ∷ (19, 20) ∷ (19, 22) ∷ (20, 12) ∷ (20, 14) ∷ (21, 18) ∷ (21, 20)
     ∷ (22, 16) ∷ (22, 18) ∷ (23, 13) ∷ (23, 15) ∷ (25, 15) ∷ (25, 17) ∷ (26, 35) ∷ (26, 37) ∷ (27, 35) ∷ (27, 37) ∷ [])
@@ -271,25 +298,18 @@ madt_further_examples =
     ((44, 2, 1) ∷ (44, 3, 1) ∷ (44, 12, 32) ∷ (44, 77, 1) ∷ (122, 2, 1) ∷ (122, 3, 1) ∷ (122, 21, 1) ∷ (122, 22, 1) ∷ (122, 23, 1)
     ∷ (146, 2, 1) ∷ (146, 3, 1) ∷ (146, 16, 2) ∷ (170, 2, 2) ∷ (170, 3, 1) ∷ (186, 2, 2) ∷ (186, 3, 1) ∷ (186, 16, 1) ∷ (186, 17, 1)
     ∷ (186, 18, 1) ∷ (186, 19, 1) ∷ (206, 11, 2) ∷ (221, 3, 1) ∷ (221, 4, 4) ∷ (241, 3, 1) ∷ (241, 4, 1) ∷ [])
-    ++ breaks rule.FurtherReserved (patched 59 (1 ∷ []) flagged) [] 44 12 0x100001f
-    ∷ keeps rule.FurtherReserved flagged []
-    ∷ keeps rule.FurtherReserved (madt (patched 2 (1 ∷ []) (entry 12 25) ∷ [])) []
+    ++ edge rule.FurtherReserved (patched 59 (1 ∷ []) flagged) (44, 12, 0x100001f) flagged
+    ++ keeps rule.FurtherReserved (madt (patched 2 (1 ∷ []) (entry 12 25) ∷ [])) []
     ∷ breaks rule.HartInvalid (madt (patched 8 (replicate 8 255) (rintc 1 0 1) ∷ [])) [] 44 8 0xffffffffffffffff
     ∷ breaks rule.HartInvalid (madt (patched 8 (replicate 8 255) (rintc 2 0 1) ∷ [])) [] 44 8 0xffffffffffffffff
     ∷ keeps rule.HartInvalid (madt (patched 8 (254 ∷ replicate 7 255) (rintc 1 0 1) ∷ [])) []
     ∷ keeps rule.HartInvalid (madt (patched 8 (replicate 8 255) (rintc 0 0 1) ∷ [])) []
-    ∷ breaks rule.WakeupMailbox (madt (entry 16 3 ∷ [])) [] 44 16 3
-    ∷ breaks rule.WakeupMailbox (madt (entry 16 12 ∷ [])) [] 44 16 12
-    ∷ breaks rule.WakeupMailbox (madt (wakeup 24 0 0 16 ∷ [])) [] 44 16 24
-    ∷ breaks rule.WakeupMailbox (madt (wakeup 16 1 0 16 ∷ [])) [] 44 24 16
-    ∷ breaks rule.WakeupMailbox (madt (wakeup 24 2 0 16 ∷ [])) [] 44 2 2
-    ∷ breaks rule.WakeupMailbox (madt (wakeup 16 0 1 0 ∷ [])) [] 44 4 1
-    ∷ breaks rule.WakeupMailbox (madt (wakeup 16 0 0 0 ∷ [])) [] 44 8 0
-    ∷ breaks rule.WakeupMailbox (madt (wakeup 24 1 0 8 ∷ [])) [] 44 8 2048
-    ∷ keeps rule.WakeupMailbox (madt (wakeup 16 0 0 16 ∷ wakeup 24 1 0 16 ∷ [])) []
-    ∷ breaks rule.LapicAtZero (madt (entry 5 12 ∷ [])) [] 44 4 0
-    ∷ keeps rule.LapicAtZero (madt (patched 11 (1 ∷ []) (entry 5 12) ∷ entry 5 13 ∷ [])) []
-    ∷ map (λ kind. breaks rule.MadtRevision (patched 8 (2 ∷ []) (madt (entry kind 2 ∷ []))) [] 8 0 2) (9 ∷ 15 ∷ [])
+    ∷ map (λ (w : List ℕ × ℕ × ℕ). breaks rule.WakeupMailbox (madt (w.0 ∷ [])) [] 44 w.1 w.2)
+    ((entry 16 3, 16, 3) ∷ (entry 16 12, 16, 12) ∷ (wakeup 24 0 0 16, 16, 24) ∷ (wakeup 16 1 0 16, 24, 16)
+    ∷ (wakeup 24 2 0 16, 2, 2) ∷ (wakeup 16 0 1 0, 4, 1) ∷ (wakeup 16 0 0 0, 8, 0) ∷ [])
+    ++ edge rule.WakeupMailbox (madt (wakeup 24 1 0 8 ∷ [])) (44, 8, 2048) (madt (wakeup 16 0 0 16 ∷ wakeup 24 1 0 16 ∷ []))
+    ++ edge rule.LapicAtZero (madt (entry 5 12 ∷ [])) (44, 4, 0) (madt (patched 11 (1 ∷ []) (entry 5 12) ∷ entry 5 13 ∷ []))
+    ++ map (λ kind. breaks rule.MadtRevision (patched 8 (2 ∷ []) (madt (entry kind 2 ∷ []))) [] 8 0 2) (9 ∷ 15 ∷ [])
     ++ keeps rule.MadtRevision (patched 8 (3 ∷ []) (madt (entry 9 2 ∷ entry 15 2 ∷ []))) []
     ∷ keeps rule.MadtRevision (patched 8 (2 ∷ []) (madt (entry 8 2 ∷ entry 16 2 ∷ []))) []
     ∷ map (λ kind. breaks rule.MadtRevision (patched 8 (5 ∷ []) (madt (entry kind 2 ∷ []))) [] 8 0 5) (24 ∷ 27 ∷ [])
@@ -300,40 +320,28 @@ madt_further_examples =
 -- the parts of a GIC (5.2.12.14 to 5.2.12.18)
 abbrev pub gic_examples : List Example
 gic_examples =
-    breaks rule.SecondGicd (madt (gicd 3 ∷ gicd 3 ∷ [])) [] 68 44 0
-    ∷ keeps rule.SecondGicd (madt (gicd 3 ∷ [])) []
-    ∷ breaks rule.NoDistributor (madt (gicc 0 1 zeros ∷ [])) [] 0 0 0
-    ∷ keeps rule.NoDistributor (madt (gicc 0 1 zeros ∷ gicd 3 ∷ [])) []
-    ∷ breaks rule.SameMpidr (madt (gicc 0 1 (byte 0 5) ∷ gicc 1 1 (byte 0 5) ∷ [])) [] 120 44 5
+    edge rule.SecondGicd (madt (gicd 3 ∷ gicd 3 ∷ [])) (68, 44, 0) (madt (gicd 3 ∷ []))
+    ++ edge rule.NoDistributor (madt (gicc 0 1 zeros ∷ [])) (0, 0, 0) (madt (gicc 0 1 zeros ∷ gicd 3 ∷ []))
+    ++ breaks rule.SameMpidr (madt (gicc 0 1 (byte 0 5) ∷ gicc 1 1 (byte 0 5) ∷ [])) [] 120 44 5
     ∷ keeps rule.SameMpidr (madt (gicc 0 1 (byte 0 5) ∷ gicc 1 1 (byte 0 6) ∷ [])) []
-    ∷ breaks rule.MpidrReserved (madt (gicc 0 1 (byte 3 1) ∷ [])) [] 44 0 16777216
-    ∷ keeps rule.MpidrReserved (madt (gicc 0 1 (byte 4 1) ∷ [])) []
-    ∷ breaks rule.GicrEmpty (madt (gicr 5 0 ∷ [])) [] 44 0 5
-    ∷ keeps rule.GicrEmpty (madt (gicr 5 1 ∷ [])) []
-    ∷ breaks rule.NoRedistributor (madt (gicd 3 ∷ interface 0 0 0 ∷ [])) [] 44 3 0
-    ∷ keeps rule.NoRedistributor (madt (gicd 2 ∷ gicd 3 ∷ interface 0 0 0 ∷ [])) []
-    ∷ keeps rule.NoRedistributor (madt (gicd 4 ∷ interface 0 0 1 ∷ [])) []
+    ∷ edge rule.MpidrReserved (madt (gicc 0 1 (byte 3 1) ∷ [])) (44, 0, 16777216) (madt (gicc 0 1 (byte 4 1) ∷ []))
+    ++ edge rule.GicrEmpty (madt (gicr 5 0 ∷ [])) (44, 0, 5) (madt (gicr 5 1 ∷ []))
+    ++ edge rule.NoRedistributor (madt (gicd 3 ∷ interface 0 0 0 ∷ [])) (44, 3, 0) (madt (gicd 2 ∷ gicd 3 ∷ interface 0 0 0 ∷ []))
+    ++ keeps rule.NoRedistributor (madt (gicd 4 ∷ interface 0 0 1 ∷ [])) []
     ∷ breaks rule.GiccBaseDiffers (madt (gicd 2 ∷ interface 0 1 0 ∷ interface 0 2 0 ∷ [])) [] 144 68 2
     ∷ keeps rule.GiccBaseDiffers (madt (gicd 2 ∷ interface 0 1 0 ∷ interface 0 1 0 ∷ [])) []
     ∷ keeps rule.GiccBaseDiffers (madt (gicd 3 ∷ interface 0 1 0 ∷ interface 0 2 0 ∷ [])) []
-    ∷ breaks rule.RedistributorTwice (madt (interface 0 0 5 ∷ gicr 1 1 ∷ [])) [] 44 120 5
-    ∷ keeps rule.RedistributorTwice (madt (interface 0 0 0 ∷ gicr 1 1 ∷ [])) []
-    ∷ breaks rule.SameIts (madt (its 5 ∷ its 5 ∷ [])) [] 64 44 5
-    ∷ keeps rule.SameIts (madt (its 5 ∷ its 6 ∷ [])) []
-    ∷ breaks rule.SameMsiFrame (madt (msi_frame 5 ∷ msi_frame 5 ∷ [])) [] 68 44 5
-    ∷ keeps rule.SameMsiFrame (madt (msi_frame 5 ∷ msi_frame 6 ∷ [])) []
-    ∷ breaks rule.GicOverlap (madt (its_at 0xffff ∷ gicd 3 ∷ [])) [] 64 44 0xffff
-    ∷ keeps rule.GicOverlap (madt (its_at 0x10000 ∷ gicd 4 ∷ [])) []
-    ∷ breaks rule.GicOverlap (madt (its_at 0xfff ∷ gicd 2 ∷ [])) [] 64 44 0xfff
-    ∷ keeps rule.GicOverlap (madt (its_at 0x1000 ∷ gicd 2 ∷ gicr 0 0 ∷ [])) []
-    ∷ breaks rule.GicOverlap (madt (its_at 0x40000 ∷ its_at 0x5ffff ∷ [])) [] 44 64 0x5ffff
+    ∷ edge rule.RedistributorTwice (madt (interface 0 0 5 ∷ gicr 1 1 ∷ [])) (44, 120, 5) (madt (interface 0 0 0 ∷ gicr 1 1 ∷ []))
+    ++ edge rule.SameIts (madt (its 5 ∷ its 5 ∷ [])) (64, 44, 5) (madt (its 5 ∷ its 6 ∷ []))
+    ++ edge rule.SameMsiFrame (madt (msi_frame 5 ∷ msi_frame 5 ∷ [])) (68, 44, 5) (madt (msi_frame 5 ∷ msi_frame 6 ∷ []))
+    ++ edge rule.GicOverlap (madt (its_at 0xffff ∷ gicd 3 ∷ [])) (64, 44, 0xffff) (madt (its_at 0x10000 ∷ gicd 4 ∷ []))
+    ++ edge rule.GicOverlap (madt (its_at 0xfff ∷ gicd 2 ∷ [])) (64, 44, 0xfff) (madt (its_at 0x1000 ∷ gicd 2 ∷ gicr 0 0 ∷ []))
+    ++ breaks rule.GicOverlap (madt (its_at 0x40000 ∷ its_at 0x5ffff ∷ [])) [] 44 64 0x5ffff
     ∷ keeps rule.GicOverlap (madt (its_at 0x40000 ∷ its_at 0x60000 ∷ [])) []
-    ∷ breaks rule.GicOverlap (madt (its_at 0xfff ∷ msi_frame 5 ∷ [])) [] 64 44 0xfff
-    ∷ keeps rule.GicOverlap (madt (its_at 0x1000 ∷ msi_frame 5 ∷ [])) []
-    ∷ breaks rule.GicOverlap (madt (gicr 1 5 ∷ msi_frame 5 ∷ [])) [] 60 44 1
-    ∷ breaks rule.GiccShort (madt (entry 11 75 ∷ [])) [] 44 76 75
-    ∷ keeps rule.GiccShort (madt (entry 11 76 ∷ [])) []
-    ∷ keeps rule.GiccShort (madt (entry 11 39 ∷ [])) []
+    ∷ edge rule.GicOverlap (madt (its_at 0xfff ∷ msi_frame 5 ∷ [])) (64, 44, 0xfff) (madt (its_at 0x1000 ∷ msi_frame 5 ∷ []))
+    ++ breaks rule.GicOverlap (madt (gicr 1 5 ∷ msi_frame 5 ∷ [])) [] 60 44 1
+    ∷ edge rule.GiccShort (madt (entry 11 75 ∷ [])) (44, 76, 75) (madt (entry 11 76 ∷ []))
+    ++ keeps rule.GiccShort (madt (entry 11 39 ∷ [])) []
     ∷ breaks rule.GiccNoGicr (madt (gicd 3 ∷ patched 12 (8 ∷ []) (interface 0 0 5) ∷ interface 0 0 0 ∷ [])) [] 144 60 0
     ∷ breaks rule.GiccNoGicr (madt (gicd 4 ∷ interface 0 0 0 ∷ interface 0 0 5 ∷ [])) [] 68 60 0
     ∷ keeps rule.GiccNoGicr (madt (gicd 3 ∷ interface 0 0 5 ∷ gicc 1 8 zeros ∷ [])) []
@@ -342,9 +350,8 @@ gic_examples =
     ∷ keeps rule.GiccNoGicr (madt (gicd 3 ∷ interface 0 0 5 ∷ interface 0 0 0 ∷ entry 14 2 ∷ [])) []
     ∷ keeps rule.GiccNoGicr (madt (gicd 3 ∷ interface 0 0 5 ∷ interface 0 0 0 ∷ (0 ∷ []) ∷ [])) []
     ∷ breaks rule.CapableNoGicr (madt (gicd 3 ∷ gicc 1 24 zeros ∷ [])) [] 68 12 24
-    ∷ breaks rule.CapableNoGicr (madt (gicd 4 ∷ gicc 1 8 zeros ∷ [])) [] 68 12 8
-    ∷ keeps rule.CapableNoGicr (madt (gicd 4 ∷ gicc 1 9 zeros ∷ [])) []
-    ∷ keeps rule.CapableNoGicr (madt (gicd 2 ∷ gicc 1 8 zeros ∷ [])) []
+    ∷ edge rule.CapableNoGicr (madt (gicd 4 ∷ gicc 1 8 zeros ∷ [])) (68, 12, 8) (madt (gicd 4 ∷ gicc 1 9 zeros ∷ []))
+    ++ keeps rule.CapableNoGicr (madt (gicd 2 ∷ gicc 1 8 zeros ∷ [])) []
     ∷ keeps rule.CapableNoGicr (madt (gicd 3 ∷ gicc 1 8 zeros ∷ entry 14 2 ∷ [])) []
     ∷ keeps rule.CapableNoGicr (madt (gicd 3 ∷ gicc 1 8 zeros ∷ entry 0 7 ∷ [])) []
     ∷ map (λ at. breaks rule.GiccDiffers (madt (gicc 0 1 zeros ∷ patched at (7 ∷ []) (gicc 1 8 zeros) ∷ [])) [] 120 at 7)
@@ -361,9 +368,8 @@ gic_examples =
     ∷ keeps rule.SameGicrBase (madt (gicd 3 ∷ interface 0 0 5 ∷ patched 12 (8 ∷ []) (interface 0 0 5) ∷ [])) []
     ∷ keeps rule.SameGicrBase (madt (gicd 3 ∷ interface 0 0 0 ∷ interface 0 0 0 ∷ [])) []
     ∷ keeps rule.SameGicrBase (madt (gicd 2 ∷ interface 0 0 5 ∷ interface 0 0 5 ∷ [])) []
-    ∷ breaks rule.ParkingVersion (madt (interface 2 0 0 ∷ [])) [] 44 16 2
-    ∷ keeps rule.ParkingVersion (madt (interface 1 0 0 ∷ [])) []
-    ∷ map (λ n. breaks rule.GiccNoPpi (madt (patched 78 (number_bytes 2 n) (entry 11 80) ∷ [])) [] 44 78 n)
+    ∷ edge rule.ParkingVersion (madt (interface 2 0 0 ∷ [])) (44, 16, 2) (madt (interface 1 0 0 ∷ []))
+    ++ map (λ n. breaks rule.GiccNoPpi (madt (patched 78 (number_bytes 2 n) (entry 11 80) ∷ [])) [] 44 78 n)
     (1 ∷ 15 ∷ 32 ∷ 1055 ∷ 1120 ∷ [])
     ++ map (λ n. breaks rule.GiccNoPpi (madt (patched 80 (number_bytes 2 n) (entry 11 82) ∷ [])) [] 44 80 n)
     (1 ∷ 15 ∷ 32 ∷ 1055 ∷ 1120 ∷ [])
@@ -425,23 +431,15 @@ abbrev pub srat_examples : List Example
 srat_examples =
     breaks rule.TwoUidDomains (srat 2 (gicc_affinity 1 3 ∷ gicc_affinity 2 3 ∷ [])) [] 48 66 3
     ∷ keeps rule.TwoUidDomains (srat 2 (gicc_affinity 1 3 ∷ gicc_affinity 1 3 ∷ [])) []
-    ∷ breaks rule.SratUnread (srat 2 ((8 ∷ 4 ∷ 0 ∷ 0 ∷ []) ∷ [])) [] 48 8 0
-    ∷ keeps rule.SratUnread (srat 2 (its_affinity 5 ∷ [])) []
-    ∷ breaks rule.NoMemoryRange (srat 2 (apic_affinity 0 4 1 ∷ [])) [] 0 0 0
-    ∷ keeps rule.NoMemoryRange (srat 2 (apic_affinity 0 4 1 ∷ memory 0 7 1 1 ∷ [])) []
-    ∷ breaks rule.EmptyRange (srat 2 (memory 0 7 0 1 ∷ [])) [] 48 0 7
-    ∷ keeps rule.EmptyRange (srat 2 (memory 0 7 0 0 ∷ [])) []
-    ∷ breaks rule.InitiatorOff (srat 2 (initiator 3 0 ∷ [])) [] 48 0 3
-    ∷ keeps rule.InitiatorOff (srat 2 (initiator 3 1 ∷ [])) []
-    ∷ breaks rule.DomainPastRevision (srat 1 (memory 256 7 1 1 ∷ [])) [] 48 1 256
-    ∷ keeps rule.DomainPastRevision (srat 1 (memory 255 7 1 1 ∷ [])) []
-    ∷ breaks rule.DomainPastRevision (srat 1 (apic_affinity 1 4 1 ∷ [])) [] 48 1 256
-    ∷ keeps rule.DomainPastRevision (srat 2 (apic_affinity 1 4 1 ∷ [])) []
-    ∷ breaks rule.SratReserved (patched 36 (2 ∷ []) (srat 2 [])) [] 36 0 2
-    ∷ keeps rule.SratReserved (srat 2 []) []
-    ∷ breaks rule.SratReserved (srat 2 (apic_affinity 0 4 2 ∷ [])) [] 48 4 0
-    ∷ keeps rule.SratReserved (srat 2 (apic_affinity 0 4 1 ∷ [])) []
-    ∷ map (breaks_at rule.AffinityReserved affinities)
+    ∷ edge rule.SratUnread (srat 2 ((8 ∷ 4 ∷ 0 ∷ 0 ∷ []) ∷ [])) (48, 8, 0) (srat 2 (its_affinity 5 ∷ []))
+    ++ edge rule.NoMemoryRange (srat 2 (apic_affinity 0 4 1 ∷ [])) (0, 0, 0) (srat 2 (apic_affinity 0 4 1 ∷ memory 0 7 1 1 ∷ []))
+    ++ edge rule.EmptyRange (srat 2 (memory 0 7 0 1 ∷ [])) (48, 0, 7) (srat 2 (memory 0 7 0 0 ∷ []))
+    ++ edge rule.InitiatorOff (srat 2 (initiator 3 0 ∷ [])) (48, 0, 3) (srat 2 (initiator 3 1 ∷ []))
+    ++ edge rule.DomainPastRevision (srat 1 (memory 256 7 1 1 ∷ [])) (48, 1, 256) (srat 1 (memory 255 7 1 1 ∷ []))
+    ++ edge rule.DomainPastRevision (srat 1 (apic_affinity 1 4 1 ∷ [])) (48, 1, 256) (srat 2 (apic_affinity 1 4 1 ∷ []))
+    ++ edge rule.SratReserved (patched 36 (2 ∷ []) (srat 2 [])) (36, 0, 2) (srat 2 [])
+    ++ edge rule.SratReserved (srat 2 (apic_affinity 0 4 2 ∷ [])) (48, 4, 0) (srat 2 (apic_affinity 0 4 1 ∷ []))
+    ++ map (breaks_at rule.AffinityReserved affinities)
     ((48, 10, 2) ∷ (66, 6, 1) ∷ (66, 7, 1) ∷ (78, 2, 1) ∷ (78, 24, 4) ∷ (78, 28, 1) ∷ (78, 29, 1) ∷ (78, 30, 1) ∷ (78, 31, 1)
     ∷ (110, 2, 1) ∷ (110, 24, 4) ∷ (110, 28, 1) ∷ (110, 29, 1) ∷ (110, 30, 1) ∷ (110, 31, 1) ∷ (142, 2, 1) ∷ (142, 3, 1)
     ∷ (142, 12, 2) ∷ [])
@@ -486,32 +484,24 @@ pptt_with_madt_examples =
 -- the PPTT (5.2.30)
 abbrev pub pptt_examples : List Example
 pptt_examples =
-    breaks rule.SameLeaf (pptt 2 (child 10 0 7 ∷ child 10 36 7 ∷ [])) [] 56 36 7
-    ∷ keeps rule.SameLeaf (pptt 2 (child 10 0 7 ∷ child 2 36 7 ∷ [])) []
-    ∷ breaks rule.SameLeaf (pptt 1 (child 2 0 7 ∷ child 2 0 7 ∷ [])) [] 56 36 7
-    ∷ keeps rule.SameLeaf (pptt 1 (child 2 0 7 ∷ child 2 36 7 ∷ [])) []
-    ∷ keeps rule.SameLeaf (pptt 1 (child 2 0 7 ∷ child 2 0 7 ∷ (0 ∷ []) ∷ [])) []
-    ∷ breaks rule.LeafUnflagged (pptt 2 (child 2 0 7 ∷ child 8 0 8 ∷ [])) [] 36 0 7
-    ∷ keeps rule.LeafUnflagged (pptt 2 (child 2 0 7 ∷ child 8 36 8 ∷ [])) []
-    ∷ keeps rule.LeafUnflagged (pptt 1 (child 2 0 7 ∷ child 8 0 8 ∷ [])) []
-    ∷ breaks rule.LeafAsParent (pptt 2 (child 8 0 0 ∷ child 0 36 0 ∷ [])) [] 36 56 0
-    ∷ keeps rule.LeafAsParent (pptt 2 (child 7 0 0 ∷ child 0 36 0 ∷ [])) []
-    ∷ keeps rule.LeafAsParent (pptt 2 (child 8 0 0 ∷ child 0 35 0 ∷ [])) []
+    edge rule.SameLeaf (pptt 2 (child 10 0 7 ∷ child 10 36 7 ∷ [])) (56, 36, 7) (pptt 2 (child 10 0 7 ∷ child 2 36 7 ∷ []))
+    ++ edge rule.SameLeaf (pptt 1 (child 2 0 7 ∷ child 2 0 7 ∷ [])) (56, 36, 7) (pptt 1 (child 2 0 7 ∷ child 2 36 7 ∷ []))
+    ++ keeps rule.SameLeaf (pptt 1 (child 2 0 7 ∷ child 2 0 7 ∷ (0 ∷ []) ∷ [])) []
+    ∷ edge rule.LeafUnflagged (pptt 2 (child 2 0 7 ∷ child 8 0 8 ∷ [])) (36, 0, 7) (pptt 2 (child 2 0 7 ∷ child 8 36 8 ∷ []))
+    ++ keeps rule.LeafUnflagged (pptt 1 (child 2 0 7 ∷ child 8 0 8 ∷ [])) []
+    ∷ edge rule.LeafAsParent (pptt 2 (child 8 0 0 ∷ child 0 36 0 ∷ [])) (36, 56, 0) (pptt 2 (child 7 0 0 ∷ child 0 36 0 ∷ []))
+    ++ keeps rule.LeafAsParent (pptt 2 (child 8 0 0 ∷ child 0 35 0 ∷ [])) []
     ∷ breaks rule.CacheNumbers (pptt 2 (sized_cache 4 5 6 0 7 ∷ [])) [] 36 5 0
     ∷ breaks rule.CacheNumbers (pptt 2 (sized_cache 1 0 2 3 4 ∷ [])) [] 36 0 24
-    ∷ breaks rule.CacheNumbers (pptt 2 (sized_cache 71 25 2 3 4 ∷ [])) [] 36 25 24
-    ∷ keeps rule.CacheNumbers (pptt 2 (sized_cache 71 24 2 3 4 ∷ [])) []
-    ∷ keeps rule.CacheNumbers (pptt 2 (sized_cache 69 25 2 3 4 ∷ [])) []
-    ∷ breaks rule.CacheShape (pptt 3 (cache 64 0 3 ∷ [])) [] 36 0 0
-    ∷ keeps rule.CacheShape (pptt 3 (cache 64 0 4 ∷ [])) []
-    ∷ breaks rule.SameCacheId (pptt 3 (cache 128 5 4 ∷ cache 128 5 4 ∷ [])) [] 64 36 5
+    ∷ edge rule.CacheNumbers (pptt 2 (sized_cache 71 25 2 3 4 ∷ [])) (36, 25, 24) (pptt 2 (sized_cache 71 24 2 3 4 ∷ []))
+    ++ keeps rule.CacheNumbers (pptt 2 (sized_cache 69 25 2 3 4 ∷ [])) []
+    ∷ edge rule.CacheShape (pptt 3 (cache 64 0 3 ∷ [])) (36, 0, 0) (pptt 3 (cache 64 0 4 ∷ []))
+    ++ breaks rule.SameCacheId (pptt 3 (cache 128 5 4 ∷ cache 128 5 4 ∷ [])) [] 64 36 5
     ∷ keeps rule.SameCacheId (pptt 2 (cache 128 5 4 ∷ cache 128 5 4 ∷ [])) []
-    ∷ breaks rule.PpttReserved (pptt 3 (node 32 ∷ [])) [] 36 4 0
-    ∷ keeps rule.PpttReserved (pptt 3 (node 31 ∷ [])) []
-    ∷ breaks rule.PpttUnread (pptt 3 (node 0 ∷ entry 2 30 ∷ entry 255 2 ∷ [])) [] 56 2 0
-    ∷ breaks rule.PpttUnread (pptt 3 (entry 255 2 ∷ [])) [] 36 255 0
-    ∷ keeps rule.PpttUnread (pptt 3 (entry 0 2 ∷ entry 1 2 ∷ [])) []
-    ∷ breaks rule.CacheIdZero (pptt 3 (cache 128 0 4 ∷ [])) [] 36 24 0
+    ∷ edge rule.PpttReserved (pptt 3 (node 32 ∷ [])) (36, 4, 0) (pptt 3 (node 31 ∷ []))
+    ++ breaks rule.PpttUnread (pptt 3 (node 0 ∷ entry 2 30 ∷ entry 255 2 ∷ [])) [] 56 2 0
+    ∷ edge rule.PpttUnread (pptt 3 (entry 255 2 ∷ [])) (36, 255, 0) (pptt 3 (entry 0 2 ∷ entry 1 2 ∷ []))
+    ++ breaks rule.CacheIdZero (pptt 3 (cache 128 0 4 ∷ [])) [] 36 24 0
     ∷ keeps rule.CacheIdZero (pptt 3 (cache 128 1 4 ∷ cache 127 0 4 ∷ sized_cache 128 5 6 0 7 ∷ [])) []
     ∷ keeps rule.CacheIdZero (pptt 2 (cache 128 0 4 ∷ [])) []
     ∷ []
@@ -519,50 +509,29 @@ pptt_examples =
 -- the FADT (5.2.9)
 abbrev pub fadt_examples : List Example
 fadt_examples =
-    breaks rule.FadtOfRevision (fadt 6 275) [] 4 275 276
-    ∷ keeps rule.FadtOfRevision (fadt 6 276) []
-    ∷ breaks rule.FacsDiffers (patched 132 (2 ∷ []) (patched 36 (1 ∷ []) (fadt 6 276))) [] 36 1 2
-    ∷ keeps rule.FacsDiffers (patched 132 (2 ∷ []) (patched 36 (2 ∷ []) (fadt 6 276))) []
-    ∷ breaks rule.DsdtDiffers (patched 140 (2 ∷ []) (patched 40 (1 ∷ []) (fadt 6 276))) [] 40 1 2
-    ∷ keeps rule.DsdtDiffers (patched 140 (2 ∷ []) (patched 40 (0 ∷ []) (fadt 6 276))) []
-    ∷ breaks rule.BlockDiffers
-    (patched 236 (2 ∷ []) (patched 232 (1 ∷ []) (patched 84 (1 ∷ []) (fadt 6 276)))) [] 84 1 2
-    ∷ keeps rule.BlockDiffers (patched 236 (2 ∷ []) (patched 232 (0 ∷ []) (patched 84 (1 ∷ []) (fadt 6 276)))) []
-    ∷ breaks rule.NoDsdt (fadt 6 276) [] 40 0 0
-    ∷ keeps rule.NoDsdt (patched 140 (1 ∷ []) (fadt 6 276)) []
-    ∷ breaks rule.NoPm1Block (patched 56 (1 ∷ []) (fadt 6 276)) [] 64 0 0
-    ∷ keeps rule.NoPm1Block (patched 176 (1 ∷ []) (patched 56 (1 ∷ []) (fadt 6 276))) []
-    ∷ breaks rule.BlockWidth
-    (patched 152 (1 ∷ []) (patched 149 (16 ∷ []) (patched 88 (4 ∷ []) (patched 56 (1 ∷ []) (fadt 6 276))))) [] 56 32 16
-    ∷ keeps rule.BlockWidth
-    (patched 152 (1 ∷ []) (patched 149 (32 ∷ []) (patched 88 (4 ∷ []) (patched 56 (1 ∷ []) (fadt 6 276))))) []
-    ∷ breaks rule.HalfBlock (patched 90 (1 ∷ []) (fadt 6 276)) [] 72 1 0
-    ∷ keeps rule.HalfBlock (patched 72 (7 ∷ []) (patched 90 (1 ∷ []) (fadt 6 276))) []
-    ∷ breaks rule.HalfBlock (patched 236 (7 ∷ []) (fadt 6 276)) [] 84 0 7
-    ∷ keeps rule.HalfBlock (patched 93 (2 ∷ []) (patched 236 (7 ∷ []) (fadt 6 276))) []
-    ∷ breaks rule.GpeOverlap
-    (patched 94 (15 ∷ []) (patched 93 (4 ∷ []) (patched 92 (4 ∷ []) (patched 84 (1 ∷ []) (patched 80 (1 ∷ []) (fadt 6 276)))))) [] 94 16 15
-    ∷ keeps rule.GpeOverlap
-    (patched 94 (16 ∷ []) (patched 93 (4 ∷ []) (patched 92 (4 ∷ []) (patched 84 (1 ∷ []) (patched 80 (1 ∷ []) (fadt 6 276)))))) []
-    ∷ breaks rule.SmiHalf
-    (patched 53 (1 ∷ []) (patched 52 (1 ∷ []) (patched 48 (178 ∷ []) (fadt 6 276)))) [] 48 52 178
-    ∷ keeps rule.SmiHalf (patched 53 (2 ∷ []) (patched 52 (1 ∷ []) (patched 48 (178 ∷ []) (fadt 6 276)))) []
-    ∷ breaks rule.SmiHalf (patched 95 (1 ∷ []) (fadt 6 276)) [] 48 95 0
-    ∷ keeps rule.SmiHalf (fadt 6 276) []
-    ∷ breaks rule.SciZero (fadt 6 276) [] 46 0 0
-    ∷ keeps rule.SciZero (reduced (fadt 6 276)) []
-    ∷ breaks rule.ResetNowhere (patched 113 (4 ∷ []) (fadt 6 276)) [] 116 0 0
-    ∷ keeps rule.ResetNowhere (patched 120 (1 ∷ []) (patched 113 (4 ∷ []) (fadt 6 276))) []
-    ∷ breaks rule.SleepRegister (reduced (patched 245 (7 ∷ 0 ∷ 0 ∷ 1 ∷ []) (fadt 6 276))) [] 244 7 0
-    ∷ keeps rule.SleepRegister (reduced (fadt 6 276)) []
-    ∷ breaks rule.SleepRegister (reduced (patched 257 (8 ∷ 0 ∷ 0 ∷ 1 ∷ []) (fadt 6 276))) [] 244 0 0
-    ∷ keeps rule.SleepRegister
-    (reduced (patched 245 (8 ∷ 0 ∷ 0 ∷ 1 ∷ []) (patched 257 (8 ∷ 0 ∷ 0 ∷ 1 ∷ []) (fadt 6 276)))) []
-    ∷ breaks rule.FadtReserved (patched 45 (9 ∷ []) (fadt 6 276)) [] 45 0 9
-    ∷ keeps rule.FadtReserved (patched 45 (8 ∷ []) (fadt 6 276)) []
-    ∷ breaks rule.FadtReserved (patched 114 (192 ∷ []) (fadt 6 276)) [] 112 0 12582912
-    ∷ keeps rule.FadtReserved (patched 114 (64 ∷ []) (fadt 6 276)) []
-    ∷ []
+    edge rule.FadtOfRevision (fadt 6 275) (4, 275, 276) (fadt 6 276)
+    ++ edge rule.FacsDiffers (fadt_with ((132, 2) ∷ (36, 1) ∷ [])) (36, 1, 2) (fadt_with ((132, 2) ∷ (36, 2) ∷ []))
+    ++ edge rule.DsdtDiffers (fadt_with ((140, 2) ∷ (40, 1) ∷ [])) (40, 1, 2) (fadt_with ((140, 2) ∷ (40, 0) ∷ []))
+    ++ breaks rule.BlockDiffers (fadt_with ((236, 2) ∷ (232, 1) ∷ (84, 1) ∷ [])) [] 84 1 2
+    ∷ keeps rule.BlockDiffers (fadt_with ((236, 2) ∷ (232, 0) ∷ (84, 1) ∷ [])) []
+    ∷ edge rule.NoDsdt (fadt 6 276) (40, 0, 0) (patched 140 (1 ∷ []) (fadt 6 276))
+    ++ edge rule.NoPm1Block (patched 56 (1 ∷ []) (fadt 6 276)) (64, 0, 0) (fadt_with ((176, 1) ∷ (56, 1) ∷ []))
+    ++ breaks rule.BlockWidth (fadt_with ((152, 1) ∷ (149, 16) ∷ (88, 4) ∷ (56, 1) ∷ [])) [] 56 32 16
+    ∷ keeps rule.BlockWidth (fadt_with ((152, 1) ∷ (149, 32) ∷ (88, 4) ∷ (56, 1) ∷ [])) []
+    ∷ edge rule.HalfBlock (patched 90 (1 ∷ []) (fadt 6 276)) (72, 1, 0) (fadt_with ((72, 7) ∷ (90, 1) ∷ []))
+    ++ edge rule.HalfBlock (patched 236 (7 ∷ []) (fadt 6 276)) (84, 0, 7) (fadt_with ((93, 2) ∷ (236, 7) ∷ []))
+    ++ breaks rule.GpeOverlap (fadt_with ((94, 15) ∷ (93, 4) ∷ (92, 4) ∷ (84, 1) ∷ (80, 1) ∷ [])) [] 94 16 15
+    ∷ keeps rule.GpeOverlap (fadt_with ((94, 16) ∷ (93, 4) ∷ (92, 4) ∷ (84, 1) ∷ (80, 1) ∷ [])) []
+    ∷ breaks rule.SmiHalf (fadt_with ((53, 1) ∷ (52, 1) ∷ (48, 178) ∷ [])) [] 48 52 178
+    ∷ keeps rule.SmiHalf (fadt_with ((53, 2) ∷ (52, 1) ∷ (48, 178) ∷ [])) []
+    ∷ edge rule.SmiHalf (patched 95 (1 ∷ []) (fadt 6 276)) (48, 95, 0) (fadt 6 276)
+    ++ edge rule.SciZero (fadt 6 276) (46, 0, 0) (reduced (fadt 6 276))
+    ++ edge rule.ResetNowhere (patched 113 (4 ∷ []) (fadt 6 276)) (116, 0, 0) (fadt_with ((120, 1) ∷ (113, 4) ∷ []))
+    ++ edge rule.SleepRegister (reduced (patched 245 (7 ∷ 0 ∷ 0 ∷ 1 ∷ []) (fadt 6 276))) (244, 7, 0) (reduced (fadt 6 276))
+    ++ breaks rule.SleepRegister (reduced (patched 257 (8 ∷ 0 ∷ 0 ∷ 1 ∷ []) (fadt 6 276))) [] 244 0 0
+    ∷ keeps rule.SleepRegister (reduced (patched 245 (8 ∷ 0 ∷ 0 ∷ 1 ∷ []) (patched 257 (8 ∷ 0 ∷ 0 ∷ 1 ∷ []) (fadt 6 276)))) []
+    ∷ edge rule.FadtReserved (patched 45 (9 ∷ []) (fadt 6 276)) (45, 0, 9) (patched 45 (8 ∷ []) (fadt 6 276))
+    ++ edge rule.FadtReserved (patched 114 (192 ∷ []) (fadt 6 276)) (112, 0, 12582912) (patched 114 (64 ∷ []) (fadt 6 276))
 
 -- the FADT, further: its Revision, and what the hardware or the standard does not have (5.2.9)
 abbrev pub fadt_further_examples : List Example
@@ -572,35 +541,28 @@ fadt_further_examples =
     ++ breaks rule.FadtPastRevision (fadt 0 116) [] 8 0 0
     ∷ breaks rule.ArmBootEarly (patched 129 (0 ∷ 1 ∷ 0x10 ∷ []) (fadt 5 268)) [] 129 0 256
     ∷ keeps rule.ArmBootEarly (patched 129 (0 ∷ 1 ∷ 0x11 ∷ []) (fadt 5 268)) []
-    ∷ breaks rule.ArmBootEarly (patched 129 (1 ∷ []) (fadt 5 131)) [] 129 0 1
-    ∷ keeps rule.ArmBootEarly (patched 129 (1 ∷ []) (fadt 6 131)) []
-    ∷ keeps rule.ArmBootEarly (patched 129 (1 ∷ []) (fadt 5 130)) []
+    ∷ edge rule.ArmBootEarly (patched 129 (1 ∷ []) (fadt 5 131)) (129, 0, 1) (patched 129 (1 ∷ []) (fadt 6 131))
+    ++ keeps rule.ArmBootEarly (patched 129 (1 ∷ []) (fadt 5 130)) []
     ∷ map (λ at. breaks rule.FixedInReduced (reduced (patched at (7 ∷ []) (fadt 6 276))) [] at 0 7)
     (48 ∷ 56 ∷ 60 ∷ 64 ∷ 68 ∷ 72 ∷ 76 ∷ 80 ∷ 84 ∷ 152 ∷ 164 ∷ 176 ∷ 188 ∷ 200 ∷ 212 ∷ 224 ∷ 236 ∷ [])
     ++ keeps rule.FixedInReduced (patched 48 (7 ∷ []) (with_block 148 1 8)) []
     ∷ keeps rule.FixedInReduced (reduced (patched 236 (7 ∷ []) (fadt 3 243))) []
-    ∷ breaks rule.SmiHandshake (patched 48 (178 ∷ 0 ∷ 0 ∷ 0 ∷ 0 ∷ 1 ∷ []) (fadt 6 276)) [] 52 0 0
-    ∷ breaks rule.SmiHandshake (patched 48 (178 ∷ 0 ∷ 0 ∷ 0 ∷ 1 ∷ 0 ∷ []) (fadt 6 276)) [] 53 0 0
-    ∷ keeps rule.SmiHandshake (patched 48 (178 ∷ 0 ∷ 0 ∷ 0 ∷ 1 ∷ 1 ∷ []) (fadt 6 276)) []
-    ∷ keeps rule.SmiHandshake (patched 48 (178 ∷ []) (fadt 6 276)) []
-    ∷ keeps rule.SmiHandshake (patched 53 (1 ∷ []) (fadt 6 276)) []
-    ∷ keeps rule.SmiHandshake (reduced (patched 48 (178 ∷ 0 ∷ 0 ∷ 0 ∷ 0 ∷ 1 ∷ []) (fadt 6 276))) []
-    ∷ breaks rule.GpePastEnd (patched 92 (65 ∷ []) (patched 80 (1 ∷ []) (fadt 6 276))) [] 92 0 65
-    ∷ breaks rule.GpePastEnd (patched 92 (65 ∷ []) (with_block 220 1 8)) [] 92 0 65
-    ∷ keeps rule.GpePastEnd (patched 92 (64 ∷ []) (with_block 220 1 8)) []
-    ∷ breaks rule.GpePastEnd (patched 93 (1 ∷ 253 ∷ []) (patched 84 (1 ∷ []) (fadt 6 276))) [] 94 0 253
-    ∷ breaks rule.GpePastEnd (patched 93 (65 ∷ []) (with_block 232 1 8)) [] 94 0 0
-    ∷ keeps rule.GpePastEnd (patched 93 (1 ∷ 252 ∷ []) (patched 84 (1 ∷ []) (fadt 6 276))) []
-    ∷ keeps rule.GpePastEnd (patched 92 (65 ∷ 65 ∷ []) (fadt 6 276)) []
+    ∷ edge rule.SmiHandshake (fadt_with ((48, 178) ∷ (53, 1) ∷ [])) (52, 0, 0) (reduced (fadt_with ((48, 178) ∷ (53, 1) ∷ [])))
+    ++ edge rule.SmiHandshake (fadt_with ((48, 178) ∷ (52, 1) ∷ [])) (53, 0, 0) (fadt_with ((48, 178) ∷ (52, 1) ∷ (53, 1) ∷ []))
+    ++ map (λ (b : ℕ × ℕ). keeps rule.SmiHandshake (fadt_with (b ∷ [])) []) ((48, 178) ∷ (53, 1) ∷ [])
+    ++ edge rule.GpePastEnd (fadt_with ((92, 65) ∷ (80, 1) ∷ [])) (92, 0, 65) (fadt_with ((93, 1) ∷ (94, 252) ∷ (84, 1) ∷ []))
+    ++ edge rule.GpePastEnd (patched 92 (65 ∷ []) (with_block 220 1 8)) (92, 0, 65) (patched 92 (64 ∷ []) (with_block 220 1 8))
+    ++ edge rule.GpePastEnd (patched 93 (65 ∷ []) (with_block 232 1 8)) (94, 0, 0) (fadt_with ((92, 65) ∷ (93, 65) ∷ []))
+    ++ breaks rule.GpePastEnd (fadt_with ((93, 1) ∷ (94, 253) ∷ (84, 1) ∷ [])) [] 94 0 253
     ∷ keeps rule.GpePastEnd (reduced (patched 92 (65 ∷ []) (with_block 220 1 8))) []
     ∷ map
     (λ (b : ℕ × ℕ × ℕ). breaks rule.BlockTooLong (patched b.1 (32 ∷ []) (patched b.0 (1 ∷ []) (fadt 3 b.2))) [] b.1 0 32)
     ((56, 88, 276) ∷ (56, 88, 159) ∷ (60, 88, 276) ∷ (60, 88, 171) ∷ (64, 89, 276) ∷ (64, 89, 183) ∷ (68, 89, 276) ∷ (68, 89, 195)
     ∷ (72, 90, 276) ∷ (72, 90, 207) ∷ (76, 91, 276) ∷ (76, 91, 219) ∷ [])
-    ++ keeps rule.BlockTooLong (patched 88 (31 ∷ []) (patched 56 (1 ∷ []) (fadt 6 276))) []
+    ++ keeps rule.BlockTooLong (fadt_with ((88, 31) ∷ (56, 1) ∷ [])) []
     ∷ keeps rule.BlockTooLong (patched 88 (32 ∷ []) (patched 56 (1 ∷ []) (with_block 148 1 8))) []
-    ∷ keeps rule.BlockTooLong (patched 92 (32 ∷ []) (patched 80 (1 ∷ []) (fadt 6 276))) []
-    ∷ keeps rule.BlockTooLong (reduced (patched 88 (32 ∷ []) (patched 56 (1 ∷ []) (fadt 6 276)))) []
+    ∷ keeps rule.BlockTooLong (fadt_with ((92, 32) ∷ (80, 1) ∷ [])) []
+    ∷ keeps rule.BlockTooLong (reduced (fadt_with ((88, 32) ∷ (56, 1) ∷ []))) []
     ∷ map (λ at. breaks rule.BlockSpace (with_block at 2 8) [] at 0 2) (148 ∷ 160 ∷ 172 ∷ 184 ∷ 196 ∷ 208 ∷ 220 ∷ 232 ∷ [])
     ++ keeps rule.BlockSpace (patched 160 (2 ∷ []) (with_block 148 1 8)) []
     ∷ keeps rule.BlockSpace (reduced (with_block 148 2 8)) []
@@ -610,11 +572,76 @@ fadt_further_examples =
     ((148, 32) ∷ (160, 32) ∷ (172, 16) ∷ (184, 16) ∷ (196, 8) ∷ (208, 32) ∷ (220, 7) ∷ (232, 7) ∷ [])
     ++ keeps rule.BlockUsualWidth (patched 149 (16 ∷ []) (fadt 6 276)) []
     ∷ keeps rule.BlockUsualWidth (reduced (with_block 148 1 16)) []
-    ∷ breaks rule.SleepNotReduced (patched 248 (7 ∷ []) (fadt 5 256)) [] 248 0 7
-    ∷ keeps rule.SleepNotReduced (patched 248 (7 ∷ []) (fadt 5 255)) []
-    ∷ breaks rule.SleepNotReduced (patched 260 (7 ∷ []) (fadt 5 268)) [] 260 0 7
-    ∷ keeps rule.SleepNotReduced (reduced (patched 260 (7 ∷ []) (fadt 5 268))) []
+    ∷ edge rule.SleepNotReduced (patched 248 (7 ∷ []) (fadt 5 256)) (248, 0, 7) (patched 248 (7 ∷ []) (fadt 5 255))
+    ++ edge rule.SleepNotReduced (patched 260 (7 ∷ []) (fadt 5 268)) (260, 0, 7) (reduced (patched 260 (7 ∷ []) (fadt 5 268)))
+
+-- the MCFG (PCI Firmware Specification 3.3, 4.1.2)
+abbrev pub mcfg_examples : List Example
+mcfg_examples =
+    edge rule.McfgLength (sized 1 44) (4, 60, 44) (sized 1 60)
+    ++ map (λ n. breaks rule.McfgLength (sized 1 n) [] 4 76 n)
+    (61 ∷ 62 ∷ 63 ∷ 64 ∷ 65 ∷ 66 ∷ 67 ∷ 68 ∷ 69 ∷ 70 ∷ 71 ∷ 72 ∷ 73 ∷ 74 ∷ 75 ∷ [])
+    ++ keeps rule.McfgLength (sized 1 76) []
+    ∷ edge rule.EcamAddress (one_ecam 1 0 0 1) (44, 0, 0) (one_ecam 1 0x100000 0 1)
+    ++ breaks rule.EcamAddress (mcfg 1 (ecam 0x100000 0 0 1 ∷ ecam 0x180000 0 2 3 ∷ [])) [] 60 0 0x180000
+    ∷ edge rule.BusesReversed (one_ecam 1 0x100000 5 4) (44, 11, 4) (one_ecam 1 0x100000 5 5)
+    ++ breaks rule.EcamWraps (one_ecam 1 0xfffffffff0000001 0 255) [] 44 0 0xfffffffff0000001
+    ∷ edge rule.EcamWraps (one_ecam 1 0xfffffffff0010000 0 255) (44, 0, 0xfffffffff0010000) (one_ecam 1 0xfffffffff0000000 0 255)
+    ++ edge rule.EcamTooHigh (one_ecam 0 0xffffffff 0 0) (44, 0, 0xffffffff) (one_ecam 0 0xfffffffe 0 0)
+    ++ keeps rule.EcamTooHigh (one_ecam 1 0xffffffff 0 0) []
+    ∷ keeps rule.EcamTooHigh (patched 10 (0x53 ∷ 0x47 ∷ 0x49 ∷ []) (one_ecam 0 0xffffffff 0 0)) []
+    ∷ edge rule.SameBus (mcfg 1 (ecam 0 1 4 7 ∷ ecam 0 1 0 4 ∷ [])) (60, 44, 260) (mcfg 1 (ecam 0 1 4 7 ∷ ecam 0 1 0 3 ∷ []))
+    ++ edge rule.SameBus (mcfg 1 (ecam 0 0 4 7 ∷ ecam 0 0 4 4 ∷ [])) (44, 60, 4) (mcfg 1 (ecam 0 0 0 255 ∷ ecam 0 1 0 255 ∷ []))
+    ++ keeps rule.SameBus (mcfg 1 (ecam 0 0 0 255 ∷ ecam 0 0 5 4 ∷ [])) []
     ∷ []
+
+-- the HPET (IA-PC HPET 1.0a, 3.2.4)
+abbrev pub hpet_examples : List Example
+hpet_examples =
+    edge rule.HpetLength (sized 1 55) (4, 56, 55) (sized 1 56)
+    ++ edge rule.HpetSpace (hpet 1 0xfed00000) (40, 0, 1) (hpet 0 0xfed00000)
+    ++ keeps rule.HpetSpace (patched 40 (1 ∷ []) (sized 1 55)) []
+    ∷ edge rule.HpetAddress (hpet 0 0) (44, 0, 0) (sized 1 55)
+    ++ edge rule.HpetAddress (hpet 0 0xfed0000000000000) (44, 0, 0xfed0000000000000) (hpet 0 0xfed00000)
+    ++ edge rule.HpetAddress (hpet 0 0xfed00200) (44, 0, 0xfed00200) (hpet 0 0xfed00400)
+
+-- the SPCR (Microsoft's Serial Port Console Redirection Table 1.10)
+abbrev pub spcr_examples : List Example
+spcr_examples =
+    edge rule.SpcrLength (spcr 3 79 []) (4, 80, 79) (spcr 3 80 [])
+    ++ edge rule.SpcrLength (spcr 4 87 []) (4, 88, 87) (spcr 4 88 [])
+    ++ edge rule.SpcrAddress (spcr 3 80 ((44, 1) ∷ (40, 2) ∷ [])) (40, 0, 2) (spcr 3 79 ((44, 1) ∷ (40, 2) ∷ []))
+    ++ edge rule.SpcrAddress (spcr 4 88 ((51, 1) ∷ (40, 2) ∷ [])) (40, 0, 2) (spcr 4 87 ((51, 1) ∷ (40, 2) ∷ []))
+    ++ edge rule.SpcrAddress (spcr 4 88 ((44, 1) ∷ (43, 4) ∷ [])) (43, 0, 4) (spcr 4 88 ((44, 1) ∷ (43, 3) ∷ []))
+    ++ map (λ (bytes : List (ℕ × ℕ)). keeps rule.SpcrAddress (spcr 4 88 ((43, 4) ∷ bytes)) [])
+    ([] ∷ ((40, 2) ∷ []) ∷ ((44, 1) ∷ (40, 1) ∷ []) ∷ ((44, 1) ∷ (40, 2) ∷ (36, 0x15) ∷ []) ∷ ((44, 1) ∷ (36, 0x15) ∷ []) ∷ [])
+    ++ map (λ n. breaks rule.SpcrBaud (spcr 4 88 ((58, n) ∷ [])) [] 58 0 n) (1 ∷ 2 ∷ 5 ∷ 8 ∷ [])
+    ++ map (λ n. keeps rule.SpcrBaud (spcr 4 88 ((58, n) ∷ [])) []) (0 ∷ 3 ∷ 4 ∷ 6 ∷ 7 ∷ [])
+    ++ edge rule.SpcrBaud (spcr 3 88 ((58, 5) ∷ (80, 1) ∷ [])) (58, 0, 5) (spcr 4 88 ((58, 5) ∷ (80, 1) ∷ []))
+    ++ edge rule.SpcrBaud (spcr 3 80 ((58, 5) ∷ [])) (58, 0, 5) (spcr 4 87 ((58, 5) ∷ []))
+    ++ map (λ n. breaks rule.SpcrGsi (spcr 4 88 ((52, 1) ∷ (53, n) ∷ [])) [] 53 0 n) (0 ∷ 1 ∷ 8 ∷ 13 ∷ 16 ∷ [])
+    ++ map (λ n. keeps rule.SpcrGsi (spcr 4 88 ((52, 1) ∷ (53, n) ∷ [])) []) (2 ∷ 7 ∷ 9 ∷ 12 ∷ 14 ∷ 15 ∷ [])
+    ++ keeps rule.SpcrGsi (spcr 4 88 ((52, 14) ∷ [])) []
+    ∷ keeps rule.SpcrGsi (spcr 4 87 ((52, 1) ∷ [])) []
+    ∷ edge rule.SpcrPci (spcr 4 88 ((64, 255) ∷ (65, 255) ∷ [])) (64, 0, 0xffff) (spcr 4 88 ((64, 255) ∷ (67, 255) ∷ []))
+    ++ edge rule.SpcrPci (spcr 4 88 ((64, 7) ∷ (66, 255) ∷ (67, 255) ∷ [])) (64, 0, 7) (spcr 4 87 ((64, 255) ∷ (65, 255) ∷ []))
+    ++ edge rule.SpcrPci (spcr 4 88 ((69, 32) ∷ [])) (69, 0, 32) (spcr 4 88 ((69, 31) ∷ []))
+    ++ edge rule.SpcrPci (spcr 4 88 ((70, 8) ∷ [])) (70, 0, 8) (spcr 4 88 ((70, 7) ∷ []))
+    ++ keeps rule.SpcrPci (patched 64 (replicate 4 255) (spcr 4 88 ((69, 32) ∷ (70, 8) ∷ []))) []
+    ∷ edge rule.SpcrName (spcr 4 90 ((84, 1) ∷ (86, 88) ∷ [])) (84, 0, 1) (spcr 4 90 ((84, 2) ∷ (86, 88) ∷ []))
+    ++ edge rule.SpcrName (spcr 4 90 ((84, 2) ∷ (86, 87) ∷ [])) (86, 0, 87) (spcr 3 90 ((84, 2) ∷ (86, 87) ∷ []))
+    ++ edge rule.SpcrName (spcr 4 90 ((84, 3) ∷ (86, 88) ∷ [])) (86, 0, 88) (spcr 4 87 [])
+
+-- the SPCR with the MADT
+abbrev pub spcr_with_madt_examples : List Example
+spcr_with_madt_examples =
+    breaks rule.SpcrGsi (console 2 0) (madt (gicd 3 ∷ [])) 52 0 2
+    ∷ map (λ n. breaks rule.SpcrGsi (console 8 n) (madt (gicd 3 ∷ [])) 54 0 n) (0 ∷ 31 ∷ 1020 ∷ 4095 ∷ 5120 ∷ [])
+    ++ map (λ n. keeps rule.SpcrGsi (console 8 n) (madt (gicd 3 ∷ []))) (32 ∷ 1019 ∷ 4096 ∷ 5119 ∷ [])
+    ++ map (λ table. keeps rule.SpcrGsi table (madt (gicd 3 ∷ [])))
+    (console 0 31 ∷ spcr 4 88 ((52, 2) ∷ []) ∷ spcr 4 87 ((44, 1) ∷ (52, 2) ∷ []) ∷ [])
+    ++ map (λ entries. keeps rule.SpcrGsi (console 2 31) (madt entries))
+    ((local_apic 3 5 1 ∷ []) ∷ (gicd 3 ∷ entry 0 7 ∷ []) ∷ (gicd 3 ∷ (0 ∷ []) ∷ []) ∷ [])
 
 -- each of these finds what it says
 pub record AreRowsFound : Type 0 where
@@ -632,3 +659,7 @@ pub record AreRowsFound : Type 0 where
   pub pptt : AreFound pptt_group.rows pptt_examples
   pub fadt : AreFound fadt_group.rows fadt_examples
   pub fadt_further : AreFound fadt_further_group.rows fadt_further_examples
+  pub mcfg : AreFound mcfg_group.rows mcfg_examples
+  pub hpet : AreFound hpet_group.rows hpet_examples
+  pub spcr : AreFound spcr_group.rows spcr_examples
+  pub spcr_with_madt : AreFound spcr_with_madt_group.rows spcr_with_madt_examples

@@ -6,6 +6,7 @@ ghost use Rattle.acpi_base.specs.Policy.{PolicyValue, IsPolicy};
 ghost use Rattle.acpi_base.specs.Statements.{IsClean};
 ghost use Rattle.acpi_write.specs.Rebuilding.{IsRebuilt};
 ghost use Rattle.acpi_write.specs.SetValues.{IsSetValue};
+ghost use Rattle.acpi_examples.specs.AdviceDevices.{AreDevicesAdvised};
 ghost use Rattle.acpi_examples.specs.AdviceFadt.{IsFadtAdvised};
 ghost use Rattle.acpi_examples.specs.AdviceFadtFields.{AreFadtFieldsAdvised};
 ghost use Rattle.acpi_examples.specs.AdviceGic.{IsGicAdvised};
@@ -83,6 +84,7 @@ pub fn advice_examples()
     ensures hierarchy { IsHierarchyAdvised }
     ensures gic { IsGicAdvised }
     ensures ranges { AreRangesAdvised }
+    ensures devices { (q : PolicyValue) → AreDevicesAdvised q }
     ensures rows { AreRowsFound }
 {}
 

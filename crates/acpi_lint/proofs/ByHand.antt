@@ -105,6 +105,9 @@ is_by_hand rule.NullSlot m q at other point holds = (19, omega arith, refl)
 is_by_hand rule.ListedApart m q at other point holds = (20, omega arith, refl)
 is_by_hand rule.SecondTable m q at other point holds = (21, omega arith, refl)
 is_by_hand rule.ListedTwice m q at other point holds = (22, omega arith, refl)
+is_by_hand rule.SpcrGsi m q at other point holds = (23, omega arith, refl)
+is_by_hand rule.SpcrName m q at other point holds = (24, omega arith, refl)
+is_by_hand rule.EcamOverlap m q at other point holds = (25, omega arith, refl)
 is_by_hand _ m q at other point holds = absurd holds
 
 pub found_of : (m : Memory) (q : PolicyValue) (r : Rule) (found : List Found) (lowest : Option Place)

@@ -2,6 +2,7 @@
 mod ByHand
 mod CollectedNumbers
 mod Differences
+mod Ecams
 mod EitherPlace
 mod EntryFaults
 mod FacsSets
@@ -11,6 +12,7 @@ mod FirstEntries
 mod FirstOfCodes
 mod FirstPlaces
 mod FirstSlots
+mod FurtherKinds
 mod HeaderTexts
 mod HeldStages
 mod LeastPlaces
@@ -39,6 +41,7 @@ mod SecondTables
 mod ShortTables
 mod SlitFaults
 mod SomeEntries
+mod SpcrBytes
 mod StageVerdicts
 mod StructureRanges
 mod TablesAt

@@ -29,6 +29,7 @@ no_slot =
             odd_text = None;
             fault = None;
             kind = None;
+            further = None;
             is_apart = false;
           };
     }

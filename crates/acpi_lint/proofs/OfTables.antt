@@ -3,8 +3,8 @@ use Rattle.std.proofs.Common.{◌≡◌, ℕ, ◌≤◌, List, length, Option, S
 use Rattle.std.specs.Prelude.{◌↔◌, IfOk, MatchOption}
 use Rattle.std.proofs.lemmas.Option.{same_Some}
 use Rattle.acpi_base.specs.Contents.{HasPptt}
-use Rattle.acpi_lint.specs.RowGroups.{OfKind}
-use Rattle.acpi_lint.specs.TableLengths.{least_length}
+use Rattle.acpi_lint.specs.RowGroups.{OfTable}
+use Rattle.acpi_lint.specs.FurtherTables.{further_signature, row_length, row_signature}
 use Rattle.acpi_lint.specs.Rules.Broken.{OfFadt, OfMadt}
 use Rattle.acpi_base.specs.Listed.{fadt_signature, madt_signature, srat_signature, slit_signature, pptt_signature, HasListed, IsListedTable}
 use Rattle.acpi_base.specs.Madt.{madt_contents}
@@ -13,7 +13,7 @@ use Rattle.acpi_base.specs.Policy.{PolicyValue}
 use Rattle.acpi_base.specs.Pptt.{pptt_contents}
 use Rattle.acpi_base.proofs.Faults.ListedTables.{of_listed}
 use Rattle.acpi_rules.specs.Places.{FindsLeast}
-use Rattle.acpi_lint.specs.CompleteTables.{IsFound, IsLong, AreCompleteTables, table_of}
+use Rattle.acpi_lint.specs.CompleteTables.{IsFound, IsLong, AreCompleteTables, further_of, row_table_of, table_of}
 use Rattle.acpi_rules.specs.declared.place.Place.{Place}
 use Rattle.acpi_lint.specs.declared.complete_tables.CompleteTables.{CompleteTables}
 use Rattle.acpi_lint.proofs.CollectedNumbers.{each_ok}
@@ -21,8 +21,14 @@ use Rattle.acpi_rules.proofs.LeastPlaces.{least_as}
 use Rattle.acpi_base.specs.Root.{IsSlot}
 use Rattle.acpi_base.specs.TableKinds.{signature_of}
 use Rattle.acpi_base.specs.declared.table_kind.TableKind.{TableKind}
-use Rattle.acpi_lint.specs.Slots.{IsRootOf, AreSlots, AreFirstSlots}
+use Rattle.acpi_lint.specs.Slots.{IsRootOf, IsSought, AreSlots, AreFirstSlots, FindsSlot, first_of, first_of_further}
 use Rattle.acpi_base.specs.declared.table_kind.TableKind.TheVariants as kind
+use Rattle.acpi_lint.specs.declared.first_slots.FirstSlots.{FirstSlots}
+use Rattle.acpi_lint.specs.declared.further_table.FurtherTable.{FurtherTable}
+use Rattle.acpi_lint.specs.declared.further_table.FurtherTable.TheVariants as further
+use Rattle.acpi_lint.specs.declared.further_table.RowTable.{RowTable}
+use Rattle.acpi_lint.specs.declared.further_table.RowTable.TheVariants.{Further, Kind}
+use Rattle.acpi_lint.specs.declared.table_at.Sought.TheVariants as sought
 
 pub of_table : {m : Memory} {p : ℕ} {signature whole : List ℕ} (P : List ℕ → ℕ → ℕ → ℕ → Type 0) (found : Option Place)
     → IsListedTable m p signature whole → FindsLeast (P whole) found
@@ -65,14 +71,40 @@ none_long m p signature least P None looked long short = of_no_table P looked
 none_long m p signature least P (Some bytes) looked long short =
     of_table P None looked (short bytes (long bytes refl))
 
--- the root table and the table of each kind are those of the set
+-- these are the first slots of each kind, and of each further table
+pub are_first_slots : {m : Memory} {p : ℕ} (firsts : FirstSlots)
+    → FindsSlot m p (IsSought m (sought.Kind kind.Fadt)) firsts.fadt
+    → FindsSlot m p (IsSought m (sought.Kind kind.Madt)) firsts.madt
+    → FindsSlot m p (IsSought m (sought.Kind kind.Srat)) firsts.srat
+    → FindsSlot m p (IsSought m (sought.Kind kind.Slit)) firsts.slit
+    → FindsSlot m p (IsSought m (sought.Kind kind.Pptt)) firsts.pptt
+    → FindsSlot m p (IsSought m (sought.Further further.Mcfg)) firsts.mcfg
+    → FindsSlot m p (IsSought m (sought.Further further.Hpet)) firsts.hpet
+    → FindsSlot m p (IsSought m (sought.Further further.Spcr)) firsts.spcr → AreFirstSlots m p firsts
+are_first_slots {m} {p} firsts fadt madt srat slit pptt mcfg hpet spcr = record { kinds = kinds; further = all }
+  where
+    kinds : (k : TableKind) → FindsSlot m p (IsSought m (sought.Kind k)) (first_of firsts k)
+    kinds kind.Fadt = fadt
+    kinds kind.Madt = madt
+    kinds kind.Srat = srat
+    kinds kind.Slit = slit
+    kinds kind.Pptt = pptt
+
+    all : (t : FurtherTable) → FindsSlot m p (IsSought m (sought.Further t)) (first_of_further firsts t)
+    all further.Mcfg = mcfg
+    all further.Hpet = hpet
+    all further.Spcr = spcr
+
+-- the root table and each table are those of the set
 pub are_whole : {m : Memory} {p : ℕ} (tables : CompleteTables)
     → IsRootOf m p tables.root → AreSlots m (IsSlot m p) tables.slots.items → AreFirstSlots m p tables.firsts
     → IsFound m p fadt_signature tables.fadt → IsFound m p madt_signature tables.madt
     → IsFound m p srat_signature tables.srat → IsFound m p slit_signature tables.slit
-    → IsFound m p pptt_signature tables.pptt → AreCompleteTables m p tables
-are_whole {m} {p} tables root slots firsts fadt madt srat slit pptt =
-    record { root = root; slots = slots; firsts = firsts; listed = listed }
+    → IsFound m p pptt_signature tables.pptt → IsFound m p (further_signature further.Mcfg) tables.mcfg
+    → IsFound m p (further_signature further.Hpet) tables.hpet
+    → IsFound m p (further_signature further.Spcr) tables.spcr → AreCompleteTables m p tables
+are_whole {m} {p} tables root slots firsts fadt madt srat slit pptt mcfg hpet spcr =
+    record { root = root; slots = slots; firsts = firsts; listed = listed; further = all }
   where
     listed : (k : TableKind) → IsFound m p (signature_of k) (table_of tables k)
     listed kind.Fadt = fadt
@@ -80,6 +112,17 @@ are_whole {m} {p} tables root slots firsts fadt madt srat slit pptt =
     listed kind.Srat = srat
     listed kind.Slit = slit
     listed kind.Pptt = pptt
+
+    all : (t : FurtherTable) → IsFound m p (further_signature t) (further_of tables t)
+    all further.Mcfg = mcfg
+    all further.Hpet = hpet
+    all further.Spcr = spcr
+
+-- any table is that of the set
+pub row_listed : {m : Memory} {p : ℕ} {tables : CompleteTables} → AreCompleteTables m p tables → (t : RowTable)
+    → IsFound m p (row_signature t) (row_table_of tables t)
+row_listed are (Kind k) = are.listed k
+row_listed are (Further t) = are.further t
 
 -- ---- the tables of a set
 
@@ -134,12 +177,12 @@ pptt_lifts m q {tables = tables} view are is =
     (rw is (listed_lifts m q.rsdp pptt_signature tables.pptt (are.listed kind.Pptt)))
 
 -- the bytes of a table that has all its fields
-pub kind_lifts : (kind : TableKind) (m : Memory) (q : PolicyValue) {tables : CompleteTables} (view : Option (List ℕ))
-    → AreCompleteTables m q.rsdp tables → IsLong (least_length kind) (table_of tables kind) view
-    → Lifts (OfKind kind m q) (λ whole. whole) view
-kind_lifts kind m q {tables = tables} view are long =
-    long_lifts (HasListed m q.rsdp (signature_of kind)) (least_length kind) (table_of tables kind) view
-    (listed_lifts m q.rsdp (signature_of kind) (table_of tables kind) (are.listed kind)) long
+pub table_lifts : (table : RowTable) (m : Memory) (q : PolicyValue) {tables : CompleteTables}
+    (view : Option (List ℕ)) → AreCompleteTables m q.rsdp tables
+    → IsLong (row_length table) (row_table_of tables table) view → Lifts (OfTable table m q) (λ whole. whole) view
+table_lifts table m q {tables = tables} view are long =
+    long_lifts (HasListed m q.rsdp (row_signature table)) (row_length table) (row_table_of tables table) view
+    (listed_lifts m q.rsdp (row_signature table) (row_table_of tables table) (row_listed are table)) long
 
 -- ---- what is found in one table
 

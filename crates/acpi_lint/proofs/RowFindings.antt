@@ -12,7 +12,6 @@ use Rattle.std.proofs.Math.Seq.{drop-cons}
 use Rattle.acpi_base.specs.Listed.{IsListedTable}
 use Rattle.acpi_base.specs.Memory.{Memory}
 use Rattle.acpi_base.specs.Policy.{PolicyValue}
-use Rattle.acpi_base.specs.TableKinds.{signature_of}
 use Rattle.acpi_base.specs.declared.table_kind.TableKind.{TableKind}
 use Rattle.acpi_base.proofs.Elements.{first_element, first_or_later, later_element, no_element}
 use Rattle.acpi_base.proofs.Faults.ListedTables.{of_listed}
@@ -23,9 +22,11 @@ use Rattle.acpi_rules.specs.Rows.{BorRow, row_value}
 use Rattle.acpi_rules.specs.Rows as rows
 use Rattle.acpi_rules.specs.Terms.{TwoTables}
 use Rattle.acpi_rules.specs.declared.place.Place.{Place}
-use Rattle.acpi_lint.specs.CompleteTables.{AreCompleteTables, IsFound, IsLong, table_of}
+use Rattle.acpi_lint.specs.CompleteTables.{AreCompleteTables, IsFound, IsLong, row_table_of, table_of}
 use Rattle.acpi_lint.specs.RowFindings.{AreBroken, AreFirsts, AreIndexes, AreTablesOf, FindsIndex, HasFound, HasTable, IsLongTable, IsLowestOf, IsUpTo, index_of_kind}
-use Rattle.acpi_lint.specs.RowGroups.{BreaksRow, IsRowBroken, OfAny, OfKind, OfKinds, RowGroup, row_groups}
+use Rattle.acpi_lint.specs.FurtherTables.{row_length, row_signature}
+use Rattle.acpi_lint.specs.declared.further_table.RowTable.{RowTable}
+use Rattle.acpi_lint.specs.RowGroups.{BreaksRow, IsRowBroken, OfAny, OfTable, OfTables, RowGroup, row_groups}
 use Rattle.acpi_lint.specs.TableLengths.{least_length}
 use Rattle.acpi_lint.specs.Rules.Broken.{IsBroken, IsBrokenByHand}
 use Rattle.acpi_lint.specs.Rules.Rows.{rule_number}
@@ -35,6 +36,7 @@ use Rattle.acpi_lint.specs.declared.row_findings.Found.{Found}
 use Rattle.acpi_lint.specs.declared.row_findings.Indexes.{Indexes}
 use Rattle.acpi_lint.specs.declared.rule.Rule.{Rule}
 use Rattle.acpi_lint.proofs.CollectedNumbers.{each_ok}
+use Rattle.acpi_lint.proofs.OfTables.{row_listed}
 use Rattle.acpi_rules.proofs.LeastPlaces.{not_after_itself, not_after_trans}
 
 -- ---- findings of one after another
@@ -333,7 +335,7 @@ group_broken tables g result t are found = each_ok result (λ v firsts. of v fir
     one_value : (a b : List ℕ) {view : Option (List ℕ)} → view ≡ Some a → view ≡ Some b → a ≡ b
     one_value a b one two = same_Some a b (sym one ∙ two)
 
-    one_pair : (beside : Option TableKind) (u : TwoTables) → AreTablesOf tables g.table beside t
+    one_pair : (beside : Option RowTable) (u : TwoTables) → AreTablesOf tables g.table beside t
         → AreTablesOf tables g.table beside u → u ≡ t
     one_pair None u (one, none) (two, empty) =
         let same = one_value u.table t.table two.0 one.0 in
@@ -378,38 +380,38 @@ indexed_right tables indexes k index i view table bytes are said is same seen lo
 -- ---- from the tables that were found to the set
 
 module _ {m : Memory} (q : PolicyValue) (tables : CompleteTables) (are : AreCompleteTables m q.rsdp tables) where
-  of_kind : (k : TableKind) (P : List ℕ → Type 0)
-      → OfKind k m q P ↔ ((whole : List ℕ) × IsLongTable tables k whole × P whole)
-  of_kind k P = by (table_of tables k) (are.listed k)
+  of_table : (k : RowTable) (P : List ℕ → Type 0)
+      → OfTable k m q P ↔ ((whole : List ℕ) × IsLongTable tables k whole × P whole)
+  of_table k P = by (row_table_of tables k) (row_listed are k)
     where
-      by : (found : Option (List ℕ)) → IsFound m q.rsdp (signature_of k) found
-          → OfKind k m q P
-          ↔ ((whole : List ℕ) × ((found ≡ Some whole) × (least_length k ≤ length whole)) × P whole)
+      by : (found : Option (List ℕ)) → IsFound m q.rsdp (row_signature k) found
+          → OfTable k m q P
+          ↔ ((whole : List ℕ) × ((found ≡ Some whole) × (row_length k ≤ length whole)) × P whole)
       by None looked =
           (λ (whole, listed, holds). absurd (looked whole listed), λ (whole, (is, size), holds). absurd cc)
       by (Some v) looked = (
         λ has.
-            let (size, holds) = of_listed (λ w. (least_length k ≤ length w) × P w) looked has in
+            let (size, holds) = of_listed (λ w. (row_length k ≤ length w) × P w) looked has in
             (v, (refl, size), holds),
         λ (whole, (is, size), holds). (
           whole,
-          subst (λ (w : List ℕ). IsListedTable m q.rsdp (signature_of k) w) (same_Some v whole is) looked,
+          subst (λ (w : List ℕ). IsListedTable m q.rsdp (row_signature k) w) (same_Some v whole is) looked,
           (size, holds),
         ),
       )
 
-  of_kinds : (k : TableKind) (beside : Option TableKind) (P : TwoTables → Type 0)
-      → OfKinds k beside m q P ↔ ((t : TwoTables) × AreTablesOf tables k beside t × P t)
-  of_kinds k None P =
-      let own = of_kind k (λ table. P (record { table = table; other = [] })) in (
+  of_tables : (k : RowTable) (beside : Option RowTable) (P : TwoTables → Type 0)
+      → OfTables k beside m q P ↔ ((t : TwoTables) × AreTablesOf tables k beside t × P t)
+  of_tables k None P =
+      let own = of_table k (λ table. P (record { table = table; other = [] })) in (
         λ has.
             let (whole, long, holds) = own.0 has in (record { table = whole; other = [] }, (long, refl), holds),
         λ (t, (long, none), holds).
             own.1 (t.table, long, subst (λ (o : List ℕ). P (record { table = t.table; other = o })) none holds),
       )
-  of_kinds k (Some beside) P =
-      let own = of_kind k (λ table. OfKind beside m q (λ other. P (record { table = table; other = other }))) in
-      let next = λ (table : List ℕ). of_kind beside (λ other. P (record { table = table; other = other })) in (
+  of_tables k (Some beside) P =
+      let own = of_table k (λ table. OfTable beside m q (λ other. P (record { table = table; other = other }))) in
+      let next = λ (table : List ℕ). of_table beside (λ other. P (record { table = table; other = other })) in (
         λ has.
             let (whole, long, more) = own.0 has in
             let (other, also, holds) = (next whole).0 more in
@@ -425,12 +427,12 @@ module _ {m : Memory} (q : PolicyValue) (tables : CompleteTables) (are : AreComp
             let (g, in_all, broken) = firsts.here f listed in (
               g,
               in_all,
-              (of_kinds g.table g.other
+              (of_tables g.table g.other
                   (λ t. OfAny (BreaksRow t) g.rows f.number f.place.at f.place.other f.place.point)).1 broken,
             );
         first = λ number at other point (g, in_all, broken).
             firsts.first number at other point
-            (g, in_all, (of_kinds g.table g.other (λ t. OfAny (BreaksRow t) g.rows number at other point)).0 broken);
+            (g, in_all, (of_tables g.table g.other (λ t. OfAny (BreaksRow t) g.rows number at other point)).0 broken);
       }
 
 -- ---- the first finding of a rule
@@ -457,7 +459,7 @@ some_advice m q rule number p is least = (
 
 -- ---- a finding is on tables that are there
 
-has_table : (tables : CompleteTables) (g : RowGroup) (t : TwoTables) (other : Option TableKind)
+pub has_table : (tables : CompleteTables) (g : RowGroup) (t : TwoTables) (other : Option RowTable)
     → AreTablesOf tables g.table other t → HasTable tables
 has_table tables g t None are = (g.table, rw are.0.0 refl)
 has_table tables g t (Some k) are = (g.table, rw are.0.0 refl)

@@ -55,14 +55,14 @@ second_from {m} {p} firsts s place are slot there is = from s.table.kind refl is
         → option_and_then (λ kind. option_and_then (second_after s) (first_of firsts kind)) found ≡ Some place
         → IsSecondTable m p place.at place.other place.point × (place.at ≡ s.number)
     from None same is = cc
-    from (Some kind) same is = behind kind (first_of firsts kind) same (are kind) is
+    from (Some kind) same is = behind kind (first_of firsts kind) same (are.kinds kind) is
 
 pub second_to : {m : Memory} {p at other point : ℕ} (firsts : FirstSlots) (s : Slot) → AreFirstSlots m p firsts
     → s.number ≡ at → s.table.address ≡ point → IsTableAt m s.table → IsSecondTable m p at other point
     → second_place firsts s ≡ Some (record { at = at; other = other; point = point })
 second_to {m} {p} {at} {other} {point} firsts s are number address there (kind, second) =
     let is : s.table.kind ≡ Some kind = (there.tells (sought.Kind kind)).1 (rw address second.here.1) in
-    rw is (behind (first_of firsts kind) (are kind))
+    rw is (behind (first_of firsts kind) (are.kinds kind))
   where
     behind : (found : Option Slot) → FindsSlot m p (IsSought m (sought.Kind kind)) found
         → option_and_then (second_after s) found ≡ Some (record { at = at; other = other; point = point })

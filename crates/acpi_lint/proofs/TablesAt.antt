@@ -11,12 +11,15 @@ use Rattle.acpi_base.specs.Tables.{IsSigned, TableFault}
 use Rattle.acpi_base.specs.declared.code.Code.{Code}
 use Rattle.acpi_base.specs.declared.table_kind.TableKind.{TableKind}
 use Rattle.acpi_base.proofs.Tables.Kinds.{one_kind}
+use Rattle.acpi_lint.specs.FurtherTables.{IsFurtherOf, further_signature}
 use Rattle.acpi_lint.specs.Headers.{IsFirstOdd}
 use Rattle.acpi_lint.specs.Rules.HeaderAdvice.{IsOddField, signature_number}
 use Rattle.acpi_lint.specs.Slots.{FindsOddAt, IsTableAt, HasSought, IsSought}
+use Rattle.acpi_lint.specs.declared.further_table.FurtherTable.{FurtherTable}
 use Rattle.acpi_lint.specs.declared.table_at.Sought.{Sought}
 use Rattle.acpi_lint.specs.declared.table_at.TableAt.{TableAt}
 use Rattle.acpi_lint.specs.declared.table_at.Sought.TheVariants as sought
+use Rattle.acpi_lint.proofs.FurtherKinds.{one_further}
 
 signed_there : {m : Memory} {a : ℕ} {signature : List ℕ} (header : List ℕ) → bytes_at m a 36 ≡ Some header
     → (has_signature header signature ≡ true) ↔ IsSigned m a signature
@@ -37,6 +40,17 @@ kind_there header (Some one) kind is = (
   λ signed. ap Some (one_kind header one kind is signed),
 )
 
+further_there : (header : List ℕ) (found : Option FurtherTable) (table : FurtherTable) → IsFurtherOf header found
+    → (found ≡ Some table) ↔ (has_signature header (further_signature table) ≡ true)
+further_there header None table is = (
+  λ same. absurd (none-some _ same),
+  λ signed. (let lacks : has_signature header (further_signature table) ≡ false = is table in absurd cc),
+)
+further_there header (Some one) table is = (
+  λ same. subst (λ (t : FurtherTable). has_signature header (further_signature t) ≡ true) (same_Some _ _ same) is,
+  λ signed. ap Some (one_further header one table is signed),
+)
+
 odd_there : (m : Memory) (a : ℕ) (header : List ℕ) (found : Option ℕ) → bytes_at m a 36 ≡ Some header
     → IsFirstOdd header found → FindsOddAt m a found
 odd_there m a header None present none = λ offset (other, here, odd).
@@ -51,10 +65,11 @@ pub table_there : {m : Memory} (table : TableAt) (header : List ℕ)
     → bytes_at m table.address 36 ≡ Some header
     → table.signature ≡ signature_number header → IsFirstOdd header table.odd_text
     → ((c : Code) → (table.fault ≡ Some c) ↔ TableFault m table.address c) → IsKindOf header table.kind
+    → IsFurtherOf header table.further
     → (IsTrue table.is_apart
     ↔ ((has_signature header dsdt_signature ≡ true) ⊎ (has_signature header facs_signature ≡ true)))
     → IsTableAt m table
-table_there {m} table header present signature odd faults is tells =
+table_there {m} table header present signature odd faults is further tells =
     record {
       signature = signature ∙ (rw present refl);
       text = odd_there m table.address header table.odd_text present odd;
@@ -66,6 +81,10 @@ table_there {m} table header present signature odd faults is tells =
     sides (sought.Kind kind) = (
       λ same. (signed_there header present).0 ((kind_there header table.kind kind is).0 same),
       λ signed. (kind_there header table.kind kind is).1 ((signed_there header present).1 signed),
+    )
+    sides (sought.Further one) = (
+      λ same. (signed_there header present).0 ((further_there header table.further one further).0 same),
+      λ signed. (further_there header table.further one further).1 ((signed_there header present).1 signed),
     )
     sides sought.Apart = (
       λ sure. elim (tells.0 sure) [

@@ -54,7 +54,14 @@ slit_rules = rule.RemoteAsLocal ∷ rule.SlitDiffers ∷ []
 abbrev pub pptt_rules : List Rule
 pptt_rules = rule.SameCacheType ∷ rule.NoPackage ∷ []
 
+abbrev pub mcfg_rules : List Rule
+mcfg_rules = rule.EcamOverlap ∷ []
+
+abbrev pub spcr_rules : List Rule
+spcr_rules = rule.SpcrGsi ∷ rule.SpcrName ∷ []
+
 -- all of them
 abbrev pub rules_by_hand : List Rule
 rules_by_hand =
-    pptt_rules ++ (slit_rules ++ (madt_rules ++ (fadt_madt_rules ++ (fadt_rules ++ (memory_rules ++ slot_rules)))))
+    pptt_rules ++ (slit_rules ++ (madt_rules ++ (fadt_madt_rules ++ (fadt_rules ++ (memory_rules ++ (slot_rules
+    ++ (spcr_rules ++ mcfg_rules)))))))

@@ -7,8 +7,13 @@ use Rattle.acpi_base.specs.TableKinds.{signature_of}
 use Rattle.acpi_base.specs.declared.table_kind.TableKind.{TableKind}
 use Rattle.acpi_base.specs.declared.table_kind.TableKind.TheVariants as kind
 use Rattle.acpi_read.specs.Roots.{RootValue, IsCompleteRoot}
+use Rattle.acpi_lint.specs.FurtherTables.{further_signature}
 use Rattle.acpi_lint.specs.Slots.{IsRootOf, AreSlots, AreFirstSlots}
 use Rattle.acpi_lint.specs.declared.complete_tables.CompleteTables.{CompleteTables}
+use Rattle.acpi_lint.specs.declared.further_table.FurtherTable.{FurtherTable}
+use Rattle.acpi_lint.specs.declared.further_table.FurtherTable.TheVariants as further
+use Rattle.acpi_lint.specs.declared.further_table.RowTable.{RowTable}
+use Rattle.acpi_lint.specs.declared.further_table.RowTable.TheVariants.{Further, Kind}
 
 -- these are the bytes of the set's first listed table with the signature, or it is missing or incomplete
 abbrev pub IsFound : Memory → ℕ → List ℕ → Option (List ℕ) → Type 0
@@ -23,6 +28,16 @@ table_of tables kind.Srat = tables.srat
 table_of tables kind.Slit = tables.slit
 table_of tables kind.Pptt = tables.pptt
 
+-- a further table, and any that rows are about
+abbrev pub further_of : CompleteTables → FurtherTable → Option (List ℕ)
+further_of tables further.Mcfg = tables.mcfg
+further_of tables further.Hpet = tables.hpet
+further_of tables further.Spcr = tables.spcr
+
+abbrev pub row_table_of : CompleteTables → RowTable → Option (List ℕ)
+row_table_of tables (Kind kind) = table_of tables kind
+row_table_of tables (Further table) = further_of tables table
+
 -- there is a complete root table of the RSDP at p
 abbrev pub HasRoot : Memory → ℕ → Type 0
 HasRoot m p = (root : RootValue) × IsCompleteRoot m p root
@@ -33,6 +48,7 @@ pub record AreCompleteTables (m : Memory) (p : ℕ) (tables : CompleteTables) : 
   pub slots : AreSlots m (IsSlot m p) tables.slots.items
   pub firsts : AreFirstSlots m p tables.firsts
   pub listed : (kind : TableKind) → IsFound m p (signature_of kind) (table_of tables kind)
+  pub further : (table : FurtherTable) → IsFound m p (further_signature table) (further_of tables table)
 
 -- this is the table that was found, of at least this many bytes; or none was found, or it is shorter
 abbrev pub IsLong : ℕ → Option (List ℕ) → Option (List ℕ) → Type 0

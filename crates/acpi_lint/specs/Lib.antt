@@ -5,6 +5,7 @@ pub mod CacheTypes
 pub mod CompleteTables
 pub mod Differences
 pub mod FadtPlaces
+pub mod FurtherTables
 pub mod Headers
 pub mod HeldStages
 pub mod Hierarchy

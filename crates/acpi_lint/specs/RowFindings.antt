@@ -7,32 +7,33 @@ use Rattle.acpi_rules.specs.Places.{IsNotAfter}
 use Rattle.acpi_rules.specs.Terms.{TwoTables}
 use Rattle.acpi_rules.specs.declared.index.Index.{Index}
 use Rattle.acpi_rules.specs.declared.place.Place.{Place}
-use Rattle.acpi_lint.specs.CompleteTables.{table_of}
+use Rattle.acpi_lint.specs.CompleteTables.{row_table_of, table_of}
+use Rattle.acpi_lint.specs.FurtherTables.{row_length}
 use Rattle.acpi_lint.specs.RowGroups.{BreaksRow, OfAny, RowGroup}
-use Rattle.acpi_lint.specs.TableLengths.{least_length}
 use Rattle.acpi_lint.specs.declared.complete_tables.CompleteTables.{CompleteTables}
+use Rattle.acpi_lint.specs.declared.further_table.RowTable.{RowTable}
 use Rattle.acpi_lint.specs.declared.row_findings.Found.{Found}
 use Rattle.acpi_lint.specs.declared.row_findings.Indexes.{Indexes}
 
 -- ---- the tables that were found
 
--- there is one of a kind
+-- there is one
 abbrev pub HasTable : CompleteTables → Type 0
-HasTable tables = (kind : TableKind) × IsSome (table_of tables kind)
+HasTable tables = (table : RowTable) × IsSome (row_table_of tables table)
 
--- these are the bytes of the table of a kind, which has all its fields
-abbrev pub IsLongTable : CompleteTables → TableKind → List ℕ → Type 0
-IsLongTable tables kind whole = (table_of tables kind ≡ Some whole) × (least_length kind ≤ length whole)
+-- these are the bytes of a table, which has all its fields
+abbrev pub IsLongTable : CompleteTables → RowTable → List ℕ → Type 0
+IsLongTable tables table whole = (row_table_of tables table ≡ Some whole) × (row_length table ≤ length whole)
 
 -- these are those of a group
-abbrev pub AreTablesOf : CompleteTables → TableKind → Option TableKind → TwoTables → Type 0
-AreTablesOf tables kind None t = IsLongTable tables kind t.table × (t.other ≡ [])
-AreTablesOf tables kind (Some other) t = IsLongTable tables kind t.table × IsLongTable tables other t.other
+abbrev pub AreTablesOf : CompleteTables → RowTable → Option RowTable → TwoTables → Type 0
+AreTablesOf tables table None t = IsLongTable tables table t.table × (t.other ≡ [])
+AreTablesOf tables table (Some other) t = IsLongTable tables table t.table × IsLongTable tables other t.other
 
 -- they were found, or there are none
-abbrev pub FindsTables : CompleteTables → TableKind → Option TableKind → Option TwoTables → Type 0
-FindsTables tables kind other found =
-    MatchOption found ((t : TwoTables) → ¬ AreTablesOf tables kind other t) (AreTablesOf tables kind other)
+abbrev pub FindsTables : CompleteTables → RowTable → Option RowTable → Option TwoTables → Type 0
+FindsTables tables table other found =
+    MatchOption found ((t : TwoTables) → ¬ AreTablesOf tables table other t) (AreTablesOf tables table other)
 
 -- they break a row of a group
 abbrev pub AreBroken : CompleteTables → RowGroup → ℕ → ℕ → ℕ → ℕ → Type 0

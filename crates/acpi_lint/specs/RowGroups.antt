@@ -3,88 +3,105 @@ use Rattle.std.specs.Prelude.{◌≡◌, ℕ, ◌≤◌, List, [], ◌∷◌, le
 use Rattle.acpi_base.specs.Listed.{HasListed}
 use Rattle.acpi_base.specs.Memory.{Memory}
 use Rattle.acpi_base.specs.Policy.{PolicyValue}
-use Rattle.acpi_base.specs.TableKinds.{signature_of}
-use Rattle.acpi_base.specs.declared.table_kind.TableKind.{TableKind}
 use Rattle.acpi_base.specs.declared.table_kind.TableKind.TheVariants as kind
 use Rattle.acpi_rules.specs.Rows.{Row, BorRow, IsBroken, row_value, rows_said}
 use Rattle.acpi_rules.specs.Terms.{TwoTables}
-use Rattle.acpi_lint.specs.TableLengths.{least_length}
+use Rattle.acpi_lint.specs.FurtherTables.{row_length, row_signature}
+use Rattle.acpi_lint.specs.declared.further_table.FurtherTable.TheVariants as further
+use Rattle.acpi_lint.specs.declared.further_table.RowTable.{RowTable}
+use Rattle.acpi_lint.specs.declared.further_table.RowTable.TheVariants.{Further, Kind}
 use Rattle.acpi_lint.specs.declared.rows.fadt.TheConstants.{FADT, FADT_FURTHER, FADT_WITH_MADT}
+use Rattle.acpi_lint.specs.declared.rows.hpet.TheConstants.{HPET}
 use Rattle.acpi_lint.specs.declared.rows.madt.TheConstants.{GIC, MADT, MADT_FURTHER, MADT_WITH_FADT, MADT_WITH_PPTT, MADT_WITH_SRAT}
+use Rattle.acpi_lint.specs.declared.rows.mcfg.TheConstants.{MCFG}
 use Rattle.acpi_lint.specs.declared.rows.pptt.TheConstants.{PPTT, PPTT_WITH_MADT}
+use Rattle.acpi_lint.specs.declared.rows.spcr.TheConstants.{SPCR, SPCR_WITH_MADT}
 use Rattle.acpi_lint.specs.declared.rows.srat.TheConstants.{SRAT, SRAT_WITH_MADT, SRAT_WITH_SLIT}
 use denote.Ref.{Bor}
 
 -- rules on a table, or on a table with another one
 pub record RowGroup : Type 0 where
-  pub table : TableKind
-  pub other : Option TableKind
+  pub table : RowTable
+  pub other : Option RowTable
   pub rows : List Row
 
-abbrev pub group_value : TableKind × Option TableKind × Bor (List BorRow) → RowGroup
+abbrev pub group_value : RowTable × Option RowTable × Bor (List BorRow) → RowGroup
 group_value g = record { table = g.0; other = g.1; rows = map row_value g.2.now }
 
 -- the rows on each table, on the parts of a GIC in the MADT, and on one table with another
 unfoldable pub fadt_group : RowGroup
-fadt_group = record { table = kind.Fadt; other = None; rows = rows_said FADT }
+fadt_group = record { table = Kind kind.Fadt; other = None; rows = rows_said FADT }
 
 unfoldable pub fadt_further_group : RowGroup
-fadt_further_group = record { table = kind.Fadt; other = None; rows = rows_said FADT_FURTHER }
+fadt_further_group = record { table = Kind kind.Fadt; other = None; rows = rows_said FADT_FURTHER }
 
 unfoldable pub fadt_with_madt_group : RowGroup
-fadt_with_madt_group = record { table = kind.Fadt; other = Some kind.Madt; rows = rows_said FADT_WITH_MADT }
+fadt_with_madt_group = record { table = Kind kind.Fadt; other = Some (Kind kind.Madt); rows = rows_said FADT_WITH_MADT }
 
 unfoldable pub madt_group : RowGroup
-madt_group = record { table = kind.Madt; other = None; rows = rows_said MADT }
+madt_group = record { table = Kind kind.Madt; other = None; rows = rows_said MADT }
 
 unfoldable pub madt_further_group : RowGroup
-madt_further_group = record { table = kind.Madt; other = None; rows = rows_said MADT_FURTHER }
+madt_further_group = record { table = Kind kind.Madt; other = None; rows = rows_said MADT_FURTHER }
 
 unfoldable pub gic_group : RowGroup
-gic_group = record { table = kind.Madt; other = None; rows = rows_said GIC }
+gic_group = record { table = Kind kind.Madt; other = None; rows = rows_said GIC }
 
 unfoldable pub madt_with_fadt_group : RowGroup
-madt_with_fadt_group = record { table = kind.Madt; other = Some kind.Fadt; rows = rows_said MADT_WITH_FADT }
+madt_with_fadt_group = record { table = Kind kind.Madt; other = Some (Kind kind.Fadt); rows = rows_said MADT_WITH_FADT }
 
 unfoldable pub madt_with_srat_group : RowGroup
-madt_with_srat_group = record { table = kind.Madt; other = Some kind.Srat; rows = rows_said MADT_WITH_SRAT }
+madt_with_srat_group = record { table = Kind kind.Madt; other = Some (Kind kind.Srat); rows = rows_said MADT_WITH_SRAT }
 
 unfoldable pub madt_with_pptt_group : RowGroup
-madt_with_pptt_group = record { table = kind.Madt; other = Some kind.Pptt; rows = rows_said MADT_WITH_PPTT }
+madt_with_pptt_group = record { table = Kind kind.Madt; other = Some (Kind kind.Pptt); rows = rows_said MADT_WITH_PPTT }
 
 unfoldable pub srat_group : RowGroup
-srat_group = record { table = kind.Srat; other = None; rows = rows_said SRAT }
+srat_group = record { table = Kind kind.Srat; other = None; rows = rows_said SRAT }
 
 unfoldable pub srat_with_madt_group : RowGroup
-srat_with_madt_group = record { table = kind.Srat; other = Some kind.Madt; rows = rows_said SRAT_WITH_MADT }
+srat_with_madt_group = record { table = Kind kind.Srat; other = Some (Kind kind.Madt); rows = rows_said SRAT_WITH_MADT }
 
 unfoldable pub srat_with_slit_group : RowGroup
-srat_with_slit_group = record { table = kind.Srat; other = Some kind.Slit; rows = rows_said SRAT_WITH_SLIT }
+srat_with_slit_group = record { table = Kind kind.Srat; other = Some (Kind kind.Slit); rows = rows_said SRAT_WITH_SLIT }
 
 unfoldable pub pptt_group : RowGroup
-pptt_group = record { table = kind.Pptt; other = None; rows = rows_said PPTT }
+pptt_group = record { table = Kind kind.Pptt; other = None; rows = rows_said PPTT }
 
 unfoldable pub pptt_with_madt_group : RowGroup
-pptt_with_madt_group = record { table = kind.Pptt; other = Some kind.Madt; rows = rows_said PPTT_WITH_MADT }
+pptt_with_madt_group = record { table = Kind kind.Pptt; other = Some (Kind kind.Madt); rows = rows_said PPTT_WITH_MADT }
+
+unfoldable pub mcfg_group : RowGroup
+mcfg_group = record { table = Further further.Mcfg; other = None; rows = rows_said MCFG }
+
+unfoldable pub hpet_group : RowGroup
+hpet_group = record { table = Further further.Hpet; other = None; rows = rows_said HPET }
+
+unfoldable pub spcr_group : RowGroup
+spcr_group = record { table = Further further.Spcr; other = None; rows = rows_said SPCR }
+
+unfoldable pub spcr_with_madt_group : RowGroup
+spcr_with_madt_group = record { table = Further further.Spcr; other = Some (Kind kind.Madt); rows = rows_said SPCR_WITH_MADT }
 
 -- all of them
 abbrev pub row_groups : List RowGroup
 row_groups =
     fadt_group ∷ fadt_further_group ∷ fadt_with_madt_group ∷ madt_group ∷ madt_further_group ∷ gic_group
     ∷ madt_with_fadt_group ∷ madt_with_srat_group ∷ madt_with_pptt_group ∷ srat_group
-    ∷ srat_with_madt_group ∷ srat_with_slit_group ∷ pptt_group ∷ pptt_with_madt_group ∷ []
+    ∷ srat_with_madt_group ∷ srat_with_slit_group ∷ pptt_group ∷ pptt_with_madt_group ∷ mcfg_group ∷ hpet_group
+    ∷ spcr_group ∷ spcr_with_madt_group ∷ []
 
--- ---- the tables: the first listed one of a kind, if it is complete, whatever its checksum, and long enough for its fields
+-- ---- the tables: the first listed one with a signature, if it is complete, whatever its checksum, and long enough for its fields
 
--- P of the bytes of the one of a kind
-abbrev pub OfKind : TableKind → Memory → PolicyValue → (List ℕ → Type 0) → Type 0
-OfKind kind m q P = HasListed m q.rsdp (signature_of kind) (λ whole. (least_length kind ≤ length whole) × P whole)
+-- P of the bytes of one
+abbrev pub OfTable : RowTable → Memory → PolicyValue → (List ℕ → Type 0) → Type 0
+OfTable table m q P = HasListed m q.rsdp (row_signature table) (λ whole. (row_length table ≤ length whole) × P whole)
 
 -- P of the bytes of two, or of one alone
-abbrev pub OfKinds : TableKind → Option TableKind → Memory → PolicyValue → (TwoTables → Type 0) → Type 0
-OfKinds kind None m q P = OfKind kind m q (λ table. P (record { table = table; other = [] }))
-OfKinds kind (Some beside) m q P =
-    OfKind kind m q (λ table. OfKind beside m q (λ other. P (record { table = table; other = other })))
+abbrev pub OfTables : RowTable → Option RowTable → Memory → PolicyValue → (TwoTables → Type 0) → Type 0
+OfTables table None m q P = OfTable table m q (λ own. P (record { table = own; other = [] }))
+OfTables table (Some beside) m q P =
+    OfTable table m q (λ own. OfTable beside m q (λ other. P (record { table = own; other = other })))
 
 -- ---- rules that are broken
 
@@ -99,7 +116,7 @@ OfAny {X} Is xs number at other point = (x : X) × Contains xs x × Is x number 
 -- the set breaks a row of a group with this number
 abbrev pub BreaksGroup : Memory → PolicyValue → RowGroup → ℕ → ℕ → ℕ → ℕ → Type 0
 BreaksGroup m q g number at other point =
-    OfKinds g.table g.other m q (λ t. OfAny (BreaksRow t) g.rows number at other point)
+    OfTables g.table g.other m q (λ t. OfAny (BreaksRow t) g.rows number at other point)
 
 -- the set breaks a row with this number
 abbrev pub IsRowBroken : ℕ → Memory → PolicyValue → ℕ → ℕ → ℕ → Type 0

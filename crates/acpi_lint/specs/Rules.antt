@@ -10,6 +10,7 @@ pub mod FixedFields
 pub mod GicAdvice
 pub mod HeaderAdvice
 pub mod Hierarchy
+pub mod McfgAdvice
 pub mod NamedAdvice
 pub mod Numbered
 pub mod Ports
@@ -18,5 +19,6 @@ pub mod Rows
 pub mod RsdpAdvice
 pub mod SlitAdvice
 pub mod Slots
+pub mod SpcrAdvice
 pub mod Structures
 pub mod WellFormed

@@ -11,7 +11,10 @@ use Rattle.acpi_base.specs.Tables.{IsSigned, TableFault}
 use Rattle.acpi_base.specs.declared.table_kind.TableKind.{TableKind}
 use Rattle.acpi_base.specs.declared.table_kind.TableKind.TheVariants as kind
 use Rattle.acpi_read.specs.Roots.{RootValue, IsCompleteRoot}
+use Rattle.acpi_lint.specs.FurtherTables.{further_signature}
 use Rattle.acpi_lint.specs.declared.first_slots.FirstSlots.{FirstSlots}
+use Rattle.acpi_lint.specs.declared.further_table.FurtherTable.{FurtherTable}
+use Rattle.acpi_lint.specs.declared.further_table.FurtherTable.TheVariants as further
 use Rattle.acpi_lint.specs.declared.listed_slots.Slot.{Slot}
 use Rattle.acpi_rules.specs.declared.numbered.Numbered.{Numbered}
 use Rattle.acpi_rules.specs.declared.place.Place.{Place}
@@ -29,12 +32,14 @@ IsApart m a = IsSigned m a dsdt_signature ⊎ IsSigned m a facs_signature
 abbrev pub IsSought : Memory → Sought → ℕ → Type 0
 IsSought m (sought.Fault code) a = TableFault m a code
 IsSought m (sought.Kind kind) a = IsSigned m a (signature_of kind)
+IsSought m (sought.Further table) a = IsSigned m a (further_signature table)
 IsSought m sought.Apart a = IsApart m a
 
 -- the same by what is recorded about an address
 abbrev pub HasSought : Sought → TableAt → Type 0
 HasSought (sought.Fault code) table = table.fault ≡ Some code
 HasSought (sought.Kind kind) table = table.kind ≡ Some kind
+HasSought (sought.Further further) table = table.further ≡ Some further
 HasSought sought.Apart table = IsTrue table.is_apart
 
 -- the signature of the header at a as a number, 0 if there is none
@@ -87,9 +92,17 @@ first_of firsts kind.Srat = firsts.srat
 first_of firsts kind.Slit = firsts.slit
 first_of firsts kind.Pptt = firsts.pptt
 
--- these are the first slots of each kind
-abbrev pub AreFirstSlots : Memory → ℕ → FirstSlots → Type 0
-AreFirstSlots m p firsts = (kind : TableKind) → FindsSlot m p (IsSought m (sought.Kind kind)) (first_of firsts kind)
+-- the first slot of a further table
+abbrev pub first_of_further : FirstSlots → FurtherTable → Option Slot
+first_of_further firsts further.Mcfg = firsts.mcfg
+first_of_further firsts further.Hpet = firsts.hpet
+first_of_further firsts further.Spcr = firsts.spcr
+
+-- these are the first slots of each kind, and of each further table
+pub record AreFirstSlots (m : Memory) (p : ℕ) (firsts : FirstSlots) : Type 0 where
+  pub kinds : (kind : TableKind) → FindsSlot m p (IsSought m (sought.Kind kind)) (first_of firsts kind)
+  pub further : (table : FurtherTable)
+      → FindsSlot m p (IsSought m (sought.Further table)) (first_of_further firsts table)
 
 -- ---- advice
 

@@ -5,14 +5,16 @@ ghost use Rattle.std.specs.Prelude.{◌≡◌, ◌∷◌, [], IfOk, IsSome, OnEr
 ghost use Rattle.acpi_base.specs.Memory.{Memory};
 ghost use Rattle.acpi_base.specs.Policy.{PolicyValue};
 ghost use Rattle.acpi_rules.specs.Places.{FindsLeast};
-ghost use Rattle.acpi_lint.specs.ByHand.{Adds, AreFoundByHand, fadt_madt_rules, fadt_rules, madt_rules, memory_rules, pptt_rules, rules_by_hand, slit_rules, slot_rules};
+ghost use Rattle.acpi_lint.specs.ByHand.{Adds, AreFoundByHand, fadt_madt_rules, fadt_rules, madt_rules, mcfg_rules, memory_rules, pptt_rules, rules_by_hand, slit_rules, slot_rules, spcr_rules};
 ghost use Rattle.acpi_lint.specs.CompleteTables.{AreCompleteTables};
 ghost use Rattle.acpi_lint.specs.Rules.Broken.{IsBrokenByHand};
 
 use crate::cache_types::same_cache_type;
 use crate::complete_tables::CompleteTables;
+use crate::ecam::ecam_overlap;
 use crate::fadt_blocks::{port_past_end, ports_overlap};
 use crate::fadt_memory::{dsdt_text, dsdt_wrong, facs_reserved, s4bios_differs};
+use crate::further_table::FurtherTable;
 use crate::header_advice::{header_text, second_other};
 use crate::madt_advice::gicr_too_small;
 use crate::packages::no_package;
@@ -23,6 +25,7 @@ use crate::rule::Rule;
 use crate::sci::sci_nowhere;
 use crate::slit::{remote_as_local, slit_differs};
 use crate::slot_advice::{listed_apart, listed_twice, second_table};
+use crate::spcr::{gsi_unserved, name_open};
 use crate::structures::tables_overlap;
 use acpi_base::{LentImage, Policy, TableKind};
 use acpi_rules::Place;
@@ -170,9 +173,43 @@ fn add_of_pptt(
     add(found, Rule::SameCacheType, same_cache_type(alloc, &pptt)?)
 }
 
+/// Adds what the rule on the MCFG finds.
+fn add_of_mcfg(
+    alloc: Global,
+    tables: &CompleteTables<'_>,
+    found: &mut Vec<Found>,
+) -> Result<(), AllocError>
+    ensures { IfOk result (λ _. (m : Memory) (q : PolicyValue)
+        → AreCompleteTables m q.rsdp tables.now → Adds m q mcfg_rules found.old.items found.new.items) }
+{
+    let Some(mcfg) = tables.further(FurtherTable::Mcfg) else {
+        return Ok(());
+    };
+    add(found, Rule::EcamOverlap, ecam_overlap(alloc, &mcfg)?)
+}
+
+/// Adds what is found of the SPCR, and of it with the MADT.
+fn add_of_spcr(
+    policy: &Policy,
+    tables: &CompleteTables<'_>,
+    found: &mut Vec<Found>,
+) -> Result<(), AllocError>
+    ensures { IfOk result (λ _. (m : Memory) → AreCompleteTables m policy.now.rsdp tables.now
+        → Adds m policy.now spcr_rules found.old.items found.new.items) }
+{
+    let Some(spcr) = tables.further(FurtherTable::Spcr) else {
+        return Ok(());
+    };
+    add(found, Rule::SpcrName, name_open(&spcr))?;
+    let Some(madt) = tables.madt() else {
+        return Ok(());
+    };
+    add(found, Rule::SpcrGsi, gsi_unserved(policy, &spcr, &madt))
+}
+
 /// The first finding of each rule that is not a row. The tables are those of the set. Allocates for each finding, each
 /// slot of the root table, each structure in memory, each register block of the FADT, each range of redistributors, each
-/// usable CPU interface of a GIC, and each node, private resource and cache of the PPTT.
+/// usable CPU interface of a GIC, each node, private resource and cache of the PPTT, and each entry of the MCFG.
 pub fn found_by_hand(
     alloc: Global,
     image: &LentImage<'_>,
@@ -183,6 +220,8 @@ pub fn found_by_hand(
     ensures { IfOk result (λ found. AreFoundByHand image.now policy.now rules_by_hand found.items) }
 {
     let mut found = Vec::new(alloc);
+    add_of_mcfg(alloc, tables, &mut found)?;
+    add_of_spcr(policy, tables, &mut found)?;
     add_of_slots(alloc, tables, &mut found)?;
     add_of_memory(alloc, image, policy.rsdp(), tables, &mut found)?;
     add_of_fadt(alloc, image, tables, &mut found)?;

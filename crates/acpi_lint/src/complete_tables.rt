@@ -6,10 +6,12 @@ ghost use Rattle.acpi_base.specs.Pptt.{pptt_contents, pptt_entry};
 ghost use Rattle.acpi_base.specs.Srat.{srat_contents, srat_entry};
 ghost use Rattle.acpi_base.specs.TableKinds.{signature_of};
 ghost use Rattle.acpi_lint.specs.Slots.{AreFirstSlots};
-ghost use Rattle.acpi_lint.specs.CompleteTables.{HasRoot, IsFound, IsLong, AreEntries, table_of, AreCompleteTables};
+ghost use Rattle.acpi_lint.specs.CompleteTables.{HasRoot, IsFound, IsLong, AreEntries, further_of, table_of, AreCompleteTables};
+ghost use Rattle.acpi_lint.specs.FurtherTables.{further_signature};
 ghost use Rattle.acpi_lint.specs.TableLengths.{least_length};
 
 use crate::first_slots::FirstSlots;
+use crate::further_table::FurtherTable;
 use crate::listed_slots::{Slot, listed_slots};
 use acpi_base::{LentImage, TableKind};
 use acpi_read::{Fadt, PpttEntry, Root, SratEntry, Table, TypedEntries};
@@ -35,6 +37,12 @@ pub struct CompleteTables<'a> {
     pub slit: Option<Table<'a>>,
     /// The PPTT.
     pub pptt: Option<Table<'a>>,
+    /// The MCFG.
+    pub mcfg: Option<Table<'a>>,
+    /// The HPET.
+    pub hpet: Option<Table<'a>>,
+    /// The SPCR.
+    pub spcr: Option<Table<'a>>,
 }
 
 /// The first listed table of a kind in a set with these first slots.
@@ -43,6 +51,19 @@ fn found<'a>(image: &'a LentImage<'_>, firsts: &FirstSlots, kind: TableKind) -> 
         → IsFound image.now p (signature_of kind) result }
 {
     let slot = firsts.of_kind(kind)?;
+    Table::complete(image, slot.table.address)
+}
+
+/// The first listed one of a further table in a set with these first slots.
+fn found_further<'a>(
+    image: &'a LentImage<'_>,
+    firsts: &FirstSlots,
+    table: FurtherTable,
+) -> Option<Table<'a>>
+    ensures { (p : ℕ) → AreFirstSlots image.now p firsts.now
+        → IsFound image.now p (further_signature table) result }
+{
+    let slot = firsts.of_further(table)?;
     Table::complete(image, slot.table.address)
 }
 
@@ -80,6 +101,9 @@ impl<'a> CompleteTables<'a> {
             srat: found(image, &firsts, TableKind::Srat),
             slit: found(image, &firsts, TableKind::Slit),
             pptt: found(image, &firsts, TableKind::Pptt),
+            mcfg: found_further(image, &firsts, FurtherTable::Mcfg),
+            hpet: found_further(image, &firsts, FurtherTable::Hpet),
+            spcr: found_further(image, &firsts, FurtherTable::Spcr),
             root,
             slots,
             firsts,
@@ -98,6 +122,22 @@ impl<'a> CompleteTables<'a> {
             TableKind::Pptt => &self.pptt,
         };
         Some(table.as_ref()?.copied())
+    }
+
+    /// A further table, if there is one. It has a header.
+    pub fn further(&self, table: FurtherTable) -> Option<Table<'a>>
+        ensures { IsLong 36 (further_of self.now table) result }
+    {
+        let table = match table {
+            FurtherTable::Mcfg => &self.mcfg,
+            FurtherTable::Hpet => &self.hpet,
+            FurtherTable::Spcr => &self.spcr,
+        };
+        let table = table.as_ref()?.copied();
+        if table.bytes().len() < 36 {
+            return None;
+        }
+        Some(table)
     }
 
     /// The FADT, if it has the 116 bytes that are always read.

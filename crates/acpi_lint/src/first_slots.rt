@@ -3,8 +3,9 @@
 ghost use Rattle.std.specs.Prelude.{◌≡◌, ℕ};
 ghost use Rattle.acpi_base.specs.Memory.{Memory};
 ghost use Rattle.acpi_base.specs.Root.{IsSlot};
-ghost use Rattle.acpi_lint.specs.Slots.{AreSlots, AreFirstSlots, first_of};
+ghost use Rattle.acpi_lint.specs.Slots.{AreSlots, AreFirstSlots, first_of, first_of_further};
 
+use crate::further_table::FurtherTable;
 use crate::listed_slots::{Slot, first_slot};
 use crate::table_at::Sought;
 use acpi_base::TableKind;
@@ -22,6 +23,12 @@ pub struct FirstSlots {
     pub slit: Option<Slot>,
     /// Of a PPTT.
     pub pptt: Option<Slot>,
+    /// Of an MCFG.
+    pub mcfg: Option<Slot>,
+    /// Of an HPET.
+    pub hpet: Option<Slot>,
+    /// Of an SPCR.
+    pub spcr: Option<Slot>,
 }
 
 impl FirstSlots {
@@ -36,6 +43,9 @@ impl FirstSlots {
             srat: first_slot(slots, Sought::Kind(TableKind::Srat)),
             slit: first_slot(slots, Sought::Kind(TableKind::Slit)),
             pptt: first_slot(slots, Sought::Kind(TableKind::Pptt)),
+            mcfg: first_slot(slots, Sought::Further(FurtherTable::Mcfg)),
+            hpet: first_slot(slots, Sought::Further(FurtherTable::Hpet)),
+            spcr: first_slot(slots, Sought::Further(FurtherTable::Spcr)),
         }
     }
 
@@ -49,6 +59,17 @@ impl FirstSlots {
             TableKind::Srat => self.srat,
             TableKind::Slit => self.slit,
             TableKind::Pptt => self.pptt,
+        }
+    }
+
+    /// The first slot with a header of this further table.
+    pub fn of_further(&self, table: FurtherTable) -> Option<Slot>
+        ensures { result ≡ first_of_further self.now table }
+    {
+        match table {
+            FurtherTable::Mcfg => self.mcfg,
+            FurtherTable::Hpet => self.hpet,
+            FurtherTable::Spcr => self.spcr,
         }
     }
 }

@@ -1,7 +1,8 @@
 //! What the rules that are rows find in a set.
 
 ghost use Rattle.std.specs.Prelude.{◌≡◌, IfOk, IsSome, OnErr, map, option_map};
-ghost use Rattle.acpi_lint.specs.CompleteTables.{IsLong, table_of};
+ghost use Rattle.acpi_lint.specs.CompleteTables.{IsLong, further_of, row_table_of, table_of};
+ghost use Rattle.acpi_lint.specs.FurtherTables.{row_length};
 ghost use Rattle.acpi_lint.specs.RowFindings.{AreBroken, AreFirsts, AreIndexes, FindsIndex, FindsTables, HasTable, IsLowestOf, index_of_kind};
 ghost use Rattle.acpi_lint.specs.RowGroups.{BreaksRow, OfAny, group_value, row_groups};
 ghost use Rattle.acpi_lint.specs.TableLengths.{least_length};
@@ -9,6 +10,7 @@ ghost use Rattle.acpi_rules.specs.Rows.{row_value};
 ghost use Rattle.acpi_rules.specs.Terms.{tables_value};
 
 use crate::complete_tables::CompleteTables;
+use crate::further_table::{FurtherTable, RowTable};
 use crate::rows::{MADT_SERIES, PPTT_SERIES, RowGroup, SRAT_SERIES, row_groups};
 use acpi_base::TableKind;
 use acpi_rules::{Index, IndexedTable, Place, Row, Series, Tables, first_finding, lesser};
@@ -94,6 +96,29 @@ fn indexed<'a>(
     }
 }
 
+/// A further table, if the set has a complete one.
+fn further<'a>(tables: &'a CompleteTables<'_>, table: FurtherTable) -> Option<IndexedTable<'a>>
+    ensures { IsLong 36 (further_of tables.now table) (option_map (λ t. t.bytes.now) result) }
+{
+    Some(IndexedTable::new(tables.further(table)?.bytes()))
+}
+
+/// A table that rows are about, if the set has a complete one with all its fields.
+fn table_of<'a>(
+    tables: &'a CompleteTables<'_>,
+    indexes: &'a Indexes,
+    table: RowTable,
+) -> Option<IndexedTable<'a>>
+    requires { AreIndexes tables.now indexes.now }
+    ensures { IsLong (row_length table) (row_table_of tables.now table)
+        (option_map (λ t. t.bytes.now) result) }
+{
+    match table {
+        RowTable::Kind(kind) => indexed(tables, indexes, kind),
+        RowTable::Further(table) => further(tables, table),
+    }
+}
+
 /// The tables of a group, if the set has them.
 fn tables_of<'a>(
     group: &RowGroup<'_>,
@@ -103,9 +128,9 @@ fn tables_of<'a>(
     requires { AreIndexes tables.now indexes.now }
     ensures { FindsTables tables.now group.now.0 group.now.1 (option_map tables_value result) }
 {
-    let table = indexed(tables, indexes, group.0)?;
+    let table = table_of(tables, indexes, group.0)?;
     let other = match group.1 {
-        Some(kind) => indexed(tables, indexes, kind)?,
+        Some(other) => table_of(tables, indexes, other)?,
         None => IndexedTable::new(&[]),
     };
     Some(Tables { table, other })

@@ -1,7 +1,7 @@
 //! Rules as rows of data, table by table. What a row means is said by `acpi_rules`.
 
 ghost use Rattle.std.specs.Prelude.{◌≡◌, map};
-ghost use Rattle.acpi_lint.specs.RowGroups.{group_value, row_groups, fadt_further_group, fadt_group, fadt_with_madt_group, gic_group, madt_further_group, madt_group, madt_with_fadt_group, madt_with_pptt_group, madt_with_srat_group, pptt_group, pptt_with_madt_group, srat_group, srat_with_madt_group, srat_with_slit_group};
+ghost use Rattle.acpi_lint.specs.RowGroups.{group_value, row_groups, fadt_further_group, fadt_group, fadt_with_madt_group, gic_group, hpet_group, madt_further_group, madt_group, madt_with_fadt_group, madt_with_pptt_group, madt_with_srat_group, mcfg_group, pptt_group, pptt_with_madt_group, spcr_group, spcr_with_madt_group, srat_group, srat_with_madt_group, srat_with_slit_group};
 
 // ---- how rows are written
 
@@ -178,8 +178,8 @@ macro_rules! clause {
 /// What structures give, by cases: `{KIND if CLAUSE && CLAUSE => at OFFSET shows VALUE, NUMBER; ..}`, or a list of
 /// cases with a name. A finding has the offset in the table as `at`, VALUE as `other` and NUMBER as `point`, but those of
 /// numbers that occur again or are found elsewhere: their `other` is the place of the first one. In a row `overlap`
-/// NUMBER is where a range begins and VALUE how many numbers it has; `at` and `other` are the places of the two, and
-/// `point` is the lowest number in both.
+/// NUMBER is where a range begins and VALUE how many numbers it has, or in a row `overlap_to` its last number; `at` and
+/// `other` are the places of the two, and `point` is the lowest number in both.
 macro_rules! cases {
     ({$(
         $kind:tt $(if $($left:tt $test:tt $right:tt)&&+)?
@@ -276,6 +276,9 @@ macro_rules! form {
     (overlap) => {
         Form::Overlap(Range::Count)
     };
+    (overlap_to) => {
+        Form::Overlap(Range::Last)
+    };
 }
 
 /// The numbers that structures of a path give by cases, but those at places that they give by others.
@@ -320,38 +323,60 @@ macro_rules! rule {
 
 mod fadt;
 mod fadt_fields;
+mod hpet;
+mod hpet_fields;
 mod madt;
 mod madt_fields;
+mod mcfg;
+mod mcfg_fields;
 mod pptt;
 mod pptt_fields;
 mod slit_fields;
+mod spcr;
+mod spcr_fields;
 mod srat;
 mod srat_fields;
 mod table_fields;
 
+use crate::further_table::{FurtherTable, RowTable};
 use acpi_base::TableKind;
 use acpi_rules::Row;
 use fadt::{FADT, FADT_FURTHER, FADT_WITH_MADT};
+use hpet::HPET;
 pub use madt::{GICR_LENGTHS, GICRS_ARE_KNOWN, USABLE_GICCS};
 use madt::{GIC, MADT, MADT_FURTHER, MADT_WITH_FADT, MADT_WITH_PPTT, MADT_WITH_SRAT};
 pub use madt_fields::{MADT_ENTRIES, MADT_SERIES};
+pub use mcfg::ECAMS;
+use mcfg::MCFG;
+pub use mcfg_fields::MCFG_ENTRIES;
 pub use pptt::{
     CACHE_TYPES, MARKED_LEAVES, NEXT_LEVELS, OUTER_PARENTS, RESOURCES, UNMARKED_LEAVES,
 };
 use pptt::{PPTT, PPTT_WITH_MADT};
 pub use pptt_fields::{PPTT_ENTRIES, PPTT_RESOURCES, PPTT_SERIES};
+use spcr::{SPCR, SPCR_WITH_MADT};
 use srat::{SRAT, SRAT_WITH_MADT, SRAT_WITH_SLIT};
 pub use srat_fields::SRAT_SERIES;
 
 /// Rows on a table, or on a table with another one.
-pub type RowGroup<'a> = (TableKind, Option<TableKind>, &'a [Row<'a>]);
+pub type RowGroup<'a> = (RowTable, Option<RowTable>, &'a [Row<'a>]);
+
+const OF_FADT: RowTable = RowTable::Kind(TableKind::Fadt);
+
+const OF_MADT: RowTable = RowTable::Kind(TableKind::Madt);
+
+const OF_SRAT: RowTable = RowTable::Kind(TableKind::Srat);
+
+const OF_PPTT: RowTable = RowTable::Kind(TableKind::Pptt);
+
+const OF_SLIT: RowTable = RowTable::Kind(TableKind::Slit);
 
 /// The rows on the FADT.
 #[tactic(auto, unfolding(crate::specs::RowGroups::fadt_group))]
 fn fadt_group() -> RowGroup<'static>
     ensures { group_value result ≡ fadt_group }
 {
-    (TableKind::Fadt, None, FADT.as_slice())
+    (OF_FADT, None, FADT.as_slice())
 }
 
 /// The further ones on the FADT.
@@ -359,7 +384,7 @@ fn fadt_group() -> RowGroup<'static>
 fn fadt_further_group() -> RowGroup<'static>
     ensures { group_value result ≡ fadt_further_group }
 {
-    (TableKind::Fadt, None, FADT_FURTHER.as_slice())
+    (OF_FADT, None, FADT_FURTHER.as_slice())
 }
 
 /// Those on the FADT with the MADT.
@@ -367,11 +392,7 @@ fn fadt_further_group() -> RowGroup<'static>
 fn fadt_with_madt_group() -> RowGroup<'static>
     ensures { group_value result ≡ fadt_with_madt_group }
 {
-    (
-        TableKind::Fadt,
-        Some(TableKind::Madt),
-        FADT_WITH_MADT.as_slice(),
-    )
+    (OF_FADT, Some(OF_MADT), FADT_WITH_MADT.as_slice())
 }
 
 /// Those on the MADT, but for the parts of a GIC.
@@ -379,7 +400,7 @@ fn fadt_with_madt_group() -> RowGroup<'static>
 fn madt_group() -> RowGroup<'static>
     ensures { group_value result ≡ madt_group }
 {
-    (TableKind::Madt, None, MADT.as_slice())
+    (OF_MADT, None, MADT.as_slice())
 }
 
 /// The further ones on the MADT.
@@ -387,7 +408,7 @@ fn madt_group() -> RowGroup<'static>
 fn madt_further_group() -> RowGroup<'static>
     ensures { group_value result ≡ madt_further_group }
 {
-    (TableKind::Madt, None, MADT_FURTHER.as_slice())
+    (OF_MADT, None, MADT_FURTHER.as_slice())
 }
 
 /// Those on the parts of a GIC in the MADT.
@@ -395,7 +416,7 @@ fn madt_further_group() -> RowGroup<'static>
 fn gic_group() -> RowGroup<'static>
     ensures { group_value result ≡ gic_group }
 {
-    (TableKind::Madt, None, GIC.as_slice())
+    (OF_MADT, None, GIC.as_slice())
 }
 
 /// Those on the MADT with the FADT.
@@ -403,11 +424,7 @@ fn gic_group() -> RowGroup<'static>
 fn madt_with_fadt_group() -> RowGroup<'static>
     ensures { group_value result ≡ madt_with_fadt_group }
 {
-    (
-        TableKind::Madt,
-        Some(TableKind::Fadt),
-        MADT_WITH_FADT.as_slice(),
-    )
+    (OF_MADT, Some(OF_FADT), MADT_WITH_FADT.as_slice())
 }
 
 /// Those on the MADT with the SRAT.
@@ -415,11 +432,7 @@ fn madt_with_fadt_group() -> RowGroup<'static>
 fn madt_with_srat_group() -> RowGroup<'static>
     ensures { group_value result ≡ madt_with_srat_group }
 {
-    (
-        TableKind::Madt,
-        Some(TableKind::Srat),
-        MADT_WITH_SRAT.as_slice(),
-    )
+    (OF_MADT, Some(OF_SRAT), MADT_WITH_SRAT.as_slice())
 }
 
 /// Those on the MADT with the PPTT.
@@ -427,11 +440,7 @@ fn madt_with_srat_group() -> RowGroup<'static>
 fn madt_with_pptt_group() -> RowGroup<'static>
     ensures { group_value result ≡ madt_with_pptt_group }
 {
-    (
-        TableKind::Madt,
-        Some(TableKind::Pptt),
-        MADT_WITH_PPTT.as_slice(),
-    )
+    (OF_MADT, Some(OF_PPTT), MADT_WITH_PPTT.as_slice())
 }
 
 /// Those on the SRAT.
@@ -439,7 +448,7 @@ fn madt_with_pptt_group() -> RowGroup<'static>
 fn srat_group() -> RowGroup<'static>
     ensures { group_value result ≡ srat_group }
 {
-    (TableKind::Srat, None, SRAT.as_slice())
+    (OF_SRAT, None, SRAT.as_slice())
 }
 
 /// Those on the SRAT with the MADT.
@@ -447,11 +456,7 @@ fn srat_group() -> RowGroup<'static>
 fn srat_with_madt_group() -> RowGroup<'static>
     ensures { group_value result ≡ srat_with_madt_group }
 {
-    (
-        TableKind::Srat,
-        Some(TableKind::Madt),
-        SRAT_WITH_MADT.as_slice(),
-    )
+    (OF_SRAT, Some(OF_MADT), SRAT_WITH_MADT.as_slice())
 }
 
 /// Those on the SRAT with the SLIT.
@@ -459,11 +464,7 @@ fn srat_with_madt_group() -> RowGroup<'static>
 fn srat_with_slit_group() -> RowGroup<'static>
     ensures { group_value result ≡ srat_with_slit_group }
 {
-    (
-        TableKind::Srat,
-        Some(TableKind::Slit),
-        SRAT_WITH_SLIT.as_slice(),
-    )
+    (OF_SRAT, Some(OF_SLIT), SRAT_WITH_SLIT.as_slice())
 }
 
 /// Those on the PPTT.
@@ -471,7 +472,7 @@ fn srat_with_slit_group() -> RowGroup<'static>
 fn pptt_group() -> RowGroup<'static>
     ensures { group_value result ≡ pptt_group }
 {
-    (TableKind::Pptt, None, PPTT.as_slice())
+    (OF_PPTT, None, PPTT.as_slice())
 }
 
 /// Those on the PPTT with the MADT.
@@ -479,15 +480,47 @@ fn pptt_group() -> RowGroup<'static>
 fn pptt_with_madt_group() -> RowGroup<'static>
     ensures { group_value result ≡ pptt_with_madt_group }
 {
+    (OF_PPTT, Some(OF_MADT), PPTT_WITH_MADT.as_slice())
+}
+
+/// Those on the MCFG.
+#[tactic(auto, unfolding(crate::specs::RowGroups::mcfg_group))]
+fn mcfg_group() -> RowGroup<'static>
+    ensures { group_value result ≡ mcfg_group }
+{
+    (RowTable::Further(FurtherTable::Mcfg), None, MCFG.as_slice())
+}
+
+/// Those on the HPET.
+#[tactic(auto, unfolding(crate::specs::RowGroups::hpet_group))]
+fn hpet_group() -> RowGroup<'static>
+    ensures { group_value result ≡ hpet_group }
+{
+    (RowTable::Further(FurtherTable::Hpet), None, HPET.as_slice())
+}
+
+/// Those on the SPCR.
+#[tactic(auto, unfolding(crate::specs::RowGroups::spcr_group))]
+fn spcr_group() -> RowGroup<'static>
+    ensures { group_value result ≡ spcr_group }
+{
+    (RowTable::Further(FurtherTable::Spcr), None, SPCR.as_slice())
+}
+
+/// Those on the SPCR with the MADT.
+#[tactic(auto, unfolding(crate::specs::RowGroups::spcr_with_madt_group))]
+fn spcr_with_madt_group() -> RowGroup<'static>
+    ensures { group_value result ≡ spcr_with_madt_group }
+{
     (
-        TableKind::Pptt,
-        Some(TableKind::Madt),
-        PPTT_WITH_MADT.as_slice(),
+        RowTable::Further(FurtherTable::Spcr),
+        Some(OF_MADT),
+        SPCR_WITH_MADT.as_slice(),
     )
 }
 
 /// All rows. Each group is told by a function, since the proof of one that names all constants takes too many steps.
-pub fn row_groups() -> [RowGroup<'static>; 14]
+pub fn row_groups() -> [RowGroup<'static>; 18]
     ensures { map group_value result ≡ row_groups }
 {
     [
@@ -505,5 +538,9 @@ pub fn row_groups() -> [RowGroup<'static>; 14]
         srat_with_slit_group(),
         pptt_group(),
         pptt_with_madt_group(),
+        mcfg_group(),
+        hpet_group(),
+        spcr_group(),
+        spcr_with_madt_group(),
     ]
 }

@@ -177,6 +177,44 @@ pub enum Rule {
     CacheNumbers,
     /// A field of the PPTT has a reserved value (5.2.30).
     PpttReserved,
+    /// The MCFG's Length is not 44 plus 16 for each of one or more entries (PCI Firmware Specification 3.3, 4.1.2).
+    McfgLength,
+    /// An entry of the MCFG has a base address that is 0 or no multiple of 1 MiB (PCI Firmware Specification 3.3,
+    /// 4.1.2).
+    EcamAddress,
+    /// An entry of the MCFG has an end bus number below its start bus number (PCI Firmware Specification 3.3, 4.1.2).
+    BusesReversed,
+    /// The address range of an entry of the MCFG ends above the highest address (PCI Firmware Specification 3.3,
+    /// 4.1.2).
+    EcamWraps,
+    /// The MCFG has the Revision 0, and an entry's base address does not lie below 0xffffffff.
+    EcamTooHigh,
+    /// Two entries of the MCFG have the same bus of the same PCI segment (PCI Firmware Specification 3.3, 4.1.2).
+    SameBus,
+    /// The ECAMs of two entries of the MCFG share an address (PCI Firmware Specification 3.3, 4.1.2).
+    EcamOverlap,
+    /// The HPET is shorter than 56 bytes (IA-PC HPET 1.0a, 3.2.4).
+    HpetLength,
+    /// The HPET's base address is not in memory (IA-PC HPET 1.0a, 3.2.4).
+    HpetSpace,
+    /// The HPET's base address is 0, has its halves swapped, or is no multiple of 1024 (IA-PC HPET 1.0a, 3.2.4, 2.3).
+    HpetAddress,
+    /// The SPCR is too short for its Revision (Microsoft's SPCR 1.10).
+    SpcrLength,
+    /// The SPCR's base address is neither in memory nor in I/O ports, or is in memory with an access size above 3 (32
+    /// bits) (Microsoft's SPCR 1.10).
+    SpcrAddress,
+    /// The SPCR's baud rate has a reserved value, and there is no precise baud rate (Microsoft's SPCR 1.10).
+    SpcrBaud,
+    /// The SPCR names an interrupt that its interrupt controller does not have, or another controller than the MADT's
+    /// GIC (Microsoft's SPCR 1.10).
+    SpcrGsi,
+    /// Just one of the SPCR's PCI device ID and PCI vendor ID is 0xffff, or its PCI device or function number is too
+    /// large (Microsoft's SPCR 1.10).
+    SpcrPci,
+    /// The SPCR's namespace string is too short, does not lie within the table, or does not end with 0 (Microsoft's
+    /// SPCR 1.10).
+    SpcrName,
     /// The OEMID of the RSDP has a byte that is not printable (5.2.5.3).
     RsdpText,
     /// The root table has a Revision that is not 1, or a text of its header has a byte that is not printable (5.2.7,
@@ -336,6 +374,22 @@ const ROWS: [(Rule, u16, &str); Rule::COUNT] = [
     (Rule::NoPackage, 182, "NoPackage"),
     (Rule::CacheNumbers, 183, "CacheNumbers"),
     (Rule::PpttReserved, 184, "PpttReserved"),
+    (Rule::McfgLength, 185, "McfgLength"),
+    (Rule::EcamAddress, 186, "EcamAddress"),
+    (Rule::BusesReversed, 187, "BusesReversed"),
+    (Rule::EcamWraps, 188, "EcamWraps"),
+    (Rule::EcamTooHigh, 189, "EcamTooHigh"),
+    (Rule::SameBus, 190, "SameBus"),
+    (Rule::EcamOverlap, 191, "EcamOverlap"),
+    (Rule::HpetLength, 192, "HpetLength"),
+    (Rule::HpetSpace, 193, "HpetSpace"),
+    (Rule::HpetAddress, 194, "HpetAddress"),
+    (Rule::SpcrLength, 271, "SpcrLength"),
+    (Rule::SpcrAddress, 272, "SpcrAddress"),
+    (Rule::SpcrBaud, 273, "SpcrBaud"),
+    (Rule::SpcrGsi, 274, "SpcrGsi"),
+    (Rule::SpcrPci, 275, "SpcrPci"),
+    (Rule::SpcrName, 276, "SpcrName"),
     (Rule::RsdpText, 279, "RsdpText"),
     (Rule::RootHeader, 280, "RootHeader"),
     (Rule::DsdtText, 281, "DsdtText"),
@@ -381,7 +435,7 @@ fn rows() -> &'static [(Rule, u16, &'static str)]
 
 impl Rule {
     /// How many rules there are.
-    pub const COUNT: usize = 117;
+    pub const COUNT: usize = 133;
 
     /// The lowest number of a rule.
     pub const FIRST: u16 = 101;

@@ -62,7 +62,7 @@ fn io_apic_at(at: &EntryAt<MadtEntry<'_>>) -> Option<()>
 }
 
 /// Whether a MADT has an I/O APIC.
-fn has_io_apic(madt: &Table<'_>) -> bool
+pub fn has_io_apic(madt: &Table<'_>) -> bool
     ensures { IsTrue result ↔ HasIoApic (madt_contents madt.now) }
 {
     first_picked(madt.entries::<MadtEntry<'_>>(), io_apic_at).is_some()
@@ -82,7 +82,7 @@ fn serves(policy: &Policy, entry: &MadtEntry<'_>, gsi: u64) -> bool
 }
 
 /// Whether an I/O APIC of a MADT serves an interrupt number.
-fn is_served(policy: &Policy, madt: &Table<'_>, gsi: u64) -> bool
+pub fn is_served(policy: &Policy, madt: &Table<'_>, gsi: u64) -> bool
     ensures { IsTrue result ↔ IsServed policy.now (madt_contents madt.now) gsi }
 {
     first_picked(madt.entries::<MadtEntry<'_>>(), |at| {

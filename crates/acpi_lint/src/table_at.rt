@@ -10,6 +10,7 @@ ghost use Rattle.acpi_base.specs.Tables.{TableFault};
 ghost use Rattle.acpi_base.specs.declared.code.Code.{Code};
 ghost use Rattle.acpi_lint.specs.Slots.{IsTableAt, HasSought};
 
+use crate::further_table::FurtherTable;
 use crate::header_advice::odd_field;
 use acpi_base::field::{is_signed, u32_at};
 use acpi_base::{Code, LentImage, TableKind};
@@ -22,6 +23,8 @@ pub enum Sought {
     Fault(Code),
     /// A header of this kind.
     Kind(TableKind),
+    /// The header of this further table.
+    Further(FurtherTable),
     /// The header of a DSDT or of a FACS.
     Apart,
 }
@@ -39,6 +42,8 @@ pub struct TableAt {
     pub fault: Option<Code>,
     /// Its kind, by the signature of its header.
     pub kind: Option<TableKind>,
+    /// Which further table it is, by the signature too.
+    pub further: Option<FurtherTable>,
     /// Whether it is a DSDT or a FACS, by the signature too.
     pub is_apart: bool,
 }
@@ -87,6 +92,7 @@ impl TableAt {
                 odd_text: None,
                 fault: Some(Code::TableHeaderOut),
                 kind: None,
+                further: None,
                 is_apart: false,
             };
         };
@@ -96,6 +102,7 @@ impl TableAt {
             odd_text: odd_field(header),
             fault: table_fault(image, address, run, header),
             kind: TableKind::of(header),
+            further: FurtherTable::of(header),
             is_apart: is_apart(header),
         }
     }
@@ -117,6 +124,7 @@ impl TableAt {
         match sought {
             Sought::Fault(code) => self.has_fault(code),
             Sought::Kind(kind) => self.kind == Some(kind),
+            Sought::Further(table) => self.further == Some(table),
             Sought::Apart => self.is_apart,
         }
     }

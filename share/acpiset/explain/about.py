@@ -1,6 +1,6 @@
 """What a line of acpiset is about in an image."""
 
-from . import entries, fadt, fixed
+from . import entries, fadt, fixed, further_tables
 from .document import FIRST_RULE
 from .report import Report
 from .sentences import ROWS
@@ -14,6 +14,9 @@ OF_ROWS = {
     entries.madt: ("madt", "madt_further", "gic", "madt_with_fadt", "madt_with_srat", "madt_with_pptt"),
     entries.srat: ("srat", "srat_with_madt", "srat_with_slit"),
     entries.pptt: ("pptt", "pptt_with_madt"),
+    further_tables.mcfg: ("mcfg",),
+    further_tables.hpet: ("hpet",),
+    further_tables.spcr: ("spcr",),
 }
 BY_HAND = {
     fixed.listed: (101, 102, 103, 148, 149),
@@ -25,6 +28,7 @@ BY_HAND = {
     entries.madt: (161,),
     fixed.slit_advice: (121, 179),
     entries.pptt: (182, 311),
+    further_tables.mcfg: (191,),
 }
 OF_RULES = {**BY_HAND}
 for explain, lists in OF_ROWS.items():

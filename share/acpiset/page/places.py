@@ -29,6 +29,9 @@ BY_CODE = {
     **dict.fromkeys((147, 279), ("rsdp",)),
     179: ("slit-{at:#x}", "slit"),
     286: ("fadt", "facs"),
+    **dict.fromkeys(range(185, 192), ("mcfg",)),
+    **dict.fromkeys(range(192, 195), ("hpet",)),
+    **dict.fromkeys(range(271, 277), ("spcr",)),
 }
 # Stages whose one fault is about two entries, which is known without the documents.
 OF_PAIRS = (7, 8, 10, 16)

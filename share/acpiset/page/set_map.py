@@ -22,10 +22,14 @@ DEPTHS = {
 }
 # The stage that checks a table's contents: an earlier last stage leaves it at its header.
 STAGES = {"FACP": 4, "FACS": 5, "APIC": 6, "SRAT": 9, "SLIT": 11, "PPTT": 12}
+# Tables at whose contents only rules of advice look.
+ADVISED = ("MCFG", "HPET", "SPCR")
 TITLES = {
     "APIC": "Multiple APIC Description Table", "FACP": "Fixed ACPI Description Table", "FACS": "Firmware ACPI Control Structure",
     "SRAT": "System Resource Affinity Table", "SLIT": "System Locality Information Table",
     "PPTT": "Processor Properties Topology Table", "DSDT": "Differentiated System Description Table, which is AML",
+    "MCFG": "PCI Memory-Mapped Configuration Space Table", "HPET": "High Precision Event Timer Table",
+    "SPCR": "Serial Port Console Redirection Table",
 }
 
 
@@ -81,10 +85,16 @@ class Map:
         for slot in self.shown["slots"]:
             self.first.setdefault(slot.get("signature"), slot.get("address"))
 
+    def is_read(self, signature: str, address: str) -> bool:
+        """Whether a listed table is the first one of a kind at whose contents stages or rules look."""
+        return self.first.get(signature) == address and (signature in STAGES or signature in ADVISED)
+
     def depth(self, signature: str, address: str) -> str:
         """How far a listed table is checked."""
-        if signature not in STAGES or self.first.get(signature) != address or STAGES[signature] > self.last_stage:
+        if not self.is_read(signature, address) or STAGES.get(signature, 0) > self.last_stage:
             return "header"
+        if signature in ADVISED:
+            return "partly"
         table = next((table for table, own in SIGNATURES.items() if own == signature), None)
         return "partly" if table and self.contents.unread(table) else "contents"
 
@@ -99,13 +109,12 @@ class Map:
             return Item("not complete", slot["address"], "a Length below 36, or bytes missing", "unread", places, numbers)
         signature, address = slot["signature"], slot["address"]
         depth = self.depth(signature, address)
-        is_read = self.first.get(signature) == address and signature in STAGES
-        own = (NAMES.get(signature, signature).lower(),) if is_read else ()
+        own = (NAMES.get(signature, signature).lower(),) if self.is_read(signature, address) else ()
         more = counted(slot["length"], "byte") if "length" in slot else "not in the image"
         if depth == "header" and "length" in slot:
             more += ": header and checksum"
         elif depth == "partly":
-            more += ": checked in part"
+            more += ": checked by advice" if signature in ADVISED else ": checked in part"
         return Item(signature, address, more, depth, own + places, numbers)
 
     def items(self) -> list:

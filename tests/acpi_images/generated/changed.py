@@ -3,6 +3,7 @@
 
 from functools import cache as once
 
+from ..known.devices import DEVICES, WHOLE_DEVICES
 from ..known.further import FURTHER, WHOLE
 from ..known.judged import JUDGED
 from ..known.linted import EXPECTED
@@ -13,7 +14,9 @@ from ..rules.facts import MADT_LENGTHS
 from ..table_set import MadtEntries, PpttEntries, SratEntries, TableSet, complete_table, entries_of, fadt_of
 from ..tables import *
 from ..text import Image, read
-from .sets import LATER_FIELDS, further_domain, further_entry, further_processor, gic_entries, gic_part
+from .sets import (
+    LATER_FIELDS, further_domain, further_entry, further_processor, gic_entries, gic_part, some_device, some_hpet, some_mcfg, some_spcr,
+)
 
 KINDS = {b"APIC": MadtEntries, b"SRAT": SratEntries, b"PPTT": PpttEntries}
 LENGTH_AT, REVISION_AT, SUM_AT = 4, 8, 9
@@ -23,9 +26,9 @@ MOST_BYTES = 4000
 @once
 def known_sets():
     """The pieces of sets to begin with, and the address of the RSDP of each."""
-    rows = (*EXPECTED, *ROWS, *FURTHER)
+    rows = (*EXPECTED, *ROWS, *FURTHER, *DEVICES)
     pieces = [it.pieces for it in rows if isinstance(it.pieces, dict) and sum(map(len, it.pieces.values())) < MOST_BYTES]
-    made = [(it, RSDP_AT) for it in (*pieces, *(it[1] for it in (*JUDGED, *WHOLE)))]
+    made = [(it, RSDP_AT) for it in (*pieces, *(it[1] for it in (*JUDGED, *WHOLE, *WHOLE_DEVICES)))]
     made += [(it.pieces(), int(IMAGES[it.image], 16)) for it in MISTAKES]
     return made + [(read(firmware_text(name)).pieces(), int(IMAGES[name], 16)) for name, _, _ in UNCHANGED * 4]
 
@@ -86,7 +89,7 @@ def pptt_entry(dice, starts=(36, 56, 76, 96, 64, 92)):
     ways, attributes = lambda: dice.choice((0, 1, 2)), lambda: dice.choice((0, 0, 4, 8, 0xA, 0x1F, 0x20))
     shape = lambda: {"size": size(), "sets": dice.choice((0, 1, 64)), "ways": ways(), "attributes": attributes(), "line": line()}
     make = dice.choice((
-        lambda: node(place(), leaf_flags(), small(dice), [place() for _ in range(dice.choice((0, 0, 1, 2)))]),
+        lambda: node(place(), leaf_flags(), small(dice), [place() for _ in range(dice.choice((0, 1, 2, 2, 3)))]),
         lambda: node(place(), leaf_flags(), small(dice)),
         lambda: cache(place(), length(), cache_flags(), cache_id=byte(dice), **shape()),
         lambda: other(dice.choice((2, 3, 255)), dice.choice((2, 20, 30))),
@@ -142,31 +145,36 @@ def new_srat(dice):
 
 
 def new_pptt(dice):
-    """A PPTT whose references lead to entries, as far as these are entries of the last make."""
+    """A PPTT of which many references lead to entries, and those of nodes to caches."""
     entries = several(dice, pptt_entry)
     starts = [36 + sum(map(len, entries[:place])) for place in range(len(entries))]
+    caches = [start for start, entry in zip(starts, entries) if entry[0] == 1]
     for place, entry in enumerate(entries):
         if dice.random() < 0.5 and entry[0] in (0, 1):
-            entries[place] = entry[:8] + number(dice.choice((0, *starts)), 4) + entry[12:]
+            entry = entry[:8] + number(dice.choice((0, *starts)), 4) + entry[12:]
+        if dice.random() < 0.5 and entry[0] == 0 and caches:
+            entry = entry[:20] + b"".join(number(dice.choice(caches), 4) for _ in range(20, len(entry), 4))
+        entries[place] = entry
     return pptt(*entries, revision=dice.choice((0, 1, 2, 2, 3, 3)))
 
 
 def new_other(dice):
     """A table of which only the header is read, some with a byte in it that is no text."""
-    signature = dice.choice((b"HPET", b"DSDT", b"FACS", b"SSDT", b"MCFG", b"MCFG", b"SPCR"))
+    signature = dice.choice((b"DSDT", b"FACS", b"SSDT", b"WAET", b"WAET", b"DBG2"))
     made = table(signature, bytes(20))
     return changed(made, {dice.choice((10, 15, 23, 31)): dice.choice((0, 0x1F, 0x7F))}, (9, 56)) if dice.random() < 0.2 else made
 
 
 def new_table(dice):
-    return dice.choice((new_madt, new_srat, new_slit, new_pptt, new_fadt, new_other))(dice)
+    return dice.choice((new_madt, new_srat, new_slit, new_pptt, new_fadt, new_other, some_device, some_device))(dice)
 
 
 def new_set(dice):
     """A set of all tables that are looked into."""
     listed = [new_fadt(dice) if dice.random() < 0.5 else fadt(), new_madt(dice), new_srat(dice), new_slit(dice), new_pptt(dice)]
+    listed += [some_mcfg(dice), some_hpet(dice), some_spcr(dice)]
     dice.shuffle(listed)
-    addresses = [0x10000 * place for place in range(2, 7)]
+    addresses = [0x10000 * place for place in range(2, 10)]
     return image_of(slots=addresses, others={**dict(zip(addresses, listed)), FACS_AT: facs(), FACS_AT + 0x1000: facs()})
 
 

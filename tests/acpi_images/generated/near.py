@@ -1,13 +1,15 @@
 """Sets near the edges of the rules of advice on the FADT, the MADT, the SRAT, the SLIT and the PPTT: each entry of a table with each of
 its bytes changed, beside entries with which a rule may be broken; entries of each type with lengths around that of the type; a FADT with
-each field, and each two of them, changed, and with a DSDT or a FACS. A set has one table or two. None is random, so a set is the same
-each time."""
+each field, and each two of them, changed, and with a DSDT or a FACS; and on the MCFG, the HPET and the SPCR, with each byte changed, with
+numbers around the limits of each field, and of each Length. A set has one table or two. None is random, so a set is the same each
+time."""
 
 from __future__ import annotations
 
 from itertools import product
 
-from ..tables import TABLES_AT, changed, number, table
+from ..tables import OF_NAME, OF_PORT, TABLES_AT, changed, ecam, generic_address, hpet, mcfg, number, placed, spcr, table
+from ..text import TOP
 
 # The lengths of entries, by their types.
 MADT_LENGTHS = {
@@ -40,10 +42,10 @@ def entry(kind, size, *fields):
     return bytes(data)
 
 
-def with_byte(data):
-    """An entry, and all that differ from it in one byte after its length."""
+def with_byte(data, first=2):
+    """An entry, and all that differ from it in one byte after its length; or bytes, and all that differ in one from this place on."""
     yield data
-    for at, byte in product(range(2, len(data)), BYTES):
+    for at, byte in product(range(first, len(data)), BYTES):
         yield data[:at] + bytes([byte]) + data[at + 1 :]
 
 
@@ -331,7 +333,119 @@ def pairs():
         yield from ((madt(one), srat(other, affinity, *beside)) for other in of_lengths(SRAT_LENGTHS))
 
 
+# ---- the MCFG, the HPET and the SPCR
+
+BUS, SEGMENT = 1 << 20, 1 << 28
+ECAM = ecam(0xB0000000)
+# Addresses of an ECAM around the limits of rules, and of which two share some.
+ECAM_PLACES = (
+    0, 1, BUS >> 1, BUS, 2 * BUS - 1, 2 * BUS, 3 * BUS, 2**32 - BUS, 2**32 - 2, 2**32 - 1, 2**32, TOP - SEGMENT, TOP - SEGMENT + 1,
+    TOP - SEGMENT + BUS, TOP - 2 * BUS, TOP - BUS, TOP - 1,
+)
+MEETING_PLACES = (0, BUS, 2 * BUS - 1, 2 * BUS, TOP - BUS, TOP - 1)
+
+
+def made_by(maker, data):
+    """A table of which the OEM ID begins with these bytes."""
+    return changed(data, {10 + place: byte for place, byte in enumerate(maker)}, (9, len(data)))
+
+
+def mcfgs():
+    """MCFGs of one entry, and of each Length, Revision and maker."""
+    for revision, length, one in product((0, 1, 2), range(36, 112), (bytes(16), ECAM)):
+        yield table(b"MCFG", (bytes(8) + one * 5)[: length - 36], revision)
+    for maker, revision, base in product((b"", b"SGI", b"SGH", b"SG\0", b"RGI", b" SGI", b"SGIUV2"), (0, 1, 2, 255), ECAM_PLACES):
+        yield made_by(maker, mcfg(ecam(base), revision=revision))
+    for revision, base, first, last in product((0, 1), ECAM_PLACES, (0, 1, 2, 254, 255), (0, 1, 2, 254, 255)):
+        yield mcfg(ecam(base, 0, first, last), revision=revision)
+    yield from (mcfg(ecam(1 << bit), revision=revision) for revision, bit in product((0, 1), range(64)))
+    for revision, before, after in product((0, 1), ((), (ECAM,), (ecam(0, 0, 1, 0),)), ((), (ECAM,))):
+        for one in (ECAM, ecam(BUS, 1, 2, 2), ecam(TOP - SEGMENT, 0xFFFF)):
+            yield from (mcfg(*before, other, *after, revision=revision) for other in with_byte(one, 0))
+
+
+def meeting_entries():
+    """MCFGs of two entries, or of three, of which some share a bus or an address."""
+    some = [ecam(base, 0, *buses) for base, buses in product(MEETING_PLACES, ((0, 0), (0, 1), (1, 1), (1, 2), (1, 0), (0, 255)))]
+    yield from (mcfg(one, placed(other, _8=number(segment, 2))) for segment, one, other in product((0, 1), some, some))
+    few = [ecam(base, segment, *buses) for base, segment, buses in product((BUS, 2 * BUS), (0, 1), ((0, 0), (0, 2), (1, 1)))]
+    yield from (mcfg(*three) for three in product(few, repeat=3))
+    for segment, first, last in product((0, 1, 0x100, 0xFFFF), (0, 9, 10, 11, 20, 254, 255), (0, 9, 10, 11, 20, 254, 255)):
+        yield mcfg(ecam(BUS, segment, 10, 20), ecam(2 * SEGMENT, segment, first, last))
+        yield mcfg(ecam(BUS, segment, first, last), ecam(2 * SEGMENT, segment, 0, 9), ecam(4 * SEGMENT, segment, 21, 255))
+
+
+def hpets():
+    """HPETs of each Length, space and address."""
+    for revision, length, one in product((0, 1, 2), range(36, 62), (hpet(), hpet(0), hpet(1, 1))):
+        yield table(b"HPET", (one + bytes(8))[36:length], revision)
+    for base in (hpet(), hpet(0), hpet(0xFED0000000000000), hpet(space=1)):
+        yield from (table(b"HPET", body) for body in with_byte(base[36:], 0))
+    for space, address in product((0, 1, 2, 255), (0, 1, 0x200, 0x3FF, 0x400, 0x401, 0xFED00000, 0xFED0000000000000, TOP - 1024, TOP - 1)):
+        yield hpet(address, space)
+    for bit, address in product(range(64), (0, 0xFED00000, 0xFED0000000000000)):
+        yield hpet(address ^ 1 << bit)
+
+
+# Fields of a serial port of an Arm machine, and of one that is a PCI device.
+ARM_PORT = {"_36": b"\3", "_40": generic_address(0x9000000, 0, 32, 0, 3), "_52": b"\10\0" + number(33, 4), "_58": b"\3"}
+PCI_PORT = {"_52": b"\2\0" + number(16, 4), "_64": number(1, 2) + number(2, 2) + b"\0\37\7"}
+
+
+def spcrs():
+    """SPCRs of each Length and Revision, and with each byte and each field changed."""
+    for revision, length, fields in product(range(6), range(36, 94), (OF_PORT, ARM_PORT, {"_36": b"\xff" * 60})):
+        yield spcr(revision, length, **fields)
+    for revision, fields in product((2, 3, 4), (OF_PORT, ARM_PORT, PCI_PORT, OF_NAME)):
+        yield from (table(b"SPCR", body, revision) for body in with_byte(spcr(revision, 92, **fields)[36:], 0))
+    places = product((0, 1, 0x14, 0x15, 0x16, 0x115, 255), (0, 1, 2, 127, 255), (0, 1, 3, 4, 255), (0, 1, 1 << 32, 1 << 56))
+    for kind, space, access, address in places:
+        yield spcr(_36=number(kind, 2), _40=generic_address(address, space, 8, 0, access))
+    for code, (revision, rate) in product(range(256), ((2, 0), (3, 1), (4, 0), (4, 1), (4, 1 << 24), (5, 0))):
+        yield spcr(revision, 92, _58=bytes([code]), _80=number(rate, 4))
+    for line, kind in product(range(256), (0, 1, 2, 3, 8, 9, 255)):
+        yield spcr(_52=bytes([kind, line]))
+    numbers = (0, 1, 0xFF, 0xFF00, 0xFFFE, 0xFFFF)
+    for device_id, vendor_id, device, function in product(numbers, numbers, (0, 31, 32, 255), (0, 7, 8, 255)):
+        yield spcr(_64=number(device_id, 2) + number(vendor_id, 2) + bytes([255, device, function]))
+
+
+def names_of_ports():
+    """SPCRs of a name that is too short, not in the table, or does not end."""
+    sizes, starts = (0, 1, 2, 3, 39, 40, 41, 212, 255, 256, 65535), (0, 87, 88, 89, 90, 126, 127, 128, 255, 256, 298, 299, 65535)
+    for revision, length, size, start in product((3, 4), (88, 90, 128, 300), sizes, starts):
+        one, end = spcr(revision, length, _84=number(size, 2) + number(start, 2), _88=b"\1" * (length - 88)), start + size
+        yield one
+        if 88 < end <= length:
+            yield from (changed(one, {end - 1: last}, (9, length)) for last in (0, 255))
+
+
+def interrupts_of_ports():
+    """An SPCR with a MADT that has I/O APICs or a distributor, or is not complete."""
+    second, distributor, cut = entry(1, 12, (4, 4, 0xFEC01000), (8, 4, 32)), entry(12, 24), b"\1"
+    numbers = (0, 15, 16, 23, 24, 31, 32, 33, 55, 56, 1019, 1020, 1056, 4095, 4096, 5119, 5120, 1 << 24, 2**32 - 1)
+    of_madts = (
+        (), (IO_APIC,), (IO_APIC, second), (second,), (entry(1, 12, (8, 4, 2**32 - 16)),), (IO_APIC, cut), (IO_APIC, entry(1, 11)),
+        (entry(1, 11),), (distributor,), (distributor, IO_APIC), (distributor, cut), (entry(12, 2),), (entry(0, 7), distributor), (GICC,),
+    )
+    for kind, gsi, entries, address in product((0, 1, 2, 3, 4, 8, 9, 10, 12, 128, 255), numbers, of_madts, (0, 0x3F8)):
+        one = spcr(_40=generic_address(address), _52=bytes([kind, 4]) + number(gsi, 4))
+        yield (one, madt(*entries)) if gsi % 2 else (madt(*entries), one)
+    for line, entries in product((0, 4, 8), of_madts):
+        yield from ((spcr(_52=bytes([kind, line]) + number(24, 4)), madt(*entries)) for kind in range(16))
+
+
+def tables_twice():
+    """Two tables of one signature, of which the first counts, and of which it may be that the header alone is there."""
+    for right, wrong in ((mcfg(ECAM), mcfg()), (hpet(), hpet(0)), (spcr(), spcr(length=79)), (mcfg(ECAM), mcfg(ecam(1), ecam(1)))):
+        yield from ((right, wrong), (wrong, right), (wrong[:-1], right), (right[:-1], wrong), (right[:35], wrong), (wrong[:35], right))
+        yield from ((changed(one, {4: length}), wrong) for one, length in product((right, wrong), (0, 35, 36, 255)))
+
+
 def near_sets():
     """The tables of each set, each set once."""
     single = ((it,) for tables in (fadts, blocks, madts, gics, srats, pptts) for it in tables())
-    return list(dict.fromkeys((*single, *hierarchies(), *typed_caches(), *pairs(), *domains(), *starts(), *named_by_fadt())))
+    several = (hierarchies, typed_caches, pairs, domains, starts, named_by_fadt)
+    devices = ((it,) for tables in (mcfgs, meeting_entries, hpets, spcrs, names_of_ports) for it in tables())
+    more = (interrupts_of_ports, tables_twice)
+    return list(dict.fromkeys((*single, *(it for sets in several for it in sets()), *devices, *(it for sets in more for it in sets()))))

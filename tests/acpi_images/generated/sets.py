@@ -151,6 +151,49 @@ def further_domain(dice, drawn, flags):
     return with_reserved(dice, dice.choice((of_uid, of_uid, of_hart, of_hart, of_one_its, of_device))())
 
 
+# ---- tables of devices, of which no stage reads more than the header
+
+BUS, SEGMENT = 1 << 20, 1 << 28
+ECAM_BASES = (0xB0000000, 0xB0000000, 0xC0000000, 0, 1, 2 * BUS, LOW - BUS, LOW, LOW, TOP - SEGMENT, TOP - BUS)
+BUSES = ((0, 255), (0, 255), (0, 127), (128, 255), (0, 0), (5, 5), (1, 2), (9, 3), (255, 0))
+HPET_BASES = (0xFED00000, 0xFED00000, 0xFED00400, 0xFED00200, 0, 0xFED00000 << 32, TOP - 1)
+
+
+def some_mcfg(dice):
+    """An MCFG of a few entries, some of which have an address or a bus of others. Some have a part of an entry at their end."""
+    entry = lambda: built.ecam(dice.choice(ECAM_BASES), dice.choice((0, 0, 1)), *dice.choice(BUSES))
+    body = bytes(8) + b"".join(entry() for _ in range(dice.choice((0, 1, 1, 1, 2, 3, 6)))) + bytes(dice.choice((0, 0, 0, 0, 1, 15)))
+    made = built.table(b"MCFG", body, dice.choice((0, 0, 1, 1, 1)))
+    return built.changed(made, dict(enumerate(b"SGI", 10)), (9, len(made))) if dice.random() < 1 / 8 else made
+
+
+def some_hpet(dice):
+    """An HPET, of which some end before their last field does."""
+    made = built.hpet(dice.choice(HPET_BASES), dice.choice((0, 0, 0, 1)))
+    return built.table(b"HPET", made[36 : dice.choice((55, 56, 56, 56, 56, 56))])
+
+
+# What bytes of an SPCR may be: its interface, a space, an access size and an address, the type of the interrupt and its two numbers, the
+# rate, the IDs of a device, its place, and a precise rate; and the size, the place and the bytes of its name.
+SPCR_FIELDS = {
+    36: (b"\0", b"\x15"), 40: (b"\0", b"\1", b"\2"), 43: (b"\0", b"\3", b"\4"), 44: (bytes(8), number(0x9000000, 8)),
+    52: (b"\0", b"\1", b"\2", b"\3", b"\10"), 53: (b"\0", b"\4", b"\15"), 54: [number(it, 4) for it in (4, 23, 24, 31, 33, 1020)],
+    58: (b"\0", b"\1", b"\3", b"\10"), 64: (b"\xff\xff\0\0", b"\1\0\xff\xff", b"\1\0\2\0"), 69: (b"\37", b"\40"), 70: (b"\7", b"\10"),
+    80: (b"\0", b"\1"), 84: (b"\0", b"\1", b"\2", b"\4"), 86: (b"\0", b"\x57", b"\x58", b"\x59"), 88: (b"ab", b"ab\0\0"),
+}
+
+
+def some_spcr(dice):
+    """An SPCR of one of the Revisions, with a few fields of other numbers. Some end before their last field does."""
+    changes = {f"_{at}": dice.choice(values) for at, values in SPCR_FIELDS.items() if dice.random() < 1 / 3}
+    length = dice.choice((79, 80, 87, 88, 90, 92, 92, None, None, None))
+    return built.spcr(dice.choice((1, 2, 2, 3, 4, 4, 4, 255)), length, **changes)
+
+
+def some_device(dice):
+    return dice.choice((some_mcfg, some_hpet, some_spcr))(dice)
+
+
 # ---- PPTT (5.2.30)
 
 
@@ -329,6 +372,9 @@ class MadeSet:
 
     def made_other(self):
         dice = self.dice
+        if dice.random() < 1 / 4:
+            made = some_device(dice)
+            return Table(made[:4], made[36:], made[8])
         read = (b"APIC", b"FACP", b"SRAT", b"SLIT", b"PPTT")
         signature = dice.choice((b"HPET", b"SSDT", b"SSDT", b"DSDT", b"FACS", b"\0\x1f~\x7f", *read))
         return Table(signature, bytes(dice.randrange(256) for _ in range(dice.choice((0, 0, 4, 8, 12, 64, 80)))), dice.randrange(4))

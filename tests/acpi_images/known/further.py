@@ -24,14 +24,14 @@ class Further:
 FURTHER = []
 
 
-def broken(rule, numbers, name, pieces, words="--rsdp e0000"):
+def broken(rule, numbers, name, pieces, words="--rsdp e0000", sets=FURTHER):
     """A set that breaks a rule, of which these are the numbers of the first finding."""
-    FURTHER.append(Further(name, pieces, rule, with_numbers(f"advice {rule} {numbers}".strip()), words))
+    sets.append(Further(name, pieces, rule, with_numbers(f"advice {rule} {numbers}".strip()), words))
 
 
-def kept(rule, name, pieces, words="--rsdp e0000"):
+def kept(rule, name, pieces, words="--rsdp e0000", sets=FURTHER):
     """A set that keeps a rule."""
-    FURTHER.append(Further(name, pieces, rule, None, words))
+    sets.append(Further(name, pieces, rule, None, words))
 
 
 # ---- the RSDP, the roots, and tables at one place
@@ -1606,9 +1606,9 @@ nodes_kept(TYPES, "a node of another length", node(resources=[64, 88], count=1),
 WHOLE = []
 
 
-def whole(name, pieces, *advice, faults=("yes",)):
+def whole(name, pieces, *advice, faults=("yes",), sets=WHOLE):
     """A set, and all lines of it."""
-    WHOLE.append((name, pieces, list(map(with_numbers, (*faults, *(f"advice {line}" for line in advice))))))
+    sets.append((name, pieces, list(map(with_numbers, (*faults, *(f"advice {line}" for line in advice))))))
 
 
 whole("a FADT that has a DSDT", of_dsdt(DSDT))

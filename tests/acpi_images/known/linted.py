@@ -109,7 +109,7 @@ for signature, body, *lines in (
     (b"APIC", bytes(8) + ON, "yes", "advice SecondTable 0x2 0x1 0x4000"),
     (b"SRAT", number(1, 12), "yes", "advice SecondTable 0x2 0x1 0x4000"),
     (b"SLIT", bytes(8), "yes", "advice SecondTable 0x2 0x1 0x4000"), (b"PPTT", b"", "yes", "advice SecondTable 0x2 0x1 0x4000"),
-    (b"HPET", bytes(20), "yes"), (b"SSDT", b"", "yes"), (b"XSDT", b"", "yes"),
+    (b"HPET", hpet()[36:], "yes"), (b"SSDT", b"", "yes"), (b"XSDT", b"", "yes"),
 ):
     one = table(signature, body)
     tables = (one,) if signature == b"FACP" else (one, one)
@@ -976,7 +976,8 @@ MOST = {
     RSDP_AT: changed(MANY_FAULTS[RSDP_AT], {9: 0x1F, 33: 1}),
     RSDT_AT: rsdt(0x2000),
     XSDT_AT: changed(
-        xsdt(*(0x1000 * place for place in (2, 3, 4, 5, 6, 8, 9, 10, 11, 12, 13)), 0, 0xE000, 0xF000, 0xE024, 0x2000), {8: 2, 9: 0},
+        xsdt(*(0x1000 * place for place in (2, 3, 4, 5, 6, 8, 9, 10, 11, 12, 13)), 0, 0xE000, 0xF000, 0xE024, 0x2000, 0x10000),
+        {8: 2, 9: 0},
     ),
     0x2000: revised(
         full_fadt(
@@ -1052,6 +1053,7 @@ MOST = {
     ),
     0xE000: changed(table(b"MCFG", table(b"DATA", bytes(8))), {10: 0x7F}, (9, 80)),
     0xF000: table(b"MCFG", b""),
+    0x10000: spcr(4, 88, _40=generic_address(1, 2), _52=b"\1\0", _58=b"\1", _64=b"\0\0\xff\xff", _84=bytes(4)),
     0xA010000: table(b"SSDT", b""),
 }
 expected(
@@ -1088,6 +1090,8 @@ expected(
     "advice InitiatorOff 0x128", "advice DomainPastRevision 0xa4 0x1 0x100", "advice ItsNowhere 0x11c 0x0 0x6",
     "advice SratReserved 0xcc 0x6", "advice RemoteAsLocal 0x2f 0x1", "advice LeafUnflagged 0x78 0x0 0x9",
     "advice LeafAsParent 0x50 0x78", "advice NoPackage 0x50 0x0 0x8", "advice CacheNumbers 0xa8", "advice PpttReserved 0x78 0x2",
+    "advice McfgLength 0x4 0x5c 0x50", "advice EcamAddress 0x2c 0x0 0x4141414141412501", "advice SpcrAddress 0x28 0x0 0x2",
+    "advice SpcrBaud 0x3a 0x0 0x1", "advice SpcrGsi 0x34 0x0 0x1", "advice SpcrPci 0x40", "advice SpcrName 0x54",
     "advice RsdpText 0x9 0x0 0x41414141411f", "advice RootHeader 0x8 0x0 0x2", "advice BlockSpace 0xe8 0x0 0x2",
     "advice FadtForRiscv 0x8 0x6", "advice GiccShort 0x26d 0x4c 0x4b", "advice GiccDiffers 0x146 0x28 0x1",
     "advice SameGicrBase 0x146 0xf6 0x5000", "advice GiccNoPpi 0xf6 0x4e 0x20", "advice PicVersion 0x256 0x2",

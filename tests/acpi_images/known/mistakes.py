@@ -1,6 +1,6 @@
 """Mistakes that firmware makes, put by hand into sets of real firmware one at a time, and the lines that `lint` has to write of
 each, worked out by hand from the rules in docs/TABLES.md and docs/FAULTS.md and from what tests/show/images says of the set.
-Eleven of 50 break a rule that `check` looks at, and of the first 26, which other tools were given too, nine; the others are seen by
+Eleven of 66 break a rule that `check` looks at, and of the first 26, which other tools were given too, nine; the others are seen by
 advice alone."""
 
 from __future__ import annotations
@@ -18,6 +18,8 @@ UNCHANGED = [
     ("sb-q35-default", "", ["yes"]), ("sb-q35-numa4-dist", "", ["yes"]), ("sb-pc-nvdimm-numa", "", ["no 10 Overlap 0x90 0xb8 0x100000000"]),
     ("sb-pc-nvdimm-numa", "--hotplug apart", ["yes"]), ("ovmf-q35", "", ["yes"]), ("mv-acpi", "", ["yes"]),
     ("q10-efi-virt-smp4", "", ["yes"]), ("q11-efi-virt-caches", "", ["yes", "advice ListedTwice 0x3 0x2 0x47fc198e"]),
+    ("sb-q35-hmat", "", ["yes"]), ("sb-q35-intel-iommu", "", ["yes"]), ("sb-q35-amd-iommu", "", ["yes"]),
+    ("q102-virt-smmuv3", "", ["yes", "advice NoDsdt 0x28 0x0 0x0"]),
 ]
 
 
@@ -193,3 +195,43 @@ of_arm("a GICC has a flag that there is not", b"APIC", {0x44 + 12: b"\x21"}, "ye
 of_arm("the MADT of a GIC has Revision 1", b"APIC", {8: b"\1"}, "yes", "advice MadtRevision 0x8 0x0 0x1")
 of_four("the last leaf has another type", b"PPTT", {0x74: b"\2"}, "yes", "advice NoLeaf 0x134 0x0 0x3", "advice PpttUnread 0x74 0x2")
 of_arm("both caches of a core are of instructions", b"PPTT", {0x98 + 21: b"\7"}, "yes", "advice SameCacheType 0xc8 0xb0 0x98")
+
+# ---- what the rules on the MCFG, the HPET and the SPCR see
+# What a slot of the PC's RSDT leads to in the place of its HPET or its MCFG, and one of the Arm machine's XSDT in the place of its SPCR.
+HPET_SLOT, MCFG_SLOT, MOVED = {44: number(0x7FFE5000, 4)}, {56: number(0x7FFE5000, 4)}, 0x7FFE5000
+SPCR_SLOT, SPCR_MOVED = {84: number(0x47FD0000, 8)}, 0x47FD0000
+of_pc("the MCFG has no entry", b"RSDT", MCFG_SLOT, "yes", "advice McfgLength 0x4 0x3c 0x2c", others={MOVED: mcfg()})
+of_pc("the ECAM's address is left 0", b"MCFG", {44: bytes(8)}, "yes", "advice EcamAddress 0x2c")
+of_pc("the first bus and the last are exchanged", b"MCFG", {54: b"\xff\0"}, "yes", "advice BusesReversed 0x2c 0xb 0x0")
+of_pc(
+    "the ECAM's address is F8000000h with its sign", b"MCFG", {44: number(0xFFFFFFFFF8000000, 8)}, "yes",
+    "advice EcamWraps 0x2c 0x0 0xfffffffff8000000",
+)
+of_arm("the MCFG's Revision is left 0", b"MCFG", {8: b"\0"}, "yes", "advice EcamTooHigh 0x2c 0x0 0x4010000000")
+of_pc(
+    "buses from 128 on have an entry, and the one of all buses stays", b"RSDT", MCFG_SLOT, "yes", "advice SameBus 0x2c 0x3c 0x80",
+    others={MOVED: mcfg(ecam(0xB0000000), ecam(0x90000000, 0, 128, 255))},
+)
+of_pc(
+    "a second segment has the ECAM of the first", b"RSDT", MCFG_SLOT, "yes", "advice EcamOverlap 0x2c 0x3c 0xb0000000",
+    others={MOVED: mcfg(ecam(0xB0000000), ecam(0xB0000000, 1))},
+)
+of_pc(
+    "the HPET ends after its address", b"RSDT", HPET_SLOT, "yes", "advice HpetLength 0x4 0x38 0x34",
+    others={MOVED: table(b"HPET", hpet()[36:52])},
+)
+of_pc("the HPET is in the space of ports", b"HPET", {40: b"\1"}, "yes", "advice HpetSpace 0x28 0x0 0x1")
+of_pc(
+    "the HPET's address is in the high half", b"HPET", {44: number(0xFED00000 << 32, 8)}, "yes",
+    "advice HpetAddress 0x2c 0x0 0xfed0000000000000",
+)
+of_arm("the SPCR's Revision is raised, and not its Length", b"SPCR", {8: b"\4"}, "yes", "advice SpcrLength 0x4 0x58 0x50")
+of_arm("the access size of the port counts bits", b"SPCR", {43: b"\x20"}, "yes", "advice SpcrAddress 0x2b 0x0 0x20")
+of_arm("the rate counts from 1", b"SPCR", {58: b"\1"}, "yes", "advice SpcrBaud 0x3a 0x0 0x1")
+of_arm("the interrupt of the port counts from that of the first SPI", b"SPCR", {54: number(1, 4)}, "yes", "advice SpcrGsi 0x36 0x0 0x1")
+of_four("the vendor of no PCI device is left 0", b"SPCR", {66: bytes(2)}, "yes", "advice SpcrPci 0x40 0x0 0xffff")
+ARM_PORT = {"_36": b"\3", "_40": generic_address(0x9000000, 0, 32, 0, 3), "_52": b"\10\0" + number(33, 4), "_58": b"\3"}
+of_arm(
+    "the name of the port has no zero at its end", b"XSDT", SPCR_SLOT, "yes", "advice SpcrName 0x60 0x0 0x30",
+    others={SPCR_MOVED: spcr(4, 97, **ARM_PORT, _84=number(9, 2), _88=b"\\_SB.COM0")},
+)

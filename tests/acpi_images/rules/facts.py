@@ -151,6 +151,21 @@ class Facts:
         return self.fadt.field(140, 8) or self.fadt.field(40, 4) if self.fadt else 0
 
     @cached_property
+    def mcfg(self):
+        """The MCFG, or None if there is none, or if it is not complete."""
+        return self.tables.table(b"MCFG")
+
+    @cached_property
+    def hpet(self):
+        """The same of the HPET."""
+        return self.tables.table(b"HPET")
+
+    @cached_property
+    def spcr(self):
+        """The same of the SPCR."""
+        return self.tables.table(b"SPCR")
+
+    @cached_property
     def uids(self):
         return {it.uid for it in self.processors}
 

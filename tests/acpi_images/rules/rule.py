@@ -118,6 +118,11 @@ def unread(table, lengths):
             yield entry.offset, entry.kind
 
 
+def too_short(table, least):
+    """The numbers of a finding that a table is shorter than this, or nothing."""
+    return [(4, least, len(table))] if len(table) < least else []
+
+
 def of_table(data, at, size):
     """The numbers of a finding that is a number of a table."""
     return at, 0, data.number(at, size)

@@ -15,12 +15,16 @@ use Rattle.acpi_lint.specs.Rules.Ports.{IsPortsOverlap}
 use Rattle.acpi_lint.specs.Rules.Structures.{OfNamingFadt, IsTablesOverlap}
 use Rattle.acpi_lint.specs.Rules.CacheTypes.{IsSameCacheType}
 use Rattle.acpi_lint.specs.Rules.Hierarchy.{IsNoPackage}
+use Rattle.acpi_lint.specs.Rules.McfgAdvice.{IsEcamOverlap}
+use Rattle.acpi_lint.specs.Rules.SpcrAdvice.{IsGsiUnserved, IsNameOpen}
 use Rattle.acpi_lint.specs.Rules.RootAdvice.{IsNullSlot, IsRootHeader, IsRsdtDiffers}
 use Rattle.acpi_lint.specs.Rules.RsdpAdvice.{IsRsdpReserved, IsRsdpText}
 use Rattle.acpi_lint.specs.Rules.HeaderAdvice.{IsHeaderText, IsSecondOther}
 use Rattle.acpi_lint.specs.Rules.NamedAdvice.{IsDsdtText, IsDsdtWrong, IsFacsReserved, IsS4BiosDiffers}
-use Rattle.acpi_lint.specs.RowGroups.{IsRowBroken, OfKind}
+use Rattle.acpi_lint.specs.RowGroups.{IsRowBroken, OfTable}
 use Rattle.acpi_lint.specs.Rules.Rows.{rule_number}
+use Rattle.acpi_lint.specs.declared.further_table.FurtherTable.TheVariants as further
+use Rattle.acpi_lint.specs.declared.further_table.RowTable.TheVariants.{Further, Kind}
 use Rattle.acpi_lint.specs.declared.rule.Rule.{Rule}
 use Rattle.acpi_lint.specs.declared.rule.Rule.TheVariants as rule
 
@@ -41,7 +45,7 @@ OfSlit m q P = HasSlit m q (λ slit. HasSlitSize slit × P slit)
 
 -- ---- the rules
 
--- what a rule that is not a row looks at, and the relation that says with which numbers it is broken there
+-- what a rule that is not a row, or is one in part, looks at, and the relation that says with which numbers it is broken there
 pub data Condition : Type 1 where
   Rows : Condition  -- none: the rule is a row
   Slots : (Memory → ℕ → ℕ → ℕ → ℕ → Type 0) → Condition  -- the slots of the root table that the RSDP at an address names
@@ -52,6 +56,9 @@ pub data Condition : Type 1 where
   Madt : (List ℕ → ℕ → ℕ → ℕ → Type 0) → Condition  -- the bytes of the MADT
   Slit : (SlitContents → ℕ → ℕ → ℕ → Type 0) → Condition
   Pptt : (List ℕ → ℕ → ℕ → ℕ → Type 0) → Condition  -- the bytes of the PPTT
+  Mcfg : (List ℕ → ℕ → ℕ → ℕ → Type 0) → Condition
+  Spcr : (List ℕ → ℕ → ℕ → ℕ → Type 0) → Condition
+  SpcrMadt : (PolicyValue → List ℕ → MadtContents → ℕ → ℕ → ℕ → Type 0) → Condition
 
 -- the condition of each rule
 abbrev pub condition : Rule → Condition
@@ -78,6 +85,9 @@ condition rule.RootHeader = Slots IsRootHeader
 condition rule.DsdtText = FadtMemory IsDsdtText
 condition rule.S4BiosDiffers = FadtMemory IsS4BiosDiffers
 condition rule.SameCacheType = Pptt IsSameCacheType
+condition rule.EcamOverlap = Mcfg IsEcamOverlap
+condition rule.SpcrName = Spcr IsNameOpen
+condition rule.SpcrGsi = SpcrMadt IsGsiUnserved
 condition _ = Rows
 
 -- the condition holds in a set for these numbers
@@ -88,9 +98,13 @@ HoldsAt (Set P) m q at other point = P m q.rsdp at other point
 HoldsAt (Fadt P) m q at other point = OfFadt m q (λ fadt. P fadt at other point)
 HoldsAt (FadtMemory P) m q at other point = OfFadt m q (λ fadt. P m fadt at other point)
 HoldsAt (FadtMadt P) m q at other point = OfFadt m q (λ fadt. OfMadt m q (λ madt. P q fadt madt at other point))
-HoldsAt (Madt P) m q at other point = OfKind kind.Madt m q (λ madt. P madt at other point)
+HoldsAt (Madt P) m q at other point = OfTable (Kind kind.Madt) m q (λ madt. P madt at other point)
 HoldsAt (Slit P) m q at other point = OfSlit m q (λ slit. P slit at other point)
-HoldsAt (Pptt P) m q at other point = OfKind kind.Pptt m q (λ pptt. P pptt at other point)
+HoldsAt (Pptt P) m q at other point = OfTable (Kind kind.Pptt) m q (λ pptt. P pptt at other point)
+HoldsAt (Mcfg P) m q at other point = OfTable (Further further.Mcfg) m q (λ mcfg. P mcfg at other point)
+HoldsAt (Spcr P) m q at other point = OfTable (Further further.Spcr) m q (λ spcr. P spcr at other point)
+HoldsAt (SpcrMadt P) m q at other point =
+    OfTable (Further further.Spcr) m q (λ spcr. OfMadt m q (λ madt. P q spcr madt at other point))
 
 -- the set breaks a rule that is not a row
 abbrev pub IsBrokenByHand : Rule → Memory → PolicyValue → ℕ → ℕ → ℕ → Type 0

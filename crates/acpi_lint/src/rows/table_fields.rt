@@ -8,8 +8,14 @@ pub const TABLE: Path = Path::Table;
 /// The table, whatever its length.
 pub const WHOLE: Kind = kind!(0, 0..);
 
+/// Its Length.
+pub const LENGTH: Field = field!(4, 4);
+
 /// Its Revision.
 pub const REVISION: Field = field!(8, 1);
+
+/// The first three bytes of its OEMID.
+pub const OEM_ID_0_2: Field = field!(10, 3);
 
 /// An entry's type, of a byte, and its length, of a byte.
 pub const TYPE: Field = field!(0, 1);

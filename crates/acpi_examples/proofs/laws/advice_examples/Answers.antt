@@ -1,3 +1,4 @@
+use Rattle.acpi_examples.proofs.AdviceDevices.{devices_advised}
 use Rattle.acpi_examples.proofs.AdviceFadt.{fadt_advised}
 use Rattle.acpi_examples.proofs.AdviceFadtFields.{fadt_fields_advised}
 use Rattle.acpi_examples.proofs.AdviceGic.{gic_advised}
@@ -19,5 +20,6 @@ returns c = record {
   hierarchy = hierarchy_advised;
   gic = gic_advised;
   ranges = ranges_advised;
+  devices = devices_advised;
   rows = rows_found;
 }

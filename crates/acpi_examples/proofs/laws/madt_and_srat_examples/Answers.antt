@@ -11,6 +11,5 @@ returns c = record {
   first_interrupt = first_interrupt;
   first_overlaps = first_overlaps;
   valid_madt = no_madt_fault;
-  valid_srat =
-      no_srat_fault;
+  valid_srat = no_srat_fault;
 }

@@ -6,7 +6,7 @@ use Rattle.acpi_lint.proofs.fadt.lists_no_fadt.Goals as goal
 pub returns-in-Some : goal.returns-in-Some
 returns-in-Some c = λ m p whole.
     lists_none c.args.tables.now.firsts.fadt c.is_none.result (search rules) (rw c.in-Some.is at whole.root)
-    (whole.firsts kind.Fadt)
+    (whole.firsts.kinds kind.Fadt)
 
 pub returns-in-None : goal.returns-in-None
 returns-in-None c = λ m p whole.

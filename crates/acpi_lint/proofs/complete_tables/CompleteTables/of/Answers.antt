@@ -8,3 +8,5 @@ returns-clause-tables c =
     are_whole _ c.complete-root.ensures slots firsts (c.found.ensures c.args.rsdp firsts)
     (c.found-2.ensures c.args.rsdp firsts) (c.found-3.ensures c.args.rsdp firsts)
     (c.found-4.ensures c.args.rsdp firsts) (c.found-5.ensures c.args.rsdp firsts)
+    (c.found_further.ensures c.args.rsdp firsts) (c.found_further-2.ensures c.args.rsdp firsts)
+    (c.found_further-3.ensures c.args.rsdp firsts)

@@ -8,4 +8,4 @@ pub returns-clause-noted : goal.returns-clause-noted
 returns-clause-noted c =
     let present : bytes_at c.args.image.now c.args.address 36 ≡ Some c.in-Some.header.now = search rules in
     table_there _ c.in-Some.header.now present (search rules) c.odd_field.ensures
-    c.table_fault.ensures c.of.ensures c.is_apart.ensures
+    c.table_fault.ensures c.of.ensures c.of-2.ensures c.is_apart.ensures
