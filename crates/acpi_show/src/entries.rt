@@ -6,7 +6,6 @@ use crate::pptt::add_pptt_entry;
 use crate::srat::add_srat_entry;
 use acpi_read::{Entries, Entry};
 use std::alloc::AllocError;
-use std::fmt::Write;
 
 /// The tables of entries.
 #[derive(Clone, Copy)]
@@ -33,7 +32,10 @@ pub fn add_entries(
         text.push('\n')?;
     }
     match entries.cut() {
-        Some(offset) => writeln!(text, "0x{offset:x} cut"),
+        Some(offset) => {
+            add_hex(text, "", offset)?;
+            text.push_str(" cut\n")
+        }
         None => Ok(()),
     }
 }

@@ -1,11 +1,11 @@
 //! The lines of the FADT, of its register blocks, and of the FACS.
 
+use crate::fields::{add_decimal, add_hex};
 use crate::unread::{Unread, add_unread};
 use acpi_base::LentImage;
 use acpi_base::field::{u8_at, u16_at, u32_at};
 use acpi_read::{Block, Facs, Fadt, Gas, Listed};
 use std::alloc::AllocError;
-use std::fmt::Write;
 
 /// The offset of Preferred_PM_Profile in a FADT (ACPI 6.5, 5.2.9).
 const PREFERRED_PM_PROFILE: usize = 45;
@@ -47,11 +47,19 @@ fn add_fields(text: &mut String, address: u64, fadt: &Fadt<'_>) -> Result<(), Al
     let profile = u8_at(bytes, PREFERRED_PM_PROFILE);
     let sci = u16_at(bytes, SCI_INT);
     let flags = u32_at(bytes, FLAGS);
-    let reduced = if fadt.reduced() { "yes" } else { "no" };
-    write!(text, "fadt 0x{address:x} length {}", bytes.len())?;
-    write!(text, " profile {profile} sci {sci}")?;
-    writeln!(text, " flags 0x{flags:x} reduced {reduced}")?;
-    writeln!(text, "dsdt 0x{:x}", fadt.dsdt_address())
+    let reduced = if fadt.reduced() {
+        " reduced yes\n"
+    } else {
+        " reduced no\n"
+    };
+    add_hex(text, "fadt ", address)?;
+    add_decimal(text, " length ", bytes.len() as u64)?;
+    add_decimal(text, " profile ", profile)?;
+    add_decimal(text, " sci ", sci)?;
+    add_hex(text, " flags ", flags)?;
+    text.push_str(reduced)?;
+    add_hex(text, "dsdt ", fadt.dsdt_address())?;
+    text.push('\n')
 }
 
 /// Adds a line for each register block that the FADT gives an address: that of a generic address structure, or `block
@@ -63,18 +71,31 @@ fn add_blocks(text: &mut String, fadt: &Fadt<'_>) -> Result<(), AllocError> {
             Block::None => {}
             Block::Gas(gas) => add_gas(text, name, gas)?,
             Block::Port { address, bytes } => {
-                writeln!(text, "block {name} port {bytes} 0x{address:x}")?;
+                add_block_name(text, name)?;
+                add_decimal(text, " port ", bytes)?;
+                add_hex(text, " ", address)?;
+                text.push('\n')?;
             }
         }
     }
     Ok(())
 }
 
+/// Adds `block NAME`.
+fn add_block_name(text: &mut String, name: &str) -> Result<(), AllocError> {
+    text.push_str("block ")?;
+    text.push_str(name)
+}
+
 /// Adds `block NAME gas SPACE WIDTH OFFSET ACCESS ADDRESS`.
 fn add_gas(text: &mut String, name: &str, gas: Gas) -> Result<(), AllocError> {
-    write!(text, "block {name} gas {} {}", gas.space, gas.bit_width)?;
-    write!(text, " {} {}", gas.bit_offset, gas.access_size)?;
-    writeln!(text, " 0x{:x}", gas.address)
+    add_block_name(text, name)?;
+    add_decimal(text, " gas ", gas.space)?;
+    add_decimal(text, " ", gas.bit_width)?;
+    add_decimal(text, " ", gas.bit_offset)?;
+    add_decimal(text, " ", gas.access_size)?;
+    add_hex(text, " ", gas.address)?;
+    text.push('\n')
 }
 
 /// Adds the line of the FACS, if the FADT names one: `facs ADDRESS length N version N`.
@@ -87,8 +108,10 @@ fn add_facs(text: &mut String, image: &LentImage<'_>, fadt: &Fadt<'_>) -> Result
         Ok(Some(facs)) => {
             let bytes = facs.bytes();
             let version = u8_at(bytes, VERSION);
-            write!(text, "facs 0x{:x}", facs.address())?;
-            writeln!(text, " length {} version {version}", bytes.len())
+            add_hex(text, "facs ", facs.address())?;
+            add_decimal(text, " length ", bytes.len() as u64)?;
+            add_decimal(text, " version ", version)?;
+            text.push('\n')
         }
         Ok(None) => Ok(()),
         Err(_) => add_unread(text, "facs", address, Unread::Bad),

@@ -1,5 +1,5 @@
 //! The fields of a line: labels, each with a number. They are added to the text without `write!`, which takes twice as
-//! long, as there may be millions of lines.
+//! long, as there may be millions of lines, and which would add its formatter to the library.
 
 use itoa::Buffer;
 use std::alloc::AllocError;

@@ -9,7 +9,6 @@ use acpi_read::{
     MadtEntry, NmiSource, Override, TableEntry, X2apic, X2apicNmi,
 };
 use std::alloc::AllocError;
-use std::fmt::Write;
 
 /// Adds the lines of the MADT: `madt ADDRESS lapic ADDRESS flags FLAGS`, with the address of the local APICs, and those
 /// of its entries.
@@ -21,10 +20,10 @@ pub fn add_madt(text: &mut String, listed: &Listed<'_>) -> Result<(), AllocError
     let bytes = listed.table.bytes();
     let local_apic = u32_at(bytes, MADT_LOCAL_APIC_ADDRESS);
     let flags = u32_at(bytes, MADT_FLAGS);
-    writeln!(
-        text,
-        "madt 0x{address:x} lapic 0x{local_apic:x} flags 0x{flags:x}"
-    )?;
+    add_hex(text, "madt ", address)?;
+    add_hex(text, " lapic ", local_apic)?;
+    add_hex(text, " flags ", flags)?;
+    text.push('\n')?;
     add_entries(text, Owner::Madt, entries)
 }
 

@@ -7,13 +7,13 @@ use crate::fields::{add_decimal, add_hex};
 use acpi_base::field::u32_at;
 use acpi_read::{Cache24, Cache28, Entries, Entry, Listed, NodeHead, PpttEntry, TableEntry};
 use std::alloc::AllocError;
-use std::fmt::Write;
 
 /// Adds the lines of the PPTT: `pptt ADDRESS`, and those of its entries.
 pub fn add_pptt(text: &mut String, listed: &Listed<'_>) -> Result<(), AllocError> {
     let address = listed.address;
     let table = listed.table.copied();
-    writeln!(text, "pptt 0x{address:x}")?;
+    add_hex(text, "pptt ", address)?;
+    text.push('\n')?;
     add_entries(text, Owner::Pptt, Entries::pptt(table))
 }
 

@@ -5,7 +5,6 @@ use acpi_base::LentImage;
 use acpi_base::field::u8_at;
 use acpi_read::{Root, Rsdp, Table};
 use std::alloc::AllocError;
-use std::fmt::Write;
 
 /// The offset of Revision in an RSDP (ACPI 6.5, 5.2.5.3).
 const REVISION: usize = 15;
@@ -16,7 +15,9 @@ pub fn add_rsdp(text: &mut String, image: &LentImage<'_>, address: u64) -> Resul
         return Ok(());
     };
     let revision = u8_at(head, REVISION);
-    writeln!(text, "rsdp 0x{address:x} revision {revision}")
+    add_hex(text, "rsdp ", address)?;
+    add_decimal(text, " revision ", revision)?;
+    text.push('\n')
 }
 
 /// Adds the line of the root table, `root ADDRESS RSDT length N slots N`, or the same for an XSDT, and those of its
@@ -26,11 +27,14 @@ pub fn add_root(
     image: &LentImage<'_>,
     root: &Root<'_>,
 ) -> Result<(), AllocError> {
-    let kind = if root.wide() { "XSDT" } else { "RSDT" };
+    let kind = if root.wide() { " XSDT" } else { " RSDT" };
     let length = root.bytes().len();
     let slots = root.slots();
-    write!(text, "root 0x{:x} {kind}", root.address())?;
-    writeln!(text, " length {length} slots {slots}")?;
+    add_hex(text, "root ", root.address())?;
+    text.push_str(kind)?;
+    add_decimal(text, " length ", length as u64)?;
+    add_decimal(text, " slots ", slots)?;
+    text.push('\n')?;
     for slot in 0..slots {
         add_slot(text, image, slot, root.slot(slot))?;
     }
@@ -46,10 +50,13 @@ fn add_slot(
     address: u64,
 ) -> Result<(), AllocError> {
     if address == 0 {
-        return writeln!(text, "slot {slot} empty");
+        add_decimal(text, "slot ", slot)?;
+        return text.push_str(" empty\n");
     }
     let Some(table) = Table::complete(image, address) else {
-        return writeln!(text, "slot {slot} 0x{address:x} bad");
+        add_decimal(text, "slot ", slot)?;
+        add_hex(text, " ", address)?;
+        return text.push_str(" bad\n");
     };
     let header = table.header();
     add_decimal(text, "slot ", slot)?;

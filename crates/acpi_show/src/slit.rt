@@ -2,12 +2,11 @@
 
 ghost use Rattle.std.specs.Prelude.{◌<◌};
 
-use crate::fields::add_decimal;
+use crate::fields::{add_decimal, add_hex};
 use crate::unread::{Unread, add_unread};
 use acpi_base::Code;
 use acpi_read::{Listed, Slit};
 use std::alloc::AllocError;
-use std::fmt::Write;
 
 /// Adds the lines of the SLIT: `slit ADDRESS count N`, and one for each locality.
 pub fn add_slit(text: &mut String, listed: &Listed<'_>) -> Result<(), AllocError> {
@@ -25,7 +24,9 @@ pub fn add_slit(text: &mut String, listed: &Listed<'_>) -> Result<(), AllocError
         }
     };
     let count = slit.count();
-    writeln!(text, "slit 0x{address:x} count {count}")?;
+    add_hex(text, "slit ", address)?;
+    add_decimal(text, " count ", count)?;
+    text.push('\n')?;
     for row in 0..count {
         add_row(text, &slit, row)?;
     }
@@ -36,9 +37,9 @@ pub fn add_slit(text: &mut String, listed: &Listed<'_>) -> Result<(), AllocError
 fn add_row(text: &mut String, slit: &Slit<'_>, row: u32) -> Result<(), AllocError>
     requires { row < slit.now.count }
 {
-    write!(text, "row {row}")?;
+    add_decimal(text, "row ", row)?;
     for column in 0..slit.count() {
         add_decimal(text, " ", slit.distance(row, column))?;
     }
-    writeln!(text)
+    text.push('\n')
 }

@@ -5,7 +5,6 @@ use crate::fields::{add_decimal, add_hex};
 use crate::unread::{Unread, add_unread};
 use acpi_read::{Entries, Entry, Listed, MemoryRange, SratEntry, TableEntry};
 use std::alloc::AllocError;
-use std::fmt::Write;
 
 /// Adds the lines of the SRAT: `srat ADDRESS`, and those of its entries.
 pub fn add_srat(text: &mut String, listed: &Listed<'_>) -> Result<(), AllocError> {
@@ -14,7 +13,8 @@ pub fn add_srat(text: &mut String, listed: &Listed<'_>) -> Result<(), AllocError
     let Ok(entries) = Entries::srat(table) else {
         return add_unread(text, "srat", address, Unread::Short);
     };
-    writeln!(text, "srat 0x{address:x}")?;
+    add_hex(text, "srat ", address)?;
+    text.push('\n')?;
     add_entries(text, Owner::Srat, entries)
 }
 

@@ -1,7 +1,7 @@
 //! Tables whose contents are not shown.
 
+use crate::fields::add_hex;
 use std::alloc::AllocError;
-use std::fmt::Write;
 
 /// Why the contents of a table are not shown.
 #[derive(Clone, Copy)]
@@ -20,8 +20,10 @@ pub fn add_unread(
     why: Unread,
 ) -> Result<(), AllocError> {
     let why = match why {
-        Unread::Short => "short",
-        Unread::Bad => "bad",
+        Unread::Short => " short\n",
+        Unread::Bad => " bad\n",
     };
-    writeln!(text, "{table} 0x{address:x} {why}")
+    text.push_str(table)?;
+    add_hex(text, " ", address)?;
+    text.push_str(why)
 }
