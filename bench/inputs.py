@@ -15,6 +15,7 @@ usage: inputs.py FORM TEXT FILE        one run, just below TEXT MiB of text; FOR
 
 import gzip
 import itertools
+import math
 import random
 import struct
 import sys
@@ -202,7 +203,34 @@ def machine(count):
 
 
 # the tables of a kind, by the number of entries, which are in random order if they differ
+def hmat(body):
+    return table(b"HMAT", bytes(4) + body, 2)
+
+
+def latencies(initiators, targets, cells):
+    """A structure of an HMAT with these lists, in units of 1."""
+    lists = struct.pack(f"<{len(initiators)}I{len(targets)}I", *initiators, *targets) + cells
+    counts = len(initiators), len(targets)
+    return struct.pack("<HHIIIIIQ", 1, 0, 32 + len(lists), 0, *counts, 0, 1) + lists
+
+
+def square_of_cells(count):
+    """An HMAT with that many cells, or somewhat fewer, of as many initiators as targets."""
+    side = math.isqrt(count)
+    return hmat(latencies(range(side), range(side), bytes(2 * side * side)))
+
+
+def platform_timers(count):
+    """A GTDT with platform timers of 4 bytes, which are no blocks and no watchdogs."""
+    fields = bytes(20) + struct.pack("<I", 30) + bytes(28) + struct.pack("<II", count, 104) + bytes(8)
+    return table(b"GTDT", fields + struct.pack("<BHB", 2, 4, 0) * count, 3)
+
+
 KINDS = {
+    "initiators": lambda count: [hmat(latencies(shuffled(count), (), b"")), srat(memory_range(0))],
+    "cells": lambda count: [square_of_cells(count), srat(memory_range(0))],
+    "structures-of-8-bytes": lambda count: [hmat(struct.pack("<HHI", 3, 0, 8) * count), srat(memory_range(0))],
+    "platform-timers": lambda count: [platform_timers(count)],
     "reserved-entries": lambda count: [madt(*map(reserved, range(count)))],
     "empty-tables": lambda count: [table(b"DATA", b"")] * count,
     "bytes-of-a-table": lambda count: [table(b"DATA", random.Random(1).randbytes(count))],

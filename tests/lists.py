@@ -188,7 +188,7 @@ def large_number(lists):
     lists.is_silent("a number beyond 999, after a gap, that is written")
     lists.is_silent("a number beyond 999, after a gap", "--check")
     for name, text in (
-        (RULE, '1000, "SameCacheType"),\n    // end: rules'), (ROWS, '(132, 1000, codes "SameCacheType")'), (BOUNDS, "rule_number r ≤ 1000"),
+        (RULE, '1000, "SameCacheType"),\n    // end: rules'), (ROWS, '(157, 1000, codes "SameCacheType")'), (BOUNDS, "rule_number r ≤ 1000"),
         (HEADER, "ACPISET_SAME_CACHE_TYPE = 1000"), (PYTHON, "    SameCacheType = 1000  #"), (RUST, "        SameCacheType = 1000,"),
         (SENTENCES, "    1000: ("), (FAULTS, "1000 [SameCacheType](#1000-samec"),
     ):

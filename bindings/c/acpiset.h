@@ -128,7 +128,7 @@ struct acpiset_answer acpiset_confirm(const struct acpiset_piece *pieces, size_t
 
 /* The most findings that acpiset_lint of this version reports. A shared library of a later version may count more. */
 /* begin: most, made by scripts/lists.py */
-#define ACPISET_MOST_FINDINGS 192
+#define ACPISET_MOST_FINDINGS 217
 /* end: most */
 
 /* All that is wrong: the first fault of each code that has one, and then the first finding of each rule of advice that is
@@ -350,22 +350,47 @@ enum acpiset_rule {
     ACPISET_ECAM_ADDRESS = 186,         /* an entry of the MCFG has a base address that is 0 or no multiple of 1 MiB */
     ACPISET_BUSES_REVERSED = 187,       /* an entry of the MCFG has an end bus number below its start bus number */
     ACPISET_ECAM_WRAPS = 188,           /* the address range of an entry of the MCFG ends above the highest address */
-    ACPISET_ECAM_TOO_HIGH = 189,        /* the MCFG has the Revision 0, and an entry's base address does not lie below 0xffffffff */
+    ACPISET_ECAM_TOO_HIGH = 189,        /* the MCFG has Revision 0, and an entry's base address is not below 0xffffffff */
     ACPISET_SAME_BUS = 190,             /* two entries of the MCFG have the same bus of the same PCI segment */
     ACPISET_ECAM_OVERLAP = 191,         /* the ECAMs of two entries of the MCFG share an address */
     ACPISET_HPET_LENGTH = 192,          /* the HPET is shorter than 56 bytes */
     ACPISET_HPET_SPACE = 193,           /* the HPET's base address is not in memory */
     ACPISET_HPET_ADDRESS = 194,         /* the HPET's base address is 0, has its halves swapped, or is no multiple of 1024 */
+    ACPISET_HMAT_HEADER = 195,          /* the HMAT is shorter than 40 bytes, or its Revision is neither 1 nor 2 */
+    ACPISET_HMAT_CUT = 196,             /* after the last structure of the HMAT there are bytes that are not a structure */
+    ACPISET_HMAT_LENGTH = 197,          /* a structure of the HMAT does not have the length of its type, or is too short for its lists */
+    ACPISET_HMAT_DATA_TYPE = 198,       /* a latency and bandwidth structure of the HMAT has a reserved data type */
+    ACPISET_HMAT_HIERARCHY = 199,       /* a latency and bandwidth structure of the HMAT has a reserved memory hierarchy */
+    ACPISET_HMAT_UNIT = 200,            /* a latency and bandwidth structure of the HMAT has the base unit 0 */
+    ACPISET_HMAT_TOO_LARGE = 201,       /* a latency or bandwidth of the HMAT does not fit into 32 bits */
+    ACPISET_HMAT_SAME_DOMAIN = 202,     /* a latency and bandwidth structure of the HMAT lists an initiator or a target twice */
+    ACPISET_HMAT_PROXIMITY = 203,       /* a structure of the HMAT has an initiator or memory in a domain that the SRAT does not have */
+    ACPISET_HMAT_DOMAIN_NOWHERE = 204,  /* a latency and bandwidth structure of the HMAT has an initiator or a target in a domain that the SRAT does not have */
+    ACPISET_HMAT_CACHE_NOWHERE = 205,   /* a memory side cache of the HMAT is of a domain in which the SRAT has no memory */
+    ACPISET_HMAT_CACHE = 206,           /* a memory side cache of the HMAT has reserved attributes, or a level above its number of levels */
+    ACPISET_HMAT_ALONE = 207,           /* there is an HMAT, and no SRAT is listed */
+    ACPISET_GTDT_LENGTH = 208,          /* the GTDT is too short for its Revision */
+    ACPISET_NO_GTDT = 209,              /* the MADT has a GIC CPU interface, and no GTDT is listed */
+    ACPISET_NO_TIMER = 210,             /* the GTDT has neither the non-secure EL1 timer nor the virtual timer */
+    ACPISET_TIMER_NO_PPI = 211,         /* the GTDT gives a timer of each processor an interrupt that is no PPI */
+    ACPISET_SAME_TIMER = 212,           /* two timers of the GTDT have the same interrupt */
+    ACPISET_PLATFORM_TIMER_CUT = 213,   /* the GTDT has fewer platform timers than it says, or one of an unknown type */
+    ACPISET_TIMER_BLOCK = 214,          /* a GT Block of the GTDT does not have 1 to 8 frames that end with it */
+    ACPISET_TIMER_FRAME = 215,          /* a frame of a GT Block of the GTDT has a number above 7, or is non-secure and has no address or no interrupt */
+    ACPISET_SAME_FRAME = 216,           /* two frames of a GT Block of the GTDT have the same number */
+    ACPISET_WATCHDOG = 217,             /* a watchdog of the GTDT does not have 28 bytes, or one of its addresses is 0 */
+    ACPISET_TIMER_NO_SPI = 218,         /* the GTDT gives a platform timer an interrupt that is no SPI */
+    ACPISET_TIMER_OVERLAP = 219,        /* two ranges of registers of the GTDT's platform timers share an address */
     ACPISET_SPCR_LENGTH = 271,          /* the SPCR is too short for its Revision */
     ACPISET_SPCR_ADDRESS = 272,         /* the SPCR's base address is neither in memory nor in I/O ports, or is in memory with an access size above 3 (32 bits) */
     ACPISET_SPCR_BAUD = 273,            /* the SPCR's baud rate has a reserved value, and there is no precise baud rate */
     ACPISET_SPCR_GSI = 274,             /* the SPCR names an interrupt that its interrupt controller does not have, or another controller than the MADT's GIC */
-    ACPISET_SPCR_PCI = 275,             /* just one of the SPCR's PCI device ID and PCI vendor ID is 0xffff, or its PCI device or function number is too large */
+    ACPISET_SPCR_PCI = 275,             /* exactly one of the SPCR's PCI device ID and PCI vendor ID is 0xffff, or its PCI device or function number is too large */
     ACPISET_SPCR_NAME = 276,            /* the SPCR's namespace string is too short, does not lie within the table, or does not end with 0 */
     ACPISET_RSDP_TEXT = 279,            /* the OEMID of the RSDP has a byte that is not printable */
     ACPISET_ROOT_HEADER = 280,          /* the root table has a Revision that is not 1, or a text of its header has a byte that is not printable */
     ACPISET_DSDT_TEXT = 281,            /* a text of the DSDT's header has a byte that is not printable */
-    ACPISET_FADT_PAST_REVISION = 282,   /* the FADT is longer than one of its Revision, or has the Revision 0 */
+    ACPISET_FADT_PAST_REVISION = 282,   /* the FADT is longer than one of its Revision, or has Revision 0 */
     ACPISET_ARM_BOOT_EARLY = 283,       /* ARM_BOOT_ARCH is not 0 in a FADT older than 5.1, which does not have it */
     ACPISET_FIXED_IN_REDUCED = 284,     /* the hardware is reduced, and SMI_CMD or a register block has an address */
     ACPISET_SMI_HANDSHAKE = 285,        /* SMI_CMD is there, and one of ACPI_ENABLE and ACPI_DISABLE is 0 */
@@ -555,6 +580,31 @@ static inline const char *acpiset_number_name(uint32_t number) {
     case ACPISET_HPET_LENGTH: return "HpetLength";
     case ACPISET_HPET_SPACE: return "HpetSpace";
     case ACPISET_HPET_ADDRESS: return "HpetAddress";
+    case ACPISET_HMAT_HEADER: return "HmatHeader";
+    case ACPISET_HMAT_CUT: return "HmatCut";
+    case ACPISET_HMAT_LENGTH: return "HmatLength";
+    case ACPISET_HMAT_DATA_TYPE: return "HmatDataType";
+    case ACPISET_HMAT_HIERARCHY: return "HmatHierarchy";
+    case ACPISET_HMAT_UNIT: return "HmatUnit";
+    case ACPISET_HMAT_TOO_LARGE: return "HmatTooLarge";
+    case ACPISET_HMAT_SAME_DOMAIN: return "HmatSameDomain";
+    case ACPISET_HMAT_PROXIMITY: return "HmatProximity";
+    case ACPISET_HMAT_DOMAIN_NOWHERE: return "HmatDomainNowhere";
+    case ACPISET_HMAT_CACHE_NOWHERE: return "HmatCacheNowhere";
+    case ACPISET_HMAT_CACHE: return "HmatCache";
+    case ACPISET_HMAT_ALONE: return "HmatAlone";
+    case ACPISET_GTDT_LENGTH: return "GtdtLength";
+    case ACPISET_NO_GTDT: return "NoGtdt";
+    case ACPISET_NO_TIMER: return "NoTimer";
+    case ACPISET_TIMER_NO_PPI: return "TimerNoPpi";
+    case ACPISET_SAME_TIMER: return "SameTimer";
+    case ACPISET_PLATFORM_TIMER_CUT: return "PlatformTimerCut";
+    case ACPISET_TIMER_BLOCK: return "TimerBlock";
+    case ACPISET_TIMER_FRAME: return "TimerFrame";
+    case ACPISET_SAME_FRAME: return "SameFrame";
+    case ACPISET_WATCHDOG: return "Watchdog";
+    case ACPISET_TIMER_NO_SPI: return "TimerNoSpi";
+    case ACPISET_TIMER_OVERLAP: return "TimerOverlap";
     case ACPISET_SPCR_LENGTH: return "SpcrLength";
     case ACPISET_SPCR_ADDRESS: return "SpcrAddress";
     case ACPISET_SPCR_BAUD: return "SpcrBaud";
@@ -643,6 +693,14 @@ static inline uint32_t acpiset_severity_of(uint32_t number) {
     case ACPISET_LEAF_AS_PARENT:
     case ACPISET_CACHE_NUMBERS:
     case ACPISET_PPTT_RESERVED:
+    case ACPISET_HMAT_DATA_TYPE:
+    case ACPISET_HMAT_HIERARCHY:
+    case ACPISET_HMAT_TOO_LARGE:
+    case ACPISET_HMAT_SAME_DOMAIN:
+    case ACPISET_HMAT_CACHE:
+    case ACPISET_SAME_TIMER:
+    case ACPISET_SAME_FRAME:
+    case ACPISET_TIMER_OVERLAP:
     case ACPISET_SPCR_PCI:
     case ACPISET_RSDP_TEXT:
     case ACPISET_ROOT_HEADER:
@@ -738,6 +796,23 @@ static inline uint32_t acpiset_severity_of(uint32_t number) {
     case ACPISET_HPET_LENGTH:
     case ACPISET_HPET_SPACE:
     case ACPISET_HPET_ADDRESS:
+    case ACPISET_HMAT_HEADER:
+    case ACPISET_HMAT_CUT:
+    case ACPISET_HMAT_LENGTH:
+    case ACPISET_HMAT_UNIT:
+    case ACPISET_HMAT_PROXIMITY:
+    case ACPISET_HMAT_DOMAIN_NOWHERE:
+    case ACPISET_HMAT_CACHE_NOWHERE:
+    case ACPISET_HMAT_ALONE:
+    case ACPISET_GTDT_LENGTH:
+    case ACPISET_NO_GTDT:
+    case ACPISET_NO_TIMER:
+    case ACPISET_TIMER_NO_PPI:
+    case ACPISET_PLATFORM_TIMER_CUT:
+    case ACPISET_TIMER_BLOCK:
+    case ACPISET_TIMER_FRAME:
+    case ACPISET_WATCHDOG:
+    case ACPISET_TIMER_NO_SPI:
     case ACPISET_SPCR_LENGTH:
     case ACPISET_SPCR_ADDRESS:
     case ACPISET_SPCR_BAUD:

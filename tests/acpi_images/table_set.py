@@ -70,6 +70,34 @@ def structures_of(table, first, size):
     return [Structure(at, table.data[at : at + size]) for at in range(first, len(table) - size + 1, size)]
 
 
+def parts_of(structure, first, size, count):
+    """So many structures of this size within another one, from this offset of it on, each with its offset in the table."""
+    places = range(first, first + size * count, size)
+    return [Structure(structure.offset + at, structure.data[at : at + size]) for at in places]
+
+
+class Walk(NamedTuple):
+    """Structures that follow one another, and where none fits any more: the offset, the length that is said there, or 0 if it ends before,
+    and the end of the table; or None."""
+
+    structures: list[Structure]
+    cut: tuple[int, int, int] | None
+
+
+def walk(table, first, length_at, length_size, least, count=None):
+    """The structures of a table from this offset on, each of which says its length at this place and is no shorter than the least one: all
+    up to the end of the table, or so many."""
+    structures, at, end = [], first, len(table)
+    while at < end if count is None else len(structures) < count:
+        has_length = at + length_at + length_size <= end
+        size = table.number(at + length_at, length_size) if has_length else 0
+        if size < least or at + size > end:
+            return Walk(structures, (at, size, end))
+        structures.append(Structure(at, table.data[at : at + size]))
+        at += size
+    return Walk(structures, None)
+
+
 # ---- entries: byte 0 is the type and byte 1 the length (5.2.12, 5.2.16, 5.2.30)
 
 

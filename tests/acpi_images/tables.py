@@ -365,6 +365,80 @@ def spcr(revision=2, length=None, **fields):
     return table(b"SPCR", placed(usual, **fields)[36:], revision)
 
 
+# ---- HMAT (5.2.28)
+
+
+def hmat(*structures, revision=2):
+    return table(b"HMAT", bytes(4) + b"".join(structures), revision)
+
+
+def of_hmat(kind, length, **fields):
+    """A structure of the HMAT, of which a shorter one is cut off, with these fields as far as it goes."""
+    return placed((number(kind, 2) + bytes(2) + number(length, 4) + bytes(length))[:length], **fields)
+
+
+def proximity(initiator=0, memory=0, flags=1, length=40):
+    """The initiator of a domain of memory (5.2.28.3)."""
+    return of_hmat(0, length, _8=number(flags, 2), _12=number(initiator, 4), _16=number(memory, 4))
+
+
+def speeds(initiators=(0,), targets=(0,), cells=None, unit=1, kind=0, flags=0, length=None):
+    """How fast targets are for initiators (5.2.28.4), with a cell of 1 for each two unless there are others. Of a shorter one the end is
+    cut off, and a longer one has zeros there."""
+    cells = [1] * len(initiators) * len(targets) if cells is None else cells
+    lists = b"".join(number(it, 4) for it in (*initiators, *targets)) + b"".join(number(it, 2) for it in cells)
+    counts = {"_12": number(len(initiators), 4), "_16": number(len(targets), 4)}
+    length = 32 + len(lists) if length is None else length
+    return of_hmat(1, length, _8=bytes([flags, kind]), _24=number(unit, 8), **counts, _32=lists)
+
+
+def side_cache(domain=0, attributes=0, handles=0, length=None):
+    """A cache in front of memory (5.2.28.5), with so many handles."""
+    length = 32 + 2 * handles if length is None else length
+    return of_hmat(2, length, _8=number(domain, 4), _24=number(attributes, 4), _30=number(handles, 2))
+
+
+# ---- GTDT (5.2.25)
+
+GTDT_SIZES = {0: 80, 1: 80, 2: 96}
+# The interrupts of the timers of a processor: the secure one of EL1, that of EL1, the virtual one and that of EL2.
+OF_TIMERS = {"_48": number(29, 4), "_56": number(30, 4), "_64": number(27, 4), "_72": number(26, 4)}
+
+
+def gtdt(*timers, revision=3, length=None, **fields):
+    """A GTDT with these platform timers from the end of its fields on, on which there is no advice but for what they make, and other
+    fields. Of a shorter one the end is cut off."""
+    size = GTDT_SIZES.get(revision, 104)
+    platform = {"_88": number(len(timers), 4), "_92": number(size if timers else 0, 4)} if revision >= 2 else {}
+    length = size + sum(map(len, timers)) if length is None else length
+    data = placed(bytes(size), **OF_TIMERS, **platform) + b"".join(timers) + bytes(length)
+    return table(b"GTDT", placed(data[:length], **fields)[36:], revision)
+
+
+def of_gtdt(kind, length, **fields):
+    """A platform timer, of which a shorter one is cut off, with these fields as far as it goes."""
+    return placed((bytes([kind]) + number(length, 2) + bytes(length))[:length], **fields)
+
+
+def timer_block(*frames, base=0, first=20, count=None, length=None):
+    """A block of frames (5.2.25.1), whose number and length are those of the frames, unless others are given."""
+    count = len(frames) if count is None else count
+    length = first + 40 * len(frames) if length is None else length
+    made = of_gtdt(0, length, _4=number(base, 8), _12=number(count, 4), _16=number(first, 4))
+    return placed(made, **{f"_{first}": b"".join(frames)}) if frames else made
+
+
+def timer_frame(frame_number=0, base=0x10000, el0_base=0, gsiv=40, virtual_gsiv=0, flags=0):
+    """A frame of a block."""
+    numbers = {"_4": number(base, 8), "_12": number(el0_base, 8), "_20": number(gsiv, 4), "_28": number(virtual_gsiv, 4)}
+    return placed(bytes([frame_number]) + bytes(39), **numbers, _36=number(flags, 4))
+
+
+def watchdog(refresh=0x20000, control=0x30000, gsiv=48, length=28):
+    """A watchdog (5.2.25.2)."""
+    return of_gtdt(1, length, _4=number(refresh, 8), _12=number(control, 8), _20=number(gsiv, 4))
+
+
 # ---- images
 
 
@@ -383,5 +457,16 @@ def listed(*tables, **pieces):
 
 
 def sound(*tables, **pieces):
-    """The same with a FADT on which there is no advice."""
-    return image_of(sound_fadt(), *tables, **pieces)
+    """The same with a FADT on which there is no advice, and with a GTDT after the tables where a MADT has a GICC, and there is none."""
+    lacks_gtdt = any(has_gicc(it) for it in tables) and not any(it[:4] == b"GTDT" for it in tables)
+    return image_of(sound_fadt(), *tables, *[gtdt()] * lacks_gtdt, **pieces)
+
+
+def has_gicc(data):
+    """Whether a table is a MADT that has a GICC, before a place at which no entry is."""
+    at = 44
+    while data[:4] == b"APIC" and at + 2 <= len(data) and data[at + 1] >= 2:
+        if data[at] == 11:
+            return True
+        at += data[at + 1]
+    return False

@@ -102,6 +102,19 @@ SENTENCES = [
     ("HpetAddress 0x2c 0x0 0x0", "The base address at 0x2c of the HPET is 0."),
     ("HpetAddress 0x2c 0x0 0xfed0000000000000", "The base address at 0x2c of the HPET is 0xfed0000000000000, whose halves are swapped."),
     ("HpetAddress 0x2c 0x0 0xfed00200", "The base address at 0x2c of the HPET is 0xfed00200, which is no multiple of 1024."),
+    ("HmatHeader 0x8 0x0 0x3", "The HMAT's Revision, at 0x8, is 3, neither 1 nor 2."),
+    ("HmatCut 0xa8 0x0 0xaa", "At 0xa8 of the HMAT there is no structure: the length there is 0, or the table ends at 0xaa, before it."),
+    ("HmatProximity 0x50 0xc 0x7", "The structure at 0x50 of the HMAT has an initiator in the domain 7, which the SRAT does not have."),
+    ("HmatAlone 0x0 0x0 0x0", "There is an HMAT, and no SRAT is listed."),
+    ("SameTimer 0x48 0x40 0x1b", "The timer whose GSIV is at 0x48 of the GTDT has the interrupt 27, as the one whose GSIV is at 0x40 does."),
+    ("PlatformTimerCut 0x5c 0x0 0x50", "Platform Timer Offset, at 0x5c of the GTDT, is 80, which is within the fields of its Revision."),
+    ("PlatformTimerCut 0x68 0x0 0x2", "..is of an unknown type or is not complete: 2 is the type or the table's Length."),
+    ("PlatformTimerCut 0x68 0x3 0x6c", "..has the length 3, which is below 4 or goes past the table's end at 0x6c."),
+    ("TimerBlock 0x68 0xc 0x9", "The GT Block at 0x68 of the GTDT has 9 frames, not 1 to 8."),
+    ("TimerBlock 0x68 0x10 0x4", "The frames of the GT Block at 0x68 of the GTDT begin at its byte 4, below 20."),
+    ("TimerFrame 0x7c 0x0 0x8", "The frame at 0x7c of the GTDT has the number 8, above 7."),
+    ("TimerFrame 0x7c 0x4 0x0", "The non-secure frame at 0x7c of the GTDT has the CntBase address 0."),
+    ("TimerNoSpi 0x7c 0x1c 0x1f", "The virtual timer of the frame at 0x7c of the GTDT has the GSIV 31, which is no SPI of a GIC."),
     ("SpcrAddress 0x28 0x0 0x2", "The SPCR's base address, at 0x28, has the address space 0x2, neither memory nor I/O ports."),
     ("SpcrAddress 0x2b 0x0 0x4", "The access size at 0x2b of the SPCR is 4, above 3 (32 bits)."),
     ("SpcrGsi 0x34 0x0 0x3", "The interrupt type at 0x34 of the SPCR is 0x3, neither 0 nor 8, the GIC that the MADT has."),
@@ -476,6 +489,7 @@ def numbered(tests):
         tests.says(f"advice {line}", f"{text}: i{MISMATCH}", image)
     tests.says("advice MadtRevision 0x8 0x0 0x5", "Revision is 5", further.REVISION_5, without=["of Revision 3:"])
     tests.says("advice EcamOverlap 0x2c 0x3c 0x0", *further_tables.WITHOUT_ECAM)
+    tests.says("advice Watchdog 0x68 0xc 0x0", "..(type 1), of 28 bytes", further_tables.NO_CONTROL, without=["must be 28"])
     tests.says("advice SpcrBaud 0x3a 0x0 0x5", "the baud rate is 5", further_tables.SLOW, without=["the precise baud rate"])
     tests.says("advice SpcrGsi 0x35 0x0 0x8", "..IRQ is 8", further_tables.IRQ_8, without=["signature APIC"])
 

@@ -7,7 +7,7 @@
 #include <string.h>
 
 #define FILLER 0xa5
-#define ROOM 200
+#define ROOM (ACPISET_MOST_FINDINGS + 2)
 #define EARLIER_MOST 87
 
 static struct acpiset_finding room[ROOM], all[ROOM];

@@ -8,12 +8,11 @@ import random
 from dataclasses import dataclass
 
 from acpi_images.known.confirmed import all_questions
-from acpi_images.known.devices import DEVICES
-from acpi_images.known.further import FURTHER
 from acpi_images.known.judged import JUDGED
 from acpi_images.known.linted import EXPECTED
 from acpi_images.known.many import MANY
 from acpi_images.known.mistakes import MISTAKES, UNCHANGED
+from acpi_images.known.one_rule import ONE_RULE
 from acpi_images.known.rows import ROWS, without_stage
 from acpi_images.known.shown import SHOWN
 from acpi_images.generated.cases import changed_case
@@ -94,7 +93,7 @@ def sets():
     everything = [
         *((row.name, rsdp_in(row.words.split()), row.pieces) for row in (*ROWS, *MANY)),
         *((name, ["--rsdp", "e0000"], pieces) for name, pieces, _, _ in JUDGED),
-        *((it.name, rsdp_in(it.words.split()), it.pieces) for it in (*EXPECTED, *FURTHER, *DEVICES, *SHOWN)),
+        *((it.name, rsdp_in(it.words.split()), it.pieces) for it in (*EXPECTED, *ONE_RULE, *SHOWN)),
         *((it.name, rsdp_in(it.words.split()), it.pieces()) for it in MISTAKES),
     ]
     for name, rsdp, pieces in everything:

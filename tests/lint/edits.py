@@ -19,17 +19,20 @@ from pathlib import Path
 sys.path.insert(0, str(Path(__file__).resolve().parents[1]))
 
 from acpi_images.generated.near import (
-    APIC_AFFINITY, ARM_PORT, BESIDE_IN_MADT, BESIDE_IN_SRAT, BUS, CACHES, CHILD, GICC, GICC_AFFINITY, LAPIC, MADT_LENGTHS, NODES, OVERRIDE, PAIRS,
-    PCI_PORT, RINTC, SRAT_LENGTHS, blocks_fadt, entry, madt, of_length, pptt, slit, srat,
+    APIC_AFFINITY, ARM_PORT, BESIDE_IN_MADT, BESIDE_IN_SRAT, BUS, CACHES, CHILD, GICC, GICC_AFFINITY, IN_DOMAINS, IN_HMAT, LAPIC, MADT_LENGTHS,
+    NODES, OVERRIDE, PAIRS, PCI_PORT, RIGHT_DOG, RINTC, SRAT_LENGTHS, TWO_FRAMES, blocks_fadt, entry, madt, of_length, pptt, slit, srat,
 )  # fmt: skip
 from acpi_images.program import SECONDS, Cases, finish
-from acpi_images.tables import ecam, generic_address, hpet, mcfg, number, spcr, table
+from acpi_images.tables import (
+    ecam, generic_address, gtdt, hmat, hpet, mcfg, number, of_gtdt, of_hmat, proximity, side_cache, spcr, speeds, table, timer_block,
+    timer_frame, watchdog,
+)
 
 UNSEEN = Path(__file__).with_name("unseen.txt")
 # How many edits of 100 may be unseen.
 MOST_IN_100 = 3
 # The order of the tables of a set.
-ORDER = (b"FACP", b"APIC", b"SRAT", b"SLIT", b"PPTT", b"MCFG", b"HPET", b"SPCR")
+ORDER = (b"FACP", b"APIC", b"SRAT", b"SLIT", b"PPTT", b"MCFG", b"HPET", b"HMAT", b"GTDT", b"SPCR")
 
 
 def fadts():
@@ -86,6 +89,49 @@ def mcfgs():
     yield mcfg(ecam(BUS, 1, 2, 4), ecam(2**32, 1, 3, 5))
 
 
+def hmats():
+    """HMATs of each structure, in both Revisions, of structures that are too short, and of one that is cut."""
+    yield from (hmat(one, revision=revision) for one in IN_HMAT for revision in (1, 2))
+    yield from (hmat(one, one, revision=2) for one in IN_HMAT)
+    yield from (hmat(of_hmat(kind, length)) for kind in (0, 1, 2, 3) for length in (8, 31, 32, 39, 41))
+    yield hmat(side_cache(0x01020304, 0x2233), proximity(0x01020304, 0x01020304, 3), revision=1)
+    yield hmat(speeds((0x01020304, 5, 5), (6, 6), [0x8000] * 6, 0x1FFFF, 5, 0xF3), bytes(8))
+    yield table(b"HMAT", bytes(2), 2)
+
+
+def side_caches():
+    """HMATs of a cache with two handles, of a length around the one that it needs: on a level above 3, above its two levels, on one of these,
+    and above its one level."""
+    for attributes, length in product((0x43, 0x32, 0x22, 0x21), (35, 36, 37)):
+        yield hmat(side_cache(0, attributes, 2, length))
+
+
+def hmats_with_domains():
+    """An HMAT with an SRAT: of lists with all faults in a structure that is a byte too short for them, and of a domain above 255."""
+    yield hmat(speeds((9, 9), (9, 9), [0x8000] * 4, 0x1FFFF, length=55)), srat(*IN_DOMAINS)
+    yield hmat(proximity(0x101, 1)), srat(entry(0, 16, (2, 1, 1), (9, 3, 1)), entry(1, 40, (2, 4, 1)))
+
+
+def gtdts():
+    """GTDTs of each size, of platform timers of each type, of such that are not full, and of one that is cut; such in which a timer has the
+    interrupt of the one of Revision 3, or there is none."""
+    yield from (gtdt(revision=revision, length=104) for revision in range(5))
+    yield from (gtdt(TWO_FRAMES, RIGHT_DOG, revision=revision) for revision in (2, 3))
+    yield from (gtdt(of_gtdt(kind, length)) for kind in (0, 1, 2) for length in (4, 19, 27, 29, 60))
+    yield gtdt(timer_block(timer_frame(0, 0x0102030405060708), timer_frame(0, 0x0102030405060708), first=24), watchdog())
+    yield gtdt(*[watchdog(0x1817161514131211, 0x2827262524232221, 0x1234)] * 2, _88=number(3, 4))
+    yield gtdt(_56=number(20, 4), _64=number(20, 4), _72=number(20, 4), _96=number(20, 4))
+    yield gtdt(_56=bytes(4), _64=bytes(4), _88=number(1, 4))
+    yield gtdt(revision=2, length=88, _56=bytes(4), _64=bytes(4))
+    yield from (gtdt(revision=revision, length=104, _96=number(30, 4)) for revision in (2, 4))
+    yield gtdt(_56=number(1, 4), _96=number(1, 4))
+
+
+def full_blocks():
+    """GTDTs of a block of as many frames as it may have, and of one more, whose number is that of the first."""
+    yield from (gtdt(timer_block(*(timer_frame(it % 8) for it in range(count)))) for count in (8, 9))
+
+
 def spcrs():
     """SPCRs of each size, of a port of a PC, of an Arm machine and of a PCI device, one that has no port in memory, and with other rates."""
     yield from (spcr(revision, length, **fields) for revision, length in ((3, 80), (4, 92)) for fields in ({}, ARM_PORT, PCI_PORT))
@@ -104,6 +150,12 @@ def sets():
     for (one, affinity), beside in product(PAIRS, ((), (APIC_AFFINITY,), (GICC_AFFINITY,))):
         yield madt(one), srat(*beside, affinity)
     yield from ((it,) for it in (*mcfgs(), hpet()))
+    # before the others: of those on which a case decides what is found the program keeps the first 60
+    yield from hmats_with_domains()
+    yield from product(hmats(), (srat(), srat(*IN_DOMAINS), srat(entry(1, 40, (2, 4, 5), (28, 4, 1)))))
+    yield from ((it,) for it in side_caches())
+    yield from product(gtdts(), (madt(), madt(entry(12, 24)), madt(GICC)))
+    yield from ((it, madt(entry(12, 24))) for it in full_blocks())
     yield from product(spcrs(), (madt(), madt(entry(12, 24))))
     for length in (131, 132, 133):
         data = blocks_fadt()

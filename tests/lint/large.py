@@ -92,17 +92,18 @@ def unread_entries():
 
 
 def giccs():
-    """GICCs whose UIDs rise and whose MPIDRs fall, and the last of which has the UID and the MPIDR of the first, and a distributor."""
+    """GICCs whose UIDs rise and whose MPIDRs fall, and the last of which has the UID and the MPIDR of the first; a distributor, and a
+    GTDT."""
     entry = struct.Struct("<BB6xII52xQ4x")
     mpidr = lambda place: (GICCS - place & 0xFFFFFF) | (place % 256) << 32
     alike = b"".join(entry.pack(11, 80, place, 1, mpidr(place)) for place in range(GICCS))
     last = 44 + 80 * GICCS
-    yield "clean", madt_of(alike, gicd()), advised()
-    yield "the last", madt_of(alike, gicd(), entry.pack(11, 80, 0, 1, mpidr(0))), advised(
+    yield "clean", (madt_of(alike, gicd()), gtdt()), advised()
+    yield "the last", (madt_of(alike, gicd(), entry.pack(11, 80, 0, 1, mpidr(0))), gtdt()), advised(
         f"SameUid {last + 24:#x} 0x2c", f"SameMpidr {last + 24:#x} 0x2c {mpidr(0):#x}"
     )
     wrong = b"".join(entry.pack(11, 80, place, 1, place << 24) for place in range(GICCS))
-    yield "all", madt_of(wrong, gicd()), advised("MpidrReserved 0x7c 0x0 0x1000000")
+    yield "all", (madt_of(wrong, gicd()), gtdt()), advised("MpidrReserved 0x7c 0x0 0x1000000")
 
 
 def harts():
@@ -241,9 +242,120 @@ def ecams():
     yield "all reversed", mcfg(entry.pack(1 << 20, 0, 1, 0) * COUNT), advised("BusesReversed 0x2c 0xb")
 
 
+# ---- the HMAT
+
+
+def affinities_of(domains):
+    """An SRAT with an affinity of a processor, which is not enabled, in each of these domains."""
+    entry = struct.Struct("<BBBBIBBBB4x")
+    of_domain = lambda it: entry.pack(0, 16, it & 0xFF, 0, 0, 0, it >> 8 & 0xFF, it >> 16 & 0xFF, it >> 24)
+    return srat(b"".join(map(of_domain, domains)))
+
+
+def cells():
+    """Cells of 1,000 initiators and 1,000 targets, the last one or all of which are too large in their unit."""
+    count = 1000
+    domains = random.Random(7).sample(range(count), count)
+    there, unit, large = affinities_of(range(count)), 65539, number(0xFFFE, 2)
+    lists = b"".join(number(it, 4) for it in (*domains, *reversed(domains)))
+    fields = {"_9": b"\5", "_12": number(count, 4), "_16": number(count, 4), "_24": number(unit, 8)}
+    made = lambda of_cells: hmat(of_hmat(1, 32 + len(lists) + len(of_cells), **fields, _32=lists + of_cells))
+    first = 40 + 32 + 8 * count
+    yield "clean", (made(b"\1\0" * (count * count)), there), advised()
+    last = advised(f"HmatTooLarge {first + 2 * (count * count - 1):#x} 0x0 0xfffe")
+    yield "the last", (made(b"\1\0" * (count * count - 1) + large), there), last
+    yield "all", (made(large * (count * count)), there), advised(f"HmatTooLarge {first:#x} 0x0 0xfffe")
+    yield "unreachable", (made(b"\xff\xff" * (count * count)), there), advised()
+
+
+def initiators():
+    """Initiators in no order, the last one of which is the first or in no domain; and targets that are all one domain."""
+    order = random.Random(8).sample(range(COUNT), COUNT)
+    there, lists = affinities_of(range(COUNT)), struct.pack(f"<{COUNT}I", *order)
+    made = lambda counts, of_lists: hmat(of_hmat(1, 32 + len(of_lists), _12=counts, _24=number(1, 8), _32=of_lists))
+    of_first, of_second = number(COUNT, 4) + bytes(4), bytes(4) + number(COUNT, 4)
+    last = 72 + 4 * LAST
+    yield "clean", (made(of_first, lists), there), advised()
+    again = advised(f"HmatSameDomain {last:#x} 0x48 {order[0]:#x}")
+    yield "the last like the first", (made(of_first, lists[:-4] + lists[:4]), there), again
+    nowhere = advised(f"HmatDomainNowhere {last:#x} 0x0 {COUNT:#x}")
+    yield "the last in no domain", (made(of_second, lists[:-4] + number(COUNT, 4)), there), nowhere
+    yield "all one domain", (made(of_second, number(7, 4) * COUNT), there), advised("HmatSameDomain 0x4c 0x48 0x7")
+
+
+def structures_of_8_bytes():
+    """Structures of 8 bytes, of a type that there is not, with a byte behind them or none; and of the first type, which are longer."""
+    nothing = of_hmat(3, 8) * COUNT
+    end = 40 + 8 * COUNT
+    yield "clean", (hmat(nothing), srat(memory(0, 1))), advised()
+    yield "a byte behind them", (hmat(nothing, b"\1"), srat(memory(0, 1))), advised(f"HmatCut {end:#x} 0x0 {end + 1:#x}")
+    yield "a cache behind them", (hmat(nothing, side_cache(0, 4)), srat(memory(0, 1))), advised(f"HmatCache {end:#x} 0x18 0x4")
+    yield "all", (hmat(of_hmat(0, 8) * COUNT), srat(memory(0, 1))), advised("HmatLength 0x28 0x28 0x8")
+
+
+def proximities():
+    """Proximities, whose initiators are in domains that fall, and the last of which is in none."""
+    count = 400_000
+    entry = struct.Struct("<HHIHHII20x")
+    alike = b"".join(entry.pack(0, 0, 40, 1, 0, count - place, 0) for place in range(count - 1))
+    made = lambda last: hmat(alike, entry.pack(0, 0, 40, 1, 0, last, 0), revision=1)
+    there = affinities_of(range(1, count + 1))
+    yield "clean", (made(1), there), advised()
+    yield "the last", (made(0), there), advised(f"HmatProximity {40 + 40 * (count - 1):#x} 0xc")
+
+
+# ---- the GTDT
+
+
+def watchdogs():
+    """Watchdogs whose frames are at falling addresses, the last of which has the control frame of the first, or is said to be another one;
+    and all of one address."""
+    count = RANGES
+    entry = struct.Struct("<BHxQQII")
+    alike = b"".join(entry.pack(1, 28, 0x2000 * (count - place), 0x2000 * (count - place) + 0x1000, 48, 0) for place in range(count))
+    made = lambda timers, more=0: gtdt(timers, _88=number(len(timers) // 28 + more, 4))
+    end = 104 + 28 * count
+    yield "clean", made(alike), advised()
+    first = 0x2000 * count + 0x1000
+    again = entry.pack(1, 28, 0x1000, first, 48, 0)
+    yield "the last like the first", made(alike + again), advised(f"TimerOverlap 0x74 {end + 12:#x} {first:#x}")
+    yield "one more", made(alike, 1), advised(f"PlatformTimerCut {end:#x} 0x0 {end:#x}")
+    yield "2^32 - 1", made(alike, 2**32 - 1 - count), advised(f"PlatformTimerCut {end:#x} 0x0 {end:#x}")
+    yield "all", made(entry.pack(1, 28, 0x1000, 0x1000, 48, 0) * count), advised("TimerOverlap 0x6c 0x74 0x1000")
+
+
+def timers_of_4_bytes():
+    """Platform timers of 4 bytes, of a type that there is not, or too short for theirs."""
+    made = lambda kind: gtdt(of_gtdt(kind, 4) * COUNT, _88=number(COUNT, 4))
+    yield "all of type 2", made(2), advised("PlatformTimerCut 0x68 0x0 0x2")
+    yield "all blocks", made(0), advised("TimerBlock 0x68 0x14 0x4")
+    yield "all watchdogs", made(1), advised("Watchdog 0x68 0x1c 0x4")
+
+
+def frames():
+    """Blocks of eight frames at rising addresses, the last frame of which has the number of the one before, or the address of the first."""
+    count = 80_000
+    entry, head = struct.Struct("<B3xQQI4xI4xI"), struct.Struct("<BHxQII")
+    base = lambda place: 0x1000 * (place + 1)
+    of_block = lambda block, number_of=lambda it: it: head.pack(0, 340, base(9 * block), 8, 20) + b"".join(
+        entry.pack(number_of(it), base(9 * block + 1 + it), 0, 40, 0, 0) for it in range(8)
+    )
+    alike = b"".join(map(of_block, range(count - 1)))
+    made = lambda last: gtdt(alike, last, _88=number(count, 4))
+    last = 104 + 340 * (count - 1) + 20 + 40 * 7
+    yield "clean", made(of_block(count - 1)), advised()
+    yield "a number twice", made(of_block(count - 1, lambda it: min(it, 6))), advised(f"SameFrame {last:#x} {last - 40:#x} 0x6")
+    shared = placed(of_block(count - 1), _304=number(base(1), 8))
+    yield "an address twice", made(shared), advised(f"TimerOverlap 0x80 {last + 4:#x} {base(1):#x}")
+    yield "all without an address", gtdt(
+        (head.pack(0, 60, 0, 1, 20) + entry.pack(0, 0, 0, 40, 0, 0)) * count, _88=number(count, 4),
+    ), advised("TimerFrame 0x7c 0x4")
+
+
 OF_ENTRIES = (
     interrupt_sources, processors, io_apics, x2apics, unread_entries, giccs, harts, overrides, redistributors, its_and_frames,
-    distributors, ranges, affinities_of_its, localities, nodes, caches, ecams,
+    distributors, ranges, affinities_of_its, localities, nodes, caches, ecams, cells, initiators, structures_of_8_bytes, proximities,
+    watchdogs, timers_of_4_bytes, frames,
 )
 
 

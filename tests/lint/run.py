@@ -1,7 +1,7 @@
 #!/usr/bin/env python3
-"""Runs the built program's `lint`. Its lines are compared with lines written by hand (known/linted.py, known/mistakes.py,
-known/further.py and known/devices.py of tests/acpi_images), and on every set of the other tests and on the images of real firmware with
-those of a second program (advice.py). Each fault that it reports is confirmed, and that of `check` is among them.
+"""Runs the built program's `lint`. Its lines are compared with lines written by hand (known/linted.py, known/mistakes.py and
+those of known/one_rule.py, of tests/acpi_images), and on every set of the other tests and on the images of real firmware with those of a
+second program (advice.py). Each fault that it reports is confirmed, and that of `check` is among them.
 
 usage: run.py PROGRAM; the last line is 'lint: N passed, M failed'."""
 
@@ -59,7 +59,7 @@ NO_RULES = (
 )
 WITHOUT_ALLOW = ("check", "find", "show", "confirm --witness 0", "rebuild --base 0")
 NO_IMAGE = {b"@0\n1\n": "line 2: bad line", b"01\n": "line 1: no address", b"@0\n01\n@0\n01\n": "address 0x0 twice"}
-SEEN_BY_CHECK, ALL_MISTAKES = 11, 66
+SEEN_BY_CHECK, ALL_MISTAKES = 11, 91
 
 
 # ---- what is wrong with the program's answers

@@ -1,6 +1,6 @@
 #!/usr/bin/env python3
-"""Compares the second program of `lint` (advice.py of tests/acpi_images) with lines written by hand (known/linted.py, known/mistakes.py,
-known/further.py and known/devices.py), and runs it on every set of the other tests and on images, on none of which it may fail. Each rule
+"""Compares the second program of `lint` (advice.py of tests/acpi_images) with lines written by hand (known/linted.py, known/mistakes.py
+and those of known/one_rule.py), and runs it on every set of the other tests and on images, on none of which it may fail. Each rule
 has a set that breaks it and one that keeps it. It needs no built program.
 
 usage: second.py [DIRECTORY].., with further images; the last line is 'second: N passed, M failed'."""
@@ -15,8 +15,7 @@ from pathlib import Path
 sys.path.insert(0, str(Path(__file__).resolve().parents[1]))
 
 from acpi_images.advice import RULES, linted
-from acpi_images.known.devices import DEVICES
-from acpi_images.known.further import FURTHER
+from acpi_images.known.one_rule import ONE_RULE
 from acpi_images.program import FIRMWARE, IMAGES, Cases, finish
 from acpi_images.text import Refused, read
 from sets import Case, by_hand, of_other_tests
@@ -30,7 +29,7 @@ def rules_of(lines):
 def compared(cases):
     """The sets with lines written by hand."""
     broken, kept = set(), set()
-    others = set(RULES) - {it.rule for it in (*FURTHER, *DEVICES)}
+    others = set(RULES) - {it.rule for it in ONE_RULE}
     for case in by_hand():
         lines, _ = linted(case.words, read(case.text))
         for wrong in case.differences(lines):

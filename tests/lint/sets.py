@@ -6,12 +6,11 @@ from __future__ import annotations
 import random
 from dataclasses import dataclass
 
-from acpi_images.known.devices import DEVICES, WHOLE_DEVICES
-from acpi_images.known.further import FURTHER, WHOLE
 from acpi_images.known.judged import JUDGED
 from acpi_images.known.linted import EXPECTED
 from acpi_images.known.many import MANY
 from acpi_images.known.mistakes import MISTAKES, UNCHANGED
+from acpi_images.known.one_rule import ALL_LINES, ONE_RULE
 from acpi_images.known.rows import ROWS, words_of
 from acpi_images.known.shown import SHOWN
 from acpi_images.program import IMAGES, firmware_text
@@ -52,9 +51,9 @@ def by_hand():
         yield Case(it.name, text_of(it.pieces()), it.words.split(), it.lines)
     for name, words, lines in UNCHANGED:
         yield Case(f"{name} {words}", firmware_text(name), f"--rsdp {IMAGES[name]} {words}".split(), lines)
-    for it in (*FURTHER, *DEVICES):
+    for it in ONE_RULE:
         yield Case(f"{it.rule}, {it.name}", text_of(it.pieces), it.words.split(), rule=it.rule, line=it.line or "")
-    for name, pieces, lines in (*WHOLE, *WHOLE_DEVICES):
+    for name, pieces, lines in ALL_LINES:
         yield Case(name, text_of(pieces), AT_SEED, lines)
     for count in range(18, 24):
         yield from of_few(count)

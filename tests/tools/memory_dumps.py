@@ -6,12 +6,11 @@ import struct
 import subprocess
 import sys
 
-from acpi_images.known.devices import DEVICES, WHOLE_DEVICES
-from acpi_images.known.further import FURTHER, WHOLE
 from acpi_images.known.judged import JUDGED
 from acpi_images.known.linted import EXPECTED
 from acpi_images.known.many import MANY
 from acpi_images.known.mistakes import MISTAKES
+from acpi_images.known.one_rule import ALL_LINES, ONE_RULE
 from acpi_images.known.rows import ROWS
 from acpi_images.known.shown import SHOWN
 from acpi_images.program import FIRMWARE, IMAGES
@@ -142,11 +141,11 @@ def known_sets():
         if words[0] == "check":
             yield row.name, row.pieces, words
             yield row.name, row.pieces, ["lint", *words[1:3]]
-    for it in (*EXPECTED, *FURTHER, *DEVICES):
+    for it in (*EXPECTED, *ONE_RULE):
         yield it.name, it.pieces, ["lint", *it.words.split()]
     for it in MISTAKES:
         yield it.name, it.pieces(), ["lint", *it.words.split()]
-    for name, pieces, *_ in (*JUDGED, *WHOLE, *WHOLE_DEVICES):
+    for name, pieces, *_ in (*JUDGED, *ALL_LINES):
         yield name, pieces, ["lint", "--rsdp", "e0000"]
     for it in SHOWN:
         yield it.name, it.pieces, ["show", *it.words.split()]

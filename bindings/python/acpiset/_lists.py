@@ -161,22 +161,47 @@ class Rule(IntEnum):
     EcamAddress = 186  # an entry of the MCFG has a base address that is 0 or no multiple of 1 MiB
     BusesReversed = 187  # an entry of the MCFG has an end bus number below its start bus number
     EcamWraps = 188  # the address range of an entry of the MCFG ends above the highest address
-    EcamTooHigh = 189  # the MCFG has the Revision 0, and an entry's base address does not lie below 0xffffffff
+    EcamTooHigh = 189  # the MCFG has Revision 0, and an entry's base address is not below 0xffffffff
     SameBus = 190  # two entries of the MCFG have the same bus of the same PCI segment
     EcamOverlap = 191  # the ECAMs of two entries of the MCFG share an address
     HpetLength = 192  # the HPET is shorter than 56 bytes
     HpetSpace = 193  # the HPET's base address is not in memory
     HpetAddress = 194  # the HPET's base address is 0, has its halves swapped, or is no multiple of 1024
+    HmatHeader = 195  # the HMAT is shorter than 40 bytes, or its Revision is neither 1 nor 2
+    HmatCut = 196  # after the last structure of the HMAT there are bytes that are not a structure
+    HmatLength = 197  # a structure of the HMAT does not have the length of its type, or is too short for its lists
+    HmatDataType = 198  # a latency and bandwidth structure of the HMAT has a reserved data type
+    HmatHierarchy = 199  # a latency and bandwidth structure of the HMAT has a reserved memory hierarchy
+    HmatUnit = 200  # a latency and bandwidth structure of the HMAT has the base unit 0
+    HmatTooLarge = 201  # a latency or bandwidth of the HMAT does not fit into 32 bits
+    HmatSameDomain = 202  # a latency and bandwidth structure of the HMAT lists an initiator or a target twice
+    HmatProximity = 203  # a structure of the HMAT has an initiator or memory in a domain that the SRAT does not have
+    HmatDomainNowhere = 204  # a latency and bandwidth structure of the HMAT has an initiator or a target in a domain that the SRAT does not have
+    HmatCacheNowhere = 205  # a memory side cache of the HMAT is of a domain in which the SRAT has no memory
+    HmatCache = 206  # a memory side cache of the HMAT has reserved attributes, or a level above its number of levels
+    HmatAlone = 207  # there is an HMAT, and no SRAT is listed
+    GtdtLength = 208  # the GTDT is too short for its Revision
+    NoGtdt = 209  # the MADT has a GIC CPU interface, and no GTDT is listed
+    NoTimer = 210  # the GTDT has neither the non-secure EL1 timer nor the virtual timer
+    TimerNoPpi = 211  # the GTDT gives a timer of each processor an interrupt that is no PPI
+    SameTimer = 212  # two timers of the GTDT have the same interrupt
+    PlatformTimerCut = 213  # the GTDT has fewer platform timers than it says, or one of an unknown type
+    TimerBlock = 214  # a GT Block of the GTDT does not have 1 to 8 frames that end with it
+    TimerFrame = 215  # a frame of a GT Block of the GTDT has a number above 7, or is non-secure and has no address or no interrupt
+    SameFrame = 216  # two frames of a GT Block of the GTDT have the same number
+    Watchdog = 217  # a watchdog of the GTDT does not have 28 bytes, or one of its addresses is 0
+    TimerNoSpi = 218  # the GTDT gives a platform timer an interrupt that is no SPI
+    TimerOverlap = 219  # two ranges of registers of the GTDT's platform timers share an address
     SpcrLength = 271  # the SPCR is too short for its Revision
     SpcrAddress = 272  # the SPCR's base address is neither in memory nor in I/O ports, or is in memory with an access size above 3 (32 bits)
     SpcrBaud = 273  # the SPCR's baud rate has a reserved value, and there is no precise baud rate
     SpcrGsi = 274  # the SPCR names an interrupt that its interrupt controller does not have, or another controller than the MADT's GIC
-    SpcrPci = 275  # just one of the SPCR's PCI device ID and PCI vendor ID is 0xffff, or its PCI device or function number is too large
+    SpcrPci = 275  # exactly one of the SPCR's PCI device ID and PCI vendor ID is 0xffff, or its PCI device or function number is too large
     SpcrName = 276  # the SPCR's namespace string is too short, does not lie within the table, or does not end with 0
     RsdpText = 279  # the OEMID of the RSDP has a byte that is not printable
     RootHeader = 280  # the root table has a Revision that is not 1, or a text of its header has a byte that is not printable
     DsdtText = 281  # a text of the DSDT's header has a byte that is not printable
-    FadtPastRevision = 282  # the FADT is longer than one of its Revision, or has the Revision 0
+    FadtPastRevision = 282  # the FADT is longer than one of its Revision, or has Revision 0
     ArmBootEarly = 283  # ARM_BOOT_ARCH is not 0 in a FADT older than 5.1, which does not have it
     FixedInReduced = 284  # the hardware is reduced, and SMI_CMD or a register block has an address
     SmiHandshake = 285  # SMI_CMD is there, and one of ACPI_ENABLE and ACPI_DISABLE is 0
@@ -226,11 +251,13 @@ SEVERITY_OF: Dict[int, int] = {
     149: 2, 150: 3, 151: 3, 152: 3, 153: 2, 154: 3, 155: 3, 156: 3, 157: 2, 158: 2, 159: 3, 160: 3,
     161: 3, 162: 3, 163: 3, 164: 3, 165: 3, 166: 3, 167: 3, 168: 3, 169: 3, 170: 3, 171: 3, 172: 2,
     173: 3, 174: 3, 175: 3, 176: 3, 177: 3, 178: 2, 179: 3, 180: 3, 181: 2, 182: 3, 183: 2, 184: 2,
-    185: 3, 186: 3, 187: 3, 188: 3, 189: 3, 190: 3, 191: 3, 192: 3, 193: 3, 194: 3, 271: 3, 272: 3,
-    273: 3, 274: 3, 275: 2, 276: 3, 279: 2, 280: 2, 281: 2, 282: 2, 283: 2, 284: 2, 285: 2, 286: 2,
-    287: 3, 288: 3, 289: 3, 290: 3, 291: 2, 292: 3, 293: 3, 294: 3, 295: 3, 296: 3, 297: 3, 298: 2,
-    299: 3, 300: 2, 301: 2, 302: 3, 303: 3, 304: 3, 305: 2, 306: 2, 307: 2, 308: 3, 309: 1, 310: 2,
-    311: 2,
+    185: 3, 186: 3, 187: 3, 188: 3, 189: 3, 190: 3, 191: 3, 192: 3, 193: 3, 194: 3, 195: 3, 196: 3,
+    197: 3, 198: 2, 199: 2, 200: 3, 201: 2, 202: 2, 203: 3, 204: 3, 205: 3, 206: 2, 207: 3, 208: 3,
+    209: 3, 210: 3, 211: 3, 212: 2, 213: 3, 214: 3, 215: 3, 216: 2, 217: 3, 218: 3, 219: 2, 271: 3,
+    272: 3, 273: 3, 274: 3, 275: 2, 276: 3, 279: 2, 280: 2, 281: 2, 282: 2, 283: 2, 284: 2, 285: 2,
+    286: 2, 287: 3, 288: 3, 289: 3, 290: 3, 291: 2, 292: 3, 293: 3, 294: 3, 295: 3, 296: 3, 297: 3,
+    298: 2, 299: 3, 300: 2, 301: 2, 302: 3, 303: 3, 304: 3, 305: 2, 306: 2, 307: 2, 308: 3, 309: 1,
+    310: 2, 311: 2,
 }
 
 # What each means and what to fix: lines of text, with an LF between any two.
@@ -1157,6 +1184,157 @@ TEXT_OF: Dict[int, str] = {
         "Numbers: `at` is 0x2c (44), the offset of the base address, `point` is the base address.\n"
         "Fix: write the address to which the chipset maps the registers, 0xfed00000 on most PCs."
     ),
+    195: (
+        "The HMAT's Length is below 40, or its Revision is neither 1 nor 2.\n"
+        "Numbers: `at` is the offset of the field, 0x4 of Length or 0x8 of Revision, `point` is the field; for Length `other` is "
+        "0x28 (40).\n"
+        "Fix: write Revision 2, with the structures that ACPI 6.3 and later define; set Length to the end of the last structure."
+    ),
+    196: (
+        "After the last structure of the HMAT there are bytes that are not a structure: fewer than 8 bytes, a length below 8, or "
+        "a length that goes past the end of the table.\n"
+        "Numbers: `at` is the offset of these bytes, `other` is the length that they say, or 0 if they are fewer than 8, `point` "
+        "is the HMAT's Length.\n"
+        "Fix: correct the structure's length or the table's Length. Often the length of the structure before it is wrong."
+    ),
+    197: (
+        "A structure of the HMAT has a wrong length: one of type 0 not 40, one of type 1 below 32 + 4 * I + 4 * T + 2 * I * T, or "
+        "one of type 2 below 32 + 2 * H. I, T and H count only if the structure has 32 bytes.\n"
+        "Numbers: `at` is the structure's offset, `other` is the length that it needs, at most 2^64 - 1, `point` is its length.\n"
+        "Fix: correct the length, or the numbers of initiators, targets or handles."
+    ),
+    198: (
+        "Data Type of a structure of type 1 is above 5.\n"
+        "Numbers: `at` is the structure's offset, `other` is 0x9, the offset of Data Type in it, `point` is Data Type.\n"
+        "Fix: write 0 to 2 for the latency of accesses, reads or writes, or 3 to 5 for their bandwidth."
+    ),
+    199: (
+        "The memory hierarchy of a structure of type 1, bits 3:0 of Flags, is above 4 in an HMAT of Revision 1, or above 3 in any "
+        "other.\n"
+        "Numbers: `at` is the structure's offset, `other` is 0x8, the offset of Flags in it, `point` is Flags.\n"
+        "Fix: write 0 for memory, or in Revision 2 the level, 1 to 3, of a memory side cache."
+    ),
+    200: (
+        "Entry Base Unit of a structure of type 1 is 0.\n"
+        "Numbers: `at` is the structure's offset, `other` is 0x18 (24), the offset of Entry Base Unit in it.\n"
+        "Fix: write the unit of the values: of latencies in picoseconds, of bandwidths in MB/s."
+    ),
+    201: (
+        "A value in the matrix of a structure of type 1, times Entry Base Unit, is above 2^32 - 1. 0xffff does not count: it says "
+        "that the initiator cannot reach the target.\n"
+        "Numbers: `at` is the offset of the value in the structure's matrix, `point` is the value.\n"
+        "Fix: write a smaller unit or value: latencies are in picoseconds, bandwidths in MB/s."
+    ),
+    202: (
+        "Two initiators of a structure of type 1 have the same domain, or two of its targets.\n"
+        "Numbers: `at` is the offset of the domain in one of the structure's lists, `other` that of the first one in that list "
+        "with the same value, `point` is the domain.\n"
+        "Fix: list each domain once."
+    ),
+    203: (
+        "A structure of type 0 has an initiator, bit 0 of Flags, in a domain that no structure of the SRAT has; or memory in a "
+        "domain that none of type 1 or 6 has: in an HMAT of Revision 1 if bit 1 of Flags is set, in any other always.\n"
+        "Numbers: `at` is the structure's offset in the HMAT, `other` is the offset in it of the domain, 0xc (12) of the "
+        "initiator or 0x10 (16) of the memory, `point` is the domain.\n"
+        "Fix: write domains of the SRAT, and describe all of them there."
+    ),
+    204: (
+        "An initiator or a target of a structure of type 1 is in a domain that no structure of the SRAT has.\n"
+        "Numbers: `at` is the offset of the domain in the structure's list, `point` is the domain.\n"
+        "Fix: write domains of the SRAT, and describe all of them there."
+    ),
+    205: (
+        "A structure of type 2 is of a domain that no memory affinity (type 1) of the SRAT has.\n"
+        "Numbers: `at` is the structure's offset in the HMAT, `other` is 0x8, the offset of the domain in it, `point` is the "
+        "domain.\n"
+        "Fix: write the domain of the memory that the cache is for."
+    ),
+    206: (
+        "Cache Attributes of a structure of type 2 have a number of levels, bits 3:0, above 3; a level, bits 7:4, above that "
+        "number; or an associativity, bits 11:8, or a write policy, bits 15:12, above 2.\n"
+        "Numbers: `at` is the structure's offset, `other` is 0x18 (24), the offset of Cache Attributes in it, `point` is Cache "
+        "Attributes.\n"
+        "Fix: write the attributes of the cache as 5.2.28.5 defines them."
+    ),
+    207: (
+        "There is an HMAT, whatever its Length and Revision, and the XSDT or RSDT lists no SRAT. The header of an SRAT, 36 bytes, "
+        "is enough.\n"
+        "Numbers: all 0.\n"
+        "Fix: list the SRAT that has the HMAT's domains."
+    ),
+    208: (
+        "The GTDT's Length is below 80, or in Revision 2 below 96, or from Revision 3 on below 104.\n"
+        "Numbers: `at` is 0x4, the offset of Length, `other` is the length that the Revision needs, `point` is Length.\n"
+        "Fix: write all fields of the Revision, and set Length; or set the Revision to that of the fields."
+    ),
+    209: (
+        "The MADT is well-formed and has a GICC, and the XSDT or RSDT lists no GTDT. The header of a GTDT, 36 bytes, is enough.\n"
+        "Numbers: all 0.\n"
+        "Fix: list a GTDT with the timers of the processors."
+    ),
+    210: (
+        "The GSIVs of the non-secure EL1 timer and of the virtual timer are both 0.\n"
+        "Numbers: `at` is 0x38 (56), the offset of the GSIV of the non-secure EL1 timer.\n"
+        "Fix: write the interrupts of both timers: in most systems 30 and 27."
+    ),
+    211: (
+        "The GSIV of a timer of each processor is not 0, and no PPI: neither 16 to 31 nor 1056 to 1119.\n"
+        "Numbers: `at` is the offset of the timer's GSIV, `point` is the GSIV.\n"
+        "Fix: write the interrupt ID of the PPI: for PPI n from 0 to 15 it is 16 + n, for extended PPI n 1056 + n."
+    ),
+    212: (
+        "Two timers of each processor have the same GSIV, which is not 0. The secure EL1 timer is not compared.\n"
+        "Numbers: `at` is the offset of the GSIV of a timer, `other` that of the first one with the same value, `point` is the "
+        "GSIV.\n"
+        "Fix: write to each timer its own interrupt."
+    ),
+    213: (
+        "The Revision is at least 2, Platform Timer Count is not 0, and Platform Timer Offset is within the GTDT's fields; or a "
+        "platform timer goes past the table's end or has a length below 4; or one has a type above 1.\n"
+        "Numbers: `at` is the offset of Platform Timer Offset, 0x5c (92), or of the platform timer, `point` is that field or the "
+        "type. For one that does not fit `other` is its length, 0 if it has none, `point` is the GTDT's Length.\n"
+        "Fix: correct the count, the offset or the length. Often the length of the platform timer before it is wrong."
+    ),
+    214: (
+        "A GT Block has fewer than 20 bytes; or its GT Block Timer Count is not 1 to 8, or GT Block Timer Offset is below 20; or "
+        "both are right, and the length is not the offset plus 40 for each frame.\n"
+        "Numbers: `at` is the structure's offset, `other` is the length that it needs, `point` is its length; or `other` is the "
+        "offset in it of GT Block Timer Count, 0xc (12), or GT Block Timer Offset, 0x10 (16), `point` is that field.\n"
+        "Fix: correct the field that is wrong. Mostly the offset is 20."
+    ),
+    215: (
+        "GT Frame Number of a frame is above 7; or the frame is non-secure, bit 0 of its flags is clear, and its CntBase or the "
+        "GSIV of its physical timer is 0.\n"
+        "Numbers: `at` is the frame's offset, `other` is the offset in it of the field that is wrong, 0 of GT Frame Number, 0x4 "
+        "of CntBase, 0x14 (20) of the physical timer's GSIV, `point` is the field.\n"
+        "Fix: write the frame's number, address and interrupt; or leave the frame out."
+    ),
+    216: (
+        "Two frames of a GT Block have the same GT Frame Number.\n"
+        "Numbers: `at` is the frame's offset, `other` that of the first frame of the GT Block with this number, `point` is the "
+        "number.\n"
+        "Fix: write each frame's own number."
+    ),
+    217: (
+        "A watchdog does not have 28 bytes; or its RefreshFrame or WatchdogControlFrame address is 0.\n"
+        "Numbers: `at` is the structure's offset. For its length `other` is 0x1c (28), `point` is its length. For an address "
+        "`other` is the offset of it in the structure, 0x4 of RefreshFrame or 0xc (12) of WatchdogControlFrame.\n"
+        "Fix: write the length 28, and the addresses of both frames."
+    ),
+    218: (
+        "A GSIV of a frame or a watchdog is not 0, and no SPI: neither 32 to 1019 nor 4096 to 5119.\n"
+        "Numbers: `at` is the offset of the frame or the watchdog, `other` is the offset in it of the GSIV, 0x14 (20) of the "
+        "frame's physical timer or of the watchdog, 0x1c (28) of the frame's virtual timer, `point` is the GSIV.\n"
+        "Fix: write the interrupt ID of the SPI: for SPI n it is 32 + n, for extended SPI n 4096 + n."
+    ),
+    219: (
+        "Two of these ranges of 4096 bytes share an address: those from the CntCtlBase of a GT Block, from the CntBase or "
+        "CntEL0Base of a frame, and from the RefreshFrame or WatchdogControlFrame of a watchdog. An address of 0 or 2^64 - 1 has "
+        "no range.\n"
+        "Numbers: `at` and `other` are the offsets in the GTDT of the addresses of two such ranges, first that of the one that "
+        "begins lower, and of two that begin together the lower offset; `point` is the lowest address at which two overlap.\n"
+        "Fix: write the addresses of the registers."
+    ),
     271: (
         "The SPCR's Length is below 80, or, from Revision 4 on, below 88.\n"
         "Numbers: `at` is 0x4, the offset of Length, `other` is the length that the Revision needs, `point` is Length.\n"
@@ -1186,8 +1364,8 @@ TEXT_OF: Dict[int, str] = {
         "`ADDRESS=COUNT`."
     ),
     275: (
-        "Just one of the SPCR's PCI device ID and PCI vendor ID is 0xffff, which means no PCI device; or neither is, and the PCI "
-        "device number is above 31 or the PCI function number above 7.\n"
+        "Exactly one of the SPCR's PCI device ID and PCI vendor ID is 0xffff, which means no PCI device; or neither is, and the "
+        "PCI device number is above 31 or the PCI function number above 7.\n"
         "Numbers: for the IDs `at` is 0x40 (64), the offset of the PCI device ID, `point` is the PCI device ID. For the numbers "
         "`at` is 0x45 (69) for the device or 0x46 (70) for the function, the offset of the number, `point` is the number.\n"
         "Fix: write both IDs and the numbers of the PCI device; or, if the serial port is no PCI device, 0xffff to both IDs."

@@ -892,6 +892,142 @@ numbered! {
         ///
         /// Numbers: `at` is 0x2c (44), the offset of the base address, `point` is the base address.
         HpetAddress = 194,
+        /// The HMAT's Length is below 40, or its Revision is neither 1 nor 2.
+        ///
+        /// Numbers: `at` is the offset of the field, 0x4 of Length or 0x8 of Revision, `point` is the field; for Length
+        /// `other` is 0x28 (40).
+        HmatHeader = 195,
+        /// After the last structure of the HMAT there are bytes that are not a structure: fewer than 8 bytes, a length
+        /// below 8, or a length that goes past the end of the table.
+        ///
+        /// Numbers: `at` is the offset of these bytes, `other` is the length that they say, or 0 if they are fewer than
+        /// 8, `point` is the HMAT's Length.
+        HmatCut = 196,
+        /// A structure of the HMAT has a wrong length: one of type 0 not 40, one of type 1 below 32 + 4 * I + 4 * T +
+        /// 2 * I * T, or one of type 2 below 32 + 2 * H. I, T and H count only if the structure has 32 bytes.
+        ///
+        /// Numbers: `at` is the structure's offset, `other` is the length that it needs, at most 2^64 - 1, `point` is
+        /// its length.
+        HmatLength = 197,
+        /// Data Type of a structure of type 1 is above 5.
+        ///
+        /// Numbers: `at` is the structure's offset, `other` is 0x9, the offset of Data Type in it, `point` is Data
+        /// Type.
+        HmatDataType = 198,
+        /// The memory hierarchy of a structure of type 1, bits 3:0 of Flags, is above 4 in an HMAT of Revision 1, or
+        /// above 3 in any other.
+        ///
+        /// Numbers: `at` is the structure's offset, `other` is 0x8, the offset of Flags in it, `point` is Flags.
+        HmatHierarchy = 199,
+        /// Entry Base Unit of a structure of type 1 is 0.
+        ///
+        /// Numbers: `at` is the structure's offset, `other` is 0x18 (24), the offset of Entry Base Unit in it.
+        HmatUnit = 200,
+        /// A value in the matrix of a structure of type 1, times Entry Base Unit, is above 2^32 - 1. 0xffff does not
+        /// count: it says that the initiator cannot reach the target.
+        ///
+        /// Numbers: `at` is the offset of the value in the structure's matrix, `point` is the value.
+        HmatTooLarge = 201,
+        /// Two initiators of a structure of type 1 have the same domain, or two of its targets.
+        ///
+        /// Numbers: `at` is the offset of the domain in one of the structure's lists, `other` that of the first one in
+        /// that list with the same value, `point` is the domain.
+        HmatSameDomain = 202,
+        /// A structure of type 0 has an initiator, bit 0 of Flags, in a domain that no structure of the SRAT has; or
+        /// memory in a domain that none of type 1 or 6 has: in an HMAT of Revision 1 if bit 1 of Flags is set, in any
+        /// other always.
+        ///
+        /// Numbers: `at` is the structure's offset in the HMAT, `other` is the offset in it of the domain, 0xc (12) of
+        /// the initiator or 0x10 (16) of the memory, `point` is the domain.
+        HmatProximity = 203,
+        /// An initiator or a target of a structure of type 1 is in a domain that no structure of the SRAT has.
+        ///
+        /// Numbers: `at` is the offset of the domain in the structure's list, `point` is the domain.
+        HmatDomainNowhere = 204,
+        /// A structure of type 2 is of a domain that no memory affinity (type 1) of the SRAT has.
+        ///
+        /// Numbers: `at` is the structure's offset in the HMAT, `other` is 0x8, the offset of the domain in it, `point`
+        /// is the domain.
+        HmatCacheNowhere = 205,
+        /// Cache Attributes of a structure of type 2 have a number of levels, bits 3:0, above 3; a level, bits 7:4,
+        /// above that number; or an associativity, bits 11:8, or a write policy, bits 15:12, above 2.
+        ///
+        /// Numbers: `at` is the structure's offset, `other` is 0x18 (24), the offset of Cache Attributes in it, `point`
+        /// is Cache Attributes.
+        HmatCache = 206,
+        /// There is an HMAT, whatever its Length and Revision, and the XSDT or RSDT lists no SRAT. The header of an
+        /// SRAT, 36 bytes, is enough.
+        ///
+        /// Numbers: all 0.
+        HmatAlone = 207,
+        /// The GTDT's Length is below 80, or in Revision 2 below 96, or from Revision 3 on below 104.
+        ///
+        /// Numbers: `at` is 0x4, the offset of Length, `other` is the length that the Revision needs, `point` is
+        /// Length.
+        GtdtLength = 208,
+        /// The MADT is well-formed and has a GICC, and the XSDT or RSDT lists no GTDT. The header of a GTDT, 36 bytes,
+        /// is enough.
+        ///
+        /// Numbers: all 0.
+        NoGtdt = 209,
+        /// The GSIVs of the non-secure EL1 timer and of the virtual timer are both 0.
+        ///
+        /// Numbers: `at` is 0x38 (56), the offset of the GSIV of the non-secure EL1 timer.
+        NoTimer = 210,
+        /// The GSIV of a timer of each processor is not 0, and no PPI: neither 16 to 31 nor 1056 to 1119.
+        ///
+        /// Numbers: `at` is the offset of the timer's GSIV, `point` is the GSIV.
+        TimerNoPpi = 211,
+        /// Two timers of each processor have the same GSIV, which is not 0. The secure EL1 timer is not compared.
+        ///
+        /// Numbers: `at` is the offset of the GSIV of a timer, `other` that of the first one with the same value,
+        /// `point` is the GSIV.
+        SameTimer = 212,
+        /// The Revision is at least 2, Platform Timer Count is not 0, and Platform Timer Offset is within the GTDT's
+        /// fields; or a platform timer goes past the table's end or has a length below 4; or one has a type above 1.
+        ///
+        /// Numbers: `at` is the offset of Platform Timer Offset, 0x5c (92), or of the platform timer, `point` is that
+        /// field or the type. For one that does not fit `other` is its length, 0 if it has none, `point` is the GTDT's
+        /// Length.
+        PlatformTimerCut = 213,
+        /// A GT Block has fewer than 20 bytes; or its GT Block Timer Count is not 1 to 8, or GT Block Timer Offset is
+        /// below 20; or both are right, and the length is not the offset plus 40 for each frame.
+        ///
+        /// Numbers: `at` is the structure's offset, `other` is the length that it needs, `point` is its length; or
+        /// `other` is the offset in it of GT Block Timer Count, 0xc (12), or GT Block Timer Offset, 0x10 (16), `point`
+        /// is that field.
+        TimerBlock = 214,
+        /// GT Frame Number of a frame is above 7; or the frame is non-secure, bit 0 of its flags is clear, and its
+        /// CntBase or the GSIV of its physical timer is 0.
+        ///
+        /// Numbers: `at` is the frame's offset, `other` is the offset in it of the field that is wrong, 0 of GT Frame
+        /// Number, 0x4 of CntBase, 0x14 (20) of the physical timer's GSIV, `point` is the field.
+        TimerFrame = 215,
+        /// Two frames of a GT Block have the same GT Frame Number.
+        ///
+        /// Numbers: `at` is the frame's offset, `other` that of the first frame of the GT Block with this number,
+        /// `point` is the number.
+        SameFrame = 216,
+        /// A watchdog does not have 28 bytes; or its RefreshFrame or WatchdogControlFrame address is 0.
+        ///
+        /// Numbers: `at` is the structure's offset. For its length `other` is 0x1c (28), `point` is its length. For an
+        /// address `other` is the offset of it in the structure, 0x4 of RefreshFrame or 0xc (12) of
+        /// WatchdogControlFrame.
+        Watchdog = 217,
+        /// A GSIV of a frame or a watchdog is not 0, and no SPI: neither 32 to 1019 nor 4096 to 5119.
+        ///
+        /// Numbers: `at` is the offset of the frame or the watchdog, `other` is the offset in it of the GSIV, 0x14 (20)
+        /// of the frame's physical timer or of the watchdog, 0x1c (28) of the frame's virtual timer, `point` is the
+        /// GSIV.
+        TimerNoSpi = 218,
+        /// Two of these ranges of 4096 bytes share an address: those from the CntCtlBase of a GT Block, from the
+        /// CntBase or CntEL0Base of a frame, and from the RefreshFrame or WatchdogControlFrame of a watchdog. An
+        /// address of 0 or 2^64 - 1 has no range.
+        ///
+        /// Numbers: `at` and `other` are the offsets in the GTDT of the addresses of two such ranges, first that of the
+        /// one that begins lower, and of two that begin together the lower offset; `point` is the lowest address at
+        /// which two overlap.
+        TimerOverlap = 219,
         /// The SPCR's Length is below 80, or, from Revision 4 on, below 88.
         ///
         /// Numbers: `at` is 0x4, the offset of Length, `other` is the length that the Revision needs, `point` is
@@ -917,8 +1053,8 @@ numbered! {
         /// Numbers: `at` is the field's offset: 0x34 (52) of the interrupt type, 0x35 (53) of IRQ, 0x36 (54) of the
         /// GSI; `point` is the field.
         SpcrGsi = 274,
-        /// Just one of the SPCR's PCI device ID and PCI vendor ID is 0xffff, which means no PCI device; or neither is,
-        /// and the PCI device number is above 31 or the PCI function number above 7.
+        /// Exactly one of the SPCR's PCI device ID and PCI vendor ID is 0xffff, which means no PCI device; or neither
+        /// is, and the PCI device number is above 31 or the PCI function number above 7.
         ///
         /// Numbers: for the IDs `at` is 0x40 (64), the offset of the PCI device ID, `point` is the PCI device ID. For
         /// the numbers `at` is 0x45 (69) for the device or 0x46 (70) for the function, the offset of the number,
@@ -1132,6 +1268,14 @@ impl Rule {
             | Rule::LeafAsParent
             | Rule::CacheNumbers
             | Rule::PpttReserved
+            | Rule::HmatDataType
+            | Rule::HmatHierarchy
+            | Rule::HmatTooLarge
+            | Rule::HmatSameDomain
+            | Rule::HmatCache
+            | Rule::SameTimer
+            | Rule::SameFrame
+            | Rule::TimerOverlap
             | Rule::SpcrPci
             | Rule::RsdpText
             | Rule::RootHeader
@@ -1226,6 +1370,23 @@ impl Rule {
             | Rule::HpetLength
             | Rule::HpetSpace
             | Rule::HpetAddress
+            | Rule::HmatHeader
+            | Rule::HmatCut
+            | Rule::HmatLength
+            | Rule::HmatUnit
+            | Rule::HmatProximity
+            | Rule::HmatDomainNowhere
+            | Rule::HmatCacheNowhere
+            | Rule::HmatAlone
+            | Rule::GtdtLength
+            | Rule::NoGtdt
+            | Rule::NoTimer
+            | Rule::TimerNoPpi
+            | Rule::PlatformTimerCut
+            | Rule::TimerBlock
+            | Rule::TimerFrame
+            | Rule::Watchdog
+            | Rule::TimerNoSpi
             | Rule::SpcrLength
             | Rule::SpcrAddress
             | Rule::SpcrBaud

@@ -170,11 +170,36 @@ pub const RULE_TEXTS: &str = "\
     Found: the HPET's Length is below 56.\nFix: write all fields, and set Length to 56.\
     Found: the HPET's base address is not in memory: its address space is not 0.\nFix: write the address space 0, since the registers are in memory.\
     Found: the HPET's base address is 0; or 0xfed0000000000000, which is 0xfed00000 with its halves swapped; or no multiple of 1024, the size of its registers.\nFix: write the address to which the chipset maps the registers, 0xfed00000 on most PCs.\
+    Found: the HMAT's Length is below 40, or its Revision is neither 1 nor 2.\nFix: write Revision 2, with the structures that ACPI 6.3 and later define; set Length to the end of the last structure.\
+    Found: after the last structure of the HMAT there are bytes that are not a structure: fewer than 8 bytes, a length below 8, or a length that goes past the end of the table.\nFix: correct the structure's length or the table's Length. Often the length of the structure before it is wrong.\
+    Found: a structure of the HMAT has a wrong length: one of type 0 not 40, one of type 1 below 32 + 4 * I + 4 * T + 2 * I * T, or one of type 2 below 32 + 2 * H. I, T and H count only if the structure has 32 bytes.\nFix: correct the length, or the numbers of initiators, targets or handles.\
+    Found: Data Type of a structure of type 1 is above 5.\nFix: write 0 to 2 for the latency of accesses, reads or writes, or 3 to 5 for their bandwidth.\
+    Found: the memory hierarchy of a structure of type 1, bits 3:0 of Flags, is above 4 in an HMAT of Revision 1, or above 3 in any other.\nFix: write 0 for memory, or in Revision 2 the level, 1 to 3, of a memory side cache.\
+    Found: Entry Base Unit of a structure of type 1 is 0.\nFix: write the unit of the values: of latencies in picoseconds, of bandwidths in MB/s.\
+    Found: a value in the matrix of a structure of type 1, times Entry Base Unit, is above 2^32 - 1. 0xffff does not count: it says that the initiator cannot reach the target.\nFix: write a smaller unit or value: latencies are in picoseconds, bandwidths in MB/s.\
+    Found: two initiators of a structure of type 1 have the same domain, or two of its targets.\nFix: list each domain once.\
+    Found: a structure of type 0 has an initiator, bit 0 of Flags, in a domain that no structure of the SRAT has; or memory in a domain that none of type 1 or 6 has: in an HMAT of Revision 1 if bit 1 of Flags is set, in any other always.\nFix: write domains of the SRAT, and describe all of them there.\
+    Found: an initiator or a target of a structure of type 1 is in a domain that no structure of the SRAT has.\nFix: write domains of the SRAT, and describe all of them there.\
+    Found: a structure of type 2 is of a domain that no memory affinity (type 1) of the SRAT has.\nFix: write the domain of the memory that the cache is for.\
+    Found: Cache Attributes of a structure of type 2 have a number of levels, bits 3:0, above 3; a level, bits 7:4, above that number; or an associativity, bits 11:8, or a write policy, bits 15:12, above 2.\nFix: write the attributes of the cache as 5.2.28.5 defines them.\
+    Found: there is an HMAT, whatever its Length and Revision, and the XSDT or RSDT lists no SRAT. The header of an SRAT, 36 bytes, is enough.\nFix: list the SRAT that has the HMAT's domains.\
+    Found: the GTDT's Length is below 80, or in Revision 2 below 96, or from Revision 3 on below 104.\nFix: write all fields of the Revision, and set Length; or set the Revision to that of the fields.\
+    Found: the MADT is well-formed and has a GICC, and the XSDT or RSDT lists no GTDT. The header of a GTDT, 36 bytes, is enough.\nFix: list a GTDT with the timers of the processors.\
+    Found: the GSIVs of the non-secure EL1 timer and of the virtual timer are both 0.\nFix: write the interrupts of both timers: in most systems 30 and 27.\
+    Found: the GSIV of a timer of each processor is not 0, and no PPI: neither 16 to 31 nor 1056 to 1119.\nFix: write the interrupt ID of the PPI: for PPI n from 0 to 15 it is 16 + n, for extended PPI n 1056 + n.\
+    Found: two timers of each processor have the same GSIV, which is not 0. The secure EL1 timer is not compared.\nFix: write to each timer its own interrupt.\
+    Found: the Revision is at least 2, Platform Timer Count is not 0, and Platform Timer Offset is within the GTDT's fields; or a platform timer goes past the table's end or has a length below 4; or one has a type above 1.\nFix: correct the count, the offset or the length. Often the length of the platform timer before it is wrong.\
+    Found: a GT Block has fewer than 20 bytes; or its GT Block Timer Count is not 1 to 8, or GT Block Timer Offset is below 20; or both are right, and the length is not the offset plus 40 for each frame.\nFix: correct the field that is wrong. Mostly the offset is 20.\
+    Found: GT Frame Number of a frame is above 7; or the frame is non-secure, bit 0 of its flags is clear, and its CntBase or the GSIV of its physical timer is 0.\nFix: write the frame's number, address and interrupt; or leave the frame out.\
+    Found: two frames of a GT Block have the same GT Frame Number.\nFix: write each frame's own number.\
+    Found: a watchdog does not have 28 bytes; or its RefreshFrame or WatchdogControlFrame address is 0.\nFix: write the length 28, and the addresses of both frames.\
+    Found: a GSIV of a frame or a watchdog is not 0, and no SPI: neither 32 to 1019 nor 4096 to 5119.\nFix: write the interrupt ID of the SPI: for SPI n it is 32 + n, for extended SPI n 4096 + n.\
+    Found: two of these ranges of 4096 bytes share an address: those from the CntCtlBase of a GT Block, from the CntBase or CntEL0Base of a frame, and from the RefreshFrame or WatchdogControlFrame of a watchdog. An address of 0 or 2^64 - 1 has no range.\nFix: write the addresses of the registers.\
     Found: the SPCR's Length is below 80, or, from Revision 4 on, below 88.\nFix: write all fields of the Revision, and set Length; or set the Revision to that of the fields.\
     Found: the SPCR's base address is neither in memory (address space 0) nor in I/O ports (1); or it is in memory, and its access size is above 3 (32 bits). Applies if the address is not 0 and the interface type is not 0x15, the RISC-V SBI console.\nFix: write the address space and the access size of the serial port's registers.\
     Found: the SPCR's baud rate is none of 0, 3, 4, 6 and 7, and there is no precise one: the Revision is below 4, or the number at 80 is 0.\nFix: write 3 for 9600, 4 for 19200, 6 for 57600, 7 for 115200, or 0 for the rate that the firmware has set.\
     Found: bit 0 (8259) of the SPCR's interrupt type is set, and IRQ is none of 2 to 7, 9 to 12, 14 and 15. Or, with a well-formed MADT, bit 1 (I/O APIC) is set, and the MADT has I/O APICs, none of which serves the GSI; or it has a GICD (type 12), the base address is not 0, and the interrupt type is neither 0 nor 8 (GIC), or is 8 with a GSI that is no SPI, 32 to 1019 or 4096 to 5119.\nFix: write the interrupt and the type of its controller, or 0 for none; or give `acpiset` the I/O APIC's inputs as `ADDRESS=COUNT`.\
-    Found: just one of the SPCR's PCI device ID and PCI vendor ID is 0xffff, which means no PCI device; or neither is, and the PCI device number is above 31 or the PCI function number above 7.\nFix: write both IDs and the numbers of the PCI device; or, if the serial port is no PCI device, 0xffff to both IDs.\
+    Found: exactly one of the SPCR's PCI device ID and PCI vendor ID is 0xffff, which means no PCI device; or neither is, and the PCI device number is above 31 or the PCI function number above 7.\nFix: write both IDs and the numbers of the PCI device; or, if the serial port is no PCI device, 0xffff to both IDs.\
     Found: the SPCR's namespace string has fewer than 2 bytes, or does not lie between byte 88 and the table's end; or it lies there, and its last byte is not 0. Applies from Revision 4 on.\nFix: write the device's path in the ACPI namespace, or `.` for none, and a 0; and its offset in the table and its length with the 0.\
     Found: the OEMID of the RSDP has a byte that is not printable ASCII, 0x20 to 0x7e. Zeros at its end are allowed. Applies if 20 bytes of the RSDP are in the image.\nFix: write the complete text, with blanks or zeros after its last letter.\
     Found: a text in the header of the XSDT or RSDT has a byte that is neither printable ASCII, 0x20 to 0x7e, nor one of the zeros at its end; or Revision is not 1. Applies if all bytes of the table are in the image.\nFix: write the complete texts, with blanks or zeros after the last letter, and Revision 1.\
@@ -218,10 +243,12 @@ pub const RULE_STARTS: [u32; Rule::COUNT + 1] = [
     13598, 13931, 14421, 14672, 14909, 15204, 15339, 15563, 15735, 15920, 16143, 16448, 16658,
     16980, 17402, 17556, 17684, 17955, 18074, 18214, 18387, 18695, 18908, 19306, 19446, 19742,
     19952, 20092, 20241, 20438, 20662, 20905, 21144, 21390, 21569, 21832, 22209, 22479, 22675,
-    22827, 22994, 23212, 23390, 23577, 23727, 23809, 23952, 24195, 24364, 24690, 24934, 25448,
-    25752, 26070, 26306, 26609, 26954, 27180, 27358, 27606, 27814, 28085, 28412, 28725, 28928,
-    29212, 29412, 29572, 29724, 30047, 30295, 30498, 30681, 30814, 31041, 31211, 31426, 31592,
-    31954, 32142, 32362, 32560, 32714, 33007, 33187, 33361, 33675,
+    22827, 22994, 23212, 23390, 23577, 23727, 23809, 23952, 24195, 24388, 24673, 24960, 25108,
+    25327, 25467, 25724, 25843, 26140, 26310, 26462, 26729, 26915, 27110, 27287, 27437, 27644,
+    27797, 28124, 28386, 28622, 28720, 28879, 29069, 29361, 29530, 29856, 30100, 30614, 30921,
+    31239, 31475, 31778, 32123, 32349, 32527, 32775, 32983, 33254, 33581, 33894, 34097, 34381,
+    34581, 34741, 34893, 35216, 35464, 35667, 35850, 35983, 36210, 36380, 36595, 36761, 37123,
+    37311, 37531, 37729, 37883, 38176, 38356, 38530, 38844,
 ];
 
 /// The severity of each rule, by its number.
@@ -320,6 +347,31 @@ pub const SEVERITIES: [Severity; Rule::COUNT] = [
     Severity::LikelyWrong,
     Severity::LikelyWrong,
     Severity::LikelyWrong,
+    Severity::LikelyWrong,
+    Severity::LikelyWrong,
+    Severity::LikelyWrong,
+    Severity::LookAtIt,
+    Severity::LookAtIt,
+    Severity::LikelyWrong,
+    Severity::LookAtIt,
+    Severity::LookAtIt,
+    Severity::LikelyWrong,
+    Severity::LikelyWrong,
+    Severity::LikelyWrong,
+    Severity::LookAtIt,
+    Severity::LikelyWrong,
+    Severity::LikelyWrong,
+    Severity::LikelyWrong,
+    Severity::LikelyWrong,
+    Severity::LikelyWrong,
+    Severity::LookAtIt,
+    Severity::LikelyWrong,
+    Severity::LikelyWrong,
+    Severity::LikelyWrong,
+    Severity::LookAtIt,
+    Severity::LikelyWrong,
+    Severity::LikelyWrong,
+    Severity::LookAtIt,
     Severity::LikelyWrong,
     Severity::LikelyWrong,
     Severity::LikelyWrong,

@@ -1,9 +1,9 @@
 //! Tables built so that a case holds.
 
-use crate::changes::{changes_of_clause, is_of_entries};
+use crate::changes::{LONGEST, changes_of_clause, head_of};
 use crate::lists::List;
-use crate::pair::{Pair, Structure, structures};
-use acpi_rules::{Case, Clause, Form, Kind, Row, Source, Tables, Value, first_finding};
+use crate::pair::{Pair, Structure, put_field, structures};
+use acpi_rules::{Case, Clause, Form, Head, Kind, Row, Source, Tables, Value, first_finding};
 use std::alloc::{AllocError, Global};
 
 /// The tables as a path through one of them sees them.
@@ -76,15 +76,18 @@ fn make_hold(
     Ok(false)
 }
 
-/// An entry of a kind, of zeros.
-fn append_entry(alloc: Global, pair: &mut Pair, list: &List, kind: Kind) -> Result<(), AllocError> {
-    let (Ok(first), Ok(size)) = (u8::try_from(kind.first), u8::try_from(kind.least.max(2))) else {
-        return Ok(());
-    };
-    let mut entry = vec![in alloc; first, size]?;
-    for _ in 2..size {
-        entry.push(0)?;
-    }
+/// An entry of a kind, of zeros but for its type and its length.
+fn append_entry(
+    alloc: Global,
+    pair: &mut Pair,
+    list: &List,
+    head: Head,
+    kind: Kind,
+) -> Result<(), AllocError> {
+    let size = kind.least.max(head.least).min(LONGEST as u16);
+    let mut entry = vec![in alloc; 0u8; usize::from(size)]?;
+    put_field(&mut entry, 0, head.kind, u64::from(kind.first));
+    put_field(&mut entry, 0, head.length, u64::from(size));
     pair.append(list.source, &entry)
 }
 
@@ -96,8 +99,10 @@ pub fn satisfy(
     case: &Case<'_>,
 ) -> Result<bool, AllocError> {
     let (kind, clauses, ..) = *case;
-    if first_with(alloc, pair, list, kind, &[])?.is_none() && is_of_entries(list) {
-        append_entry(alloc, pair, list, kind)?;
+    if first_with(alloc, pair, list, kind, &[])?.is_none()
+        && let Some(head) = head_of(list)
+    {
+        append_entry(alloc, pair, list, head, kind)?;
     }
     for count in 1..=clauses.len() {
         let some = &clauses[..count];

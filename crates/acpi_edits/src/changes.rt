@@ -3,7 +3,7 @@
 use crate::lists::List;
 use crate::pair::{Change, Pair, Structure};
 use acpi_base::TableKind;
-use acpi_rules::{Addend, Case, Clause, Field, Path, Source, Value, Within};
+use acpi_rules::{Case, Clause, Field, Head, Path, Series, Shape, Source, Value, Within};
 use std::alloc::{AllocError, Global};
 
 /// The table that a field is in, if it is not in the structure itself.
@@ -32,34 +32,45 @@ fn push_fields(value: &Value, fields: &mut Vec<(Within, Field)>) -> Result<(), A
         Value::Of(within, field) | Value::Bits(within, field, _) => {
             fields.push((within, field))?;
         }
-        Value::Sum(within, field, _, addend) => {
+        Value::Sum(within, field, _, _) => fields.push((within, field))?,
+        Value::SumOf(within, field, _, added) | Value::SumBits(within, _, _, field, added) => {
             fields.push((within, field))?;
-            if let Addend::Of(field) | Addend::Bits(field, _) = addend {
-                fields.push((within, field))?;
-            }
+            fields.push((within, added))?;
         }
-        Value::Product(one, other, third) => {
-            fields.push((Within::Own, one))?;
+        Value::Product(within, one, other) => {
+            fields.push((within, one))?;
             fields.push((Within::Own, other))?;
-            if let Some(third) = third {
-                fields.push((Within::Own, third))?;
+        }
+        Value::Product3(one, other, third) => {
+            for field in [one, other, third] {
+                fields.push((Within::Own, field))?;
             }
         }
-        Value::Number(_) | Value::Length(_) | Value::Behind(..) | Value::Offset(_) => {}
+        Value::Matrix(within, _, rows, columns) => {
+            fields.push((within, rows))?;
+            fields.push((within, columns))?;
+        }
+        Value::Keyed(_, field) => fields.push((Within::Own, field))?,
+        Value::Number(_)
+        | Value::Largest
+        | Value::Length(_)
+        | Value::Behind(..)
+        | Value::Offset(_) => {}
     }
     Ok(())
 }
 
-/// The field's place, of a structure of a list at an offset.
-fn place_of(list: &List, at: usize, within: Within, field: Field) -> Spot {
+/// The field's place, of a structure of a list.
+fn place_of(list: &List, of: Structure, within: Within, field: Field) -> Spot {
     let start = match within {
-        Within::Table | Within::Other => 0,
-        _ => at,
+        Within::Table | Within::Other | Within::Outer => 0,
+        Within::Around => of.around,
+        Within::Own => of.at,
     };
     Spot {
         source: source_of(within, list.source),
-        at: start.saturating_add(usize::from(field.at)),
-        width: usize::from(field.width),
+        at: start.saturating_add(usize::from(field.at())),
+        width: usize::from(field.width()),
     }
 }
 
@@ -80,11 +91,11 @@ fn number_at(pair: &Pair, spot: Spot) -> u64 {
 /// The number that a value names, of one with fields what is added or the mask.
 fn named_number(value: &Value) -> Option<u64> {
     match *value {
-        Value::Number(number) | Value::Bits(_, _, number) | Value::Behind(_, number) => {
-            Some(number)
-        }
-        Value::Sum(_, _, _, Addend::Number(number)) => Some(u64::from(number)),
-        Value::Sum(_, _, _, Addend::Bits(_, mask)) => Some(u64::from(mask)),
+        Value::Number(number) | Value::Behind(_, number) => Some(u64::from(number)),
+        Value::Largest => Some(u64::MAX),
+        Value::Bits(_, _, number) | Value::Sum(_, _, _, number) | Value::Matrix(_, number, _, _) =>
+            { Some(u64::from(number)) }
+        Value::SumBits(_, _, mask, _, _) => Some(u64::from(mask)),
         _ => None,
     }
 }
@@ -111,9 +122,17 @@ pub fn fields_of_case(alloc: Global, case: &Case<'_>) -> Result<Vec<(Within, Fie
     each_once(alloc, &fields)
 }
 
-/// Whether a list is about entries.
-pub fn is_of_entries(list: &List) -> bool {
-    matches!(list.path, Path::Entries(_))
+/// How the entries begin that a list is about: with their type and their length. None if it is about others.
+pub fn head_of(list: &List) -> Option<Head> {
+    match *list.path {
+        Path::Entries(
+            Series {
+                shape: Shape::Headed(head),
+                ..
+            },
+        ) => Some(head),
+        _ => None,
+    }
 }
 
 /// Whether a value is the length of the other table.
@@ -204,7 +223,7 @@ impl Around {
             is_long,
         } = self;
         for (within, field) in fields.iter() {
-            numbers.push(number_at(pair, place_of(list, of.at, *within, *field)))?;
+            numbers.push(number_at(pair, place_of(list, of, *within, *field)))?;
         }
         Ok(Around {
             fields: each_once(alloc, &fields)?,
@@ -215,7 +234,7 @@ impl Around {
 }
 
 /// The lengths that are tried.
-const LONGEST: u64 = 512;
+pub const LONGEST: u64 = 512;
 
 /// The length of the fields that each table of a kind has: shorter ones are not read.
 fn least_length(table: &[u8]) -> u64 {
@@ -237,15 +256,14 @@ fn push_sizes(
     changes: &mut Vec<Change>,
 ) -> Result<(), AllocError> {
     let source = list.source;
-    let is_entry = is_of_entries(list);
-    let least = if is_entry {
-        2
-    } else {
-        least_length(pair.bytes(source))
+    let (length, least) = match (head_of(list), list.path) {
+        (Some(head), _) => (Some(head.length), u64::from(head.least)),
+        (None, Path::Table) => (None, least_length(pair.bytes(source))),
+        _ => return Ok(()),
     };
     let mut sizes = Vec::new(alloc);
     for (_, field) in around.fields.iter() {
-        let size = u64::from(field.at).saturating_add(u64::from(field.width));
+        let size = u64::from(field.at()).saturating_add(u64::from(field.width()));
         sizes.push(size)?;
         sizes.push(size.saturating_sub(1))?;
     }
@@ -255,7 +273,7 @@ fn push_sizes(
             changes.push(Change::Resize {
                 source,
                 of,
-                is_entry,
+                length,
                 size: *size as usize,
             })?;
         }
@@ -274,6 +292,7 @@ fn push_other_sizes(
     let whole = Structure {
         at: 0,
         size: pair.bytes(other).len(),
+        around: 0,
         kind: 0,
     };
     let least = least_length(pair.bytes(other));
@@ -282,7 +301,7 @@ fn push_other_sizes(
             changes.push(Change::Resize {
                 source: other,
                 of: whole,
-                is_entry: false,
+                length: None,
                 size: *number as usize,
             })?;
         }
@@ -298,7 +317,7 @@ fn push_writes(
     changes: &mut Vec<Change>,
 ) -> Result<(), AllocError> {
     for (within, field) in around.fields.iter() {
-        let spot = place_of(list, of.at, *within, *field);
+        let spot = place_of(list, of, *within, *field);
         for number in around.numbers.iter() {
             changes.push(Change::Write {
                 source: spot.source,
@@ -322,7 +341,7 @@ fn push_bytes(
     changes: &mut Vec<Change>,
 ) -> Result<(), AllocError> {
     for (within, field) in around.fields.iter() {
-        let spot = place_of(list, of.at, *within, *field);
+        let spot = place_of(list, of, *within, *field);
         for at in spot.at.saturating_sub(1)..=spot.at.saturating_add(spot.width) {
             for byte in BYTES {
                 changes.push(Change::Write {
@@ -370,10 +389,11 @@ pub fn bytes_of_clause(
     Ok(changes)
 }
 
-/// Other types of an entry.
+/// Other types of an entry, which it says in a field.
 fn push_kinds(
     list: &List,
     of: Structure,
+    kind: Field,
     case: &Case<'_>,
     changes: &mut Vec<Change>,
 ) -> Result<(), AllocError> {
@@ -381,8 +401,8 @@ fn push_kinds(
         for near in [number.wrapping_sub(1), number, number.wrapping_add(1)] {
             changes.push(Change::Write {
                 source: list.source,
-                at: of.at,
-                width: 1,
+                at: of.at.saturating_add(usize::from(kind.at())),
+                width: usize::from(kind.width()),
                 number: u64::from(near),
             })?;
         }
@@ -414,8 +434,8 @@ pub fn changes_of_case(
     push_sizes(alloc, pair, list, of, &around, &mut changes)?;
     push_other_sizes(pair, list, &around, &mut changes)?;
     push_bytes(list, of, &around, &mut changes)?;
-    if is_of_entries(list) {
-        push_kinds(list, of, case, &mut changes)?;
+    if let Some(head) = head_of(list) {
+        push_kinds(list, of, head.kind, case, &mut changes)?;
     }
     Ok(changes)
 }

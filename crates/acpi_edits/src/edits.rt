@@ -2,7 +2,7 @@
 //! that it has the type of the rows themselves.
 
 use crate::near::{clauses_near, values_near};
-use acpi_rules::{Addend, Case, Clause, Field, Guard, Kind, Known, Row, Value, Within};
+use acpi_rules::{Case, Clause, Field, Guard, Kind, Known, Row, Value, Within};
 use std::alloc::{AllocError, Global};
 
 /// A change of one number or one comparison of a case.
@@ -128,8 +128,8 @@ pub fn cases_of_kind(
     Ok(kept_cases(edited))
 }
 
-/// Which fields are replaced in the cases of a list, and by what: those of the structures of a type, of the table in
-/// which the structures are, and of the other table.
+/// Which fields are replaced in the cases of a list, and by what: those of the structures of a type, of those that they
+/// are in, of their table, and of the other table.
 #[derive(Clone, Copy, Debug)]
 pub struct Swap {
     /// The field.
@@ -138,6 +138,8 @@ pub struct Swap {
     pub to: Field,
     /// The type of the structures of which it is a field; none if it is not a field of the structures.
     pub own: Option<u16>,
+    /// Whether it is a field of the structures that they are in.
+    pub is_around: bool,
     /// Whether it is a field of their table.
     pub is_of_table: bool,
     /// Whether it is a field of the other table.
@@ -149,22 +151,14 @@ impl Swap {
     fn field(&self, kind: u16, within: Within, field: Field) -> Field {
         let is_meant = match within {
             Within::Own => self.own == Some(kind),
+            Within::Around => self.is_around,
             Within::Other => self.is_of_other,
-            _ => self.is_of_table,
+            Within::Outer | Within::Table => self.is_of_table,
         };
         if is_meant && field == self.from {
             self.to
         } else {
             field
-        }
-    }
-
-    /// What is added to a multiple of a field of a structure.
-    fn addend(&self, kind: u16, within: Within, addend: Addend) -> Addend {
-        match addend {
-            Addend::Number(_) => addend,
-            Addend::Of(field) => Addend::Of(self.field(kind, within, field)),
-            Addend::Bits(field, mask) => Addend::Bits(self.field(kind, within, field), mask),
         }
     }
 
@@ -175,18 +169,46 @@ impl Swap {
             Value::Bits(within, field, mask) => {
                 Value::Bits(within, self.field(kind, within, field), mask)
             }
-            Value::Sum(within, field, times, addend) => Value::Sum(
+            Value::Sum(within, field, times, added) => {
+                Value::Sum(within, self.field(kind, within, field), times, added)
+            }
+            Value::SumOf(within, field, times, added) => Value::SumOf(
                 within,
                 self.field(kind, within, field),
                 times,
-                self.addend(kind, within, addend),
+                self.field(kind, within, added),
             ),
-            Value::Product(one, other, third) => Value::Product(
+            Value::SumBits(within, times, mask, field, added) => Value::SumBits(
+                within,
+                times,
+                mask,
+                self.field(kind, within, field),
+                self.field(kind, within, added),
+            ),
+            Value::Product(within, one, other) => Value::Product(
+                within,
+                self.field(kind, within, one),
+                self.field(kind, Within::Own, other),
+            ),
+            Value::Product3(one, other, third) => Value::Product3(
                 self.field(kind, Within::Own, one),
                 self.field(kind, Within::Own, other),
-                third.map(|third| self.field(kind, Within::Own, third)),
+                self.field(kind, Within::Own, third),
             ),
-            Value::Number(_) | Value::Length(_) | Value::Behind(..) | Value::Offset(_) => *value,
+            Value::Matrix(within, base, rows, columns) => Value::Matrix(
+                within,
+                base,
+                self.field(kind, within, rows),
+                self.field(kind, within, columns),
+            ),
+            Value::Keyed(within, field) => {
+                Value::Keyed(within, self.field(kind, Within::Own, field))
+            }
+            Value::Number(_)
+            | Value::Largest
+            | Value::Length(_)
+            | Value::Behind(..)
+            | Value::Offset(_) => *value,
         }
     }
 }

@@ -1,6 +1,5 @@
 //! The edits of fields: of each field of a kind of structures, or of a table, in all rows that read it.
 
-use crate::changes::is_of_entries;
 use crate::edits::{Swap, row_with, swapped_cases};
 use crate::lists::{List, lists_of};
 use crate::near::fields_near;
@@ -8,16 +7,18 @@ use crate::search::search;
 use crate::seeds::{Aim, Seed};
 use crate::shared::{other_table, table_of};
 use acpi_lint::{RowGroup, RowTable};
-use acpi_rules::{Field, Row, Within};
+use acpi_rules::{Field, Path, Row, Within};
 use std::alloc::{AllocError, Global};
 
-/// Of what a field is one: of a table, and of its entries of a type or of itself.
+/// Of what a field is one: of a table, or of structures of a type in it.
 #[derive(Clone, Copy, Debug, PartialEq, Eq)]
 pub struct Owner {
     /// The table.
     pub table: RowTable,
-    /// The lowest type of the entries, if it is a field of entries.
-    pub kind: Option<u16>,
+    /// The path to the structures, or to the table.
+    pub path: Path,
+    /// Their lowest type.
+    pub kind: u16,
 }
 
 /// The edits of a field, and whether each is seen.
@@ -33,17 +34,27 @@ pub struct FieldEdits {
     pub seen: Vec<bool>,
 }
 
+/// The structures that those of a path are in, and their lowest type.
+fn around(path: &Path) -> (Path, u16) {
+    match *path {
+        Path::Inside(series, row) => (Path::Entries(series), row.first),
+        Path::Innermost(series, row, inner) => (Path::Inside(series, row), inner.first),
+        _ => (Path::Table, 0),
+    }
+}
+
 /// Of what a field is one that a case of a list reads.
 pub fn owner_of(group: &RowGroup<'static>, list: &List, kind: u16, within: Within) -> Owner {
     let table = match within {
         Within::Other => other_table(group, list.source),
         _ => table_of(group, list.source),
     };
-    let is_of_entry = within == Within::Own && is_of_entries(list);
-    Owner {
-        table,
-        kind: if is_of_entry { Some(kind) } else { None },
-    }
+    let (path, kind) = match within {
+        Within::Own => (*list.path, kind),
+        Within::Around => around(list.path),
+        Within::Outer | Within::Table | Within::Other => (Path::Table, 0),
+    };
+    Owner { table, path, kind }
 }
 
 /// The index of the edits of a field, which are added where they are not there yet.
@@ -71,22 +82,14 @@ pub fn index_of_field(
 
 /// Which fields of the cases of a list are replaced.
 fn swap_in(group: &RowGroup<'static>, list: &List, of: &FieldEdits, to: Field) -> Swap {
-    let is_of_table = of.owner.kind.is_none() && of.owner.table == table_of(group, list.source);
-    let is_of_other = of.owner.kind.is_none() && of.owner.table == other_table(group, list.source);
-    let own = if is_of_entries(list) {
-        of.owner.kind
-    } else if is_of_table {
-        Some(0)
-    } else {
-        None
-    };
-    let is_own_table = of.owner.table == table_of(group, list.source);
+    let is_own = of.owner == owner_of(group, list, of.owner.kind, Within::Own);
     Swap {
         from: of.field,
         to,
-        own: if is_own_table { own } else { None },
-        is_of_table,
-        is_of_other,
+        own: is_own.then_some(of.owner.kind),
+        is_around: of.owner == owner_of(group, list, 0, Within::Around),
+        is_of_table: of.owner == owner_of(group, list, 0, Within::Table),
+        is_of_other: of.owner == owner_of(group, list, 0, Within::Other),
     }
 }
 

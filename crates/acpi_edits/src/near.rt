@@ -1,25 +1,27 @@
 //! Parts of rows, each with one of its numbers changed by one or with another comparison.
 
-use acpi_rules::{Addend, Clause, Field, Kind, Test, Value, Within};
+use acpi_rules::{Clause, Field, Kind, Test, Value, Within};
 use std::alloc::{AllocError, Global};
 
 /// A field at the next offsets and of the next widths, of those from 1 to 8 bytes.
 pub fn fields_near(alloc: Global, field: Field) -> Result<Vec<Field>, AllocError> {
-    let Field { at, width } = field;
+    let (place, width) = (field.place, field.width());
     let mut near = Vec::new(alloc);
-    if let Some(at) = at.checked_sub(1) {
-        near.push(Field { at, width })?;
+    if let Some(place) = place.checked_sub(16) {
+        near.push(Field { place })?;
     }
-    if let Some(at) = at.checked_add(1) {
-        near.push(Field { at, width })?;
+    if let Some(place) = place.checked_add(16) {
+        near.push(Field { place })?;
     }
-    if width > 1 {
-        let width = width - 1;
-        near.push(Field { at, width })?;
+    if let Some(place) = place.checked_sub(1)
+        && width > 1
+    {
+        near.push(Field { place })?;
     }
-    if width < 8 {
-        let width = width + 1;
-        near.push(Field { at, width })?;
+    if let Some(place) = place.checked_add(1)
+        && width < 8
+    {
+        near.push(Field { place })?;
     }
     Ok(near)
 }
@@ -36,46 +38,54 @@ fn numbers_near(alloc: Global, number: u64) -> Result<Vec<u64>, AllocError> {
     Ok(near)
 }
 
-/// What is added to a multiple, with each of its numbers changed, but those of its field.
-fn addends_near(alloc: Global, addend: Addend) -> Result<Vec<Addend>, AllocError> {
+/// The same of a number of 16 bits.
+fn short_numbers_near(alloc: Global, number: u16) -> Result<Vec<u16>, AllocError> {
     let mut near = Vec::new(alloc);
-    match addend {
-        Addend::Number(number) => {
-            for number in numbers_near(alloc, u64::from(number))? {
-                if let Ok(number) = u32::try_from(number) {
-                    near.push(Addend::Number(number))?;
-                }
-            }
+    for number in numbers_near(alloc, u64::from(number))? {
+        if let Ok(number) = u16::try_from(number) {
+            near.push(number)?;
         }
-        Addend::Bits(field, mask) => {
-            for mask in numbers_near(alloc, u64::from(mask))? {
-                if let Ok(mask) = u16::try_from(mask) {
-                    near.push(Addend::Bits(field, mask))?;
-                }
-            }
+    }
+    Ok(near)
+}
+
+/// The same of a number of 32 bits.
+fn long_numbers_near(alloc: Global, number: u32) -> Result<Vec<u32>, AllocError> {
+    let mut near = Vec::new(alloc);
+    for number in numbers_near(alloc, u64::from(number))? {
+        if let Ok(number) = u32::try_from(number) {
+            near.push(number)?;
         }
-        Addend::Of(_) => {}
     }
     Ok(near)
 }
 
 /// A multiple of a field and what is added to it, with each of its numbers changed, but those of fields.
-fn sums_near(
-    alloc: Global,
-    within: Within,
-    field: Field,
-    times: u16,
-    addend: Addend,
-) -> Result<Vec<Value>, AllocError> {
+fn sums_near(alloc: Global, sum: &Value) -> Result<Vec<Value>, AllocError> {
     let mut near = Vec::new(alloc);
-    if let Some(times) = times.checked_sub(1) {
-        near.push(Value::Sum(within, field, times, addend))?;
-    }
-    if let Some(times) = times.checked_add(1) {
-        near.push(Value::Sum(within, field, times, addend))?;
-    }
-    for addend in addends_near(alloc, addend)? {
-        near.push(Value::Sum(within, field, times, addend))?;
+    match *sum {
+        Value::Sum(within, field, times, added) => {
+            for times in short_numbers_near(alloc, times)? {
+                near.push(Value::Sum(within, field, times, added))?;
+            }
+            for added in short_numbers_near(alloc, added)? {
+                near.push(Value::Sum(within, field, times, added))?;
+            }
+        }
+        Value::SumOf(within, field, times, added) => {
+            for times in short_numbers_near(alloc, times)? {
+                near.push(Value::SumOf(within, field, times, added))?;
+            }
+        }
+        Value::SumBits(within, times, mask, field, added) => {
+            for times in [times.wrapping_sub(1), times.wrapping_add(1)] {
+                near.push(Value::SumBits(within, times, mask, field, added))?;
+            }
+            for mask in [mask.wrapping_sub(1), mask.wrapping_add(1)] {
+                near.push(Value::SumBits(within, times, mask, field, added))?;
+            }
+        }
+        _ => {}
     }
     Ok(near)
 }
@@ -85,24 +95,33 @@ pub fn values_near(alloc: Global, value: &Value) -> Result<Vec<Value>, AllocErro
     let mut near = Vec::new(alloc);
     match *value {
         Value::Number(number) => {
-            for number in numbers_near(alloc, number)? {
+            for number in long_numbers_near(alloc, number)? {
                 near.push(Value::Number(number))?;
             }
         }
         Value::Bits(within, field, mask) => {
-            for mask in numbers_near(alloc, mask)? {
+            for mask in short_numbers_near(alloc, mask)? {
                 near.push(Value::Bits(within, field, mask))?;
             }
         }
         Value::Behind(within, offset) => {
-            for offset in numbers_near(alloc, offset)? {
+            for offset in long_numbers_near(alloc, offset)? {
                 near.push(Value::Behind(within, offset))?;
             }
         }
-        Value::Sum(within, field, times, addend) => {
-            return sums_near(alloc, within, field, times, addend);
+        Value::Sum(..) | Value::SumOf(..) | Value::SumBits(..) => return sums_near(alloc, value),
+        Value::Largest => near.push(Value::Number(u32::MAX))?,
+        Value::Matrix(within, base, rows, columns) => {
+            for base in short_numbers_near(alloc, base)? {
+                near.push(Value::Matrix(within, base, rows, columns))?;
+            }
         }
-        Value::Of(..) | Value::Length(_) | Value::Offset(_) | Value::Product(..) => {}
+        Value::Of(..)
+        | Value::Length(_)
+        | Value::Offset(_)
+        | Value::Product(..)
+        | Value::Product3(..)
+        | Value::Keyed(..) => {}
     }
     Ok(near)
 }
@@ -126,18 +145,6 @@ pub fn clauses_near(alloc: Global, clause: &Clause) -> Result<Vec<Clause>, Alloc
     Ok(near)
 }
 
-/// The numbers of 16 bits next to one.
-fn next_to(alloc: Global, number: u16) -> Result<Vec<u16>, AllocError> {
-    let mut near = Vec::new(alloc);
-    if let Some(less) = number.checked_sub(1) {
-        near.push(less)?;
-    }
-    if let Some(more) = number.checked_add(1) {
-        near.push(more)?;
-    }
-    Ok(near)
-}
-
 /// What stands for no bound in a kind.
 const NO_BOUND: u16 = u16::MAX;
 
@@ -150,21 +157,21 @@ pub fn kinds_near(alloc: Global, kind: &Kind) -> Result<Vec<Kind>, AllocError> {
         most,
     } = *kind;
     let mut near = Vec::new(alloc);
-    for first in next_to(alloc, first)? {
+    for first in short_numbers_near(alloc, first)? {
         near.push(Kind { first, ..*kind })?;
     }
     if last != NO_BOUND {
-        for last in next_to(alloc, last)? {
+        for last in short_numbers_near(alloc, last)? {
             near.push(Kind { last, ..*kind })?;
         }
     }
     if least != 0 {
-        for least in next_to(alloc, least)? {
+        for least in short_numbers_near(alloc, least)? {
             near.push(Kind { least, ..*kind })?;
         }
     }
     if most != NO_BOUND {
-        for most in next_to(alloc, most)? {
+        for most in short_numbers_near(alloc, most)? {
             near.push(Kind { most, ..*kind })?;
         }
     }

@@ -1,6 +1,6 @@
 //! Two tables on which rows are evaluated, and changes of their bytes.
 
-use acpi_rules::{Index, IndexedTable, Path, Source, Tables};
+use acpi_rules::{Field, IndexedTable, Path, Source, Tables, WalkedSites};
 use std::alloc::{AllocError, Global};
 
 /// A table, and another one, which has no bytes where a row has no other.
@@ -19,6 +19,8 @@ pub struct Structure {
     pub at: usize,
     /// How many bytes it has.
     pub size: usize,
+    /// The offset of the one that it is in; 0 for the table.
+    pub around: usize,
     /// Its type.
     pub kind: u64,
 }
@@ -43,8 +45,8 @@ pub enum Change {
         source: Source,
         /// The structure.
         of: Structure,
-        /// Whether the structure is an entry, which says its length.
-        is_entry: bool,
+        /// The field in which the structure says its length, if it does.
+        length: Option<Field>,
         /// The new length.
         size: usize,
     },
@@ -75,30 +77,29 @@ fn put(bytes: &mut Vec<u8>, at: usize, byte: u8) {
     }
 }
 
-/// The structures of a path, which leads to a table or to its entries.
+/// Writes the lowest bytes of a number, at an offset.
+fn put_number(bytes: &mut Vec<u8>, at: usize, width: usize, number: u64) {
+    for (index, byte) in number.to_le_bytes().iter().enumerate().take(width) {
+        put(bytes, at.saturating_add(index), *byte);
+    }
+}
+
+/// Writes a number into a field of a structure.
+pub fn put_field(bytes: &mut Vec<u8>, start: usize, field: Field, number: u64) {
+    let at = start.saturating_add(usize::from(field.at()));
+    put_number(bytes, at, usize::from(field.width()), number)
+}
+
+/// The structures of a path.
 pub fn structures(alloc: Global, path: &Path, bytes: &[u8]) -> Result<Vec<Structure>, AllocError> {
     let mut found = Vec::new(alloc);
-    if let Path::Table = path {
+    for site in WalkedSites::along(path, bytes) {
         found.push(Structure {
-            at: 0,
-            size: bytes.len(),
-            kind: 0,
+            at: site.own.at as usize,
+            size: site.own.bytes.len(),
+            around: site.around.at as usize,
+            kind: site.kind,
         })?;
-    }
-    let Path::Entries(series) = path else {
-        return Ok(found);
-    };
-    let Some(index) = Index::of(alloc, series, bytes)? else {
-        return Ok(found);
-    };
-    for of_type in &index.types {
-        for listed in &of_type.listed {
-            found.push(Structure {
-                at: listed.at as usize,
-                size: listed.size as usize,
-                kind: of_type.kind,
-            })?;
-        }
     }
     Ok(found)
 }
@@ -150,22 +151,17 @@ impl Pair {
                 width,
                 number,
             } => {
-                let bytes = self.bytes_mut(source);
-                for (index, byte) in number.to_le_bytes().iter().enumerate().take(width) {
-                    put(bytes, at.saturating_add(index), *byte);
-                }
+                put_number(self.bytes_mut(source), at, width, number);
             }
             Change::Resize {
                 source,
                 of,
-                is_entry,
+                length,
                 size,
             } => {
                 let mut changed = resized(alloc, self.bytes(source), of, size)?;
-                if let Ok(length) = u8::try_from(size)
-                    && is_entry
-                {
-                    put(&mut changed, of.at.saturating_add(1), length);
+                if let Some(length) = length {
+                    put_field(&mut changed, of.at, length, size as u64);
                 }
                 *self.bytes_mut(source) = changed;
             }

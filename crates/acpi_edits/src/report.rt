@@ -12,7 +12,7 @@ use crate::sets::{Set, pairs_of};
 use crate::shared::{Shared, Use, shared_lists, table_of};
 use crate::text::{ClauseText, KindText, TableText, ValueText};
 use acpi_lint::{RowGroup, RowTable};
-use acpi_rules::{Case, Clause, Field, Kind, Row};
+use acpi_rules::{Case, Clause, Field, Kind, Path, Row};
 use std::alloc::{AllocError, Global};
 use std::io;
 
@@ -353,13 +353,17 @@ fn print_fields(rt: &impl Print, of: &FieldEdits, counts: &mut Counts) -> io::Re
         counts.tried = counts.tried.saturating_add(1);
         if !*is_seen {
             counts.unseen = counts.unseen.saturating_add(1);
-            let Owner { table, kind } = of.owner;
+            let Owner { table, path, kind } = of.owner;
             let table = TableText(table);
-            let Field { at, width } = of.field;
-            let (to_at, to_width) = (to.at, to.width);
-            match kind {
-                Some(kind) => print!(rt; "{table} type {kind} ")?,
-                None => print!(rt; "{table} ")?,
+            let (at, width) = (of.field.at(), of.field.width());
+            let (to_at, to_width) = (to.at(), to.width());
+            match path {
+                Path::Table => print!(rt; "{table} ")?,
+                Path::Entries(_) => print!(rt; "{table} type {kind} ")?,
+                Path::Inside(_, row) | Path::Innermost(_, row, _) => {
+                    let outer = row.first;
+                    print!(rt; "{table} inside type {outer} ")?
+                }
             }
             println!(rt; "field: {at}:{width} -> {to_at}:{to_width}")?;
         }

@@ -5,17 +5,17 @@ use acpi_base::TableKind;
 use acpi_lint::{FurtherTable, RowTable};
 use std::alloc::{AllocError, Global};
 
-/// The tables of a set, in the order FADT, MADT, SRAT, SLIT, PPTT, MCFG, HPET, SPCR; one that the set does not have has no
-/// bytes.
+/// The tables of a set, in the order FADT, MADT, SRAT, SLIT, PPTT, MCFG, HPET, HMAT, GTDT, SPCR; one that the set does not
+/// have has no bytes.
 #[derive(Clone, Copy, Debug)]
 pub struct Set<'a> {
-    tables: [&'a [u8]; 8],
+    tables: [&'a [u8]; 10],
 }
 
 impl<'a> Set<'a> {
     /// One of its tables.
     pub fn table(&self, table: RowTable) -> &'a [u8] {
-        let [fadt, madt, srat, slit, pptt, mcfg, hpet, spcr] = self.tables;
+        let [fadt, madt, srat, slit, pptt, mcfg, hpet, hmat, gtdt, spcr] = self.tables;
         match table {
             RowTable::Kind(TableKind::Fadt) => fadt,
             RowTable::Kind(TableKind::Madt) => madt,
@@ -24,6 +24,8 @@ impl<'a> Set<'a> {
             RowTable::Kind(TableKind::Pptt) => pptt,
             RowTable::Further(FurtherTable::Mcfg) => mcfg,
             RowTable::Further(FurtherTable::Hpet) => hpet,
+            RowTable::Further(FurtherTable::Hmat) => hmat,
+            RowTable::Further(FurtherTable::Gtdt) => gtdt,
             RowTable::Further(FurtherTable::Spcr) => spcr,
         }
     }
@@ -50,8 +52,10 @@ fn split_set(bytes: &[u8]) -> Option<(Set<'_>, &[u8])> {
     let (pptt, rest) = split_table(rest)?;
     let (mcfg, rest) = split_table(rest)?;
     let (hpet, rest) = split_table(rest)?;
+    let (hmat, rest) = split_table(rest)?;
+    let (gtdt, rest) = split_table(rest)?;
     let (spcr, rest) = split_table(rest)?;
-    let tables = [fadt, madt, srat, slit, pptt, mcfg, hpet, spcr];
+    let tables = [fadt, madt, srat, slit, pptt, mcfg, hpet, hmat, gtdt, spcr];
     Some((Set { tables }, rest))
 }
 

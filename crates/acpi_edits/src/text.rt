@@ -1,7 +1,7 @@
 //! Parts of rows as text.
 
 use acpi_lint::RowTable;
-use acpi_rules::{Addend, Clause, Field, Kind, Test, Value, Within};
+use acpi_rules::{Clause, Field, Kind, Test, Value, Within};
 use std::fmt;
 
 /// A value as text: fields as their structure, their offset and their width.
@@ -48,41 +48,42 @@ fn write_field<W: fmt::Write>(
     field: Field,
 ) -> fmt::Result {
     let word = within_word(within);
-    let Field { at, width } = field;
+    let (at, width) = (field.at(), field.width());
     write!(f, "{word} {at}:{width}")
 }
 
-/// Writes what is added to a multiple of a field of a structure.
-fn write_addend<W: fmt::Write>(
+/// Writes bits of a field.
+fn write_bits<W: fmt::Write>(
     f: &mut fmt::Formatter<W>,
     within: Within,
-    addend: Addend,
+    field: Field,
+    mask: u16,
 ) -> fmt::Result {
-    match addend {
-        Addend::Number(number) => write!(f, "{number:#x}"),
-        Addend::Of(field) => write_field(f, within, field),
-        Addend::Bits(field, mask) => {
-            write_field(f, within, field)?;
-            write!(f, " & {mask:#x}")
-        }
-    }
+    write_field(f, within, field)?;
+    write!(f, " & {mask:#x}")
+}
+
+/// Writes a multiple of a field, and the sign before it.
+fn write_multiple<W: fmt::Write>(
+    f: &mut fmt::Formatter<W>,
+    within: Within,
+    times: u16,
+    field: Field,
+) -> fmt::Result {
+    write!(f, " + {times} * ")?;
+    write_field(f, within, field)
 }
 
 /// Writes a product.
 fn write_product<W: fmt::Write>(
     f: &mut fmt::Formatter<W>,
+    within: Within,
     one: Field,
     other: Field,
-    third: Option<Field>,
 ) -> fmt::Result {
-    write_field(f, Within::Own, one)?;
+    write_field(f, within, one)?;
     write!(f, " * ")?;
-    write_field(f, Within::Own, other)?;
-    if let Some(third) = third {
-        write!(f, " * ")?;
-        write_field(f, Within::Own, third)?;
-    }
-    Ok(())
+    write_field(f, Within::Own, other)
 }
 
 impl<'a> fmt::Display for ValueText<'a> {
@@ -90,10 +91,8 @@ impl<'a> fmt::Display for ValueText<'a> {
         match *self.0 {
             Value::Number(number) => write!(f, "{number:#x}"),
             Value::Of(within, field) => write_field(f, within, field),
-            Value::Bits(within, field, mask) => {
-                write_field(f, within, field)?;
-                write!(f, " & {mask:#x}")
-            }
+            Value::Largest => write!(f, "2^64 - 1"),
+            Value::Bits(within, field, mask) => write_bits(f, within, field, mask),
             Value::Length(within) => {
                 let word = within_word(within);
                 write!(f, "length {word}")
@@ -106,12 +105,35 @@ impl<'a> fmt::Display for ValueText<'a> {
                 let word = within_word(within);
                 write!(f, "offset {word}")
             }
-            Value::Sum(within, field, times, addend) => {
-                write_addend(f, within, addend)?;
-                write!(f, " + {times} * ")?;
-                write_field(f, within, field)
+            Value::Sum(within, field, times, added) => {
+                write!(f, "{added:#x}")?;
+                write_multiple(f, within, times, field)
             }
-            Value::Product(one, other, third) => write_product(f, one, other, third),
+            Value::SumOf(within, field, times, added) => {
+                write_field(f, within, added)?;
+                write_multiple(f, within, times, field)
+            }
+            Value::SumBits(within, times, mask, field, added) => {
+                write_bits(f, within, added, u16::from(mask))?;
+                write_multiple(f, within, u16::from(times), field)
+            }
+            Value::Product(within, one, other) => write_product(f, within, one, other),
+            Value::Product3(one, other, third) => {
+                write_product(f, Within::Own, one, other)?;
+                write!(f, " * ")?;
+                write_field(f, Within::Own, third)
+            }
+            Value::Matrix(within, base, rows, columns) => {
+                write!(f, "{base:#x} + a matrix of ")?;
+                write_field(f, within, rows)?;
+                write!(f, " and ")?;
+                write_field(f, within, columns)
+            }
+            Value::Keyed(within, field) => {
+                let word = within_word(within);
+                write!(f, "key of {word}: ")?;
+                write_field(f, Within::Own, field)
+            }
         }
     }
 }

@@ -1,5 +1,5 @@
 -- The examples of advice on the slots of the root, by computing.
-use Rattle.std.proofs.Common.{◌≡◌, ℕ, zero, suc, ◌+◌, ◌*◌, ◌≤◌, true, false, List, [], ◌∷◌, take, Some, refl, subst, inl, inr, arith}
+use Rattle.std.proofs.Common.{◌≡◌, ℕ, zero, suc, ◌+◌, ◌*◌, ◌≤◌, true, false, List, [], ◌∷◌, take, Some, refl, subst, ◌∙◌, inl, inr, arith}
 use Rattle.std.specs.Prelude.{◌⊎◌}
 use Rattle.std.proofs.lemmas.Bool.{both_ways}
 use Rattle.acpi_base.specs.Memory.{Memory, run_of, cons_both, bytes_at}
@@ -10,14 +10,14 @@ use Rattle.acpi_base.specs.Image.Runs.{Run, run_at, lookup}
 use Rattle.acpi_base.specs.Root.{IsRoot, IsRootTable, HasSlot, IsSlot}
 use Rattle.acpi_base.specs.TableKinds.{signature_of}
 use Rattle.acpi_base.specs.Tables.{IsSigned}
-use Rattle.acpi_lint.specs.Rules.Slots.{IsSecondTable, ListsSigned, dsdt_signature}
+use Rattle.acpi_lint.specs.Rules.Slots.{IsSecondTable, dsdt_signature}
 use Rattle.acpi_examples.specs.Madts.{two_io_apics_bytes}
 use Rattle.acpi_examples.specs.Sets.{rsdp_at, rsdp_bytes, rsdt_bytes, set_of, named_bytes, uid_bytes, new_leaf_bytes, leaf_set}
 use Rattle.acpi_examples.specs.ExampleSet.{facs_bytes}
 use Rattle.acpi_examples.specs.AdviceSlots.{twice_bytes, twice_set, dsdt_bytes, AreSlotsAdvised}
 use Rattle.acpi_base.specs.declared.table_kind.TableKind.{TableKind}
 use Rattle.acpi_base.specs.declared.table_kind.TableKind.TheVariants as kind
-use Rattle.acpi_examples.proofs.Sets.{bytes_of_runs, root_in, root_table_of, root, root_table, slot_0, slot_1, madt_tables, leaf_tables}
+use Rattle.acpi_examples.proofs.Sets.{bytes_of_runs, root_in, root_table_of, root, root_table, runs, slot_0, slot_1, madt_tables, leaf_tables}
 use Rattle.acpi_base.proofs.Options.{same_value}
 use Rattle.acpi_base.proofs.Images.RunBytes.{byte_of_memory_of}
 use Rattle.acpi_base.proofs.Root.Slots.{one_slot, root_slot, slot_of_root}
@@ -103,14 +103,21 @@ no_second at other point (kind, it) =
           ]
     ]
 
-none_signed : (signature : List ℕ) → has_signature (take 36 uid_bytes) signature ≡ false
-    → has_signature (take 36 new_leaf_bytes) signature ≡ false
-    → (k a : ℕ) → ¬ ListsSigned leaf_set rsdp_at signature k a
-none_signed signature no_first no_second k a (slot, signed) =
-    elim (leaf_slot k a slot) [
-      | inl here ↦ both_ways _ no_first (first_signed signature a here.1 signed)
-      | inr here ↦ both_ways _ no_second (second_signed signature a here.1 signed)
+-- neither of two tables has this signature
+pub unlisted : (one other signature : List ℕ) → run_of (lookup (runs one other)) 0x2000 36 ≡ Some (take 36 one)
+    → run_of (lookup (runs one other)) 0x3000 36 ≡ Some (take 36 other)
+    → has_signature (take 36 one) signature ≡ false → has_signature (take 36 other) signature ≡ false
+    → (k a : ℕ) → IsSlot (set_of one other) rsdp_at k a → ¬ IsSigned (set_of one other) a signature
+unlisted one other signature first second no_first no_second k a slot it =
+    elim (in_two one other k a slot) [
+      | inl here ↦ both_ways _ no_first
+          (signed_as 0x2000 (take 36 one) (bytes_of_runs one other 0x2000 36 ∙ first) (at_address 0x2000 here.1))
+      | inr here ↦ both_ways _ no_second
+          (signed_as 0x3000 (take 36 other) (bytes_of_runs one other 0x3000 36 ∙ second) (at_address 0x3000 here.1))
     ]
+  where
+    at_address : (b : ℕ) → a ≡ b → IsSigned (set_of one other) b signature
+    at_address b is = subst (λ (x : ℕ). IsSigned (set_of one other) x signature) is it
 
 pub slots_advised : AreSlotsAdvised
 unfolding run_of cons_both has_signature field
@@ -159,7 +166,7 @@ slots_advised = record {
     refl,
   );
   none_apart = λ at other point it. elim it.0 [
-    | inl dsdt ↦ none_signed dsdt_signature refl refl at point dsdt
-    | inr facs ↦ none_signed facs_signature refl refl at point facs
+    | inl dsdt ↦ unlisted uid_bytes new_leaf_bytes dsdt_signature refl refl refl refl at point dsdt.0 dsdt.1
+    | inr facs ↦ unlisted uid_bytes new_leaf_bytes facs_signature refl refl refl refl at point facs.0 facs.1
   ];
 }

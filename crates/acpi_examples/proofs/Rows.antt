@@ -8,13 +8,14 @@ use Rattle.acpi_rules.specs.Clauses.{all_hold, holds, passes}
 use Rattle.acpi_rules.specs.Fields.{reading}
 use Rattle.acpi_rules.specs.Rows.{Row, guard_holds}
 use Rattle.acpi_rules.specs.Series.{first_bytes, head_said, kind_in, most_of, said_in, size_in, start_of}
+use Rattle.acpi_rules.specs.Sites.{sites_inside, sites_inside_all}
 use Rattle.acpi_rules.specs.Terms.{value_number}
 use Rattle.acpi_rules.specs.Walks.{cut_from, structures_from}
 use Rattle.acpi_rules.proofs.Computed.{finds_broken, first_broken}
 use Rattle.acpi_rules.specs.declared.place.Place.{Place}
-use Rattle.acpi_lint.specs.RowGroups.{fadt_further_group, fadt_group, fadt_with_madt_group, gic_group, hpet_group, madt_further_group, madt_group, madt_with_fadt_group, madt_with_pptt_group, madt_with_srat_group, mcfg_group, pptt_group, pptt_with_madt_group, spcr_group, spcr_with_madt_group, srat_group, srat_with_madt_group, srat_with_slit_group}
+use Rattle.acpi_lint.specs.RowGroups.{fadt_further_group, fadt_group, fadt_with_madt_group, gic_group, gtdt_group, gtdt_with_madt_group, hmat_group, hmat_with_srat_group, hpet_group, madt_further_group, madt_group, madt_with_fadt_group, madt_with_pptt_group, madt_with_srat_group, mcfg_group, pptt_group, pptt_with_madt_group, spcr_group, spcr_with_madt_group, srat_group, srat_with_madt_group, srat_with_slit_group}
 use Rattle.acpi_lint.specs.Rules.Rows.{rule_number}
-use Rattle.acpi_examples.specs.Rows.{AreFound, AreRowsFound, Example, tables_of, fadt_examples, fadt_further_examples, fadt_with_madt_examples, gic_examples, hpet_examples, madt_examples, madt_further_examples, madt_with_fadt_examples, madt_with_pptt_examples, madt_with_srat_examples, mcfg_examples, pptt_examples, pptt_with_madt_examples, spcr_examples, spcr_with_madt_examples, srat_examples, srat_with_madt_examples, srat_with_slit_examples}
+use Rattle.acpi_examples.specs.Rows.{AreFound, AreRowsFound, Example, tables_of, fadt_examples, fadt_further_examples, fadt_with_madt_examples, gic_examples, gtdt_examples, gtdt_with_madt_examples, hmat_examples, hmat_with_srat_examples, hpet_examples, madt_examples, madt_further_examples, madt_with_fadt_examples, madt_with_pptt_examples, madt_with_srat_examples, mcfg_examples, pptt_examples, pptt_with_madt_examples, spcr_examples, spcr_with_madt_examples, srat_examples, srat_with_madt_examples, srat_with_slit_examples}
 
 -- what two functions give for each element, if the lists are the same
 same_of : {X Y : Type 0} (f g : X → Y) (xs : List X) → map f xs ≡ map g xs → (x : X) → Contains xs x → f x ≡ g x
@@ -38,10 +39,12 @@ all_computed rows examples same = λ e listed.
 
 pub rows_found : AreRowsFound
 unfolding field number_bytes gives has_length has_type in_case is_kind all_hold holds passes reading guard_holds
-    first_bytes head_said kind_in most_of said_in size_in start_of value_number cut_from structures_from computed
+    first_bytes head_said kind_in most_of said_in size_in start_of value_number cut_from structures_from sites_inside
+    sites_inside_all computed
     madt_group madt_further_group gic_group madt_with_fadt_group fadt_with_madt_group madt_with_srat_group
     srat_with_madt_group srat_group srat_with_slit_group madt_with_pptt_group pptt_with_madt_group pptt_group
     fadt_group fadt_further_group mcfg_group hpet_group spcr_group spcr_with_madt_group
+    hmat_group hmat_with_srat_group gtdt_group gtdt_with_madt_group
 rows_found = record {
   madt = all_computed madt_group.rows madt_examples refl;
   madt_further = all_computed madt_further_group.rows madt_further_examples refl;
@@ -61,4 +64,8 @@ rows_found = record {
   hpet = all_computed hpet_group.rows hpet_examples refl;
   spcr = all_computed spcr_group.rows spcr_examples refl;
   spcr_with_madt = all_computed spcr_with_madt_group.rows spcr_with_madt_examples refl;
+  hmat = all_computed hmat_group.rows hmat_examples refl;
+  hmat_with_srat = all_computed hmat_with_srat_group.rows hmat_with_srat_examples refl;
+  gtdt = all_computed gtdt_group.rows gtdt_examples refl;
+  gtdt_with_madt = all_computed gtdt_with_madt_group.rows gtdt_with_madt_examples refl;
 }

@@ -6,7 +6,7 @@ use Rattle.acpi_rules.specs.Places.{FindsLeast}
 use Rattle.acpi_rules.specs.Rows.{Row}
 use Rattle.acpi_rules.specs.Terms.{TwoTables}
 use Rattle.acpi_rules.specs.declared.place.Place.{Place}
-use Rattle.acpi_lint.specs.RowGroups.{BreaksRow, OfAny, fadt_further_group, fadt_group, fadt_with_madt_group, gic_group, hpet_group, madt_further_group, madt_group, madt_with_fadt_group, madt_with_pptt_group, madt_with_srat_group, mcfg_group, pptt_group, pptt_with_madt_group, spcr_group, spcr_with_madt_group, srat_group, srat_with_madt_group, srat_with_slit_group}
+use Rattle.acpi_lint.specs.RowGroups.{BreaksRow, OfAny, fadt_further_group, fadt_group, fadt_with_madt_group, gic_group, gtdt_group, gtdt_with_madt_group, hmat_group, hmat_with_srat_group, hpet_group, madt_further_group, madt_group, madt_with_fadt_group, madt_with_pptt_group, madt_with_srat_group, mcfg_group, pptt_group, pptt_with_madt_group, spcr_group, spcr_with_madt_group, srat_group, srat_with_madt_group, srat_with_slit_group}
 use Rattle.acpi_lint.specs.Rules.Rows.{rule_number}
 use Rattle.acpi_lint.specs.declared.rule.Rule.{Rule}
 use Rattle.acpi_lint.specs.declared.rule.Rule.TheVariants as rule
@@ -250,6 +250,98 @@ spcr revision size bytes = set_bytes bytes (sized revision size)
 abbrev pub console : ℕ → ℕ → List ℕ
 console kind gsi = patched 44 (1 ∷ replicate 7 0 ++ kind ∷ 0 ∷ number_bytes 4 gsi) (sized 4 88)
 
+-- an HMAT of this Revision with these structures
+abbrev pub hmat : ℕ → List (List ℕ) → List ℕ
+hmat revision structures = patched 8 (revision ∷ []) (replicate 40 0) ++ joined structures
+
+-- one of this type and length, and 8 bytes or more, with these bytes
+abbrev pub structure : ℕ → ℕ → List (ℕ × ℕ) → List ℕ
+structure kind size bytes = set_bytes bytes (kind ∷ 0 ∷ 0 ∷ 0 ∷ number_bytes 4 size ++ replicate (size - 8) 0)
+
+-- attributes of memory: flags, the initiator's domain, and its own
+abbrev pub attributes : ℕ → ℕ → ℕ → List ℕ
+attributes flags by own = structure 0 40 ((8, flags) ∷ (12, by) ∷ (16, own) ∷ [])
+
+-- latencies in units of 1: the domains of the initiators and of the targets, and the bytes of the numbers
+abbrev pub locality : List ℕ → List ℕ → List ℕ → List ℕ
+locality initiators targets cells =
+    let lists = joined (map (number_bytes 4) (initiators ++ targets)) ++ cells in
+    structure 1 32 ((4, 32 + length lists) ∷ (12, length initiators) ∷ (16, length targets) ∷ (24, 1) ∷ []) ++ lists
+
+-- an HMAT of this Revision with latencies of no domains, with these bytes
+abbrev pub latencies : ℕ → List (ℕ × ℕ) → List ℕ
+latencies revision bytes = hmat revision (structure 1 32 bytes ∷ [])
+
+-- one with one initiator, in domain 7, one target, in domain 8, and this number, in these units
+abbrev pub latency : ℕ → ℕ → List ℕ
+latency unit cell = hmat 1 (patched 24 (number_bytes 8 unit) (locality (7 ∷ []) (8 ∷ []) (number_bytes 2 cell)) ∷ [])
+
+-- one with a memory side cache, of domain 7, with these attributes, and this number of SMBIOS handles, of which it has none
+abbrev pub side_cache : ℕ → ℕ → List ℕ
+side_cache marks handles = hmat 1 (patched 24 (number_bytes 4 marks) (structure 2 32 ((8, 7) ∷ (30, handles) ∷ [])) ∷ [])
+
+-- attributes of one that are wrong
+abbrev pub odd_marks : List ℕ
+odd_marks = 4 ∷ 0x10 ∷ 0x21 ∷ 0x32 ∷ 0x43 ∷ 0x300 ∷ 0x3000 ∷ []
+
+-- SRATs with memory in this domain, those with an entry of any kind in domain 7, whether it is enabled or not, and some with an
+-- entry that is not read
+abbrev pub memory_in : ℕ → List ℕ
+memory_in domain = srat 2 (memory domain 0 0 0 ∷ [])
+
+abbrev pub srats_of_seven : List (List ℕ)
+srats_of_seven = map (λ e. srat 2 (e ∷ [])) (its_in_seven ∷ others_in_seven 0)
+
+abbrev pub unread_srats : List (List ℕ)
+unread_srats = map (λ e. srat 2 (e ∷ [])) (entry 8 2 ∷ entry 0 15 ∷ entry 3 17 ∷ (0 ∷ []) ∷ [])
+
+-- the Revisions of a GTDT, and how many bytes each needs
+abbrev pub gtdt_sizes : List (ℕ × ℕ)
+gtdt_sizes = (0, 80) ∷ (1, 80) ∷ (2, 96) ∷ (3, 104) ∷ (4, 104) ∷ []
+
+-- a GTDT with these bytes, and one with these platform timers, from 104 on
+abbrev pub gtdt : ℕ → ℕ → List (ℕ × ℕ) → List ℕ
+gtdt revision size bytes = set_bytes bytes (sized revision size)
+
+abbrev pub timed : List (List ℕ) → List ℕ
+timed timers = gtdt 3 104 ((88, length timers) ∷ (92, 104) ∷ []) ++ joined timers
+
+-- a platform timer of this type and length with these bytes
+abbrev pub timer : ℕ → ℕ → List (ℕ × ℕ) → List ℕ
+timer kind size bytes = set_bytes bytes (kind ∷ number_bytes 2 size ++ replicate (size - 3) 0)
+
+-- a watchdog: its two addresses and its GSIV
+abbrev pub watchdog : ℕ → ℕ → ℕ → List ℕ
+watchdog refresh control gsiv =
+    1 ∷ 28 ∷ 0 ∷ 0 ∷ number_bytes 8 refresh ++ number_bytes 8 control ++ number_bytes 4 gsiv ++ replicate 4 0
+
+-- a GT Block with these frames, and one with a byte behind them
+abbrev pub block : List (List ℕ) → List ℕ
+block frames =
+    0 ∷ number_bytes 2 (20 + 40 * length frames) ++ replicate 9 0 ++ length frames ∷ 0 ∷ 0 ∷ 0 ∷ 20 ∷ 0 ∷ 0 ∷ 0 ∷ joined frames
+
+abbrev pub loose_block : List (List ℕ) → List ℕ
+loose_block frames = patched 1 (number_bytes 2 (21 + 40 * length frames)) (block frames) ++ 0 ∷ []
+
+-- a frame: its number, the first of its addresses, and the GSIVs of its physical and of its virtual timer
+abbrev pub frame : ℕ → ℕ → ℕ → ℕ → List ℕ
+frame number base physical virtual =
+    number ∷ 0 ∷ 0 ∷ 0 ∷ number_bytes 8 base ++ zeros ++ number_bytes 4 physical ++ replicate 4 0 ++ number_bytes 4 virtual ++ zeros
+
+-- numbers next to those of PPIs, and of SPIs
+abbrev pub no_ppis : List ℕ
+no_ppis = 1 ∷ 15 ∷ 32 ∷ 1055 ∷ 1120 ∷ []
+
+abbrev pub no_spis : List ℕ
+no_spis = 1 ∷ 31 ∷ 1020 ∷ 4095 ∷ 5120 ∷ []
+
+-- a MADT with a GIC Distributor, and some without one, or with one and an entry that is not read
+abbrev pub with_gic : List ℕ
+with_gic = madt (gicd 3 ∷ [])
+
+abbrev pub without_gic : List (List ℕ)
+without_gic = madt (local_apic 3 5 1 ∷ []) ∷ madt (gicd 3 ∷ entry 0 7 ∷ []) ∷ madt (gicd 3 ∷ (0 ∷ []) ∷ []) ∷ []
+
 -- ---- the rules, by the tables of their rows
 
 -- the MADT (5.2.12)
@@ -369,10 +461,8 @@ gic_examples =
     ∷ keeps rule.SameGicrBase (madt (gicd 3 ∷ interface 0 0 0 ∷ interface 0 0 0 ∷ [])) []
     ∷ keeps rule.SameGicrBase (madt (gicd 2 ∷ interface 0 0 5 ∷ interface 0 0 5 ∷ [])) []
     ∷ edge rule.ParkingVersion (madt (interface 2 0 0 ∷ [])) (44, 16, 2) (madt (interface 1 0 0 ∷ []))
-    ++ map (λ n. breaks rule.GiccNoPpi (madt (patched 78 (number_bytes 2 n) (entry 11 80) ∷ [])) [] 44 78 n)
-    (1 ∷ 15 ∷ 32 ∷ 1055 ∷ 1120 ∷ [])
-    ++ map (λ n. breaks rule.GiccNoPpi (madt (patched 80 (number_bytes 2 n) (entry 11 82) ∷ [])) [] 44 80 n)
-    (1 ∷ 15 ∷ 32 ∷ 1055 ∷ 1120 ∷ [])
+    ++ map (λ n. breaks rule.GiccNoPpi (madt (patched 78 (number_bytes 2 n) (entry 11 80) ∷ [])) [] 44 78 n) no_ppis
+    ++ map (λ n. breaks rule.GiccNoPpi (madt (patched 80 (number_bytes 2 n) (entry 11 82) ∷ [])) [] 44 80 n) no_ppis
     ++ map (λ n. keeps rule.GiccNoPpi (madt (patched 78 (number_bytes 2 n ++ number_bytes 2 n) (entry 11 82) ∷ [])) [])
     (16 ∷ 31 ∷ 1056 ∷ 1119 ∷ [])
     ++ keeps rule.GiccNoPpi (madt (patched 78 (15 ∷ []) (entry 11 79) ∷ [])) []
@@ -635,13 +725,145 @@ spcr_examples =
 -- the SPCR with the MADT
 abbrev pub spcr_with_madt_examples : List Example
 spcr_with_madt_examples =
-    breaks rule.SpcrGsi (console 2 0) (madt (gicd 3 ∷ [])) 52 0 2
-    ∷ map (λ n. breaks rule.SpcrGsi (console 8 n) (madt (gicd 3 ∷ [])) 54 0 n) (0 ∷ 31 ∷ 1020 ∷ 4095 ∷ 5120 ∷ [])
-    ++ map (λ n. keeps rule.SpcrGsi (console 8 n) (madt (gicd 3 ∷ []))) (32 ∷ 1019 ∷ 4096 ∷ 5119 ∷ [])
-    ++ map (λ table. keeps rule.SpcrGsi table (madt (gicd 3 ∷ [])))
+    breaks rule.SpcrGsi (console 2 0) with_gic 52 0 2
+    ∷ map (λ n. breaks rule.SpcrGsi (console 8 n) with_gic 54 0 n) (0 ∷ 31 ∷ 1020 ∷ 4095 ∷ 5120 ∷ [])
+    ++ map (λ n. keeps rule.SpcrGsi (console 8 n) with_gic) (32 ∷ 1019 ∷ 4096 ∷ 5119 ∷ [])
+    ++ map (λ table. keeps rule.SpcrGsi table with_gic)
     (console 0 31 ∷ spcr 4 88 ((52, 2) ∷ []) ∷ spcr 4 87 ((44, 1) ∷ (52, 2) ∷ []) ∷ [])
-    ++ map (λ entries. keeps rule.SpcrGsi (console 2 31) (madt entries))
-    ((local_apic 3 5 1 ∷ []) ∷ (gicd 3 ∷ entry 0 7 ∷ []) ∷ (gicd 3 ∷ (0 ∷ []) ∷ []) ∷ [])
+    ++ map (keeps rule.SpcrGsi (console 2 31)) without_gic
+
+-- the HMAT (ACPI 6.5, 5.2.28)
+abbrev pub hmat_examples : List Example
+hmat_examples =
+    edge rule.HmatHeader (sized 1 39) (4, 40, 39) (sized 1 40)
+    ++ edge rule.HmatHeader (sized 0 40) (8, 0, 0) (sized 2 40)
+    ++ breaks rule.HmatHeader (sized 3 40) [] 8 0 3
+    ∷ edge rule.HmatCut (hmat 1 (replicate 7 0 ∷ [])) (40, 0, 47) (hmat 1 [])
+    ++ edge rule.HmatCut (hmat 1 (structure 5 7 [] ∷ [])) (40, 7, 48) (hmat 1 (structure 5 8 [] ∷ []))
+    ++ edge rule.HmatCut (hmat 1 (structure 0 40 [] ∷ structure 5 8 ((4, 9) ∷ []) ∷ [])) (80, 9, 88)
+    (hmat 1 (structure 0 40 [] ∷ structure 5 9 [] ∷ []))
+    ++ map (λ (s : List ℕ × ℕ × ℕ). breaks rule.HmatLength (hmat 1 (s.0 ∷ [])) [] 40 s.1 s.2)
+    ((structure 0 39 [], 40, 39) ∷ (structure 0 41 [], 40, 41) ∷ (structure 1 31 [], 32, 31)
+    ∷ (structure 1 63 ((12, 2) ∷ (16, 3) ∷ []), 64, 63) ∷ (patched 12 (replicate 8 255) (structure 1 32 []), 0xffffffffffffffff, 32)
+    ∷ (structure 2 31 [], 32, 31) ∷ (structure 2 33 ((30, 1) ∷ []), 34, 33) ∷ [])
+    ++ map (λ s. keeps rule.HmatLength (hmat 1 (s ∷ [])) [])
+    (structure 0 40 [] ∷ structure 1 33 [] ∷ structure 1 64 ((12, 2) ∷ (16, 3) ∷ []) ∷ structure 1 9 ((1, 1) ∷ [])
+    ∷ structure 2 34 ((30, 1) ∷ []) ∷ structure 3 8 [] ∷ [])
+    ++ edge rule.HmatDataType (latencies 1 ((9, 6) ∷ [])) (40, 9, 6) (latencies 1 ((9, 5) ∷ []))
+    ++ edge rule.HmatHierarchy (latencies 1 ((8, 0x15) ∷ [])) (40, 8, 0x15) (latencies 1 ((8, 0xf4) ∷ []))
+    ++ edge rule.HmatHierarchy (latencies 2 ((8, 0x14) ∷ [])) (40, 8, 0x14) (latencies 2 ((8, 0xf3) ∷ []))
+    ++ edge rule.HmatHierarchy (latencies 2 ((8, 5) ∷ [])) (40, 8, 5) (latencies 2 ((8, 4) ∷ (12, 1) ∷ []))
+    ++ edge rule.HmatUnit (latencies 1 []) (40, 24, 0) (latencies 1 ((31, 1) ∷ []))
+    ++ map (λ r. keeps r (latencies 1 ((8, 5) ∷ (9, 6) ∷ (12, 1) ∷ [])) [])
+    (rule.HmatDataType ∷ rule.HmatHierarchy ∷ rule.HmatUnit ∷ [])
+    ++ edge rule.HmatTooLarge (latency 0x55555556 3) (80, 0, 3) (latency 0x55555555 3)
+    ++ edge rule.HmatTooLarge (latency 0x10003 0xfffe) (80, 0, 0xfffe) (latency 0x10003 0xffff)
+    ++ edge rule.HmatTooLarge (hmat 1 (patched 27 (128 ∷ []) (locality (7 ∷ []) (8 ∷ 9 ∷ []) (1 ∷ 0 ∷ 2 ∷ 0 ∷ [])) ∷ [])) (86, 0, 2)
+    (hmat 1 (patched 27 (128 ∷ []) (locality (7 ∷ []) (8 ∷ 9 ∷ []) (2 ∷ 0 ∷ 1 ∷ [])) ∷ []))
+    ++ edge rule.HmatSameDomain (hmat 1 (locality (7 ∷ 8 ∷ 7 ∷ []) [] [] ∷ [])) (80, 72, 7)
+    (hmat 1 (locality (7 ∷ []) (7 ∷ []) (1 ∷ 0 ∷ []) ∷ locality (7 ∷ []) (7 ∷ []) (1 ∷ 0 ∷ []) ∷ []))
+    ++ edge rule.HmatSameDomain (hmat 1 (locality (7 ∷ []) (8 ∷ 8 ∷ []) (1 ∷ 0 ∷ 1 ∷ 0 ∷ []) ∷ [])) (80, 76, 8)
+    (hmat 1 (locality (7 ∷ 0x1000007 ∷ []) (8 ∷ 0x1000008 ∷ []) zeros ∷ []))
+    ++ keeps rule.HmatSameDomain (hmat 1 (locality (7 ∷ 7 ∷ []) (8 ∷ 8 ∷ []) (replicate 7 0) ∷ [])) []
+    ∷ map (λ n. breaks rule.HmatCache (side_cache n 0) [] 40 24 n) odd_marks
+    ++ map (λ n. keeps rule.HmatCache (side_cache n 1) []) odd_marks
+    ++ map (λ n. keeps rule.HmatCache (side_cache n 0) []) (0 ∷ 0x11 ∷ 0x22 ∷ 0xffff2233 ∷ 0x2203 ∷ [])
+
+-- the HMAT with the SRAT
+abbrev pub hmat_with_srat_examples : List Example
+hmat_with_srat_examples =
+    breaks rule.HmatProximity (hmat 1 (attributes 1 7 9 ∷ [])) (memory_in 9) 40 12 7
+    ∷ breaks rule.HmatProximity (hmat 2 (attributes 1 7 9 ∷ [])) (memory_in 8) 40 12 7
+    ∷ map (keeps rule.HmatProximity (hmat 1 (attributes 1 7 9 ∷ []))) srats_of_seven
+    ++ breaks rule.HmatProximity (patched 53 (1 ∷ []) (hmat 1 (attributes 1 7 9 ∷ []))) (memory_in 7) 40 12 263
+    ∷ keeps rule.HmatProximity (patched 53 (1 ∷ []) (hmat 1 (attributes 1 7 9 ∷ [])))
+    (srat 2 (patched 2 (7 ∷ []) (apic_affinity 1 4 0) ∷ []))
+    ∷ keeps rule.HmatProximity (hmat 1 (attributes 0 7 9 ∷ [])) (memory_in 8)
+    ∷ breaks rule.HmatProximity (hmat 2 (attributes 0 7 9 ∷ [])) (memory_in 8) 40 16 9
+    ∷ breaks rule.HmatProximity (hmat 1 (attributes 2 7 9 ∷ [])) (srat 2 (initiator 9 1 ∷ gicc_affinity 9 3 ∷ [])) 40 16 9
+    ∷ map (keeps rule.HmatProximity (hmat 2 (attributes 2 7 9 ∷ []))) (memory_in 9 ∷ srat 2 (port 9 0 ∷ []) ∷ [])
+    ++ map (keeps rule.HmatProximity (hmat 2 (attributes 3 7 9 ∷ []))) unread_srats
+    ++ keeps rule.HmatProximity (hmat 2 (structure 0 39 ((8, 3) ∷ []) ∷ structure 0 41 ((8, 3) ∷ []) ∷ [])) (memory_in 8)
+    ∷ breaks rule.HmatDomainNowhere (latency 1 1) (memory_in 8) 72 0 7
+    ∷ breaks rule.HmatDomainNowhere (latency 1 1) (memory_in 7) 76 0 8
+    ∷ keeps rule.HmatDomainNowhere (latency 1 1) (srat 2 (initiator 7 0 ∷ port 8 0 ∷ []))
+    ∷ map (keeps rule.HmatDomainNowhere (hmat 1 (locality (7 ∷ []) (7 ∷ []) (1 ∷ 0 ∷ []) ∷ []))) srats_of_seven
+    ++ map (keeps rule.HmatDomainNowhere (latency 1 1)) unread_srats
+    ++ keeps rule.HmatDomainNowhere (hmat 1 (locality (7 ∷ []) (8 ∷ []) (1 ∷ []) ∷ [])) (memory_in 9)
+    ∷ breaks rule.HmatCacheNowhere (side_cache 0 0) (srat 2 (memory 8 0 0 0 ∷ initiator 7 1 ∷ port 7 1 ∷ [])) 40 8 7
+    ∷ map (keeps rule.HmatCacheNowhere (side_cache 0 0)) (memory_in 7 ∷ unread_srats)
+    ++ keeps rule.HmatCacheNowhere (side_cache 0 1) (memory_in 8)
+    ∷ []
+
+-- the GTDT (ACPI 6.5, 5.2.25)
+abbrev pub gtdt_examples : List Example
+gtdt_examples =
+    map (λ (g : ℕ × ℕ). breaks rule.GtdtLength (sized g.0 (g.1 - 1)) [] 4 g.1 (g.1 - 1)) gtdt_sizes
+    ++ map (λ (g : ℕ × ℕ). keeps rule.GtdtLength (sized g.0 g.1) []) gtdt_sizes
+    ++ map (λ (g : ℕ × ℕ). breaks rule.NoTimer (sized g.0 g.1) [] 56 0 0) gtdt_sizes
+    ++ map (λ (g : ℕ × ℕ). keeps rule.NoTimer (sized g.0 (g.1 - 1)) []) gtdt_sizes
+    ++ breaks rule.NoTimer (gtdt 1 80 ((48, 16) ∷ (60, 1) ∷ (68, 1) ∷ (72, 16) ∷ [])) [] 56 0 0
+    ∷ map (λ at. keeps rule.NoTimer (gtdt 1 80 ((at, 1) ∷ [])) []) (56 ∷ 59 ∷ 64 ∷ 67 ∷ [])
+    ++ edge rule.SameTimer (gtdt 1 80 ((56, 16) ∷ (64, 16) ∷ [])) (64, 56, 16) (gtdt 2 95 ((56, 16) ∷ (64, 16) ∷ []))
+    ++ edge rule.SameTimer (gtdt 1 80 ((56, 16) ∷ (64, 17) ∷ (72, 17) ∷ [])) (72, 64, 17) (gtdt 1 80 ((48, 16) ∷ (56, 16) ∷ []))
+    ++ edge rule.SameTimer (gtdt 3 104 ((56, 16) ∷ (96, 16) ∷ [])) (96, 56, 16) (gtdt 2 104 ((56, 16) ∷ (96, 16) ∷ []))
+    ++ keeps rule.SameTimer (gtdt 3 104 ((56, 16) ∷ (80, 16) ∷ (88, 16) ∷ [])) []
+    ∷ edge rule.PlatformTimerCut (gtdt 2 96 ((88, 1) ∷ (92, 95) ∷ [])) (92, 0, 95) (gtdt 2 96 ((92, 95) ∷ []))
+    ++ edge rule.PlatformTimerCut (gtdt 3 104 ((88, 1) ∷ (92, 103) ∷ [])) (92, 0, 103) (gtdt 3 104 ((92, 103) ∷ []))
+    ++ map (λ (g : ℕ × ℕ). keeps rule.PlatformTimerCut (gtdt g.0 g.1 ((88, 1) ∷ [])) []) ((1, 104) ∷ (2, 95) ∷ (3, 103) ∷ [])
+    ++ edge rule.PlatformTimerCut (gtdt 2 96 ((88, 1) ∷ (92, 96) ∷ [])) (96, 0, 96) (gtdt 1 96 ((88, 1) ∷ (92, 96) ∷ []))
+    ++ edge rule.PlatformTimerCut (gtdt 3 104 ((88, 1) ∷ (92, 200) ∷ [])) (200, 0, 104) (gtdt 3 103 ((88, 1) ∷ (92, 200) ∷ []))
+    ++ edge rule.PlatformTimerCut (timed ((1 ∷ 3 ∷ 0 ∷ 0 ∷ []) ∷ [])) (104, 3, 108) (timed ((1 ∷ 4 ∷ 0 ∷ 0 ∷ []) ∷ []))
+    ++ edge rule.PlatformTimerCut (timed (timer 1 28 [] ∷ [] ∷ [])) (132, 0, 132) (timed ((timer 1 28 [] ++ 1 ∷ []) ∷ []))
+    ++ breaks rule.PlatformTimerCut (timed ((1 ∷ 5 ∷ 0 ∷ 0 ∷ []) ∷ [])) [] 104 5 108
+    ∷ breaks rule.PlatformTimerCut (timed ((1 ∷ 4 ∷ []) ∷ [])) [] 104 0 106
+    ∷ keeps rule.PlatformTimerCut (gtdt 3 104 ((92, 200) ∷ [])) []
+    ∷ breaks rule.PlatformTimerCut (timed (timer 255 4 [] ∷ [])) [] 104 0 255
+    ∷ edge rule.PlatformTimerCut (timed (timer 2 4 [] ∷ [])) (104, 0, 2) (timed (timer 1 4 [] ∷ timer 0 4 [] ∷ []))
+    ++ map (λ (b : List ℕ × ℕ × ℕ). breaks rule.TimerBlock (timed (b.0 ∷ [])) [] 104 b.1 b.2)
+    ((timer 0 19 [], 20, 19) ∷ (timer 0 20 ((16, 20) ∷ []), 12, 0) ∷ (block (replicate 9 (replicate 40 0)), 12, 9)
+    ∷ (timer 0 59 ((12, 1) ∷ (16, 19) ∷ []), 16, 19) ∷ (timer 0 60 ((12, 1) ∷ (16, 21) ∷ []), 61, 60)
+    ∷ (timer 0 62 ((12, 1) ∷ (16, 21) ∷ []), 61, 62) ∷ [])
+    ++ map (λ b. keeps rule.TimerBlock (timed (b ∷ [])) [])
+    (block (replicate 8 (replicate 40 0)) ∷ timer 0 61 ((12, 1) ∷ (16, 21) ∷ []) ∷ timer 1 19 [] ∷ [])
+    ++ map (λ (f : List ℕ × ℕ × ℕ). breaks rule.TimerFrame (timed (block (f.0 ∷ []) ∷ [])) [] 124 f.1 f.2)
+    ((frame 8 1 32 0, 0, 8) ∷ (frame 7 0 32 0, 4, 0) ∷ (frame 7 1 0 32, 20, 0) ∷ (patched 36 (2 ∷ []) (frame 7 0 0 0), 4, 0) ∷ [])
+    ++ map (λ f. keeps rule.TimerFrame (timed (block (f ∷ []) ∷ [])) [])
+    (frame 7 1 32 0 ∷ patched 36 (1 ∷ []) (frame 7 0 0 0) ∷ [])
+    ++ edge rule.TimerFrame (timed (watchdog 1 1 0 ∷ block (frame 0 1 32 0 ∷ frame 8 1 32 0 ∷ []) ∷ [])) (192, 0, 8)
+    (timed (loose_block (frame 8 1 32 0 ∷ frame 7 0 32 0 ∷ frame 7 1 0 0 ∷ []) ∷ []))
+    ++ keeps rule.TimerFrame (timed (block (frame 8 1 32 0 ∷ frame 7 0 32 0 ∷ replicate 7 (frame 7 1 0 0)) ∷ [])) []
+    ∷ edge rule.SameFrame (timed (block (frame 3 1 32 0 ∷ frame 4 1 32 0 ∷ frame 3 1 32 0 ∷ []) ∷ [])) (204, 124, 3)
+    (timed (block (frame 3 1 32 0 ∷ []) ∷ block (frame 3 1 32 0 ∷ []) ∷ []))
+    ++ keeps rule.SameFrame (timed (loose_block (replicate 2 (frame 3 1 32 0)) ∷ [])) []
+    ∷ keeps rule.SameFrame (timed (block (replicate 9 (frame 3 1 32 0)) ∷ [])) []
+    ∷ map (λ (w : List ℕ × ℕ × ℕ). breaks rule.Watchdog (timed (w.0 ∷ [])) [] 104 w.1 w.2)
+    ((timer 1 27 ((4, 1) ∷ (12, 1) ∷ []), 28, 27) ∷ (timer 1 29 ((4, 1) ∷ (12, 1) ∷ []), 28, 29)
+    ∷ (watchdog 0 1 32, 4, 0) ∷ (watchdog 1 0 32, 12, 0) ∷ [])
+    ++ keeps rule.Watchdog (timed (watchdog 1 1 0 ∷ timer 0 27 [] ∷ [])) []
+    ∷ edge rule.Watchdog (gtdt 2 104 ((88, 1) ∷ (92, 100) ∷ (100, 1) ∷ (101, 4) ∷ [])) (100, 28, 4)
+    (gtdt 3 104 ((88, 1) ∷ (92, 100) ∷ (100, 1) ∷ (101, 4) ∷ []))
+
+-- the GTDT with the MADT
+abbrev pub gtdt_with_madt_examples : List Example
+gtdt_with_madt_examples =
+    map (λ n. breaks rule.TimerNoPpi (patched 48 (number_bytes 4 n) (sized 1 80)) with_gic 48 0 n) no_ppis
+    ++ map (λ n. breaks rule.TimerNoPpi (patched 96 (number_bytes 4 n) (sized 3 104)) with_gic 96 0 n) no_ppis
+    ++ map (λ at. breaks rule.TimerNoPpi (gtdt 1 80 ((at, 15) ∷ [])) (madt (entry 12 2 ∷ [])) at 0 15) (56 ∷ 64 ∷ 72 ∷ [])
+    ++ map (λ n. keeps rule.TimerNoPpi (patched 48 (number_bytes 4 n) (patched 96 (number_bytes 4 n) (sized 3 104))) with_gic)
+    (0 ∷ 16 ∷ 31 ∷ 1056 ∷ 1119 ∷ [])
+    ++ map (λ n. keeps rule.TimerNoPpi (patched 80 (number_bytes 4 n) (patched 96 (number_bytes 4 n) (sized 2 104))) with_gic) no_ppis
+    ++ keeps rule.TimerNoPpi (gtdt 1 79 ((48, 15) ∷ [])) with_gic
+    ∷ map (keeps rule.TimerNoPpi (gtdt 1 80 ((48, 15) ∷ []))) without_gic
+    ++ map (λ n. breaks rule.TimerNoSpi (timed (block (frame 7 1 n 0 ∷ []) ∷ [])) with_gic 124 20 n) no_spis
+    ++ map (λ n. breaks rule.TimerNoSpi (timed (block (frame 7 1 0 n ∷ []) ∷ [])) with_gic 124 28 n) no_spis
+    ++ map (λ n. breaks rule.TimerNoSpi (timed (watchdog 1 1 n ∷ [])) with_gic 104 20 n) no_spis
+    ++ map (λ n. keeps rule.TimerNoSpi (timed (block (frame 7 1 n n ∷ []) ∷ watchdog 1 1 n ∷ [])) with_gic)
+    (0 ∷ 32 ∷ 1019 ∷ 4096 ∷ 5119 ∷ [])
+    ++ map (λ n. keeps rule.TimerNoSpi (timed (loose_block (frame 7 1 n 0 ∷ frame 7 1 0 n ∷ []) ∷ [])) with_gic) no_spis
+    ++ map (λ n. keeps rule.TimerNoSpi (timed (watchdog 0 1 n ∷ watchdog 1 0 n ∷ [])) with_gic) no_spis
+    ++ keeps rule.TimerNoSpi (timed (block (map (λ n. frame 7 1 n 0) no_spis ++ map (λ n. frame 7 1 0 n) no_spis) ∷ [])) with_gic
+    ∷ map (keeps rule.TimerNoSpi (timed (block (frame 7 1 1 1 ∷ []) ∷ watchdog 1 1 1 ∷ []))) without_gic
 
 -- each of these finds what it says
 pub record AreRowsFound : Type 0 where
@@ -663,3 +885,7 @@ pub record AreRowsFound : Type 0 where
   pub hpet : AreFound hpet_group.rows hpet_examples
   pub spcr : AreFound spcr_group.rows spcr_examples
   pub spcr_with_madt : AreFound spcr_with_madt_group.rows spcr_with_madt_examples
+  pub hmat : AreFound hmat_group.rows hmat_examples
+  pub hmat_with_srat : AreFound hmat_with_srat_group.rows hmat_with_srat_examples
+  pub gtdt : AreFound gtdt_group.rows gtdt_examples
+  pub gtdt_with_madt : AreFound gtdt_with_madt_group.rows gtdt_with_madt_examples

@@ -11,17 +11,23 @@ use Rattle.acpi_lint.specs.declared.further_table.FurtherTable.TheVariants as fu
 table_signed : List ℕ → FurtherTable
 table_signed signature =
     cond (starts_with nat_eq signature (codes "MCFG")) further.Mcfg
-    (cond (starts_with nat_eq signature (codes "HPET")) further.Hpet further.Spcr)
+    (cond (starts_with nat_eq signature (codes "HPET")) further.Hpet
+    (cond (starts_with nat_eq signature (codes "HMAT")) further.Hmat
+    (cond (starts_with nat_eq signature (codes "GTDT")) further.Gtdt further.Spcr)))
 
 signed_table : (table : FurtherTable) → table_signed (further_signature table) ≡ table
 unfolding table_signed
 signed_table further.Mcfg = refl
 signed_table further.Hpet = refl
+signed_table further.Hmat = refl
+signed_table further.Gtdt = refl
 signed_table further.Spcr = refl
 
 four_bytes : (table : FurtherTable) → length (further_signature table) ≡ 4
 four_bytes further.Mcfg = refl
 four_bytes further.Hpet = refl
+four_bytes further.Hmat = refl
+four_bytes further.Gtdt = refl
 four_bytes further.Spcr = refl
 
 first_four : (bytes : List ℕ) (table : FurtherTable) → has_signature bytes (further_signature table) ≡ true

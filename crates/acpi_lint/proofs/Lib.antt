@@ -17,6 +17,7 @@ mod HeaderTexts
 mod HeldStages
 mod LeastPlaces
 mod ListedSlots
+mod MissingTables
 mod NamedPlaces
 mod NearestCaches
 mod OddFields

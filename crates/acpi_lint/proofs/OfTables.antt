@@ -80,8 +80,11 @@ pub are_first_slots : {m : Memory} {p : ℕ} (firsts : FirstSlots)
     → FindsSlot m p (IsSought m (sought.Kind kind.Pptt)) firsts.pptt
     → FindsSlot m p (IsSought m (sought.Further further.Mcfg)) firsts.mcfg
     → FindsSlot m p (IsSought m (sought.Further further.Hpet)) firsts.hpet
+    → FindsSlot m p (IsSought m (sought.Further further.Hmat)) firsts.hmat
+    → FindsSlot m p (IsSought m (sought.Further further.Gtdt)) firsts.gtdt
     → FindsSlot m p (IsSought m (sought.Further further.Spcr)) firsts.spcr → AreFirstSlots m p firsts
-are_first_slots {m} {p} firsts fadt madt srat slit pptt mcfg hpet spcr = record { kinds = kinds; further = all }
+are_first_slots {m} {p} firsts fadt madt srat slit pptt mcfg hpet hmat gtdt spcr =
+    record { kinds = kinds; further = all }
   where
     kinds : (k : TableKind) → FindsSlot m p (IsSought m (sought.Kind k)) (first_of firsts k)
     kinds kind.Fadt = fadt
@@ -93,6 +96,8 @@ are_first_slots {m} {p} firsts fadt madt srat slit pptt mcfg hpet spcr = record 
     all : (t : FurtherTable) → FindsSlot m p (IsSought m (sought.Further t)) (first_of_further firsts t)
     all further.Mcfg = mcfg
     all further.Hpet = hpet
+    all further.Hmat = hmat
+    all further.Gtdt = gtdt
     all further.Spcr = spcr
 
 -- the root table and each table are those of the set
@@ -102,8 +107,10 @@ pub are_whole : {m : Memory} {p : ℕ} (tables : CompleteTables)
     → IsFound m p srat_signature tables.srat → IsFound m p slit_signature tables.slit
     → IsFound m p pptt_signature tables.pptt → IsFound m p (further_signature further.Mcfg) tables.mcfg
     → IsFound m p (further_signature further.Hpet) tables.hpet
+    → IsFound m p (further_signature further.Hmat) tables.hmat
+    → IsFound m p (further_signature further.Gtdt) tables.gtdt
     → IsFound m p (further_signature further.Spcr) tables.spcr → AreCompleteTables m p tables
-are_whole {m} {p} tables root slots firsts fadt madt srat slit pptt mcfg hpet spcr =
+are_whole {m} {p} tables root slots firsts fadt madt srat slit pptt mcfg hpet hmat gtdt spcr =
     record { root = root; slots = slots; firsts = firsts; listed = listed; further = all }
   where
     listed : (k : TableKind) → IsFound m p (signature_of k) (table_of tables k)
@@ -116,6 +123,8 @@ are_whole {m} {p} tables root slots firsts fadt madt srat slit pptt mcfg hpet sp
     all : (t : FurtherTable) → IsFound m p (further_signature t) (further_of tables t)
     all further.Mcfg = mcfg
     all further.Hpet = hpet
+    all further.Hmat = hmat
+    all further.Gtdt = gtdt
     all further.Spcr = spcr
 
 -- any table is that of the set

@@ -46,7 +46,7 @@ abbrev pub fadt_madt_rules : List Rule
 fadt_madt_rules = rule.SciNowhere ∷ []
 
 abbrev pub madt_rules : List Rule
-madt_rules = rule.GicrTooSmall ∷ []
+madt_rules = rule.NoGtdt ∷ rule.GicrTooSmall ∷ []
 
 abbrev pub slit_rules : List Rule
 slit_rules = rule.RemoteAsLocal ∷ rule.SlitDiffers ∷ []
@@ -57,6 +57,12 @@ pptt_rules = rule.SameCacheType ∷ rule.NoPackage ∷ []
 abbrev pub mcfg_rules : List Rule
 mcfg_rules = rule.EcamOverlap ∷ []
 
+abbrev pub hmat_rules : List Rule
+hmat_rules = rule.HmatAlone ∷ []
+
+abbrev pub gtdt_rules : List Rule
+gtdt_rules = rule.TimerOverlap ∷ []
+
 abbrev pub spcr_rules : List Rule
 spcr_rules = rule.SpcrGsi ∷ rule.SpcrName ∷ []
 
@@ -64,4 +70,4 @@ spcr_rules = rule.SpcrGsi ∷ rule.SpcrName ∷ []
 abbrev pub rules_by_hand : List Rule
 rules_by_hand =
     pptt_rules ++ (slit_rules ++ (madt_rules ++ (fadt_madt_rules ++ (fadt_rules ++ (memory_rules ++ (slot_rules
-    ++ (spcr_rules ++ mcfg_rules)))))))
+    ++ (spcr_rules ++ (gtdt_rules ++ (hmat_rules ++ mcfg_rules)))))))))

@@ -32,6 +32,8 @@ table_of tables kind.Pptt = tables.pptt
 abbrev pub further_of : CompleteTables → FurtherTable → Option (List ℕ)
 further_of tables further.Mcfg = tables.mcfg
 further_of tables further.Hpet = tables.hpet
+further_of tables further.Hmat = tables.hmat
+further_of tables further.Gtdt = tables.gtdt
 further_of tables further.Spcr = tables.spcr
 
 abbrev pub row_table_of : CompleteTables → RowTable → Option (List ℕ)

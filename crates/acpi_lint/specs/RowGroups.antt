@@ -11,6 +11,8 @@ use Rattle.acpi_lint.specs.declared.further_table.FurtherTable.TheVariants as fu
 use Rattle.acpi_lint.specs.declared.further_table.RowTable.{RowTable}
 use Rattle.acpi_lint.specs.declared.further_table.RowTable.TheVariants.{Further, Kind}
 use Rattle.acpi_lint.specs.declared.rows.fadt.TheConstants.{FADT, FADT_FURTHER, FADT_WITH_MADT}
+use Rattle.acpi_lint.specs.declared.rows.gtdt.TheConstants.{GTDT, GTDT_WITH_MADT}
+use Rattle.acpi_lint.specs.declared.rows.hmat.TheConstants.{HMAT, HMAT_WITH_SRAT}
 use Rattle.acpi_lint.specs.declared.rows.hpet.TheConstants.{HPET}
 use Rattle.acpi_lint.specs.declared.rows.madt.TheConstants.{GIC, MADT, MADT_FURTHER, MADT_WITH_FADT, MADT_WITH_PPTT, MADT_WITH_SRAT}
 use Rattle.acpi_lint.specs.declared.rows.mcfg.TheConstants.{MCFG}
@@ -83,13 +85,25 @@ spcr_group = record { table = Further further.Spcr; other = None; rows = rows_sa
 unfoldable pub spcr_with_madt_group : RowGroup
 spcr_with_madt_group = record { table = Further further.Spcr; other = Some (Kind kind.Madt); rows = rows_said SPCR_WITH_MADT }
 
+unfoldable pub hmat_group : RowGroup
+hmat_group = record { table = Further further.Hmat; other = None; rows = rows_said HMAT }
+
+unfoldable pub hmat_with_srat_group : RowGroup
+hmat_with_srat_group = record { table = Further further.Hmat; other = Some (Kind kind.Srat); rows = rows_said HMAT_WITH_SRAT }
+
+unfoldable pub gtdt_group : RowGroup
+gtdt_group = record { table = Further further.Gtdt; other = None; rows = rows_said GTDT }
+
+unfoldable pub gtdt_with_madt_group : RowGroup
+gtdt_with_madt_group = record { table = Further further.Gtdt; other = Some (Kind kind.Madt); rows = rows_said GTDT_WITH_MADT }
+
 -- all of them
 abbrev pub row_groups : List RowGroup
 row_groups =
     fadt_group ∷ fadt_further_group ∷ fadt_with_madt_group ∷ madt_group ∷ madt_further_group ∷ gic_group
     ∷ madt_with_fadt_group ∷ madt_with_srat_group ∷ madt_with_pptt_group ∷ srat_group
     ∷ srat_with_madt_group ∷ srat_with_slit_group ∷ pptt_group ∷ pptt_with_madt_group ∷ mcfg_group ∷ hpet_group
-    ∷ spcr_group ∷ spcr_with_madt_group ∷ []
+    ∷ spcr_group ∷ spcr_with_madt_group ∷ hmat_group ∷ hmat_with_srat_group ∷ gtdt_group ∷ gtdt_with_madt_group ∷ []
 
 -- ---- the tables: the first listed one with a signature, if it is complete, whatever its checksum, and long enough for its fields
 

@@ -11,6 +11,7 @@ pub mod GicAdvice
 pub mod HeaderAdvice
 pub mod Hierarchy
 pub mod McfgAdvice
+pub mod MissingTables
 pub mod NamedAdvice
 pub mod Numbered
 pub mod Ports
@@ -21,4 +22,5 @@ pub mod SlitAdvice
 pub mod Slots
 pub mod SpcrAdvice
 pub mod Structures
+pub mod TimerAdvice
 pub mod WellFormed

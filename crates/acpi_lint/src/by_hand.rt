@@ -5,7 +5,7 @@ ghost use Rattle.std.specs.Prelude.{◌≡◌, ◌∷◌, [], IfOk, IsSome, OnEr
 ghost use Rattle.acpi_base.specs.Memory.{Memory};
 ghost use Rattle.acpi_base.specs.Policy.{PolicyValue};
 ghost use Rattle.acpi_rules.specs.Places.{FindsLeast};
-ghost use Rattle.acpi_lint.specs.ByHand.{Adds, AreFoundByHand, fadt_madt_rules, fadt_rules, madt_rules, mcfg_rules, memory_rules, pptt_rules, rules_by_hand, slit_rules, slot_rules, spcr_rules};
+ghost use Rattle.acpi_lint.specs.ByHand.{Adds, AreFoundByHand, fadt_madt_rules, fadt_rules, gtdt_rules, hmat_rules, madt_rules, mcfg_rules, memory_rules, pptt_rules, rules_by_hand, slit_rules, slot_rules, spcr_rules};
 ghost use Rattle.acpi_lint.specs.CompleteTables.{AreCompleteTables};
 ghost use Rattle.acpi_lint.specs.Rules.Broken.{IsBrokenByHand};
 
@@ -17,6 +17,7 @@ use crate::fadt_memory::{dsdt_text, dsdt_wrong, facs_reserved, s4bios_differs};
 use crate::further_table::FurtherTable;
 use crate::header_advice::{header_text, second_other};
 use crate::madt_advice::gicr_too_small;
+use crate::missing_tables::{hmat_alone, no_gtdt};
 use crate::packages::no_package;
 use crate::root_advice::{null_slot, root_header, rsdt_differs};
 use crate::row_findings::Found;
@@ -27,6 +28,7 @@ use crate::slit::{remote_as_local, slit_differs};
 use crate::slot_advice::{listed_apart, listed_twice, second_table};
 use crate::spcr::{gsi_unserved, name_open};
 use crate::structures::tables_overlap;
+use crate::timers::timer_overlap;
 use acpi_base::{LentImage, Policy, TableKind};
 use acpi_rules::Place;
 use std::alloc::{AllocError, Global};
@@ -140,7 +142,8 @@ fn add_of_madt(
     let Some(madt) = tables.madt() else {
         return Ok(());
     };
-    add(found, Rule::GicrTooSmall, gicr_too_small(alloc, &madt)?)
+    add(found, Rule::GicrTooSmall, gicr_too_small(alloc, &madt)?)?;
+    add(found, Rule::NoGtdt, no_gtdt(alloc, &tables.firsts, &madt)?)
 }
 
 /// Adds what the rules on the SLIT find.
@@ -179,13 +182,42 @@ fn add_of_mcfg(
     tables: &CompleteTables<'_>,
     found: &mut Vec<Found>,
 ) -> Result<(), AllocError>
-    ensures { IfOk result (λ _. (m : Memory) (q : PolicyValue)
+    ensures adds { IfOk result (λ _. (m : Memory) (q : PolicyValue)
         → AreCompleteTables m q.rsdp tables.now → Adds m q mcfg_rules found.old.items found.new.items) }
+    ensures refuses { OnErr result (IsSome tables.now.mcfg) }
 {
     let Some(mcfg) = tables.further(FurtherTable::Mcfg) else {
         return Ok(());
     };
     add(found, Rule::EcamOverlap, ecam_overlap(alloc, &mcfg)?)
+}
+
+/// Adds what the rule on the HMAT and the listed tables finds.
+fn add_of_hmat(tables: &CompleteTables<'_>, found: &mut Vec<Found>) -> Result<(), AllocError>
+    ensures adds { IfOk result (λ _. (m : Memory) (q : PolicyValue)
+        → AreCompleteTables m q.rsdp tables.now → Adds m q hmat_rules found.old.items found.new.items) }
+    ensures refuses { OnErr result (IsSome tables.now.hmat) }
+{
+    let Some(_) = tables.further(FurtherTable::Hmat) else {
+        return Ok(());
+    };
+    add(found, Rule::HmatAlone, hmat_alone(&tables.firsts))
+}
+
+/// Adds what the rule on the GTDT finds.
+fn add_of_gtdt(
+    alloc: Global,
+    tables: &CompleteTables<'_>,
+    found: &mut Vec<Found>,
+) -> Result<(), AllocError>
+    ensures adds { IfOk result (λ _. (m : Memory) (q : PolicyValue)
+        → AreCompleteTables m q.rsdp tables.now → Adds m q gtdt_rules found.old.items found.new.items) }
+    ensures refuses { OnErr result (IsSome tables.now.gtdt) }
+{
+    let Some(gtdt) = tables.further(FurtherTable::Gtdt) else {
+        return Ok(());
+    };
+    add(found, Rule::TimerOverlap, timer_overlap(alloc, &gtdt)?)
 }
 
 /// Adds what is found of the SPCR, and of it with the MADT.
@@ -194,8 +226,9 @@ fn add_of_spcr(
     tables: &CompleteTables<'_>,
     found: &mut Vec<Found>,
 ) -> Result<(), AllocError>
-    ensures { IfOk result (λ _. (m : Memory) → AreCompleteTables m policy.now.rsdp tables.now
+    ensures adds { IfOk result (λ _. (m : Memory) → AreCompleteTables m policy.now.rsdp tables.now
         → Adds m policy.now spcr_rules found.old.items found.new.items) }
+    ensures refuses { OnErr result (IsSome tables.now.spcr) }
 {
     let Some(spcr) = tables.further(FurtherTable::Spcr) else {
         return Ok(());
@@ -209,7 +242,8 @@ fn add_of_spcr(
 
 /// The first finding of each rule that is not a row. The tables are those of the set. Allocates for each finding, each
 /// slot of the root table, each structure in memory, each register block of the FADT, each range of redistributors, each
-/// usable CPU interface of a GIC, each node, private resource and cache of the PPTT, and each entry of the MCFG.
+/// usable CPU interface of a GIC, each node, private resource and cache of the PPTT, each entry of the MCFG, and each address
+/// of registers of the GTDT.
 pub fn found_by_hand(
     alloc: Global,
     image: &LentImage<'_>,
@@ -221,6 +255,8 @@ pub fn found_by_hand(
 {
     let mut found = Vec::new(alloc);
     add_of_mcfg(alloc, tables, &mut found)?;
+    add_of_hmat(tables, &mut found)?;
+    add_of_gtdt(alloc, tables, &mut found)?;
     add_of_spcr(policy, tables, &mut found)?;
     add_of_slots(alloc, tables, &mut found)?;
     add_of_memory(alloc, image, policy.rsdp(), tables, &mut found)?;

@@ -41,6 +41,10 @@ pub struct CompleteTables<'a> {
     pub mcfg: Option<Table<'a>>,
     /// The HPET.
     pub hpet: Option<Table<'a>>,
+    /// The HMAT.
+    pub hmat: Option<Table<'a>>,
+    /// The GTDT.
+    pub gtdt: Option<Table<'a>>,
     /// The SPCR.
     pub spcr: Option<Table<'a>>,
 }
@@ -103,6 +107,8 @@ impl<'a> CompleteTables<'a> {
             pptt: found(image, &firsts, TableKind::Pptt),
             mcfg: found_further(image, &firsts, FurtherTable::Mcfg),
             hpet: found_further(image, &firsts, FurtherTable::Hpet),
+            hmat: found_further(image, &firsts, FurtherTable::Hmat),
+            gtdt: found_further(image, &firsts, FurtherTable::Gtdt),
             spcr: found_further(image, &firsts, FurtherTable::Spcr),
             root,
             slots,
@@ -131,6 +137,8 @@ impl<'a> CompleteTables<'a> {
         let table = match table {
             FurtherTable::Mcfg => &self.mcfg,
             FurtherTable::Hpet => &self.hpet,
+            FurtherTable::Hmat => &self.hmat,
+            FurtherTable::Gtdt => &self.gtdt,
             FurtherTable::Spcr => &self.spcr,
         };
         let table = table.as_ref()?.copied();

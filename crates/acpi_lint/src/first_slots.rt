@@ -27,6 +27,10 @@ pub struct FirstSlots {
     pub mcfg: Option<Slot>,
     /// Of an HPET.
     pub hpet: Option<Slot>,
+    /// Of an HMAT.
+    pub hmat: Option<Slot>,
+    /// Of a GTDT.
+    pub gtdt: Option<Slot>,
     /// Of an SPCR.
     pub spcr: Option<Slot>,
 }
@@ -45,6 +49,8 @@ impl FirstSlots {
             pptt: first_slot(slots, Sought::Kind(TableKind::Pptt)),
             mcfg: first_slot(slots, Sought::Further(FurtherTable::Mcfg)),
             hpet: first_slot(slots, Sought::Further(FurtherTable::Hpet)),
+            hmat: first_slot(slots, Sought::Further(FurtherTable::Hmat)),
+            gtdt: first_slot(slots, Sought::Further(FurtherTable::Gtdt)),
             spcr: first_slot(slots, Sought::Further(FurtherTable::Spcr)),
         }
     }
@@ -69,6 +75,8 @@ impl FirstSlots {
         match table {
             FurtherTable::Mcfg => self.mcfg,
             FurtherTable::Hpet => self.hpet,
+            FurtherTable::Hmat => self.hmat,
+            FurtherTable::Gtdt => self.gtdt,
             FurtherTable::Spcr => self.spcr,
         }
     }

@@ -13,6 +13,10 @@ pub enum FurtherTable {
     Mcfg,
     /// `HPET` (IA-PC HPET 1.0a, 3.2.4).
     Hpet,
+    /// `HMAT` (ACPI 6.5, 5.2.28).
+    Hmat,
+    /// `GTDT` (ACPI 6.5, 5.2.25).
+    Gtdt,
     /// `SPCR` (Microsoft's Serial Port Console Redirection Table 1.10).
     Spcr,
 }
@@ -36,6 +40,10 @@ impl FurtherTable {
             Some(FurtherTable::Mcfg)
         } else if is_signed(bytes, FurtherTable::Hpet.signature()) {
             Some(FurtherTable::Hpet)
+        } else if is_signed(bytes, FurtherTable::Hmat.signature()) {
+            Some(FurtherTable::Hmat)
+        } else if is_signed(bytes, FurtherTable::Gtdt.signature()) {
+            Some(FurtherTable::Gtdt)
         } else if is_signed(bytes, FurtherTable::Spcr.signature()) {
             Some(FurtherTable::Spcr)
         } else {
@@ -50,6 +58,8 @@ impl FurtherTable {
         match self {
             FurtherTable::Mcfg => b"MCFG",
             FurtherTable::Hpet => b"HPET",
+            FurtherTable::Hmat => b"HMAT",
+            FurtherTable::Gtdt => b"GTDT",
             FurtherTable::Spcr => b"SPCR",
         }
     }

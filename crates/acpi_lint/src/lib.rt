@@ -52,6 +52,7 @@ pub mod laws;
 mod limits;
 mod listed_slots;
 mod madt_advice;
+mod missing_tables;
 mod numbered;
 mod one_code;
 mod packages;
@@ -72,6 +73,7 @@ mod spcr;
 mod structures;
 mod table_at;
 mod text;
+mod timers;
 mod verdicts;
 mod well_formed;
 

@@ -1,7 +1,7 @@
 //! Rules as rows of data, table by table. What a row means is said by `acpi_rules`.
 
 ghost use Rattle.std.specs.Prelude.{◌≡◌, map};
-ghost use Rattle.acpi_lint.specs.RowGroups.{group_value, row_groups, fadt_further_group, fadt_group, fadt_with_madt_group, gic_group, hpet_group, madt_further_group, madt_group, madt_with_fadt_group, madt_with_pptt_group, madt_with_srat_group, mcfg_group, pptt_group, pptt_with_madt_group, spcr_group, spcr_with_madt_group, srat_group, srat_with_madt_group, srat_with_slit_group};
+ghost use Rattle.acpi_lint.specs.RowGroups.{group_value, row_groups, fadt_further_group, fadt_group, fadt_with_madt_group, gic_group, gtdt_group, gtdt_with_madt_group, hmat_group, hmat_with_srat_group, hpet_group, madt_further_group, madt_group, madt_with_fadt_group, madt_with_pptt_group, madt_with_srat_group, mcfg_group, pptt_group, pptt_with_madt_group, spcr_group, spcr_with_madt_group, srat_group, srat_with_madt_group, srat_with_slit_group};
 
 // ---- how rows are written
 
@@ -9,8 +9,7 @@ ghost use Rattle.acpi_lint.specs.RowGroups.{group_value, row_groups, fadt_furthe
 macro_rules! field {
     ($at:literal, $width:literal) => {
         Field {
-            at: $at,
-            width: $width,
+            place: 16 * $at + $width,
         }
     };
 }
@@ -74,21 +73,22 @@ macro_rules! within {
     };
 }
 
-/// What is added to a multiple of a field: a number, a field of the same structure, or bits of it.
-macro_rules! addend {
-    ($number:literal) => {
-        Addend::Number($number)
+/// A multiple of a field, and what is added to it: a number, a field of the same structure, or bits of it.
+macro_rules! sum {
+    ($within:ident, $number:literal, $times:literal, $field:ident) => {
+        Value::Sum(within!($within), $field, $times, $number)
     };
-    ($field:ident) => {
-        Addend::Of($field)
+    ($within:ident, $added:ident, $times:literal, $field:ident) => {
+        Value::SumOf(within!($within), $field, $times, $added)
     };
-    (($field:ident & $mask:literal)) => {
-        Addend::Bits($field, $mask)
+    ($within:ident, ($added:ident & $mask:literal), $times:literal, $field:ident) => {
+        Value::SumBits(within!($within), $times, $mask, $field, $added)
     };
 }
 
-/// A number, a field, bits of a field, the length of a structure or what of it is behind an offset, its offset, a multiple
-/// of a field with or without something added, or a product of two or three fields.
+/// A number of at most 32 bits, 2^64 - 1, a field, bits of a field, the length of a structure or what of it is behind an
+/// offset, its offset, a multiple of a field with or without something added, a product of two or three fields, the length of
+/// a structure with a matrix, or a field's number that is told apart by a structure.
 macro_rules! value {
     ((length $within:ident)) => {
         Value::Length(within!($within))
@@ -105,6 +105,9 @@ macro_rules! value {
     ((other $field:ident)) => {
         Value::Of(Within::Other, $field)
     };
+    ((around $field:ident)) => {
+        Value::Of(Within::Around, $field)
+    };
     (((table $field:ident) & $mask:literal)) => {
         Value::Bits(Within::Table, $field, $mask)
     };
@@ -115,19 +118,31 @@ macro_rules! value {
         Value::Bits(Within::Own, $field, $mask)
     };
     (($within:ident $one:tt + $times:literal * $field:ident)) => {
-        Value::Sum(within!($within), $field, $times, addend!($one))
+        sum!($within, $one, $times, $field)
     };
     (($one:tt + $times:literal * $field:ident)) => {
-        Value::Sum(Within::Own, $field, $times, addend!($one))
+        sum!(own, $one, $times, $field)
     };
     (($times:literal * $field:ident)) => {
-        Value::Sum(Within::Own, $field, $times, Addend::Number(0))
+        sum!(own, 0, $times, $field)
     };
     (($one:ident * $other:ident * $third:ident)) => {
-        Value::Product($one, $other, Some($third))
+        Value::Product3($one, $other, $third)
     };
     (($one:ident * $other:ident)) => {
-        Value::Product($one, $other, None)
+        Value::Product(Within::Own, $one, $other)
+    };
+    (($within:ident $one:ident * $other:ident)) => {
+        Value::Product(within!($within), $one, $other)
+    };
+    ((matrix $within:ident $base:literal $rows:ident $columns:ident)) => {
+        Value::Matrix(within!($within), $base, $rows, $columns)
+    };
+    ((keyed $within:ident $field:ident)) => {
+        Value::Keyed(within!($within), $field)
+    };
+    (largest) => {
+        Value::Largest
     };
     ($number:literal) => {
         Value::Number($number)
@@ -292,8 +307,18 @@ macro_rules! numbers {
 }
 
 /// A rule: `rule!(NUMBER NAME, FORM in PATH where GUARD, ..: CASES)`, with `except CASES` after it for places at which no
-/// number counts, and `among SOURCE PATH CASES` after that for numbers that are looked up.
+/// number counts, and `among SOURCE PATH CASES` after that for numbers that are looked up. One on where a walk is cut has no
+/// cases: `rule!(NUMBER NAME, cut in PATH where GUARD, ..)`.
 macro_rules! rule {
+    ($number:literal $name:ident, cut in $path:ident $(where $($guard:tt),+)?) => {
+        (
+            $number,
+            Form::Cut,
+            &[$($(guard!($guard)),+)?],
+            (&$path, &[], &[]),
+            None,
+        )
+    };
     (
         $number:literal $name:ident, $form:ident in $path:ident $(where $($guard:tt),+)?:
         $cases:tt $(except $except:tt)?
@@ -323,6 +348,10 @@ macro_rules! rule {
 
 mod fadt;
 mod fadt_fields;
+mod gtdt;
+mod gtdt_fields;
+mod hmat;
+mod hmat_fields;
 mod hpet;
 mod hpet_fields;
 mod madt;
@@ -342,8 +371,11 @@ use crate::further_table::{FurtherTable, RowTable};
 use acpi_base::TableKind;
 use acpi_rules::Row;
 use fadt::{FADT, FADT_FURTHER, FADT_WITH_MADT};
+pub use gtdt::TIMER_RANGES;
+use gtdt::{GTDT, GTDT_WITH_MADT};
+use hmat::{HMAT, HMAT_WITH_SRAT};
 use hpet::HPET;
-pub use madt::{GICR_LENGTHS, GICRS_ARE_KNOWN, USABLE_GICCS};
+pub use madt::{GICR_LENGTHS, GICRS_ARE_KNOWN, NEEDS_GTDT, USABLE_GICCS};
 use madt::{GIC, MADT, MADT_FURTHER, MADT_WITH_FADT, MADT_WITH_PPTT, MADT_WITH_SRAT};
 pub use madt_fields::{MADT_ENTRIES, MADT_SERIES};
 pub use mcfg::ECAMS;
@@ -519,8 +551,48 @@ fn spcr_with_madt_group() -> RowGroup<'static>
     )
 }
 
+/// Those on the HMAT.
+#[tactic(auto, unfolding(crate::specs::RowGroups::hmat_group))]
+fn hmat_group() -> RowGroup<'static>
+    ensures { group_value result ≡ hmat_group }
+{
+    (RowTable::Further(FurtherTable::Hmat), None, HMAT.as_slice())
+}
+
+/// Those on the HMAT with the SRAT.
+#[tactic(auto, unfolding(crate::specs::RowGroups::hmat_with_srat_group))]
+fn hmat_with_srat_group() -> RowGroup<'static>
+    ensures { group_value result ≡ hmat_with_srat_group }
+{
+    (
+        RowTable::Further(FurtherTable::Hmat),
+        Some(OF_SRAT),
+        HMAT_WITH_SRAT.as_slice(),
+    )
+}
+
+/// Those on the GTDT.
+#[tactic(auto, unfolding(crate::specs::RowGroups::gtdt_group))]
+fn gtdt_group() -> RowGroup<'static>
+    ensures { group_value result ≡ gtdt_group }
+{
+    (RowTable::Further(FurtherTable::Gtdt), None, GTDT.as_slice())
+}
+
+/// Those on the GTDT with the MADT.
+#[tactic(auto, unfolding(crate::specs::RowGroups::gtdt_with_madt_group))]
+fn gtdt_with_madt_group() -> RowGroup<'static>
+    ensures { group_value result ≡ gtdt_with_madt_group }
+{
+    (
+        RowTable::Further(FurtherTable::Gtdt),
+        Some(OF_MADT),
+        GTDT_WITH_MADT.as_slice(),
+    )
+}
+
 /// All rows. Each group is told by a function, since the proof of one that names all constants takes too many steps.
-pub fn row_groups() -> [RowGroup<'static>; 18]
+pub fn row_groups() -> [RowGroup<'static>; 22]
     ensures { map group_value result ≡ row_groups }
 {
     [
@@ -542,5 +614,9 @@ pub fn row_groups() -> [RowGroup<'static>; 18]
         hpet_group(),
         spcr_group(),
         spcr_with_madt_group(),
+        hmat_group(),
+        hmat_with_srat_group(),
+        gtdt_group(),
+        gtdt_with_madt_group(),
     ]
 }

@@ -187,7 +187,7 @@ pub enum Rule {
     /// The address range of an entry of the MCFG ends above the highest address (PCI Firmware Specification 3.3,
     /// 4.1.2).
     EcamWraps,
-    /// The MCFG has the Revision 0, and an entry's base address does not lie below 0xffffffff.
+    /// The MCFG has Revision 0, and an entry's base address is not below 0xffffffff.
     EcamTooHigh,
     /// Two entries of the MCFG have the same bus of the same PCI segment (PCI Firmware Specification 3.3, 4.1.2).
     SameBus,
@@ -199,6 +199,59 @@ pub enum Rule {
     HpetSpace,
     /// The HPET's base address is 0, has its halves swapped, or is no multiple of 1024 (IA-PC HPET 1.0a, 3.2.4, 2.3).
     HpetAddress,
+    /// The HMAT is shorter than 40 bytes, or its Revision is neither 1 nor 2 (5.2.28).
+    HmatHeader,
+    /// After the last structure of the HMAT there are bytes that are not a structure (5.2.28).
+    HmatCut,
+    /// A structure of the HMAT does not have the length of its type, or is too short for its lists (5.2.28.3 to
+    /// 5.2.28.5).
+    HmatLength,
+    /// A latency and bandwidth structure of the HMAT has a reserved data type (5.2.28.4).
+    HmatDataType,
+    /// A latency and bandwidth structure of the HMAT has a reserved memory hierarchy (5.2.28.4).
+    HmatHierarchy,
+    /// A latency and bandwidth structure of the HMAT has the base unit 0 (5.2.28.4).
+    HmatUnit,
+    /// A latency or bandwidth of the HMAT does not fit into 32 bits (5.2.28.4).
+    HmatTooLarge,
+    /// A latency and bandwidth structure of the HMAT lists an initiator or a target twice (5.2.28.4).
+    HmatSameDomain,
+    /// A structure of the HMAT has an initiator or memory in a domain that the SRAT does not have (5.2.28.3).
+    HmatProximity,
+    /// A latency and bandwidth structure of the HMAT has an initiator or a target in a domain that the SRAT does not
+    /// have (5.2.28.4).
+    HmatDomainNowhere,
+    /// A memory side cache of the HMAT is of a domain in which the SRAT has no memory (5.2.28.5).
+    HmatCacheNowhere,
+    /// A memory side cache of the HMAT has reserved attributes, or a level above its number of levels (5.2.28.5).
+    HmatCache,
+    /// There is an HMAT, and no SRAT is listed (5.2.28).
+    HmatAlone,
+    /// The GTDT is too short for its Revision (5.2.25).
+    GtdtLength,
+    /// The MADT has a GIC CPU interface, and no GTDT is listed (5.2.25).
+    NoGtdt,
+    /// The GTDT has neither the non-secure EL1 timer nor the virtual timer (5.2.25).
+    NoTimer,
+    /// The GTDT gives a timer of each processor an interrupt that is no PPI (5.2.25).
+    TimerNoPpi,
+    /// Two timers of the GTDT have the same interrupt (5.2.25).
+    SameTimer,
+    /// The GTDT has fewer platform timers than it says, or one of an unknown type (5.2.25).
+    PlatformTimerCut,
+    /// A GT Block of the GTDT does not have 1 to 8 frames that end with it (5.2.25.1).
+    TimerBlock,
+    /// A frame of a GT Block of the GTDT has a number above 7, or is non-secure and has no address or no interrupt
+    /// (5.2.25.1).
+    TimerFrame,
+    /// Two frames of a GT Block of the GTDT have the same number (5.2.25.1).
+    SameFrame,
+    /// A watchdog of the GTDT does not have 28 bytes, or one of its addresses is 0 (5.2.25.2).
+    Watchdog,
+    /// The GTDT gives a platform timer an interrupt that is no SPI (5.2.25.1, 5.2.25.2).
+    TimerNoSpi,
+    /// Two ranges of registers of the GTDT's platform timers share an address (5.2.25.1, 5.2.25.2).
+    TimerOverlap,
     /// The SPCR is too short for its Revision (Microsoft's SPCR 1.10).
     SpcrLength,
     /// The SPCR's base address is neither in memory nor in I/O ports, or is in memory with an access size above 3 (32
@@ -209,7 +262,7 @@ pub enum Rule {
     /// The SPCR names an interrupt that its interrupt controller does not have, or another controller than the MADT's
     /// GIC (Microsoft's SPCR 1.10).
     SpcrGsi,
-    /// Just one of the SPCR's PCI device ID and PCI vendor ID is 0xffff, or its PCI device or function number is too
+    /// Exactly one of the SPCR's PCI device ID and PCI vendor ID is 0xffff, or its PCI device or function number is too
     /// large (Microsoft's SPCR 1.10).
     SpcrPci,
     /// The SPCR's namespace string is too short, does not lie within the table, or does not end with 0 (Microsoft's
@@ -222,7 +275,7 @@ pub enum Rule {
     RootHeader,
     /// A text of the DSDT's header has a byte that is not printable (5.2.6).
     DsdtText,
-    /// The FADT is longer than one of its Revision, or has the Revision 0 (5.2.9).
+    /// The FADT is longer than one of its Revision, or has Revision 0 (5.2.9).
     FadtPastRevision,
     /// ARM_BOOT_ARCH is not 0 in a FADT older than 5.1, which does not have it (5.2.9).
     ArmBootEarly,
@@ -384,6 +437,31 @@ const ROWS: [(Rule, u16, &str); Rule::COUNT] = [
     (Rule::HpetLength, 192, "HpetLength"),
     (Rule::HpetSpace, 193, "HpetSpace"),
     (Rule::HpetAddress, 194, "HpetAddress"),
+    (Rule::HmatHeader, 195, "HmatHeader"),
+    (Rule::HmatCut, 196, "HmatCut"),
+    (Rule::HmatLength, 197, "HmatLength"),
+    (Rule::HmatDataType, 198, "HmatDataType"),
+    (Rule::HmatHierarchy, 199, "HmatHierarchy"),
+    (Rule::HmatUnit, 200, "HmatUnit"),
+    (Rule::HmatTooLarge, 201, "HmatTooLarge"),
+    (Rule::HmatSameDomain, 202, "HmatSameDomain"),
+    (Rule::HmatProximity, 203, "HmatProximity"),
+    (Rule::HmatDomainNowhere, 204, "HmatDomainNowhere"),
+    (Rule::HmatCacheNowhere, 205, "HmatCacheNowhere"),
+    (Rule::HmatCache, 206, "HmatCache"),
+    (Rule::HmatAlone, 207, "HmatAlone"),
+    (Rule::GtdtLength, 208, "GtdtLength"),
+    (Rule::NoGtdt, 209, "NoGtdt"),
+    (Rule::NoTimer, 210, "NoTimer"),
+    (Rule::TimerNoPpi, 211, "TimerNoPpi"),
+    (Rule::SameTimer, 212, "SameTimer"),
+    (Rule::PlatformTimerCut, 213, "PlatformTimerCut"),
+    (Rule::TimerBlock, 214, "TimerBlock"),
+    (Rule::TimerFrame, 215, "TimerFrame"),
+    (Rule::SameFrame, 216, "SameFrame"),
+    (Rule::Watchdog, 217, "Watchdog"),
+    (Rule::TimerNoSpi, 218, "TimerNoSpi"),
+    (Rule::TimerOverlap, 219, "TimerOverlap"),
     (Rule::SpcrLength, 271, "SpcrLength"),
     (Rule::SpcrAddress, 272, "SpcrAddress"),
     (Rule::SpcrBaud, 273, "SpcrBaud"),
@@ -435,7 +513,7 @@ fn rows() -> &'static [(Rule, u16, &'static str)]
 
 impl Rule {
     /// How many rules there are.
-    pub const COUNT: usize = 133;
+    pub const COUNT: usize = 158;
 
     /// The lowest number of a rule.
     pub const FIRST: u16 = 101;

@@ -6,6 +6,7 @@ mod ComputedOverlaps
 mod Elements
 pub mod Following
 pub mod FormFindings
+mod GivenByRows
 mod GivenNumbers
 pub mod KnownNumbers
 pub mod LeastPlaces

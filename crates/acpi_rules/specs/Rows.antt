@@ -1,5 +1,5 @@
 -- Rules as rows: what a row says of its tables.
-use Rattle.std.specs.Prelude.{◌≡◌, ℕ, Bool, true, false, not, ◌||◌, ◌==◌, List, length, map, nat_le, Option, Some, option_map, IsSomeAnd}
+use Rattle.std.specs.Prelude.{◌≡◌, ℕ, Bool, true, false, not, ◌||◌, ◌==◌, List, length, map, nat_le, Contains, Option, Some, option_map, IsSomeAnd}
 use Rattle.std.specs.List.{filter_map, list_all}
 use Rattle.std.specs.Option.{is_none, option_map_or}
 use denote.Ref.{Bor}
@@ -108,6 +108,10 @@ pub record IsBroken (row : Row) (t : TwoTables) (at other point : ℕ) : Type 0 
 -- the conditions hold, and the number counts, whatever is reported
 abbrev pub IsGivenByRow : Row → TwoTables → Numbered → Type 0
 IsGivenByRow row t g = (list_all (guard_holds t) row.guards ≡ true) × Counts t row.numbers g
+
+-- it counts in one of these
+abbrev pub IsGivenByAny : List Row → TwoTables → Numbered → Type 0
+IsGivenByAny rows t g = (row : Row) × Contains rows row × IsGivenByRow row t g
 
 -- whether a rule of this form keeps numbers: those that may occur again or overlap, or those among which numbers are looked up
 abbrev pub keeps_numbers : Form → Bool

@@ -7,8 +7,6 @@ use Rattle.acpi_rules.specs.declared.field.Field.{Field}
 use Rattle.acpi_rules.specs.declared.term.Tables.{Tables}
 use Rattle.acpi_rules.specs.declared.term.Within.{Within}
 use Rattle.acpi_rules.specs.declared.term.Within.TheVariants as within
-use Rattle.acpi_rules.specs.declared.term.Addend.{Addend}
-use Rattle.acpi_rules.specs.declared.term.Addend.TheVariants as addend
 use Rattle.acpi_rules.specs.declared.term.Value.{Value}
 use Rattle.acpi_rules.specs.declared.term.Value.TheVariants as value
 
@@ -37,33 +35,43 @@ of_both f _ _ = None
 abbrev pub within_64_bits : ℕ → ℕ
 within_64_bits n = min n (2 ^ 64 - 1)
 
--- what is added to a multiple, if its field is there
-abbrev pub addend_number : List ℕ → Addend → Option ℕ
-addend_number bytes (addend.Number n) = Some n
-addend_number bytes (addend.Of f) = reading f bytes
-addend_number bytes (addend.Bits f mask) = option_map (λ n. bit_and n mask) (reading f bytes)
+-- the bits of a field that are set in a mask
+abbrev pub bits_in : List ℕ → Field → ℕ → Option ℕ
+bits_in bytes f mask = option_map (λ n. bit_and n mask) (reading f bytes)
 
--- a multiple of a field, with what is added to it
-abbrev pub sum_of : List ℕ → Field → ℕ → Addend → Option ℕ
-sum_of bytes f times one =
-    of_both (λ m n. within_64_bits (n + times * m)) (reading f bytes) (addend_number bytes one)
+-- a multiple of a number, with what is added to it, and the product of two, of numbers that are there
+abbrev pub sum_of : Option ℕ → ℕ → Option ℕ → Option ℕ
+sum_of number times added = of_both (λ m n. within_64_bits (n + times * m)) number added
 
--- the product of two numbers that are there, and that of two or three fields
 abbrev pub product : Option ℕ → Option ℕ → Option ℕ
 product = of_both (λ m n. within_64_bits (m * n))
 
-abbrev pub product_in : List ℕ → Field → Field → Option Field → Option ℕ
-product_in bytes one other None = product (reading one bytes) (reading other bytes)
-product_in bytes one other (Some third) = product (product (reading one bytes) (reading other bytes)) (reading third bytes)
+-- how many bytes a structure with a matrix has: 4 for each row and each column, and 2 for each cell
+abbrev pub matrix_in : List ℕ → ℕ → Field → Field → Option ℕ
+matrix_in bytes base rows columns =
+    of_both (λ m n. within_64_bits (base + 4 * (m + n) + 2 * (m * n))) (reading rows bytes) (reading columns bytes)
+
+-- the number of a field, told apart by the offset of a structure
+abbrev pub keyed_in : ℕ → List ℕ → Field → Option ℕ
+keyed_in at bytes f = option_map (λ n. within_64_bits (2 ^ 32 * at + n)) (reading f bytes)
 
 -- the number of a value, if its fields are there
 unfoldable pub value_number : TwoTables → SiteValue → Value → Option ℕ
 value_number t s (value.Number n) = Some n
+value_number t s value.Largest = Some (2 ^ 64 - 1)
 value_number t s (value.Of w f) = reading f (window_of t s w).entry
-value_number t s (value.Bits w f mask) = option_map (λ n. bit_and n mask) (reading f (window_of t s w).entry)
+value_number t s (value.Bits w f mask) = bits_in (window_of t s w).entry f mask
 value_number t s (value.Length w) = Some (length (window_of t s w).entry)
 value_number t s (value.Behind w n) =
     let size = length (window_of t s w).entry in if nat_le n size then Some (size - n) else None
 value_number t s (value.Offset w) = Some (window_of t s w).offset
-value_number t s (value.Sum w f times one) = sum_of (window_of t s w).entry f times one
-value_number t s (value.Product one other third) = product_in s.own.entry one other third
+value_number t s (value.Sum w f times n) = sum_of (reading f (window_of t s w).entry) times (Some n)
+value_number t s (value.SumOf w f times g) =
+    let bytes = (window_of t s w).entry in sum_of (reading f bytes) times (reading g bytes)
+value_number t s (value.SumBits w times mask f g) =
+    let bytes = (window_of t s w).entry in sum_of (reading f bytes) times (bits_in bytes g mask)
+value_number t s (value.Product w one other) = product (reading one (window_of t s w).entry) (reading other s.own.entry)
+value_number t s (value.Product3 one other third) =
+    product (product (reading one s.own.entry) (reading other s.own.entry)) (reading third s.own.entry)
+value_number t s (value.Matrix w base rows columns) = matrix_in (window_of t s w).entry base rows columns
+value_number t s (value.Keyed w f) = keyed_in (window_of t s w).offset s.own.entry f

@@ -10,9 +10,9 @@ use Rattle.acpi_rules.specs.declared.series.Extent.TheVariants.{ToEnd}
 use Rattle.acpi_rules.specs.declared.series.Head.{Head}
 use Rattle.acpi_rules.specs.declared.series.Shape.TheVariants.{Headed}
 
--- an entry begins with its type and its length, a byte each
+-- an entry begins with its type and its length, a byte each, at 0 and at 1
 abbrev pub entry_head : Head
-entry_head = record { kind = record { at = 0; width = 1 }; length = record { at = 1; width = 1 }; least = 2 }
+entry_head = record { kind = record { place = 1 }; length = record { place = 17 }; least = 2 }
 
 -- the entries from an offset on
 abbrev pub entries_at : ℕ → Series

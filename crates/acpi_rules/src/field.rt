@@ -2,17 +2,16 @@
 
 ghost use Rattle.std.specs.Prelude.{◌≡◌, ◌≤◌, ◌<◌, ◌+◌, ◌^◌, length};
 ghost use Rattle.acpi_base.specs.Number.{field};
-ghost use Rattle.acpi_rules.specs.Fields.{end_of, number_in, reading};
+ghost use Rattle.acpi_rules.specs.Fields.{at_of, end_of, number_in, reading, width_of};
 
 use byteorder::{ByteOrder, LittleEndian};
 
-/// A number in a structure, little-endian.
+/// A number in a structure, little-endian: where it is, in 16 bits, since the rows have thousands of fields.
 #[derive(Clone, Copy, Debug, PartialEq, Eq)]
 pub struct Field {
-    /// Its offset in bytes, from the structure's start.
-    pub at: u16,
-    /// How many bytes it has, from 1 to 8. A field of another width is in no structure.
-    pub width: u8,
+    /// 16 times its offset in bytes from the structure's start, below 4,096, plus how many bytes it has, from 1 to 8. A
+    /// field of another width is in no structure.
+    pub place: u16,
 }
 
 /// The number in the `width` bytes at an offset.
@@ -45,14 +44,30 @@ pub(crate) fn number_in(bytes: &[u8], of: Field) -> u64
 }
 
 impl Field {
+    /// Its offset in bytes, from the structure's start.
+    #[inline(always)]
+    pub fn at(self) -> u16
+        ensures { result ≡ at_of self }
+    {
+        self.place / 16
+    }
+
+    /// How many bytes it has.
+    #[inline(always)]
+    pub fn width(self) -> u16
+        ensures { result ≡ width_of self }
+    {
+        self.place % 16
+    }
+
     /// The number, if all its bytes are in the structure that has these bytes.
     #[tactic(auto, unfolding(crate::specs::Fields::reading))]
     #[inline(always)]
     pub(crate) fn read(&self, bytes: &[u8]) -> Option<u64>
         ensures { result ≡ reading self.now bytes.now }
     {
-        let at = usize::from(self.at);
-        let width = usize::from(self.width);
+        let at = usize::from(self.at());
+        let width = usize::from(self.width());
         if width < 1 || width > 8 || at + width > bytes.len() {
             return None;
         }
@@ -65,6 +80,6 @@ impl Field {
         ensures end { result ≡ end_of self.now }
         ensures fits { result < 2 ^ 17 }
     {
-        u64::from(self.at) + u64::from(self.width)
+        u64::from(self.at()) + u64::from(self.width())
     }
 }

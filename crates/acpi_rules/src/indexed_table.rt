@@ -5,7 +5,6 @@ ghost use Rattle.acpi_rules.specs.declared.series.Path.TheVariants.{Entries};
 ghost use Rattle.std.specs.Option.{ForSome};
 ghost use Rattle.acpi_rules.specs.Indexes.{IsIndexOf};
 
-use crate::field::Field;
 use crate::index::Index;
 use crate::series::{Extent, Head, Path, Series, Shape, Start};
 
@@ -20,19 +19,12 @@ pub struct IndexedTable<'a> {
     pub ghost right: { ForSome index (λ i. ∥ IsIndexOf i.now bytes.now ∥₁) },
 }
 
-/// Whether two fields are known to be the same.
-fn is_same_field(one: Field, other: Field) -> bool
-    ensures { IsTrue result → one ≡ other }
-{
-    one.at == other.at && one.width == other.width
-}
-
 /// Whether two heads are known to be the same.
 fn is_same_head(one: Head, other: Head) -> bool
     ensures { IsTrue result → one ≡ other }
 {
-    is_same_field(one.kind, other.kind)
-        && is_same_field(one.length, other.length)
+    one.kind.place == other.kind.place
+        && one.length.place == other.length.place
         && one.least == other.least
 }
 

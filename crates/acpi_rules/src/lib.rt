@@ -60,12 +60,13 @@ pub use numbers::{Numbers, numbers_in_order, sorted_given};
 pub use overlap::{Range, first_overlap};
 pub use place::Place;
 pub use row::{
-    Form, Guard, Known, Need, Row, Source, all_guards_hold, first_finding, given_by_row,
+    Form, Guard, Known, Need, Row, Source, all_guards_hold, first_finding, first_overlap_of,
+    given_by_row,
 };
 pub use series::{
     Extent, Head, Inner, LengthRows, Multiple, Path, Series, Shape, Start, Sum, Types,
 };
-pub use sites::Site;
+pub use sites::{Site, WalkedSites};
 pub use structures::Cut;
-pub use term::{Addend, Tables, Value, Within};
+pub use term::{Tables, Value, Within};
 pub use window::Window;

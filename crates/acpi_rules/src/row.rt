@@ -6,8 +6,9 @@ ghost use Rattle.std.specs.Option.{is_none};
 ghost use Rattle.acpi_rules.specs.Cases.{case_value};
 ghost use Rattle.acpi_rules.specs.Numbered.{IsNotAbove};
 ghost use Rattle.acpi_rules.specs.Numbers.{Counts, has_except, numbers_value};
+ghost use Rattle.acpi_rules.specs.Overlaps.{IsOverlap};
 ghost use Rattle.acpi_rules.specs.Places.{FindsLeast};
-ghost use Rattle.acpi_rules.specs.Rows.{InForm, IsBroken, IsCut, IsGivenByRow, IsKnown, IsLookedUp, first_is_some, gives_two, guard_holds, guard_value, known_value, needs_memory, of_source, reported, row_value};
+ghost use Rattle.acpi_rules.specs.Rows.{InForm, IsBroken, IsCut, IsGivenByAny, IsGivenByRow, IsKnown, IsLookedUp, first_is_some, gives_two, guard_holds, guard_value, known_value, needs_memory, of_source, reported, row_value};
 ghost use Rattle.acpi_rules.specs.Sites.{first_cut};
 ghost use Rattle.acpi_rules.specs.Terms.{tables_value};
 ghost use Rattle.acpi_rules.specs.declared.numbered.Numbered.{Numbered};
@@ -182,6 +183,37 @@ pub fn given_by_row(
         return Ok(Vec::new(alloc));
     }
     counted(alloc, &row.3, tables)
+}
+
+/// The numbers that some rows are about, of each whose conditions hold. Refuses if out of memory.
+fn given_by_any(
+    alloc: Global,
+    rows: &[Row<'_>],
+    tables: &Tables<'_>,
+) -> Result<Vec<Numbered>, AllocError>
+    ensures { IfOk result (λ all. (g : Numbered) → Contains all.items g
+        ↔ IsGivenByAny (map row_value rows.now) (tables_value tables.now) g) }
+{
+    let mut all = Vec::new(alloc);
+    for row in rows {
+        let given = given_by_row(alloc, row, tables)?;
+        all.extend_from_slice(&given)?;
+    }
+    Ok(all)
+}
+
+/// The lowest number that ranges at two places contain, among all that some rows are about, as `first_overlap` says. For a
+/// rule on structures that have several ranges each. Refuses if out of memory.
+pub fn first_overlap_of(
+    alloc: Global,
+    rows: &[Row<'_>],
+    range: Range,
+    tables: &Tables<'_>,
+) -> Result<Option<Place>, AllocError>
+    ensures { IfOk result (FindsLeast (IsOverlap range
+        (IsGivenByAny (map row_value rows.now) (tables_value tables.now)))) }
+{
+    first_overlap(given_by_any(alloc, rows, tables)?, range)
 }
 
 /// Whether those of these conditions hold that are quick to decide.

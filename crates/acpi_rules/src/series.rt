@@ -20,7 +20,7 @@ pub struct Multiple {
 #[derive(Clone, Copy, Debug, PartialEq, Eq)]
 pub struct Sum {
     /// The fixed part.
-    pub base: u32,
+    pub base: u16,
     /// The first multiple.
     pub first: Multiple,
     /// The second multiple.
@@ -31,13 +31,13 @@ pub struct Sum {
 #[derive(Clone, Copy, Debug, PartialEq, Eq)]
 pub enum Start {
     /// At an offset, or at the end of the enclosing structure if that comes before it.
-    At(u32),
+    At(u16),
     /// At the offset that a field of it says. There are no structures if the field is not in it.
     Said {
         /// The field.
         field: Field,
         /// An offset below this one says that there are no structures.
-        least: u32,
+        least: u16,
     },
     /// At an offset that follows from two of its fields: behind lists with so many members. There are no structures
     /// if one of the two is not in it.
@@ -63,7 +63,7 @@ pub struct Head {
     /// The length in bytes, which is at least the end of these two fields.
     pub length: Field,
     /// The length has to be at least this.
-    pub least: u32,
+    pub least: u16,
 }
 
 /// Which rule says the lengths by type.
@@ -87,7 +87,7 @@ pub struct Types {
 #[derive(Clone, Copy, Debug, PartialEq, Eq)]
 pub enum Shape {
     /// Each has this many bytes, and no type.
-    Records(u32),
+    Records(u16),
     /// Each begins with its type and its length.
     Headed(Head),
     /// Each begins with its type, which says its length.
@@ -109,9 +109,9 @@ pub struct Series {
 #[derive(Clone, Copy, Debug, PartialEq, Eq)]
 pub struct Inner {
     /// The lowest of these types.
-    pub first: u32,
+    pub first: u16,
     /// The highest of these types.
-    pub last: u32,
+    pub last: u16,
     /// The structures inside each.
     pub series: Series,
 }

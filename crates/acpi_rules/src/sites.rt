@@ -259,7 +259,7 @@ fn enter_inner<'a>(
 
 impl<'a> WalkedSites<'a> {
     /// The structures that a path leads to in a table.
-    pub(crate) fn along(path: &Path, table: &'a [u8]) -> WalkedSites<'a>
+    pub fn along(path: &Path, table: &'a [u8]) -> WalkedSites<'a>
         ensures { result ≡ sites_of path.now table.entry.now }
     {
         let whole = Window {

@@ -3,7 +3,7 @@
 ghost use Rattle.std.specs.Prelude.{◌≡◌};
 ghost use Rattle.acpi_rules.specs.Walks.{placed};
 ghost use Rattle.acpi_rules.specs.Sites.{site_value};
-ghost use Rattle.acpi_rules.specs.Terms.{addend_number, product_in, sum_of, tables_value, value_number, window_of, within_64_bits};
+ghost use Rattle.acpi_rules.specs.Terms.{bits_in, keyed_in, matrix_in, product, sum_of, tables_value, value_number, window_of, within_64_bits};
 
 use crate::field::Field;
 use crate::indexed_table::IndexedTable;
@@ -34,38 +34,42 @@ pub enum Within {
     Other,
 }
 
-/// What is added to a multiple of a field.
-#[derive(Clone, Copy, Debug, PartialEq, Eq)]
-pub enum Addend {
-    /// This number.
-    Number(u32),
-    /// The number of a field of the same structure.
-    Of(Field),
-    /// The bits of such a field's number that are set in a mask.
-    Bits(Field, u16),
-}
-
-/// A number that a clause compares or a finding shows: at most 2^64 - 1.
+/// A number that a clause compares or a finding shows: at most 2^64 - 1. A sum or a product above that counts as that.
 ///
-/// The parts stand in an order in which they take 16 bytes, since the rows have thousands of values.
+/// The parts stand in an order in which they take 8 bytes, since the rows have thousands of values.
 #[derive(Clone, Copy, Debug, PartialEq, Eq)]
 pub enum Value {
     /// This number.
-    Number(u64),
+    Number(u32),
+    /// 2^64 - 1.
+    Largest,
     /// The number of a field.
     Of(Within, Field),
     /// The bits of a field's number that are set in a mask.
-    Bits(Within, Field, u64),
+    Bits(Within, Field, u16),
     /// How many bytes a structure has.
     Length(Within),
     /// How many it has behind this offset; there is no such number if it ends before that.
-    Behind(Within, u64),
+    Behind(Within, u32),
     /// The offset of a structure from its table's start, in bytes.
     Offset(Within),
-    /// A multiple of a field's number, and what is added to it. A sum above 2^64 - 1 counts as that.
-    Sum(Within, Field, u16, Addend),
-    /// The product of two fields of the structure that the rule is about, or of three. One above 2^64 - 1 counts as that.
-    Product(Field, Field, Option<Field>),
+    /// A multiple of a field's number, and this number.
+    Sum(Within, Field, u16, u16),
+    /// A multiple of a field's number, and the number of a field of the same structure.
+    SumOf(Within, Field, u16, Field),
+    /// A multiple of a field's number, and the bits of another field of the same structure that are set in a mask; in the
+    /// order: how many times, the mask, the first field, the other one.
+    SumBits(Within, u8, u8, Field, Field),
+    /// The product of a field of this structure and of one of the structure that the rule is about.
+    Product(Within, Field, Field),
+    /// The product of three fields of the structure that the rule is about.
+    Product3(Field, Field, Field),
+    /// How many bytes a structure with a matrix has: this many, 4 for each row and for each column, and 2 for each cell; the
+    /// fields say how many rows and columns there are.
+    Matrix(Within, u16, Field, Field),
+    /// A field of at most 4 bytes of the structure that the rule is about, told apart by where this structure is, at an
+    /// offset below 2^32: 2^32 times that offset, and the field's number. So numbers are the same only inside one structure.
+    Keyed(Within, Field),
 }
 
 impl Within {
@@ -91,43 +95,48 @@ impl Within {
     }
 }
 
-impl Addend {
-    /// The number, if its field is within the structure that has these bytes.
-    fn number(&self, bytes: &[u8]) -> Option<u64>
-        ensures { result ≡ addend_number bytes.now self.now }
-    {
-        match *self {
-            Addend::Number(number) => Some(u64::from(number)),
-            Addend::Of(field) => field.read(bytes),
-            Addend::Bits(field, mask) => {
-                let number = field.read(bytes)?;
-                Some(number & u64::from(mask))
-            }
-        }
-    }
-}
-
-/// The multiple of a field of a structure with these bytes, and what is added to it.
-fn sum_in(bytes: &[u8], field: Field, times: u16, addend: &Addend) -> Option<u64>
-    ensures { result ≡ sum_of bytes.now field times addend.now }
+/// The bits of a field of a structure with these bytes that are set in a mask.
+fn bits_in(bytes: &[u8], field: Field, mask: u16) -> Option<u64>
+    ensures { result ≡ bits_in bytes.now field mask }
 {
     let number = field.read(bytes)?;
-    let addend = addend.number(bytes)?;
-    Some(within_64_bits(u128::from(addend) + u128::from(times) * u128::from(number)))
+    Some(number & u64::from(mask))
 }
 
-/// The product of two fields of a structure with these bytes, or of three.
-fn product_in(bytes: &[u8], one: Field, other: Field, third: Option<Field>) -> Option<u64>
-    ensures { result ≡ product_in bytes.now one other third }
+/// The multiple of a number, and what is added to it, if both are there.
+fn sum_of(number: Option<u64>, times: u16, added: Option<u64>) -> Option<u64>
+    ensures { result ≡ sum_of number times added }
 {
-    let one = one.read(bytes)?;
-    let other = other.read(bytes)?;
-    let two = within_64_bits(u128::from(one) * u128::from(other));
-    let Some(third) = third else {
-        return Some(two);
-    };
-    let third = third.read(bytes)?;
-    Some(within_64_bits(u128::from(two) * u128::from(third)))
+    let number = number?;
+    let added = added?;
+    Some(within_64_bits(u128::from(added) + u128::from(times) * u128::from(number)))
+}
+
+/// The product of two numbers, if both are there.
+fn product(one: Option<u64>, other: Option<u64>) -> Option<u64>
+    ensures { result ≡ product one other }
+{
+    let one = one?;
+    let other = other?;
+    Some(within_64_bits(u128::from(one) * u128::from(other)))
+}
+
+/// How many bytes a structure with these first bytes has: as many as this, and those of a matrix.
+fn matrix_in(bytes: &[u8], base: u16, rows: Field, columns: Field) -> Option<u64>
+    ensures { result ≡ matrix_in bytes.now base rows columns }
+{
+    let rows = u128::from(rows.read(bytes)?);
+    let columns = u128::from(columns.read(bytes)?);
+    let cells = u128::from(within_64_bits(rows * columns));
+    Some(within_64_bits(u128::from(base) + 4 * (rows + columns) + 2 * cells))
+}
+
+/// 2^32 times an offset, and a field of a structure with these bytes.
+fn keyed_in(at: u64, bytes: &[u8], field: Field) -> Option<u64>
+    ensures { result ≡ keyed_in at bytes.now field }
+{
+    let number = field.read(bytes)?;
+    Some(within_64_bits(0x1_0000_0000 * u128::from(at) + u128::from(number)))
 }
 
 impl Value {
@@ -138,24 +147,48 @@ impl Value {
         ensures { result ≡ value_number (tables_value tables.now) (site_value site.now) self.now }
     {
         match *self {
-            Value::Number(number) => Some(number),
+            Value::Number(number) => Some(u64::from(number)),
+            Value::Largest => Some(u64::MAX),
             Value::Of(within, field) => field.read(within.window(tables, site).bytes),
             Value::Bits(within, field, mask) => {
-                let number = field.read(within.window(tables, site).bytes)?;
-                Some(number & mask)
+                bits_in(within.window(tables, site).bytes, field, mask)
             }
             Value::Length(within) => Some(within.window(tables, site).bytes.len() as u64),
             Value::Behind(within, offset) => {
-                (within.window(tables, site).bytes.len() as u64).checked_sub(offset)
+                (within.window(tables, site).bytes.len() as u64).checked_sub(u64::from(offset))
             }
             Value::Offset(within) => Some(within.window(tables, site).at),
-            Value::Sum(within, field, times, addend) => sum_in(
-                within.window(tables, site).bytes,
-                field,
+            Value::Sum(within, field, times, added) => sum_of(
+                field.read(within.window(tables, site).bytes),
                 times,
-                &addend,
+                Some(u64::from(added)),
             ),
-            Value::Product(one, other, third) => product_in(site.own.bytes, one, other, third),
+            Value::SumOf(within, field, times, added) => {
+                let bytes = within.window(tables, site).bytes;
+                sum_of(field.read(bytes), times, added.read(bytes))
+            }
+            Value::SumBits(within, times, mask, field, added) => {
+                let bytes = within.window(tables, site).bytes;
+                sum_of(
+                    field.read(bytes),
+                    u16::from(times),
+                    bits_in(bytes, added, u16::from(mask)),
+                )
+            }
+            Value::Product(within, one, other) => product(
+                one.read(within.window(tables, site).bytes),
+                other.read(site.own.bytes),
+            ),
+            Value::Product3(one, other, third) => product(
+                product(one.read(site.own.bytes), other.read(site.own.bytes)),
+                third.read(site.own.bytes),
+            ),
+            Value::Matrix(within, base, rows, columns) => {
+                matrix_in(within.window(tables, site).bytes, base, rows, columns)
+            }
+            Value::Keyed(within, field) => {
+                keyed_in(within.window(tables, site).at, site.own.bytes, field)
+            }
         }
     }
 }

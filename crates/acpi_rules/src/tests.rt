@@ -14,8 +14,8 @@ const ENTRIES: Series = Series {
     start: Start::At(44),
     extent: Extent::ToEnd,
     shape: Shape::Headed(Head {
-        kind: Field { at: 0, width: 1 },
-        length: Field { at: 1, width: 1 },
+        kind: Field { place: 1 },
+        length: Field { place: 17 },
         least: 2,
     }),
 };
@@ -29,7 +29,7 @@ const IO_APIC: Kind = Kind {
 };
 
 /// Its ID.
-const ID: Value = Value::Of(Within::Own, Field { at: 2, width: 1 });
+const ID: Value = Value::Of(Within::Own, Field { place: 33 });
 
 /// A MADT with two I/O APICs, at 44 and at 56, which both have the ID 7.
 const MADT: &[u8] = b"APIC\x44\0\0\0\x05\0AAAAAABBBBBBBBCCCCDDDDEEEE\0\0\xe0\xfe\0\0\0\0\

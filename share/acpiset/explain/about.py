@@ -1,6 +1,6 @@
 """What a line of acpiset is about in an image."""
 
-from . import entries, fadt, fixed, further_tables
+from . import entries, fadt, fixed, further_tables, gtdt, hmat
 from .document import FIRST_RULE
 from .report import Report
 from .sentences import ROWS
@@ -16,6 +16,8 @@ OF_ROWS = {
     entries.pptt: ("pptt", "pptt_with_madt"),
     further_tables.mcfg: ("mcfg",),
     further_tables.hpet: ("hpet",),
+    hmat.hmat: ("hmat", "hmat_with_srat"),
+    gtdt.gtdt: ("gtdt", "gtdt_with_madt"),
     further_tables.spcr: ("spcr",),
 }
 BY_HAND = {
@@ -29,6 +31,9 @@ BY_HAND = {
     fixed.slit_advice: (121, 179),
     entries.pptt: (182, 311),
     further_tables.mcfg: (191,),
+    hmat.hmat: (207,),
+    gtdt.no_gtdt: (209,),
+    gtdt.gtdt: (219,),
 }
 OF_RULES = {**BY_HAND}
 for explain, lists in OF_ROWS.items():

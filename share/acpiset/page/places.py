@@ -14,7 +14,7 @@ BY_CODE = {
     8: ("rsdp",),
     19: ("root",),
     26: ("fadt",),
-    **dict.fromkeys((32, 116, 158, 159, 305), ("madt",)),
+    **dict.fromkeys((32, 116, 158, 159, 209, 305), ("madt",)),
     **dict.fromkeys((41, 173), ("srat",)),
     **dict.fromkeys((46, 47), ("slit",)),
     **dict.fromkeys((101, 102, 149), TWO_SLOTS),
@@ -31,6 +31,8 @@ BY_CODE = {
     286: ("fadt", "facs"),
     **dict.fromkeys(range(185, 192), ("mcfg",)),
     **dict.fromkeys(range(192, 195), ("hpet",)),
+    **dict.fromkeys(range(195, 208), ("hmat",)),
+    **dict.fromkeys((208, *range(210, 220)), ("gtdt",)),
     **dict.fromkeys(range(271, 277), ("spcr",)),
 }
 # Stages whose one fault is about two entries, which is known without the documents.

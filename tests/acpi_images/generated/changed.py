@@ -3,11 +3,10 @@
 
 from functools import cache as once
 
-from ..known.devices import DEVICES, WHOLE_DEVICES
-from ..known.further import FURTHER, WHOLE
 from ..known.judged import JUDGED
 from ..known.linted import EXPECTED
 from ..known.mistakes import MISTAKES, UNCHANGED
+from ..known.one_rule import ALL_LINES, ONE_RULE
 from ..known.rows import ROWS
 from ..program import IMAGES, firmware_text
 from ..rules.facts import MADT_LENGTHS
@@ -15,7 +14,8 @@ from ..table_set import MadtEntries, PpttEntries, SratEntries, TableSet, complet
 from ..tables import *
 from ..text import Image, read
 from .sets import (
-    LATER_FIELDS, further_domain, further_entry, further_processor, gic_entries, gic_part, some_device, some_hpet, some_mcfg, some_spcr,
+    LATER_FIELDS, further_domain, further_entry, further_processor, gic_entries, gic_part, some_device, some_gtdt, some_hmat, some_hpet,
+    some_mcfg, some_spcr,
 )
 
 KINDS = {b"APIC": MadtEntries, b"SRAT": SratEntries, b"PPTT": PpttEntries}
@@ -26,9 +26,9 @@ MOST_BYTES = 4000
 @once
 def known_sets():
     """The pieces of sets to begin with, and the address of the RSDP of each."""
-    rows = (*EXPECTED, *ROWS, *FURTHER, *DEVICES)
+    rows = (*EXPECTED, *ROWS, *ONE_RULE)
     pieces = [it.pieces for it in rows if isinstance(it.pieces, dict) and sum(map(len, it.pieces.values())) < MOST_BYTES]
-    made = [(it, RSDP_AT) for it in (*pieces, *(it[1] for it in (*JUDGED, *WHOLE, *WHOLE_DEVICES)))]
+    made = [(it, RSDP_AT) for it in (*pieces, *(it[1] for it in (*JUDGED, *ALL_LINES)))]
     made += [(it.pieces(), int(IMAGES[it.image], 16)) for it in MISTAKES]
     return made + [(read(firmware_text(name)).pieces(), int(IMAGES[name], 16)) for name, _, _ in UNCHANGED * 4]
 
@@ -172,9 +172,9 @@ def new_table(dice):
 def new_set(dice):
     """A set of all tables that are looked into."""
     listed = [new_fadt(dice) if dice.random() < 0.5 else fadt(), new_madt(dice), new_srat(dice), new_slit(dice), new_pptt(dice)]
-    listed += [some_mcfg(dice), some_hpet(dice), some_spcr(dice)]
+    listed += [make(dice) for make in (some_mcfg, some_hpet, some_spcr, some_hmat, some_gtdt)]
     dice.shuffle(listed)
-    addresses = [0x10000 * place for place in range(2, 10)]
+    addresses = [0x10000 * place for place in range(2, 12)]
     return image_of(slots=addresses, others={**dict(zip(addresses, listed)), FACS_AT: facs(), FACS_AT + 0x1000: facs()})
 
 

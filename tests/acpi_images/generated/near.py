@@ -1,14 +1,17 @@
 """Sets near the edges of the rules of advice on the FADT, the MADT, the SRAT, the SLIT and the PPTT: each entry of a table with each of
 its bytes changed, beside entries with which a rule may be broken; entries of each type with lengths around that of the type; a FADT with
-each field, and each two of them, changed, and with a DSDT or a FACS; and on the MCFG, the HPET and the SPCR, with each byte changed, with
-numbers around the limits of each field, and of each Length. A set has one table or two. None is random, so a set is the same each
-time."""
+each field, and each two of them, changed, and with a DSDT or a FACS; and on the MCFG, the HPET, the HMAT, the GTDT and the SPCR, with each
+byte changed, with numbers around the limits of each field, and of each Length. A set has one table or two. None is random, so a set is the
+same each time."""
 
 from __future__ import annotations
 
 from itertools import product
 
-from ..tables import OF_NAME, OF_PORT, TABLES_AT, changed, ecam, generic_address, hpet, mcfg, number, placed, spcr, table
+from ..tables import (
+    OF_NAME, OF_PORT, TABLES_AT, changed, ecam, generic_address, gtdt, hmat, hpet, mcfg, number, of_gtdt, of_hmat, placed, proximity,
+    side_cache, spcr, speeds, table, timer_block, timer_frame, watchdog,
+)
 from ..text import TOP
 
 # The lengths of entries, by their types.
@@ -435,9 +438,161 @@ def interrupts_of_ports():
         yield from ((spcr(_52=bytes([kind, line]) + number(24, 4)), madt(*entries)) for kind in range(16))
 
 
+# ---- the HMAT
+
+# Structures, two of which have lists.
+TWO_AND_TWO, WITH_HANDLES = speeds((0, 1), (2, 3), (1, 2, 3, 0xFFFF), 1000), side_cache(0, 0x111, 2)
+IN_HMAT = (proximity(0, 1), TWO_AND_TWO, WITH_HANDLES)
+# Domains, four of which those structures name, in entries of each type.
+IN_DOMAINS = (
+    entry(0, 16), entry(1, 40, (2, 4, 1)), entry(2, 24, (4, 4, 2)), entry(3, 18, (2, 4, 3)), entry(4, 12, (2, 4, 4)),
+    entry(5, 32, (4, 4, 5)), entry(6, 32, (4, 4, 6)), entry(7, 20, (4, 4, 7)),
+)
+# Of each type of entry of the SRAT where its flags are; that of an ITS has none, and ends before this place.
+FLAGS_AT = {0: 4, 1: 28, 2: 12, 3: 10, 4: 12, 5: 24, 6: 24, 7: 12}
+COUNTS = (0, 1, 2, 2**16, 2**30, 2**31 - 3, 2**31 - 2, 2**31, 2**32 - 2, 2**32 - 1)
+
+
+def hmats():
+    """HMATs of each Length and Revision, and with each byte of each structure changed."""
+    for revision, length, fill in product(range(4), range(36, 96), (bytes(60), b"\xff" * 60, b"".join(IN_HMAT))):
+        yield table(b"HMAT", (bytes(4) + fill)[: length - 36], revision)
+    for revision, one, before in product((1, 2), IN_HMAT, ((), (proximity(),))):
+        yield from (hmat(*before, other, revision=revision) for other in with_byte(one, 0))
+    for revision, flags in product((0, 1, 2, 3), range(256)):
+        yield hmat(speeds(flags=flags), revision=revision)
+    yield from (hmat(speeds(kind=kind)) for kind in range(256))
+    for low, high in product(range(16), repeat=2):
+        yield from (hmat(side_cache(0, attributes)) for attributes in (low | high << 4, 0x33 | low << 8 | high << 12))
+
+
+def lengths_in_hmats():
+    """HMATs of structures of each length, with few entries in their lists, or very many, and with a part of one at the end."""
+    for kind, length, fill in product((0, 1, 2, 3, 0x100, 0x101), range(8, 72), (0, 1, 255)):
+        yield hmat(of_hmat(kind, length, _8=bytes([fill]) * 64))
+    for first, second, more in product(range(4), range(4), range(-3, 4)):
+        many = [0] * first, [1] * second
+        yield hmat(speeds(*many, length=32 + 4 * first + 4 * second + 2 * first * second + more))
+    for count, more in product((0, 1, 2, 3, 255, 256), range(-3, 4)):
+        yield hmat(side_cache(handles=count, length=32 + 2 * count + more))
+    for first, second, length in product(COUNTS, COUNTS, (31, 32, 40, 42)):
+        yield hmat(placed(speeds((), (), length=length), _12=number(first, 4), _16=number(second, 4)))
+    for before, size, said in product(((), IN_HMAT), range(17), (0, 1, 7, 8, 9, 16, 17, 40, 264, 2**31, 2**32 - 1)):
+        yield hmat(*before, of_hmat(1, size, _4=number(said, 4)))
+
+
+def cells_in_hmats():
+    """HMATs of cells that are large in their unit, and of initiators and targets that occur twice."""
+    units = (0, 1, 2**16, 2**16 + 1, 2**16 + 2, 2**16 + 3, 2**31, 2**32 - 1, 2**32, 2**62, 2**63, TOP - 1)
+    for place, cell, unit in product(range(4), (0, 1, 2, 3, 255, 256, 0x7FFF, 0x8000, 0xFFFE, 0xFFFF), units):
+        cells = [0] * 4
+        cells[place] = cell
+        yield hmat(speeds((0, 1), (0, 1), cells, unit))
+    for first, second in product((*product((0, 1, 256), repeat=2), *product((0, 1, 2), repeat=3)), repeat=2):
+        yield hmat(speeds(first, second))
+
+
+def domains_in_hmats():
+    """An HMAT with an SRAT of each type of entries, or one that is not read to its end."""
+    srat_of_all = srat(*IN_DOMAINS)
+    for revision, one in product((1, 2), IN_HMAT):
+        yield from ((hmat(other, revision=revision), srat_of_all) for other in with_byte(one, 8))
+    for one, affinity in product(IN_HMAT, IN_DOMAINS):
+        yield from ((hmat(one), srat(other)) for other in with_byte(affinity))
+    for revision, flags, first, second in product((0, 1, 2, 3), range(4), range(9), range(9)):
+        yield hmat(proximity(first, second, flags), revision=revision), srat_of_all
+    for structure, domain, enabled in product(range(3), (0, 1, 255, 256, 2**24, 2**32 - 1), (0, 1)):
+        one = (proximity(domain, domain), speeds([domain], [domain]), side_cache(domain))[structure]
+        for affinity in IN_DOMAINS:
+            at, size = {0: (2, 1), 1: (2, 4), 3: (2, 4), 4: (2, 4)}.get(affinity[0], (4, 4))
+            for there in (0, 1, 255, domain):
+                other = placed(affinity, **{f"_{at}": number(there, size), f"_{FLAGS_AT[affinity[0]]}": bytes([enabled])})
+                wide = placed(other, _9=number(there >> 8, 3)) if affinity[0] == 0 else other
+                yield from ((hmat(one), srat(*entries)) for entries in ((wide,), (wide, b"\1"), (entry(1, 39), wide), (wide, entry(5, 31))))
+    for kind, size in product((0, 1, 2, 3, 4, 5, 6, 7, 8, 255), (2, 11, 12, 13, 16, 17, 18, 19, 20, 21, 24, 31, 32, 33, 39, 40, 41)):
+        yield from ((hmat(one), srat(entry(kind, size))) for one in (proximity(0, 0), speeds(), side_cache()))
+
+
+# ---- the GTDT
+
+PPI_EDGES = (0, 1, 15, 16, 31, 32, 1055, 1056, 1119, 1120, 2**16 + 16, 2**24 + 16, 2**32 - 1)
+SPI_EDGES = (0, 1, 31, 32, 255, 256, 1019, 1020, 4095, 4096, 5119, 5120, 2**16 + 32, 2**24 + 32, 2**32 - 1)
+TWO_FRAMES = timer_block(timer_frame(0, 0x10000), timer_frame(1, 0x20000, 0x30000, 41, 42), base=0x40000)
+RIGHT_DOG = watchdog(0x50000, 0x60000)
+REGISTER_PLACES = (0, 1, 0x1000, 0x1FFF, 0x2000, TOP - 0x1000, TOP - 2, TOP - 1)
+
+
+def gtdts():
+    """GTDTs of each Length and Revision, with each byte changed, and with each interrupt of a timer, alone and twice."""
+    for revision, length, fields in product(range(6), range(36, 110), ({}, {"_36": bytes(74)}, {"_36": b"\xff" * 74})):
+        yield gtdt(revision=revision, length=length, **fields)
+    for revision in range(1, 5):
+        yield from (table(b"GTDT", body, revision) for body in with_byte(gtdt(length=108)[36:], 0))
+    for revision, (one, other), value in product((1, 2, 3), product((48, 56, 64, 72, 96), repeat=2), PPI_EDGES):
+        yield gtdt(revision=revision, length=104, **{f"_{one}": number(value, 4), f"_{other}": number(value, 4)})
+    for numbers in product((0, 20, 21, 276), repeat=4):
+        yield gtdt(**{f"_{at}": number(value, 4) for at, value in zip((56, 64, 72, 96), numbers)})
+
+
+def platform_timers():
+    """GTDTs of platform timers: with each byte of them changed, from each place on, in each number, and of each type and length."""
+    for revision, one, before in product((2, 3), (TWO_FRAMES, RIGHT_DOG), ((), (RIGHT_DOG,), (timer_block(timer_frame()),))):
+        yield from (gtdt(*before, other, revision=revision) for other in with_byte(one, 0))
+    starts = (0, 36, 79, 80, 95, 96, 97, 103, 104, 105, 131, 132, 133, 160, 2**16, 2**32 - 1)
+    for revision, body, count, start in product((1, 2, 3, 4), (b"", RIGHT_DOG, RIGHT_DOG * 2), (0, 1, 2, 3, 256, 2**32 - 1), starts):
+        yield gtdt(body, revision=revision, _88=number(count, 4), _92=number(start, 4))
+    for kind, said, size, count in product((0, 1, 2, 3, 255), (0, 3, 4, 19, 20, 27, 28, 29, 60, 284), (1, 2, 3, 4, 28, 60), (1, 2)):
+        yield gtdt((bytes([kind]) + number(said, 2) + bytes(60))[:size], _88=number(count, 4))
+    counts, firsts = (0, 1, 2, 8, 9, 256, 2**32 - 1), (0, 19, 20, 21, 60, 256, 2**32 - 1)
+    for count, first, length in product(counts, firsts, (19, 20, 60, 61, 100, 340, 380)):
+        yield gtdt(placed(timer_block(*[timer_frame()] * 8, count=count, length=length), _16=number(first, 4)))
+    for length, refresh, control in product((*range(4, 32), 284), (0, 0x1000), (0, 0x2000)):
+        yield gtdt(watchdog(refresh, control, length=length))
+
+
+def frames_of_blocks():
+    """GTDTs of blocks of a frame or a few, with numbers, addresses and interrupts around their limits."""
+    for frame_number, base, gsiv, flags in product((0, 7, 8, 255), (0, 1, 1 << 32, TOP - 1), (0, 1, 40, 1 << 24), (0, 1, 2, 3, 2**32 - 2)):
+        yield gtdt(timer_block(timer_frame(frame_number, base, 0, gsiv, 0, flags)))
+    for numbers in (*product((0, 1, 7, 8, 255), repeat=2), *product(range(3), repeat=3), *product((0, 3, 7), repeat=4)):
+        yield gtdt(timer_block(*map(timer_frame, numbers)))
+        yield gtdt(*(timer_block(timer_frame(it)) for it in numbers))
+        yield gtdt(RIGHT_DOG, timer_block(*map(timer_frame, numbers), first=24))
+    for one, other, third in product(REGISTER_PLACES, repeat=3):
+        yield gtdt(timer_block(timer_frame(0, other, third), base=one))
+        yield gtdt(timer_block(timer_frame(0, 0x9000), base=one), watchdog(other, third))
+        yield gtdt(timer_block(timer_frame(0, one), timer_frame(1, other, third)))
+    for places in product((1, 0x1000, 0x1800, TOP - 2), repeat=4):
+        yield gtdt(watchdog(*places[:2]), watchdog(*places[2:]))
+
+
+def timers_of_gics():
+    """A GTDT with a MADT that has a distributor or a GICC, or is not complete, or a MADT alone."""
+    of_madts = (
+        (), (GICD,), (entry(12, 2),), (GICC,), (entry(11, 2),), (GICD, GICC), (GICD, b"\1"), (GICC, b"\1"), (GICD, entry(0, 7)),
+        (GICC, entry(1, 11)), (LAPIC, GICD), (LAPIC, GICC), (entry(13, 24),), (entry(10, 12),),
+    )
+    for entries in of_madts:
+        there = madt(*entries)
+        yield (there,)
+        for right in (gtdt(), gtdt(length=103), gtdt()[:35], gtdt()[:36], changed(gtdt(), {4: 0}), changed(gtdt(), {0: ord("X")}), hmat()):
+            yield from ((there, right), (right, there))
+        for at, gsiv, revision in product((48, 56, 64, 72, 96), PPI_EDGES, (2, 3)):
+            yield gtdt(revision=revision, length=104, **{f"_{at}": number(gsiv, 4)}), there
+        for gsiv, flags in product(SPI_EDGES, (0, 1)):
+            for fields in ((gsiv, 0), (40, gsiv), (gsiv, gsiv)):
+                yield there, gtdt(timer_block(timer_frame(0, 1, 0, *fields, flags)))
+            yield there, gtdt(watchdog(gsiv=gsiv), timer_block(timer_frame(gsiv=gsiv)))
+            yield there, gtdt(watchdog(flags, gsiv=gsiv), of_gtdt(2, 28, _20=number(gsiv, 4)))
+
+
 def tables_twice():
     """Two tables of one signature, of which the first counts, and of which it may be that the header alone is there."""
-    for right, wrong in ((mcfg(ECAM), mcfg()), (hpet(), hpet(0)), (spcr(), spcr(length=79)), (mcfg(ECAM), mcfg(ecam(1), ecam(1)))):
+    pairs = (
+        (mcfg(ECAM), mcfg()), (hpet(), hpet(0)), (spcr(), spcr(length=79)), (mcfg(ECAM), mcfg(ecam(1), ecam(1))), (hmat(), hmat(b"\1")),
+        (gtdt(), gtdt(length=103)), (hmat(), srat()), (hmat(), srat(b"\1")),
+    )
+    for right, wrong in pairs:
         yield from ((right, wrong), (wrong, right), (wrong[:-1], right), (right[:-1], wrong), (right[:35], wrong), (wrong[:35], right))
         yield from ((changed(one, {4: length}), wrong) for one, length in product((right, wrong), (0, 35, 36, 255)))
 
@@ -446,6 +601,7 @@ def near_sets():
     """The tables of each set, each set once."""
     single = ((it,) for tables in (fadts, blocks, madts, gics, srats, pptts) for it in tables())
     several = (hierarchies, typed_caches, pairs, domains, starts, named_by_fadt)
-    devices = ((it,) for tables in (mcfgs, meeting_entries, hpets, spcrs, names_of_ports) for it in tables())
-    more = (interrupts_of_ports, tables_twice)
+    of_devices = (mcfgs, meeting_entries, hpets, hmats, lengths_in_hmats, cells_in_hmats, gtdts, platform_timers, frames_of_blocks)
+    devices = ((it,) for tables in (*of_devices, spcrs, names_of_ports) for it in tables())
+    more = (domains_in_hmats, timers_of_gics, interrupts_of_ports, tables_twice)
     return list(dict.fromkeys((*single, *(it for sets in several for it in sets()), *devices, *(it for sets in more for it in sets()))))

@@ -190,8 +190,63 @@ def some_spcr(dice):
     return built.spcr(dice.choice((1, 2, 2, 3, 4, 4, 4, 255)), length, **changes)
 
 
+def some_cells(dice):
+    """Speeds of a few initiators and targets, some of them twice. Of some a part is missing."""
+    domains = lambda: [dice.choice((0, 0, 1, 2, 3)) for _ in range(dice.choice((0, 1, 1, 2, 3)))]
+    first, second = domains(), domains()
+    cells = [dice.choice((0, 1, 2, 0xFFFE, 0xFFFF)) for _ in range(len(first) * len(second))]
+    unit, kind, flags = dice.choice((1, 1000, 1000, 2**16 + 3, LOW // 2, LOW, 0)), dice.choice((0, 1, 5, 6)), dice.choice((0, 3, 0x13, 4))
+    whole = built.speeds(first, second, cells, unit, kind, flags)
+    return built.speeds(first, second, cells, unit, kind, flags, len(whole) + dice.choice((0,) * 8 + (1, 2, -1, -4)))
+
+
+def some_hmat(dice):
+    """An HMAT of a few structures, some of domains that are nowhere. Some have another length, or a part of one at the end."""
+    domain = lambda: dice.choice((0, 0, 1, 1, 2, 7, 256))
+    make = (
+        lambda: built.proximity(domain(), domain(), dice.choice((0, 1, 1, 2, 3)), dice.choice((40,) * 8 + (39, 41))),
+        lambda: some_cells(dice),
+        lambda: built.side_cache(domain(), dice.choice((0, 0x11, 0x2133, 0x21, 0x304, 0x3000)), dice.choice((0, 1, 2))),
+        lambda: built.side_cache(handles=2, length=dice.choice((31, 35))),
+        lambda: built.of_hmat(dice.choice((0, 1, 2, 3, 0x100)), dice.choice((8, 16, 32, 40))),
+    )
+    structures = [dice.choice((*make[:3] * 3, *make))() for _ in range(dice.choice((0, 1, 2, 3, 5)))]
+    made = built.hmat(*structures, bytes(dice.choice((0, 0, 0, 0, 1, 8))), revision=dice.choice((1, 2, 2, 2, 3)))
+    return built.table(b"HMAT", made[36:38], 2) if dice.random() < 1 / 16 else made
+
+
+# Where registers of timers are: at one place, beside each other, or nowhere.
+TIMER_BASES = (0, 0x10000, 0x10800, 0x11000, 0x20000, 0x30000, 0x40000, LOW, TOP - 0x1000, TOP - 1)
+
+
+def some_block(dice):
+    """A block of a few frames. Some have another number of frames, or another length."""
+    base, gsiv = lambda: dice.choice(TIMER_BASES), lambda: dice.choice((0, 31, 32, 40, 40, 1019, 1020, 4096))
+    frame_of = lambda: built.timer_frame(dice.choice((0, 1, 2, 3, 7, 8)), base(), base(), gsiv(), gsiv(), dice.choice((0, 1, 2)))
+    frames = [frame_of() for _ in range(dice.choice((1, 1, 2, 3, 8, 9)))]
+    first = dice.choice((20,) * 6 + (19, 24))
+    length = first + 40 * len(frames) if dice.random() < 7 / 8 else dice.choice((19, 20, 61, 101))
+    return built.timer_block(*frames, base=base(), first=first, length=length)
+
+
+def some_gtdt(dice):
+    """A GTDT of one of the Revisions, with a few platform timers, and with other interrupts. Some lack a byte, or have one timer less."""
+    base = lambda: dice.choice(TIMER_BASES)
+    make = (
+        lambda: some_block(dice),
+        lambda: built.watchdog(base(), base(), dice.choice((0, 31, 48)), dice.choice((28,) * 7 + (27,))),
+        lambda: built.of_gtdt(dice.choice((0, 1, 2)), dice.choice((4, 20, 28))),
+    )
+    timers = [dice.choice((*make[:2] * 4, *make))() for _ in range(dice.choice((0, 0, 1, 2, 3)))]
+    interrupt = lambda: number(dice.choice((0, 15, 16, 26, 27, 27, 31, 32, 1056, 1120)), 4)
+    changes = {f"_{at}": interrupt() for at in (48, 56, 64, 72, 96) if dice.random() < 1 / 4}
+    more = {"_88": number(len(timers) + 1, 4)} if dice.random() < 1 / 8 else {}
+    made = built.gtdt(*timers, revision=dice.choice((0, 1, 2, 3, 3, 3, 255)), **changes, **more)
+    return built.table(b"GTDT", made[36:-1], made[8]) if dice.random() < 1 / 8 else made
+
+
 def some_device(dice):
-    return dice.choice((some_mcfg, some_hpet, some_spcr))(dice)
+    return dice.choice((some_mcfg, some_hpet, some_spcr, some_hmat, some_hmat, some_gtdt, some_gtdt))(dice)
 
 
 # ---- PPTT (5.2.30)

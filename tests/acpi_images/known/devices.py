@@ -9,6 +9,7 @@ from functools import partial
 from . import further
 from ..tables import *
 from ..text import TOP
+from .one_table import which_table
 
 DEVICES, WHOLE_DEVICES = [], []
 broken = partial(further.broken, sets=DEVICES)
@@ -570,46 +571,7 @@ WRONG = (
 )
 RIGHT = {b"MCFG": mcfg(ecam(0xB0000000)), b"HPET": hpet(), b"SPCR": spcr(4)}
 for rule, numbers, wrong in WRONG:
-    signature, length = wrong[:4], len(wrong)
-    right = RIGHT[signature]
-    table_kept(rule, "a valid table", right)
-    table_broken(rule, numbers, "one table", wrong)
-    table_broken(rule, numbers, "a table that does not sum to 0", changed(wrong, {9: wrong[9] ^ 1}))
-    table_broken(rule, numbers, "two tables, the first of which is wrong", wrong, right)
-    table_kept(rule, "two tables, the second of which is wrong", right, wrong)
-    broken(rule, numbers, "one table in two slots", listed(wrong, slots=(0x2000, 0x3000, 0x3000)))
-    broken(rule, numbers, "a wrong table at the higher address, which is the first", listed(right, wrong, slots=(0x2000, 0x4000, 0x3000)))
-    kept(rule, "a wrong table at the lower address, which is the second", listed(wrong, right, slots=(0x2000, 0x4000, 0x3000)))
-    kept(rule, "a table that no slot lists", listed(others={0x3000: wrong}))
-    kept(rule, "a table after slots that list a valid one twice", listed(right, wrong, slots=(0x2000, 0x3000, 0x3000, 0x4000)))
-    broken(rule, numbers, "slots of 0", listed(wrong, slots=(0, 0x3000, 0)))
-    kept(rule, "a table without its last byte", listed(wrong[:-1]))
-    kept(rule, "a table without its last byte, before one that is complete", listed(wrong[:-1], wrong))
-    kept(rule, "a header alone", listed(changed(wrong, {4: 37})[:36]))
-    broken(rule, numbers, "35 bytes of a header, before a table", listed(right[:35], wrong))
-    broken(rule, numbers, "a table of another signature, before it", listed(changed(right, {3: ord("X")}), wrong))
-    kept(rule, "a table of another signature", listed(changed(wrong, {3: ord("X")})))
-    for short in (0, 1, 35):
-        kept(rule, f"a Length of {short}", listed(changed(wrong, {4: short})))
-        kept(rule, f"a Length of {short}, before a table", listed(changed(wrong, {4: short}), wrong))
-    kept(rule, "a Length of 2^32 - 1", listed(wrong[:4] + b"\xff" * 4 + wrong[8:]))
-    broken(rule, numbers, "bytes after the table", listed(wrong + b"\xff" * 64))
-    by_xsdt = {RSDP_AT: extended_rsdp(), XSDT_AT: xsdt(0x2000, 0x3000), RSDT_AT: rsdt(0x2000, 0x4000), 0x2000: fadt()}
-    broken(rule, numbers, "a table that the XSDT lists", {**by_xsdt, 0x3000: wrong, 0x4000: right})
-    kept(rule, "a table that the RSDT alone lists", {**by_xsdt, 0x3000: right, 0x4000: wrong})
-    cut_xsdt = {**by_xsdt, XSDT_AT: xsdt(0x2000, 0x3000)[:-1], RSDT_AT: rsdt(0x2000, 0x3000)}
-    kept(rule, "an XSDT of which the last byte is not present, and an RSDT", {**cut_xsdt, 0x3000: wrong})
-    broken(rule, numbers, "an RSDT, and no XSDT", {**cut_xsdt, RSDP_AT: extended_rsdp(0), 0x3000: wrong})
-    high = {RSDP_AT: extended_rsdp(), XSDT_AT: xsdt(0x2000, TOP - length), 0x2000: fadt(), TOP - length: wrong}
-    broken(rule, numbers, "a table that ends with the last address", high)
-    for name, root in (
-        ("an RSDT of which the last byte is not present", rsdt(0x3000)[:-1]),
-        ("an RSDT of another signature", changed(rsdt(0x3000), {0: ord("X")})),
-        ("an RSDT of 35 bytes", changed(rsdt(0x3000), {4: 35})), ("three bytes of a slot", changed(rsdt(0x3000), {4: 39})),
-    ):
-        kept(rule, name, {RSDP_AT: rsdp(), RSDT_AT: root, 0x3000: wrong})
-    broken(rule, numbers, "an RSDT that does not sum to 0", {RSDP_AT: rsdp(), RSDT_AT: changed(rsdt(0x3000), {9: 0}), 0x3000: wrong})
-    broken(rule, numbers, "no FADT", {RSDP_AT: rsdp(), RSDT_AT: rsdt(0x3000), 0x3000: wrong})
+    which_table(rule, numbers, wrong, RIGHT[wrong[:4]], sets=DEVICES)
 
 # ---- all lines, in their order, of sets that break several rules
 whole("an MCFG, an HPET and an SPCR", sound(mcfg(ecam(0xB0000000)), hpet(), spcr()))

@@ -1624,7 +1624,7 @@ whole(
     "two processors of a GIC", arch(5, 0, distributor(3), cpu(mpidr=1 << 24), cpu(mpidr=1 << 24), flags=0),
     "FadtOfRevision 0x4 0x84 0x10c", "SameUid 0x94 0x44", "NoDsdt 0x28", "NoPm1Block 0x38", "SciZero 0x2e", "FadtForArch 0x8 0x5",
     "NoRedistributor 0x2c 0x3", "SameMpidr 0x94 0x44 0x1000000", "MpidrReserved 0x44 0x0 0x1000000", "NoBootMethod 0x81",
-    "MadtRevision 0x8 0x0 0x1",
+    "NoGtdt 0x0", "MadtRevision 0x8 0x0 0x1",
     faults=("no 4 PmEventLength 0x58", "no 4 PmControlLength 0x59", "no 5 NoFacs"),
 )
 whole(

@@ -957,10 +957,10 @@ FOUND_IN_MANY = (
     "advice DomainPastSlit 0xa4 0x2 0x9", "advice SlitDiffers 0x2d 0x2e", "advice SameLeaf 0x64 0x50 0x8", "advice CacheShape 0x78",
     "advice SameCacheId 0x94 0x78 0x4", "advice NoLeaf 0x84 0x0 0x1", "advice LeafNowhere 0x50 0x0 0x8", "advice MadtUnread 0x11a 0xd",
     "advice SratUnread 0xf4 0x5", "advice NoPm1Block 0x40", "advice BlockWidth 0x38 0x18 0x20", "advice HalfBlock 0x4c 0x3",
-    "advice ResetNowhere 0x74", "advice FadtForArch 0x70", "advice LintNotOne 0xe4", "advice GicOverlap 0xea 0x102",
+    "advice ResetNowhere 0x74", "advice FadtForArch 0x70", "advice LintNotOne 0xe4", "advice GicOverlap 0xea 0x102", "advice NoGtdt 0x0",
 )
 # What is not told where a table in which it is sought has a cut or a wrong length.
-SOUGHT = ("SciNowhere", "NmiNowhere", "AffinityNowhere", "NoDomain", "NoLeaf", "LeafNowhere")
+SOUGHT = ("SciNowhere", "NmiNowhere", "AffinityNowhere", "NoDomain", "NoLeaf", "LeafNowhere", "NoGtdt")
 expected(
     "33 faults, and each of the first rules of advice but NoProcessor", MANY_FAULTS,
     *(line for line in FOUND_IN_MANY if "Entry" not in line),
@@ -976,7 +976,10 @@ MOST = {
     RSDP_AT: changed(MANY_FAULTS[RSDP_AT], {9: 0x1F, 33: 1}),
     RSDT_AT: rsdt(0x2000),
     XSDT_AT: changed(
-        xsdt(*(0x1000 * place for place in (2, 3, 4, 5, 6, 8, 9, 10, 11, 12, 13)), 0, 0xE000, 0xF000, 0xE024, 0x2000, 0x10000),
+        xsdt(
+            *(0x1000 * place for place in (2, 3, 4, 5, 6, 8, 9, 10, 11, 12, 13)), 0, 0xE000, 0xF000, 0xE024, 0x2000, 0x10000, 0x11000,
+            0x12000,
+        ),
         {8: 2, 9: 0},
     ),
     0x2000: revised(
@@ -1054,6 +1057,21 @@ MOST = {
     0xE000: changed(table(b"MCFG", table(b"DATA", bytes(8))), {10: 0x7F}, (9, 80)),
     0xF000: table(b"MCFG", b""),
     0x10000: spcr(4, 88, _40=generic_address(1, 2), _52=b"\1\0", _58=b"\1", _64=b"\0\0\xff\xff", _84=bytes(4)),
+    0x11000: hmat(
+        speeds((0, 0), (1,), (0xFFFE, 1), 0x10003, kind=6, flags=4),  # 0x28
+        speeds(unit=0),  # 0x58
+        side_cache(0, 4),  # 0x82
+        proximity(length=39),  # 0xA2
+        b"\1",  # 0xC9
+        revision=3,
+    ),
+    0x12000: gtdt(
+        timer_block(timer_frame(8, gsiv=31), timer_frame(8)),  # 0x68
+        timer_block(length=19),  # 0xCC
+        watchdog(length=27),  # 0xDF
+        of_gtdt(2, 4),  # 0xFA
+        _48=number(1, 4), _56=bytes(4), _64=bytes(4), _96=number(26, 4),
+    ),
     0xA010000: table(b"SSDT", b""),
 }
 expected(
@@ -1090,7 +1108,13 @@ expected(
     "advice InitiatorOff 0x128", "advice DomainPastRevision 0xa4 0x1 0x100", "advice ItsNowhere 0x11c 0x0 0x6",
     "advice SratReserved 0xcc 0x6", "advice RemoteAsLocal 0x2f 0x1", "advice LeafUnflagged 0x78 0x0 0x9",
     "advice LeafAsParent 0x50 0x78", "advice NoPackage 0x50 0x0 0x8", "advice CacheNumbers 0xa8", "advice PpttReserved 0x78 0x2",
-    "advice McfgLength 0x4 0x5c 0x50", "advice EcamAddress 0x2c 0x0 0x4141414141412501", "advice SpcrAddress 0x28 0x0 0x2",
+    "advice McfgLength 0x4 0x5c 0x50", "advice EcamAddress 0x2c 0x0 0x4141414141412501", "advice HmatHeader 0x8 0x0 0x3",
+    "advice HmatCut 0xc9 0x0 0xca", "advice HmatLength 0xa2 0x28 0x27", "advice HmatDataType 0x28 0x9 0x6",
+    "advice HmatHierarchy 0x28 0x8 0x4", "advice HmatUnit 0x58 0x18", "advice HmatTooLarge 0x54 0x0 0xfffe",
+    "advice HmatSameDomain 0x4c 0x48", "advice HmatCache 0x82 0x18 0x4", "advice NoTimer 0x38", "advice TimerNoPpi 0x30 0x0 0x1",
+    "advice SameTimer 0x60 0x48 0x1a", "advice PlatformTimerCut 0xfa 0x0 0x2", "advice TimerBlock 0xcc 0x14 0x13",
+    "advice TimerFrame 0x7c 0x0 0x8", "advice SameFrame 0xa4 0x7c 0x8", "advice Watchdog 0xdf 0x1c 0x1b",
+    "advice TimerNoSpi 0x7c 0x14 0x1f", "advice TimerOverlap 0x80 0xa8 0x10000", "advice SpcrAddress 0x28 0x0 0x2",
     "advice SpcrBaud 0x3a 0x0 0x1", "advice SpcrGsi 0x34 0x0 0x1", "advice SpcrPci 0x40", "advice SpcrName 0x54",
     "advice RsdpText 0x9 0x0 0x41414141411f", "advice RootHeader 0x8 0x0 0x2", "advice BlockSpace 0xe8 0x0 0x2",
     "advice FadtForRiscv 0x8 0x6", "advice GiccShort 0x26d 0x4c 0x4b", "advice GiccDiffers 0x146 0x28 0x1",

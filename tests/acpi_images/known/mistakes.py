@@ -1,6 +1,6 @@
 """Mistakes that firmware makes, put by hand into sets of real firmware one at a time, and the lines that `lint` has to write of
 each, worked out by hand from the rules in docs/TABLES.md and docs/FAULTS.md and from what tests/show/images says of the set.
-Eleven of 66 break a rule that `check` looks at, and of the first 26, which other tools were given too, nine; the others are seen by
+Eleven of 91 break a rule that `check` looks at, and of the first 26, which other tools were given too, nine; the others are seen by
 advice alone."""
 
 from __future__ import annotations
@@ -91,6 +91,12 @@ def of_four(name, signature, changes, *lines):
 def of_small(name, signature, changes, *lines):
     """A mistake in the set of a small virtual machine of reduced hardware, which has sleep registers."""
     MISTAKES.append(Mistake(name, "mv-acpi", signature, changes, list(map(with_numbers, lines))))
+
+
+def of_numa(name, signature, changes, *lines, **more):
+    """A mistake in the set of a PC with 2 processors and 2 domains, of whose HMAT proximities are at 0x28 and 0x50, and at 0x78 the speeds
+    of one initiator at 0x98 and of two targets at 0x9C and 0xA0, with cells from 0xA4 on."""
+    MISTAKES.append(Mistake(name, "sb-q35-hmat", signature, changes, list(map(with_numbers, lines)), **more))
 
 
 # ---- what check sees
@@ -234,4 +240,58 @@ ARM_PORT = {"_36": b"\3", "_40": generic_address(0x9000000, 0, 32, 0, 3), "_52":
 of_arm(
     "the name of the port has no zero at its end", b"XSDT", SPCR_SLOT, "yes", "advice SpcrName 0x60 0x0 0x30",
     others={SPCR_MOVED: spcr(4, 97, **ARM_PORT, _84=number(9, 2), _88=b"\\_SB.COM0")},
+)
+
+# ---- what the rules on the HMAT and the GTDT see
+# What a slot leads to in the place of the HMAT, or of the GTDT.
+HMAT_SLOT, GTDT_SLOT, GTDT_MOVED = {52: number(MOVED, 4)}, {68: number(0x47FD0000, 8)}, 0x47FD0000
+# The GTDT of the Arm machine, with watchdogs, or with blocks of frames, beside what it has.
+arm_timers = lambda *platform, **fields: {GTDT_MOVED: gtdt(*platform, _36=b"\xff" * 8, _60=number(4, 4), _80=b"\xff" * 8, **fields)}
+of_numa("the HMAT's Revision is left 0", b"HMAT", {8: b"\0"}, "yes", "advice HmatHeader 0x8")
+of_numa("the length of the last structure counts a cell too much", b"HMAT", {0x7C: b"\x32"}, "yes", "advice HmatCut 0x78 0x32 0xa8")
+of_numa("a second initiator is counted, and not there", b"HMAT", {0x84: b"\2"}, "yes", "advice HmatLength 0x78 0x38 0x30")
+of_numa("the cells are of a kind that there is not", b"HMAT", {0x81: b"\6"}, "yes", "advice HmatDataType 0x78 0x9 0x6")
+of_numa("the level of memory counts from 1 in the high bits", b"HMAT", {0x80: b"\4"}, "yes", "advice HmatHierarchy 0x78 0x8 0x4")
+of_numa("the unit of the cells is left 0", b"HMAT", {0x90: bytes(8)}, "yes", "advice HmatUnit 0x78 0x18")
+of_numa("the unit of the cells is in the high half", b"HMAT", {0x90: number(1000 << 32, 8)}, "yes", "advice HmatTooLarge 0xa4 0x0 0x1")
+of_numa("the second target is the first", b"HMAT", {0xA0: bytes(4)}, "yes", "advice HmatSameDomain 0xa0 0x9c")
+of_numa("the memory of a proximity is counted from 1", b"HMAT", {0x60: b"\2"}, "yes", "advice HmatProximity 0x50 0x10 0x2")
+of_numa("an initiator is in no domain", b"HMAT", {0x98: b"\3"}, "yes", "advice HmatDomainNowhere 0x98 0x0 0x3")
+of_numa("there is no SRAT", b"RSDT", {48: bytes(4)}, "yes", "advice NullSlot 0x3", "advice HmatAlone")
+of_numa(
+    "a cache is of a domain that has no memory", b"RSDT", HMAT_SLOT, "yes", "advice HmatCacheNowhere 0x28 0x8 0x2",
+    others={MOVED: hmat(side_cache(2, 0x2111))},
+)
+of_numa(
+    "the level of a cache is above its levels", b"RSDT", HMAT_SLOT, "yes", "advice HmatCache 0x28 0x18 0x2121",
+    others={MOVED: hmat(side_cache(1, 0x2121))},
+)
+of_arm("the GTDT's Length is that of Revision 2", b"GTDT", {4: b"\x60"}, "yes", "advice GtdtLength 0x4 0x68 0x60")
+of_arm("there is no GTDT", b"XSDT", {68: bytes(8)}, "yes", "advice NullSlot 0x4", "advice NoGtdt")
+of_arm("neither timer of EL1 has an interrupt", b"GTDT", {56: bytes(4), 64: bytes(4)}, "yes", "advice NoTimer 0x38")
+of_arm("the interrupt of the virtual timer counts from the first PPI", b"GTDT", {64: b"\x0b"}, "yes", "advice TimerNoPpi 0x40 0x0 0xb")
+of_arm("the timer of EL2 has the interrupt of the virtual one", b"GTDT", {72: b"\x1b"}, "yes", "advice SameTimer 0x48 0x40 0x1b")
+of_arm("a platform timer is counted, and has no place", b"GTDT", {88: b"\1"}, "yes", "advice PlatformTimerCut 0x5c")
+of_arm(
+    "the frames of a block are counted wrong", b"XSDT", GTDT_SLOT, "yes", "advice TimerBlock 0x68 0x64 0x3c",
+    others=arm_timers(timer_block(timer_frame(), base=0x2A810000, count=2, length=60)),
+)
+of_arm(
+    "a frame has no address", b"XSDT", GTDT_SLOT, "yes", "advice TimerFrame 0x7c 0x4",
+    others=arm_timers(timer_block(timer_frame(0, 0), base=0x2A810000)),
+)
+of_arm(
+    "two frames have the number 0", b"XSDT", GTDT_SLOT, "yes", "advice SameFrame 0xa4 0x7c",
+    others=arm_timers(timer_block(timer_frame(0, 0x2A820000), timer_frame(0, 0x2A830000), base=0x2A810000)),
+)
+of_arm(
+    "a watchdog has no control frame", b"XSDT", GTDT_SLOT, "yes", "advice Watchdog 0x68 0xc", others=arm_timers(watchdog(0x2A440000, 0)),
+)
+of_arm(
+    "the interrupt of a watchdog counts from that of the first SPI", b"XSDT", GTDT_SLOT, "yes", "advice TimerNoSpi 0x68 0x14 0x1b",
+    others=arm_timers(watchdog(0x2A440000, 0x2A450000, 27)),
+)
+of_arm(
+    "the control frame of a watchdog is its refresh frame", b"XSDT", GTDT_SLOT, "yes", "advice TimerOverlap 0x6c 0x74 0x2a440000",
+    others=arm_timers(watchdog(0x2A440000, 0x2A440000)),
 )

@@ -50,6 +50,16 @@ def unread_in_srat(facts):
     yield from unread(facts.srat, SRAT_LENGTHS)
 
 
+def knows_domains(facts):
+    """Whether there is an SRAT, and rules read all that it may put into a domain."""
+    return has_complete_srat(facts) and not list(unread_in_srat(facts))
+
+
+def domains_of(facts, *kinds):
+    """The domains of the entries of the SRAT of these types, or of all, enabled or not; for an SRAT of which rules read all."""
+    return {domain_of(entry) for entry in facts.srat.entries if not kinds or entry.kind in kinds}
+
+
 def enabled_memory(srat):
     return [entry for entry in srat.typed(MEMORY) if is_enabled(entry.number(28, 4))]
 
@@ -98,11 +108,11 @@ def nowhere_its(facts):
             yield entry.offset, 0, entry.number(8, 4)
 
 
-@rule(308, "ItsDomain", has_complete_srat)
+@rule(308, "ItsDomain", knows_domains)
 def domains_of_its_alone(facts):
     """An ITS is in a domain in which nothing else is, neither a processor nor memory nor a device (5.2.16.5)."""
     domains = {domain_of(entry) for entry in facts.with_domain if entry.kind != ITS_AFFINITY}
-    for entry in facts.of_srat(ITS_AFFINITY) if not list(unread_in_srat(facts)) else ():
+    for entry in facts.of_srat(ITS_AFFINITY):
         if domain_of(entry) not in domains:
             yield of_entry(entry, 2, 4)
 

@@ -161,6 +161,16 @@ class Facts:
         return self.tables.table(b"HPET")
 
     @cached_property
+    def hmat(self):
+        """The same of the HMAT."""
+        return self.tables.table(b"HMAT")
+
+    @cached_property
+    def gtdt(self):
+        """The same of the GTDT."""
+        return self.tables.table(b"GTDT")
+
+    @cached_property
     def spcr(self):
         """The same of the SPCR."""
         return self.tables.table(b"SPCR")

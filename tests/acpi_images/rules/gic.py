@@ -14,8 +14,9 @@ AFFINITY_BITS = 0xFF00FFFFFF
 ENABLED, VGIC_EDGE, ONLINE_CAPABLE = 1 << 0, 1 << 2, 1 << 3
 # How long a GICC with an MPIDR is, at least.
 WITH_MPIDR_LENGTH = 76
-# The interrupt numbers of one processor of its own (PPI), those of the first GICs and those that came with GICv3.
+# The interrupt numbers of one processor of its own (PPI), those of the first GICs and those that came with GICv3; and of devices (SPI).
 PPIS = (*range(16, 32), *range(1056, 1120))
+SPIS = frozenset((*range(32, 1020), *range(4096, 5120)))
 
 
 @rule(115, "SecondGicd", has_madt)

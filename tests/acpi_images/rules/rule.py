@@ -56,6 +56,11 @@ def has_complete_madt(facts):
     return facts.madt is not None and facts.madt.is_well_formed()
 
 
+def has_in_madt(facts, kind):
+    """Whether there is an entry of this type, of any length, in a MADT of which all is read."""
+    return has_complete_madt(facts) and kind in facts.madt_kinds
+
+
 def has_srat(facts):
     return facts.srat is not None
 
@@ -72,6 +77,11 @@ def has_pptt(facts):
 def has_leaf_flags(facts):
     """Whether there is a PPTT whose nodes have the flag of a leaf (5.2.30.1)."""
     return facts.pptt is not None and facts.tables.table(b"PPTT").number(8, 1) >= 2
+
+
+def is_listed(facts, signature):
+    """Whether a slot lists a table with this signature, of which no more than the header need be there."""
+    return signature in facts.tables.first_slots
 
 
 # ---- what several rules use

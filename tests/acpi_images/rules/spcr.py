@@ -5,7 +5,8 @@ from __future__ import annotations
 
 from ..faults import Numbers, served
 from .facts import GICD, SYSTEM_IO
-from .rule import has_complete_madt, of_table, rule, too_short
+from .gic import SPIS
+from .rule import has_complete_madt, has_in_madt, of_table, rule, too_short
 
 # How many bytes an SPCR with all its fields has, and one of a Revision with a name.
 LENGTH, LENGTH_WITH_NAME = 80, 88
@@ -14,10 +15,9 @@ NAMED_SINCE = 4
 OF_FIRMWARE, SYSTEM_MEMORY, WIDEST = 0x15, 0, 3
 # The codes of rates, 0 for that which firmware has set.
 RATES = (0, 3, 4, 6, 7)
-# Bits of the interrupt type, the interrupts of the first that a port can have, and those of a GIC that devices share.
+# Bits of the interrupt type, and the interrupts of the first that a port can have.
 PIC, IO_APIC, GIC = 1 << 0, 1 << 1, 1 << 3
 IRQS = (*range(2, 8), *range(9, 13), 14, 15)
-SPIS = (range(32, 1020), range(4096, 5120))
 NO_ID = 0xFFFF
 
 
@@ -76,16 +76,11 @@ def spcr_interrupt(facts):
     spans = served(facts.madt, facts.policy) if has_complete_madt(facts) else []
     if kind & IO_APIC and spans and gsi not in Numbers(spans):
         yield of_table(table, 54, 4)
-    if table.number(44, 8) and has_distributor(facts):
+    if table.number(44, 8) and has_in_madt(facts, GICD):
         if kind not in (0, GIC):
             yield of_table(table, 52, 1)
-        if kind == GIC and not any(gsi in numbers for numbers in SPIS):
+        if kind == GIC and gsi not in SPIS:
             yield of_table(table, 54, 4)
-
-
-def has_distributor(facts):
-    """Whether there is a distributor of a GIC, of any length, in a MADT of which all is read."""
-    return has_complete_madt(facts) and GICD in facts.madt_kinds
 
 
 @rule(275, "SpcrPci", has_all_fields)

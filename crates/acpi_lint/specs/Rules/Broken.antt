@@ -16,7 +16,9 @@ use Rattle.acpi_lint.specs.Rules.Structures.{OfNamingFadt, IsTablesOverlap}
 use Rattle.acpi_lint.specs.Rules.CacheTypes.{IsSameCacheType}
 use Rattle.acpi_lint.specs.Rules.Hierarchy.{IsNoPackage}
 use Rattle.acpi_lint.specs.Rules.McfgAdvice.{IsEcamOverlap}
+use Rattle.acpi_lint.specs.Rules.MissingTables.{IsHmatAlone, IsNoGtdt}
 use Rattle.acpi_lint.specs.Rules.SpcrAdvice.{IsGsiUnserved, IsNameOpen}
+use Rattle.acpi_lint.specs.Rules.TimerAdvice.{IsTimerOverlap}
 use Rattle.acpi_lint.specs.Rules.RootAdvice.{IsNullSlot, IsRootHeader, IsRsdtDiffers}
 use Rattle.acpi_lint.specs.Rules.RsdpAdvice.{IsRsdpReserved, IsRsdpText}
 use Rattle.acpi_lint.specs.Rules.HeaderAdvice.{IsHeaderText, IsSecondOther}
@@ -54,9 +56,12 @@ pub data Condition : Type 1 where
   FadtMemory : (Memory → List ℕ → ℕ → ℕ → ℕ → Type 0) → Condition  -- what the FADT names in memory
   FadtMadt : (PolicyValue → List ℕ → MadtContents → ℕ → ℕ → ℕ → Type 0) → Condition
   Madt : (List ℕ → ℕ → ℕ → ℕ → Type 0) → Condition  -- the bytes of the MADT
+  MadtSlots : (Memory → ℕ → List ℕ → ℕ → ℕ → ℕ → Type 0) → Condition  -- its bytes, and the slots of the root table
   Slit : (SlitContents → ℕ → ℕ → ℕ → Type 0) → Condition
   Pptt : (List ℕ → ℕ → ℕ → ℕ → Type 0) → Condition  -- the bytes of the PPTT
   Mcfg : (List ℕ → ℕ → ℕ → ℕ → Type 0) → Condition
+  HmatSlots : (Memory → ℕ → ℕ → ℕ → ℕ → Type 0) → Condition  -- that there is one, and the slots of the root table
+  Gtdt : (List ℕ → ℕ → ℕ → ℕ → Type 0) → Condition
   Spcr : (List ℕ → ℕ → ℕ → ℕ → Type 0) → Condition
   SpcrMadt : (PolicyValue → List ℕ → MadtContents → ℕ → ℕ → ℕ → Type 0) → Condition
 
@@ -86,6 +91,9 @@ condition rule.DsdtText = FadtMemory IsDsdtText
 condition rule.S4BiosDiffers = FadtMemory IsS4BiosDiffers
 condition rule.SameCacheType = Pptt IsSameCacheType
 condition rule.EcamOverlap = Mcfg IsEcamOverlap
+condition rule.HmatAlone = HmatSlots IsHmatAlone
+condition rule.NoGtdt = MadtSlots IsNoGtdt
+condition rule.TimerOverlap = Gtdt IsTimerOverlap
 condition rule.SpcrName = Spcr IsNameOpen
 condition rule.SpcrGsi = SpcrMadt IsGsiUnserved
 condition _ = Rows
@@ -99,9 +107,12 @@ HoldsAt (Fadt P) m q at other point = OfFadt m q (λ fadt. P fadt at other point
 HoldsAt (FadtMemory P) m q at other point = OfFadt m q (λ fadt. P m fadt at other point)
 HoldsAt (FadtMadt P) m q at other point = OfFadt m q (λ fadt. OfMadt m q (λ madt. P q fadt madt at other point))
 HoldsAt (Madt P) m q at other point = OfTable (Kind kind.Madt) m q (λ madt. P madt at other point)
+HoldsAt (MadtSlots P) m q at other point = OfTable (Kind kind.Madt) m q (λ madt. P m q.rsdp madt at other point)
 HoldsAt (Slit P) m q at other point = OfSlit m q (λ slit. P slit at other point)
 HoldsAt (Pptt P) m q at other point = OfTable (Kind kind.Pptt) m q (λ pptt. P pptt at other point)
 HoldsAt (Mcfg P) m q at other point = OfTable (Further further.Mcfg) m q (λ mcfg. P mcfg at other point)
+HoldsAt (HmatSlots P) m q at other point = OfTable (Further further.Hmat) m q (λ hmat. P m q.rsdp at other point)
+HoldsAt (Gtdt P) m q at other point = OfTable (Further further.Gtdt) m q (λ gtdt. P gtdt at other point)
 HoldsAt (Spcr P) m q at other point = OfTable (Further further.Spcr) m q (λ spcr. P spcr at other point)
 HoldsAt (SpcrMadt P) m q at other point =
     OfTable (Further further.Spcr) m q (λ spcr. OfMadt m q (λ madt. P q spcr madt at other point))

@@ -102,45 +102,70 @@ rule_row rule.EcamOverlap = (90, 191, codes "EcamOverlap")
 rule_row rule.HpetLength = (91, 192, codes "HpetLength")
 rule_row rule.HpetSpace = (92, 193, codes "HpetSpace")
 rule_row rule.HpetAddress = (93, 194, codes "HpetAddress")
-rule_row rule.SpcrLength = (94, 271, codes "SpcrLength")
-rule_row rule.SpcrAddress = (95, 272, codes "SpcrAddress")
-rule_row rule.SpcrBaud = (96, 273, codes "SpcrBaud")
-rule_row rule.SpcrGsi = (97, 274, codes "SpcrGsi")
-rule_row rule.SpcrPci = (98, 275, codes "SpcrPci")
-rule_row rule.SpcrName = (99, 276, codes "SpcrName")
-rule_row rule.RsdpText = (100, 279, codes "RsdpText")
-rule_row rule.RootHeader = (101, 280, codes "RootHeader")
-rule_row rule.DsdtText = (102, 281, codes "DsdtText")
-rule_row rule.FadtPastRevision = (103, 282, codes "FadtPastRevision")
-rule_row rule.ArmBootEarly = (104, 283, codes "ArmBootEarly")
-rule_row rule.FixedInReduced = (105, 284, codes "FixedInReduced")
-rule_row rule.SmiHandshake = (106, 285, codes "SmiHandshake")
-rule_row rule.S4BiosDiffers = (107, 286, codes "S4BiosDiffers")
-rule_row rule.GpePastEnd = (108, 287, codes "GpePastEnd")
-rule_row rule.BlockTooLong = (109, 288, codes "BlockTooLong")
-rule_row rule.BlockSpace = (110, 289, codes "BlockSpace")
-rule_row rule.BlockUsualWidth = (111, 290, codes "BlockUsualWidth")
-rule_row rule.SleepNotReduced = (112, 291, codes "SleepNotReduced")
-rule_row rule.FadtForRiscv = (113, 292, codes "FadtForRiscv")
-rule_row rule.GiccShort = (114, 293, codes "GiccShort")
-rule_row rule.GiccNoGicr = (115, 294, codes "GiccNoGicr")
-rule_row rule.CapableNoGicr = (116, 295, codes "CapableNoGicr")
-rule_row rule.GiccDiffers = (117, 296, codes "GiccDiffers")
-rule_row rule.SameGicrBase = (118, 297, codes "SameGicrBase")
-rule_row rule.ParkingVersion = (119, 298, codes "ParkingVersion")
-rule_row rule.GiccNoPpi = (120, 299, codes "GiccNoPpi")
-rule_row rule.PicVersion = (121, 300, codes "PicVersion")
-rule_row rule.FurtherReserved = (122, 301, codes "FurtherReserved")
-rule_row rule.HartInvalid = (123, 302, codes "HartInvalid")
-rule_row rule.WakeupMailbox = (124, 303, codes "WakeupMailbox")
-rule_row rule.LapicAtZero = (125, 304, codes "LapicAtZero")
-rule_row rule.MadtRevision = (126, 305, codes "MadtRevision")
-rule_row rule.AffinityReserved = (127, 306, codes "AffinityReserved")
-rule_row rule.DeviceHandle = (128, 307, codes "DeviceHandle")
-rule_row rule.ItsDomain = (129, 308, codes "ItsDomain")
-rule_row rule.PpttUnread = (130, 309, codes "PpttUnread")
-rule_row rule.CacheIdZero = (131, 310, codes "CacheIdZero")
-rule_row rule.SameCacheType = (132, 311, codes "SameCacheType")
+rule_row rule.HmatHeader = (94, 195, codes "HmatHeader")
+rule_row rule.HmatCut = (95, 196, codes "HmatCut")
+rule_row rule.HmatLength = (96, 197, codes "HmatLength")
+rule_row rule.HmatDataType = (97, 198, codes "HmatDataType")
+rule_row rule.HmatHierarchy = (98, 199, codes "HmatHierarchy")
+rule_row rule.HmatUnit = (99, 200, codes "HmatUnit")
+rule_row rule.HmatTooLarge = (100, 201, codes "HmatTooLarge")
+rule_row rule.HmatSameDomain = (101, 202, codes "HmatSameDomain")
+rule_row rule.HmatProximity = (102, 203, codes "HmatProximity")
+rule_row rule.HmatDomainNowhere = (103, 204, codes "HmatDomainNowhere")
+rule_row rule.HmatCacheNowhere = (104, 205, codes "HmatCacheNowhere")
+rule_row rule.HmatCache = (105, 206, codes "HmatCache")
+rule_row rule.HmatAlone = (106, 207, codes "HmatAlone")
+rule_row rule.GtdtLength = (107, 208, codes "GtdtLength")
+rule_row rule.NoGtdt = (108, 209, codes "NoGtdt")
+rule_row rule.NoTimer = (109, 210, codes "NoTimer")
+rule_row rule.TimerNoPpi = (110, 211, codes "TimerNoPpi")
+rule_row rule.SameTimer = (111, 212, codes "SameTimer")
+rule_row rule.PlatformTimerCut = (112, 213, codes "PlatformTimerCut")
+rule_row rule.TimerBlock = (113, 214, codes "TimerBlock")
+rule_row rule.TimerFrame = (114, 215, codes "TimerFrame")
+rule_row rule.SameFrame = (115, 216, codes "SameFrame")
+rule_row rule.Watchdog = (116, 217, codes "Watchdog")
+rule_row rule.TimerNoSpi = (117, 218, codes "TimerNoSpi")
+rule_row rule.TimerOverlap = (118, 219, codes "TimerOverlap")
+rule_row rule.SpcrLength = (119, 271, codes "SpcrLength")
+rule_row rule.SpcrAddress = (120, 272, codes "SpcrAddress")
+rule_row rule.SpcrBaud = (121, 273, codes "SpcrBaud")
+rule_row rule.SpcrGsi = (122, 274, codes "SpcrGsi")
+rule_row rule.SpcrPci = (123, 275, codes "SpcrPci")
+rule_row rule.SpcrName = (124, 276, codes "SpcrName")
+rule_row rule.RsdpText = (125, 279, codes "RsdpText")
+rule_row rule.RootHeader = (126, 280, codes "RootHeader")
+rule_row rule.DsdtText = (127, 281, codes "DsdtText")
+rule_row rule.FadtPastRevision = (128, 282, codes "FadtPastRevision")
+rule_row rule.ArmBootEarly = (129, 283, codes "ArmBootEarly")
+rule_row rule.FixedInReduced = (130, 284, codes "FixedInReduced")
+rule_row rule.SmiHandshake = (131, 285, codes "SmiHandshake")
+rule_row rule.S4BiosDiffers = (132, 286, codes "S4BiosDiffers")
+rule_row rule.GpePastEnd = (133, 287, codes "GpePastEnd")
+rule_row rule.BlockTooLong = (134, 288, codes "BlockTooLong")
+rule_row rule.BlockSpace = (135, 289, codes "BlockSpace")
+rule_row rule.BlockUsualWidth = (136, 290, codes "BlockUsualWidth")
+rule_row rule.SleepNotReduced = (137, 291, codes "SleepNotReduced")
+rule_row rule.FadtForRiscv = (138, 292, codes "FadtForRiscv")
+rule_row rule.GiccShort = (139, 293, codes "GiccShort")
+rule_row rule.GiccNoGicr = (140, 294, codes "GiccNoGicr")
+rule_row rule.CapableNoGicr = (141, 295, codes "CapableNoGicr")
+rule_row rule.GiccDiffers = (142, 296, codes "GiccDiffers")
+rule_row rule.SameGicrBase = (143, 297, codes "SameGicrBase")
+rule_row rule.ParkingVersion = (144, 298, codes "ParkingVersion")
+rule_row rule.GiccNoPpi = (145, 299, codes "GiccNoPpi")
+rule_row rule.PicVersion = (146, 300, codes "PicVersion")
+rule_row rule.FurtherReserved = (147, 301, codes "FurtherReserved")
+rule_row rule.HartInvalid = (148, 302, codes "HartInvalid")
+rule_row rule.WakeupMailbox = (149, 303, codes "WakeupMailbox")
+rule_row rule.LapicAtZero = (150, 304, codes "LapicAtZero")
+rule_row rule.MadtRevision = (151, 305, codes "MadtRevision")
+rule_row rule.AffinityReserved = (152, 306, codes "AffinityReserved")
+rule_row rule.DeviceHandle = (153, 307, codes "DeviceHandle")
+rule_row rule.ItsDomain = (154, 308, codes "ItsDomain")
+rule_row rule.PpttUnread = (155, 309, codes "PpttUnread")
+rule_row rule.CacheIdZero = (156, 310, codes "CacheIdZero")
+rule_row rule.SameCacheType = (157, 311, codes "SameCacheType")
 
 abbrev pub rule_place : Rule → ℕ
 rule_place r = (rule_row r).0
@@ -172,14 +197,19 @@ all_rules =
     rule.ItsNowhere ∷ rule.SratReserved ∷ rule.RemoteAsLocal ∷ rule.LeafUnflagged ∷ rule.LeafAsParent ∷
     rule.NoPackage ∷ rule.CacheNumbers ∷ rule.PpttReserved ∷ rule.McfgLength ∷ rule.EcamAddress ∷
     rule.BusesReversed ∷ rule.EcamWraps ∷ rule.EcamTooHigh ∷ rule.SameBus ∷ rule.EcamOverlap ∷
-    rule.HpetLength ∷ rule.HpetSpace ∷ rule.HpetAddress ∷ rule.SpcrLength ∷ rule.SpcrAddress ∷ rule.SpcrBaud ∷
-    rule.SpcrGsi ∷ rule.SpcrPci ∷ rule.SpcrName ∷ rule.RsdpText ∷ rule.RootHeader ∷ rule.DsdtText ∷
-    rule.FadtPastRevision ∷ rule.ArmBootEarly ∷ rule.FixedInReduced ∷ rule.SmiHandshake ∷ rule.S4BiosDiffers ∷
-    rule.GpePastEnd ∷ rule.BlockTooLong ∷ rule.BlockSpace ∷ rule.BlockUsualWidth ∷ rule.SleepNotReduced ∷
-    rule.FadtForRiscv ∷ rule.GiccShort ∷ rule.GiccNoGicr ∷ rule.CapableNoGicr ∷ rule.GiccDiffers ∷
-    rule.SameGicrBase ∷ rule.ParkingVersion ∷ rule.GiccNoPpi ∷ rule.PicVersion ∷ rule.FurtherReserved ∷
-    rule.HartInvalid ∷ rule.WakeupMailbox ∷ rule.LapicAtZero ∷ rule.MadtRevision ∷ rule.AffinityReserved ∷
-    rule.DeviceHandle ∷ rule.ItsDomain ∷ rule.PpttUnread ∷ rule.CacheIdZero ∷ rule.SameCacheType ∷ []
+    rule.HpetLength ∷ rule.HpetSpace ∷ rule.HpetAddress ∷ rule.HmatHeader ∷ rule.HmatCut ∷ rule.HmatLength ∷
+    rule.HmatDataType ∷ rule.HmatHierarchy ∷ rule.HmatUnit ∷ rule.HmatTooLarge ∷ rule.HmatSameDomain ∷
+    rule.HmatProximity ∷ rule.HmatDomainNowhere ∷ rule.HmatCacheNowhere ∷ rule.HmatCache ∷ rule.HmatAlone ∷
+    rule.GtdtLength ∷ rule.NoGtdt ∷ rule.NoTimer ∷ rule.TimerNoPpi ∷ rule.SameTimer ∷ rule.PlatformTimerCut ∷
+    rule.TimerBlock ∷ rule.TimerFrame ∷ rule.SameFrame ∷ rule.Watchdog ∷ rule.TimerNoSpi ∷ rule.TimerOverlap ∷
+    rule.SpcrLength ∷ rule.SpcrAddress ∷ rule.SpcrBaud ∷ rule.SpcrGsi ∷ rule.SpcrPci ∷ rule.SpcrName ∷
+    rule.RsdpText ∷ rule.RootHeader ∷ rule.DsdtText ∷ rule.FadtPastRevision ∷ rule.ArmBootEarly ∷
+    rule.FixedInReduced ∷ rule.SmiHandshake ∷ rule.S4BiosDiffers ∷ rule.GpePastEnd ∷ rule.BlockTooLong ∷
+    rule.BlockSpace ∷ rule.BlockUsualWidth ∷ rule.SleepNotReduced ∷ rule.FadtForRiscv ∷ rule.GiccShort ∷
+    rule.GiccNoGicr ∷ rule.CapableNoGicr ∷ rule.GiccDiffers ∷ rule.SameGicrBase ∷ rule.ParkingVersion ∷
+    rule.GiccNoPpi ∷ rule.PicVersion ∷ rule.FurtherReserved ∷ rule.HartInvalid ∷ rule.WakeupMailbox ∷
+    rule.LapicAtZero ∷ rule.MadtRevision ∷ rule.AffinityReserved ∷ rule.DeviceHandle ∷ rule.ItsDomain ∷
+    rule.PpttUnread ∷ rule.CacheIdZero ∷ rule.SameCacheType ∷ []
 
 -- the rule with this number
 unfoldable pub rule_numbered : ℕ → Option Rule

@@ -5,14 +5,14 @@ use crate::rows::fadt_fields::*;
 use crate::rows::madt::{OTHER_MADT_LENGTHS, OTHER_MADT_WHOLE};
 use crate::rows::madt_fields::{GICC, GICC_FLAGS, GICC_PARKING_VERSION, MADT_ENTRIES, RINTC};
 use crate::rows::table_fields::{REVISION, TABLE, WHOLE};
-use acpi_rules::{Addend, Case, Clause, Form, Guard, Kind, Need, Row, Source, Test, Value, Within};
+use acpi_rules::{Case, Clause, Form, Guard, Kind, Need, Row, Source, Test, Value, Within};
 
 /// The hardware is reduced, or is not: bit 20 of Flags, HW_REDUCED_ACPI.
 const REDUCED: Guard<'static> = guard!((some table TABLE: REDUCED_FLAG));
 
 const NOT_REDUCED: Guard<'static> = guard!((none table TABLE: REDUCED_FLAG));
 
-const REDUCED_FLAG: &[Case<'static>] = any!({ WHOLE if (FLAGS & 0x10_0000) != 0 });
+const REDUCED_FLAG: &[Case<'static>] = any!({ WHOLE if (FLAGS_31_16 & 0x10) != 0 });
 
 /// Rules on the FADT.
 pub static FADT: [Row<'static>; 14] = [
@@ -228,13 +228,13 @@ pub static FADT: [Row<'static>; 14] = [
         WHOLE if PREFERRED_PM_PROFILE > 8 => at 45 shows 0, PREFERRED_PM_PROFILE;
         WHOLE if RESERVED_111 != 0 => at 111 shows 0, RESERVED_111;
         WHOLE if FLAGS >= 0x100_0000 => at 112 shows 0, FLAGS;
-        WHOLE if (FLAGS & 0xc0_0000) == 0xc0_0000 => at 112 shows 0, FLAGS
+        WHOLE if (FLAGS_31_16 & 0xc0) == 0xc0 => at 112 shows 0, FLAGS
     }),
 ];
 
 /// Further rules on the FADT: on its Revision, and on blocks and registers that the hardware or the standard does not have.
 pub static FADT_FURTHER: [Row<'static>; 9] = [
-    // 282 FadtPastRevision, look at it (5.2.9): the FADT is longer than one of its Revision, or has the Revision 0.
+    // 282 FadtPastRevision, look at it (5.2.9): the FADT is longer than one of its Revision, or has Revision 0.
     // Numbers: for the length `at` is 0x4, the offset of Length, `other` is the length that a FADT of this Revision has,
     // `point` is Length. For Revision 0 `at` is 0x8, the offset of Revision.
     // If `at` is 0x8: "The FADT's Revision, at {at}, is 0."

@@ -58,6 +58,9 @@ pub const RESERVED_111: Field = field!(111, 1);
 
 pub const FLAGS: Field = field!(112, 4);
 
+/// Its bits 31:16.
+pub const FLAGS_31_16: Field = field!(114, 2);
+
 pub const RESET_REG_ADDRESS: Field = field!(120, 8);
 
 pub const ARM_BOOT_ARCH: Field = field!(129, 2);

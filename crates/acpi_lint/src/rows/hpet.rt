@@ -26,7 +26,7 @@ pub static HPET: [Row<'static>; 3] = [
     // "The base address at {at} of the HPET is {point}, which is no multiple of 1024."
     rule!(194 HpetAddress, given in TABLE: {
         HPET_FULL if HPET_ADDRESS == 0 => at 44 shows 0, HPET_ADDRESS;
-        HPET_FULL if HPET_ADDRESS == 0xfed0_0000_0000_0000 => at 44 shows 0, HPET_ADDRESS;
+        HPET_FULL if HPET_ADDRESS_31_0 == 0 && HPET_ADDRESS_63_32 == 0xfed0_0000 => at 44 shows 0, HPET_ADDRESS;
         HPET_FULL if (HPET_ADDRESS & 0x3ff) != 0 => at 44 shows 0, HPET_ADDRESS
     }),
 ];

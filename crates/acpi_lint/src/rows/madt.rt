@@ -13,8 +13,7 @@ use crate::rows::srat::{
 use crate::rows::srat_fields::SRAT_ENTRIES;
 use crate::rows::table_fields::*;
 use acpi_rules::{
-    Addend, Case, Clause, Form, Guard, Kind, LookUp, Need, Range, Repeat, Row, Source, Test, Value,
-    Within,
+    Case, Clause, Form, Guard, Kind, LookUp, Need, Range, Repeat, Row, Source, Test, Value, Within,
 };
 
 // ---- what entries give
@@ -113,6 +112,17 @@ const UNREAD_PROCESSORS: &[Case<'static>] = any!({
     (any GICC) if (length own) < 40;
     (any CORE_PIC) if (length own) != 15;
     (any RINTC) if (length own) < 20
+});
+
+/// The other table, a MADT, has a GIC.
+pub const OTHER_GIC: Guard<'static> = guard!((some other MADT_ENTRIES: { (any GICD) }));
+
+/// The MADT has a processor of an Arm machine; for NoGtdt, which is not a row.
+pub const NEEDS_GTDT: Row<'static> = rule!(209 NoGtdt, given in TABLE where
+    (some table MADT_ENTRIES: { (any GICC) }),
+    MADT_WHOLE, MADT_LENGTHS:
+{
+    WHOLE => at 0 shows 0, 0
 });
 
 // ---- for GicrTooSmall, which is not a row
@@ -365,7 +375,7 @@ pub static MADT_FURTHER: [Row<'static>; 7] = [
     // Numbers: `at` is the structure's offset, `other` is 0x8, the offset of the ID in it, `point` is the ID.
     // "The usable hart at {at} of the MADT has the ID {point}, which no hart has."
     rule!(302 HartInvalid, given in MADT_ENTRIES: {
-        RINTC if (RINTC_FLAGS & 0b11) != 0 && RINTC_HART_ID == 0xffff_ffff_ffff_ffff
+        RINTC if (RINTC_FLAGS & 0b11) != 0 && RINTC_HART_ID == largest
             => at 0 shows 8, RINTC_HART_ID
     }),
     // 303 WakeupMailbox, likely wrong (5.2.12.19): a Multiprocessor Wakeup structure is not of the length of its version,
@@ -458,8 +468,8 @@ pub static GIC: [Row<'static>; 22] = [
     // "The usable processor at {at} of the MADT has the MPIDR {point}, in which a reserved bit is set."
     // Bits 23:0 and 39:32 are those of affinities; all others are reserved.
     rule!(164 MpidrReserved, given in MADT_ENTRIES: {
-        GICC_WITH_MPIDR if (GICC_FLAGS & 0b1001) != 0 && (GICC_MPIDR & 0xffff_ff00_ff00_0000) != 0
-            => at 0 shows 0, GICC_MPIDR
+        GICC_WITH_MPIDR if (GICC_FLAGS & 0b1001) != 0 && GICC_MPIDR_31_24 != 0 => at 0 shows 0, GICC_MPIDR;
+        GICC_WITH_MPIDR if (GICC_FLAGS & 0b1001) != 0 && GICC_MPIDR_63_40 != 0 => at 0 shows 0, GICC_MPIDR
     }),
     // 165 GicrEmpty, likely wrong (5.2.12.17): a range of redistributors has the length 0.
     // Numbers: `at` is the structure's offset, `point` is the base address.

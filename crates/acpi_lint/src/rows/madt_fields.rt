@@ -105,6 +105,11 @@ pub const GICC_WITH_MPIDR: Kind = kind!(11, 76..);
 
 pub const GICC_MPIDR: Field = field!(68, 8);
 
+/// Its bits 31:24, and its bits 63:40.
+pub const GICC_MPIDR_31_24: Field = field!(71, 1);
+
+pub const GICC_MPIDR_63_40: Field = field!(73, 3);
+
 /// The interrupts of statistical profiling and of the trace buffer, which ACPI 6.3 and 6.5 added.
 pub const GICC_SPE: Field = field!(78, 2);
 

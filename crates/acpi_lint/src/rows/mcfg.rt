@@ -2,7 +2,7 @@
 
 use crate::rows::mcfg_fields::*;
 use crate::rows::table_fields::{LENGTH, OEM_ID_0_2, REVISION, TABLE, WHOLE};
-use acpi_rules::{Addend, Case, Clause, Form, Range, Row, Test, Value, Within};
+use acpi_rules::{Case, Clause, Form, Range, Row, Test, Value, Within};
 
 /// The base address of each entry with buses, and 256 times its End Bus Number and its Start Bus Number; for EcamOverlap.
 pub const ECAMS: &[Case<'static>] = cases!({
@@ -43,7 +43,8 @@ pub static MCFG: [Row<'static>; 6] = [
     // "The entry at {at} of the MCFG has the base address {point}, which is no multiple of 1 MiB."
     rule!(186 EcamAddress, given in MCFG_ENTRIES: {
         ECAM if ECAM_BASE == 0 => at 0 shows 0, ECAM_BASE;
-        ECAM if (ECAM_BASE & 0xf_ffff) != 0 => at 0 shows 0, ECAM_BASE
+        ECAM if ECAM_BASE_15_0 != 0 => at 0 shows 0, ECAM_BASE;
+        ECAM if (ECAM_BASE_31_16 & 0xf) != 0 => at 0 shows 0, ECAM_BASE
     }),
     // 187 BusesReversed, likely wrong (PCI Firmware Specification 3.3, 4.1.2): an entry of the MCFG has an end bus
     // number below its start bus number.
@@ -56,18 +57,20 @@ pub static MCFG: [Row<'static>; 6] = [
     // 188 EcamWraps, likely wrong (PCI Firmware Specification 3.3, 4.1.2): the address range of an entry of the MCFG
     // ends above the highest address.
     // Numbers: `at` is the entry's offset, `point` is its base address.
-    // "The address range of the entry at {at} of the MCFG, of base address {point}, ends above the highest address."
+    // "The address range of the entry at {at} of the MCFG, with the base address {point}, ends above the highest
+    // address."
     // The base address is that of bus 0, and each bus has 1 MiB.
     // In units of 0x1_0000 bytes.
     rule!(188 EcamWraps, given in MCFG_ENTRIES: {
-        ECAM if (ECAM_BASE_63_16 + 16 * ECAM_LAST_BUS) > 0xffff_ffff_fff0 => at 0 shows 0, ECAM_BASE;
-        ECAM if (ECAM_BASE_63_16 + 16 * ECAM_LAST_BUS) == 0xffff_ffff_fff0 && ECAM_BASE_15_0 != 0
+        ECAM if ECAM_BASE_63_32 == 0xffff_ffff && (ECAM_BASE_31_16 + 16 * ECAM_LAST_BUS) > 0xfff0
+            => at 0 shows 0, ECAM_BASE;
+        ECAM if ECAM_BASE_63_32 == 0xffff_ffff && (ECAM_BASE_31_16 + 16 * ECAM_LAST_BUS) == 0xfff0
+            && ECAM_BASE_15_0 != 0
             => at 0 shows 0, ECAM_BASE
     }),
-    // 189 EcamTooHigh, likely wrong: the MCFG has the Revision 0, and an entry's base address does not lie below
-    // 0xffffffff.
+    // 189 EcamTooHigh, likely wrong: the MCFG has Revision 0, and an entry's base address is not below 0xffffffff.
     // Numbers: `at` is the entry's offset, `point` is its base address.
-    // "The MCFG has the Revision 0, and its entry at {at} has the base address {point}, not below 0xffffffff."
+    // "The MCFG has Revision 0, and its entry at {at} has the base address {point}, not below 0xffffffff."
     // Applies if the OEM ID does not begin with SGI.
     rule!(189 EcamTooHigh, given in MCFG_ENTRIES: {
         ECAM if (table REVISION) == 0 && (table OEM_ID_0_2) != 0x49_4753 && ECAM_BASE >= 0xffff_ffff

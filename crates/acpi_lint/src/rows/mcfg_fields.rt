@@ -17,10 +17,12 @@ pub const ECAM: Kind = kind!(0, 16);
 /// Base Address: that of bus 0.
 pub const ECAM_BASE: Field = field!(0, 8);
 
-/// Its bits 15:0, and those above.
+/// Its bits 15:0, 31:16, and 63:32.
 pub const ECAM_BASE_15_0: Field = field!(0, 2);
 
-pub const ECAM_BASE_63_16: Field = field!(2, 6);
+pub const ECAM_BASE_31_16: Field = field!(2, 2);
+
+pub const ECAM_BASE_63_32: Field = field!(4, 4);
 
 /// PCI Segment Group Number.
 pub const ECAM_SEGMENT: Field = field!(8, 2);

@@ -1,16 +1,12 @@
 //! Rules on the SPCR (Microsoft's Serial Port Console Redirection Table 1.10), by itself and with the MADT.
 
-use crate::rows::madt::{OTHER_MADT_LENGTHS, OTHER_MADT_WHOLE};
-use crate::rows::madt_fields::{GICD, MADT_ENTRIES};
+use crate::rows::madt::{OTHER_GIC, OTHER_MADT_LENGTHS, OTHER_MADT_WHOLE};
 use crate::rows::spcr_fields::*;
 use crate::rows::table_fields::{LENGTH, REVISION, TABLE, WHOLE};
-use acpi_rules::{Addend, Clause, Form, Guard, Kind, Need, Row, Source, Test, Value, Within};
+use acpi_rules::{Clause, Form, Guard, Need, Row, Source, Test, Value, Within};
 
 /// The table has the fields of its Revision.
 const SPCR_FULL: Guard<'static> = guard!((some table TABLE: { SPCR_80 if REVISION < 4; SPCR_88 }));
-
-/// The MADT has a GIC.
-const OTHER_GIC: Guard<'static> = guard!((some other MADT_ENTRIES: { (any GICD) }));
 
 /// Rules on the SPCR. By hand are the string's last byte, of 276 SpcrName, and whether an I/O APIC serves the GSI, of 274
 /// SpcrGsi: no row reads a byte at a computed offset, or how many inputs an I/O APIC has.
@@ -69,14 +65,14 @@ pub static SPCR: [Row<'static>; 6] = [
         WHOLE if IRQ == 13 => at 53 shows 0, IRQ;
         WHOLE if IRQ > 15 => at 53 shows 0, IRQ
     }),
-    // 275 SpcrPci, look at it (Microsoft's SPCR 1.10): just one of the SPCR's PCI device ID and PCI vendor ID is
+    // 275 SpcrPci, look at it (Microsoft's SPCR 1.10): exactly one of the SPCR's PCI device ID and PCI vendor ID is
     // 0xffff, or its PCI device or function number is too large.
     // Numbers: for the IDs `at` is 0x40 (64), the offset of the PCI device ID, `point` is the PCI device ID. For the
     // numbers `at` is 0x45 (69) for the device or 0x46 (70) for the function, the offset of the number, `point` is the
     // number.
     // If `at` is 0x45: "The PCI device number at {at} of the SPCR is {point:d}, above 31."
     // If `at` is 0x46: "The PCI function number at {at} of the SPCR is {point:d}, above 7."
-    // "The PCI device ID at {at} of the SPCR is {point}, and just one of it and the PCI vendor ID is 0xffff."
+    // "The PCI device ID at {at} of the SPCR is {point}, and exactly one of it and the PCI vendor ID is 0xffff."
     // The numbers count if neither ID is 0xffff.
     rule!(275 SpcrPci, given in TABLE where SPCR_FULL: {
         WHOLE if PCI_DEVICE_ID == 0xffff && PCI_VENDOR_ID != 0xffff => at 64 shows 0, PCI_DEVICE_ID;

@@ -8,7 +8,7 @@ use crate::rows::slit_fields::LOCALITIES;
 use crate::rows::srat_fields::*;
 use crate::rows::table_fields::*;
 use acpi_rules::{
-    Addend, Case, Clause, Form, Guard, Kind, LookUp, Need, Repeat, Row, Source, Test, Value, Within,
+    Case, Clause, Form, Guard, Kind, LookUp, Need, Repeat, Row, Source, Test, Value, Within,
 };
 
 // ---- what entries give
@@ -80,6 +80,21 @@ const DOMAINS: &[Case<'static>] = cases!({
     PORT if (PORT_FLAGS & 0b1) != 0 => at 0 shows 0, PORT_DOMAIN;
     RINTC_AFFINITY if (RINTC_AFFINITY_FLAGS & 0b1) != 0 => at 0 shows 0, RINTC_AFFINITY_DOMAIN
 });
+
+/// The domain of each entry that names one.
+pub const ALL_DOMAINS: &[Case<'static>] = cases!({
+    APIC_AFFINITY => at 0 shows 0, (APIC_AFFINITY_DOMAIN + 256 * APIC_AFFINITY_DOMAIN_HIGH);
+    MEMORY => at 0 shows 0, MEMORY_DOMAIN;
+    X2APIC_AFFINITY => at 0 shows 0, X2APIC_AFFINITY_DOMAIN;
+    GICC_AFFINITY => at 0 shows 0, GICC_AFFINITY_DOMAIN;
+    ITS_AFFINITY => at 0 shows 0, ITS_AFFINITY_DOMAIN;
+    INITIATOR => at 0 shows 0, INITIATOR_DOMAIN;
+    PORT => at 0 shows 0, PORT_DOMAIN;
+    RINTC_AFFINITY => at 0 shows 0, RINTC_AFFINITY_DOMAIN
+});
+
+/// No entry of the other table, an SRAT, is one that no rule reads.
+pub const OTHER_SRAT_READ: Guard<'static> = guard!((none other SRAT_ENTRIES: UNREAD));
 
 // ---- the rules
 

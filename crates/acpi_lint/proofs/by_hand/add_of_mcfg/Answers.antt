@@ -8,15 +8,15 @@ use Rattle.acpi_lint.proofs.CollectedNumbers.{each_ok}
 use Rattle.acpi_lint.proofs.OfTables.{not_there, table_lifts, there}
 use Rattle.acpi_lint.proofs.by_hand.add_of_mcfg.Goals as goal
 
-pub returns-in_default : goal.returns-in_default
-returns-in_default c = λ m q are. λ done before.
+pub returns-in_default-clause-adds : goal.returns-in_default-clause-adds
+returns-in_default-clause-adds c = λ m q are. λ done before.
     let lifts = table_lifts (Further further.Mcfg) m q c.further.result are c.further.ensures in
     none_added m q rule.EcamOverlap c.args.found.now.items
     (not_there (OfTable (Further further.Mcfg) m q) (λ whole. whole) IsEcamOverlap lifts c.in_default.is)
     done before
 
-pub returns : goal.returns
-returns c =
+pub returns-clause-adds : goal.returns-clause-adds
+returns-clause-adds c =
     each_ok c.add.result
     (λ _ last. λ m q are. λ done before.
     let lifts = table_lifts (Further further.Mcfg) m q c.further.result are c.further.ensures in

@@ -10,8 +10,8 @@ use Rattle.acpi_lint.proofs.CollectedNumbers.{each_ok}
 use Rattle.acpi_lint.proofs.OfTables.{both_there, first_missing, madt_lifts, not_there, second_missing, table_lifts, there}
 use Rattle.acpi_lint.proofs.by_hand.add_of_spcr.Goals as goal
 
-pub returns-in_default : goal.returns-in_default
-returns-in_default c = λ m are. λ done before.
+pub returns-in_default-clause-adds : goal.returns-in_default-clause-adds
+returns-in_default-clause-adds c = λ m are. λ done before.
     let q = c.args.policy.now in
     let Of = OfTable (Further further.Spcr) m q in
     let found = c.args.found.now.items in
@@ -20,8 +20,8 @@ returns-in_default c = λ m are. λ done before.
     (first_missing Of (λ whole. whole) (OfMadt m q) (IsGsiUnserved q) lifts c.in_default.is) _
     (none_added m q rule.SpcrName found (not_there Of (λ whole. whole) IsNameOpen lifts c.in_default.is) done before)
 
-pub returns-in_default-madt : goal.returns-in_default-madt
-returns-in_default-madt c = λ m are. λ done before.
+pub returns-in_default-madt-clause-adds : goal.returns-in_default-madt-clause-adds
+returns-in_default-madt-clause-adds c = λ m are. λ done before.
     let q = c.args.policy.now in
     let Of = OfTable (Further further.Spcr) m q in
     let lifts = table_lifts (Further further.Spcr) m q c.further.result are c.further.ensures in
@@ -31,8 +31,8 @@ returns-in_default-madt c = λ m are. λ done before.
     (c.in_ok-add.ensures.adds m q
     (there Of (λ whole. whole) IsNameOpen c.name_open.result lifts c.in-Some.is c.name_open.ensures) done before)
 
-pub returns : goal.returns
-returns c =
+pub returns-clause-adds : goal.returns-clause-adds
+returns-clause-adds c =
     each_ok c.add-2.result
     (λ _ last. λ m are. λ done before.
     let q = c.args.policy.now in

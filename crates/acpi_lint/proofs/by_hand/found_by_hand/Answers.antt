@@ -13,6 +13,8 @@ returns c =
     (c.in_ok-add_of_fadt.ensures.adds q c.requires _
     (c.in_ok-add_of_memory.ensures q (sym c.rsdp.ensures.value) _
     (c.in_ok-add_of_slots.ensures m q c.requires _
-    (c.in_ok-add_of_spcr.ensures m c.requires _
-    (c.in_ok-add_of_mcfg.ensures m q c.requires _
-    (nothing_yet m q c.new-found.result.items c.new-found.ensures.items)))))))))
+    (c.in_ok-add_of_spcr.ensures.adds m c.requires _
+    (c.in_ok-add_of_gtdt.ensures.adds m q c.requires _
+    (c.in_ok-add_of_hmat.ensures.adds m q c.requires _
+    (c.in_ok-add_of_mcfg.ensures.adds m q c.requires _
+    (nothing_yet m q c.new-found.result.items c.new-found.ensures.items)))))))))))
