@@ -202,7 +202,6 @@ def machine(count):
     return [madt(io_apic(0), *map(x2apic, numbers)), affinities, slit(64), topology(count)]
 
 
-# the tables of a kind, by the number of entries, which are in random order if they differ
 def hmat(body):
     return table(b"HMAT", bytes(4) + body, 2)
 
@@ -226,7 +225,69 @@ def platform_timers(count):
     return table(b"GTDT", fields + struct.pack("<BHB", 2, 4, 0) * count, 3)
 
 
+# Of a DMAR and an IVRS, the structures of which have a length of 16 bits: how many scopes of 8 bytes one has, and how many entries of 4.
+SCOPES, ENTRIES = 8000, 16000
+
+
+def dmar(*structures, flags=0):
+    return table(b"DMAR", bytes([47, flags]) + bytes(10) + b"".join(structures))
+
+
+def drhd(number, scopes=b""):
+    """An IOMMU whose registers are at this page, with scopes."""
+    return struct.pack("<HHIQ", 0, 16 + len(scopes), 0, 4096 * (number + 1)) + scopes
+
+
+def rhsa(number):
+    return struct.pack("<HHIQI", 3, 20, 0, 4096 * (number + 1), 0)
+
+
+def scope(kind, number=0):
+    """A device scope of one step."""
+    return struct.pack("<BBHBBH", kind, 8, 0, number % 256, 0, 0)
+
+
+def units_of_scopes(kind, count):
+    """IOMMUs with that many scopes, or somewhat more, as many in each as fit."""
+    scopes = b"".join(scope(kind, number) for number in range(SCOPES))
+    return [drhd(number, scopes) for number in range(-(-count // SCOPES))]
+
+
+def ivrs(*blocks):
+    return table(b"IVRS", bytes(12) + b"".join(blocks), 2)
+
+
+def ivhd(number, entries=b""):
+    """An IOMMU whose device and segment are of this number, as its address is, with entries."""
+    base = 16384 * (number + 1)
+    return struct.pack("<BBHHHQHHI", 0x10, 0, 24 + len(entries), number % 65536, 0, base, number // 65536, 0, 0) + entries
+
+
+def special_entries(count):
+    """Entries of I/O APICs."""
+    return b"".join(struct.pack("<B3xBHB", 0x48, number % 256, 0, 1) for number in range(count))
+
+
+def units_of_entries(entries, count):
+    """IOMMUs with so many entries, or somewhat more, of which each has these."""
+    return [ivhd(number, entries) for number in range(-(-count // ENTRIES))]
+
+
+# the tables of a kind, by the number of entries, which are in random order if they differ
 KINDS = {
+    "scopes": lambda count: [dmar(*units_of_scopes(1, count))],
+    "scopes-of-io-apics": lambda count: [dmar(*units_of_scopes(3, count), flags=1), madt(*map(io_apic, shuffled(count)))],
+    "scopes-apart": lambda count: [dmar(drhd(0), (struct.pack("<HHI", 2, 16, 0) + scope(1)) * count)],
+    "iommus": lambda count: [dmar(*map(drhd, shuffled(count)))],
+    "rhsas": lambda count: [dmar(*map(drhd, shuffled(count)), *map(rhsa, reversed(shuffled(count)))), srat(memory_range(0))],
+    "structures-of-4-bytes": lambda count: [dmar(drhd(0), struct.pack("<HH", 7, 4) * count)],
+    "device-entries": lambda count: [ivrs(*units_of_entries(struct.pack("<BHB", 2, 8, 0) * ENTRIES, count))],
+    "device-ranges": lambda count: [ivrs(*units_of_entries(struct.pack("<BHBBHB", 3, 8, 0, 4, 9, 0) * (ENTRIES // 2), count))],
+    "special-entries": lambda count: [
+        ivrs(*units_of_entries(special_entries(ENTRIES // 2), 2 * count)), madt(*map(io_apic, shuffled(count))),
+    ],
+    "ivhds": lambda count: [ivrs(*map(ivhd, shuffled(count)))],
+    "ivmds": lambda count: [ivrs(ivhd(0), struct.pack("<BBHIQQQ", 0x20, 1, 32, 0, 0, 4096, 4096) * count)],
     "initiators": lambda count: [hmat(latencies(shuffled(count), (), b"")), srat(memory_range(0))],
     "cells": lambda count: [square_of_cells(count), srat(memory_range(0))],
     "structures-of-8-bytes": lambda count: [hmat(struct.pack("<HHI", 3, 0, 8) * count), srat(memory_range(0))],

@@ -36,7 +36,8 @@ COMPARED = [
     (RUST, "        TimerLevel = 155,", "        TimerLevel = 156,", [RUST]),
     (EXPLAINED, "Fix: list the FADT.", "Fix: add the FADT.", [EXPLAINED]),
     (RULE, "timer, is level-triggered", "timer, is edge-triggered", [RULE]),
-    (RULE, '"TimerLevel"),', '"TimerEdge"),', [RULE]),
+    (RULE, "(Rule::TimerLevel, 155),", "(Rule::TimerLevel, 156),", [RULE]),
+    (RULE, '=> "TimerLevel",', '=> "TimerEdge",', [RULE]),
     (RULE, "COUNT: usize = ", "COUNT: usize = 1", [RULE]),
     (RULE, "FIRST: u16 = 101", "FIRST: u16 = 100", [RULE]),
     (RULE, "LAST: u16 = ", "LAST: u16 = 1", [RULE]),
@@ -63,6 +64,7 @@ WRITTEN = [
     (MADT, TIMER, TIMER.replace("5.2.12.5", "5.2.12"), [TABLES, RULE]),
     (MADT, TIMER, TIMER.replace("5.2.12.5", "IA-PC HPET 1.0a, 3.2.4"), [TABLES, RULE]),
     (MADT, TIMER, TIMER.replace("5.2.12.5", "Microsoft's SPCR 1.10"), [TABLES, RULE]),
+    (MADT, TIMER, TIMER.replace("5.2.12.5", "AMD 48882, 5.2.2"), [TABLES, RULE]),
     (MADT, TIMER, TIMER.replace("level-triggered", "wrong"), [RULE, HEADER, PYTHON]),
     (MADT, "is level-triggered: its Flags are {point}.", "has the Flags {point}.", [SENTENCES]),
     (MADT, "`at` is the override's offset, `point` is its Flags.", "`at` is where it is, `point` its Flags.", [FAULTS, PYTHON, RUST]),
@@ -188,7 +190,7 @@ def large_number(lists):
     lists.is_silent("a number beyond 999, after a gap, that is written")
     lists.is_silent("a number beyond 999, after a gap", "--check")
     for name, text in (
-        (RULE, '1000, "SameCacheType"),\n    // end: rules'), (ROWS, '(157, 1000, codes "SameCacheType")'), (BOUNDS, "rule_number r ≤ 1000"),
+        (RULE, "SameCacheType, 1000),\n    // end: rules"), (ROWS, '(188, 1000, codes "SameCacheType")'), (BOUNDS, "rule_number r ≤ 1000"),
         (HEADER, "ACPISET_SAME_CACHE_TYPE = 1000"), (PYTHON, "    SameCacheType = 1000  #"), (RUST, "        SameCacheType = 1000,"),
         (SENTENCES, "    1000: ("), (FAULTS, "1000 [SameCacheType](#1000-samec"),
     ):

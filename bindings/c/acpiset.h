@@ -128,7 +128,7 @@ struct acpiset_answer acpiset_confirm(const struct acpiset_piece *pieces, size_t
 
 /* The most findings that acpiset_lint of this version reports. A shared library of a later version may count more. */
 /* begin: most, made by scripts/lists.py */
-#define ACPISET_MOST_FINDINGS 217
+#define ACPISET_MOST_FINDINGS 248
 /* end: most */
 
 /* All that is wrong: the first fault of each code that has one, and then the first finding of each rule of advice that is
@@ -381,6 +381,37 @@ enum acpiset_rule {
     ACPISET_WATCHDOG = 217,             /* a watchdog of the GTDT does not have 28 bytes, or one of its addresses is 0 */
     ACPISET_TIMER_NO_SPI = 218,         /* the GTDT gives a platform timer an interrupt that is no SPI */
     ACPISET_TIMER_OVERLAP = 219,        /* two ranges of registers of the GTDT's platform timers share an address */
+    ACPISET_DMAR_WIDTH = 240,           /* the DMAR is shorter than 48 bytes, or its Host Address Width is not 11 to 63 */
+    ACPISET_DMAR_CUT = 241,             /* after the last structure of the DMAR there are bytes that are not a structure */
+    ACPISET_DMAR_SHORT = 242,           /* a structure of the DMAR is shorter than the fields of its type */
+    ACPISET_NO_DRHD = 243,              /* the DMAR has no DRHD */
+    ACPISET_SCOPE_CUT = 244,            /* after the last device scope of a structure of the DMAR there are bytes that are not a device scope */
+    ACPISET_SCOPE_TYPE = 245,           /* a device scope of the DMAR has an unknown type or an odd length, or a step of its path has a Device above 31 or a Function above 7 */
+    ACPISET_DRHD_ADDRESS = 246,         /* a DRHD has a Register Base Address that is 0 or no multiple of 4096 */
+    ACPISET_DRHD_OVERLAP = 247,         /* the registers of two DRHDs share an address */
+    ACPISET_SECOND_INCLUDE_ALL = 248,   /* two DRHDs of one segment have INCLUDE_PCI_ALL set, or two ATSRs of one segment have ALL_PORTS set */
+    ACPISET_INCLUDE_ALL_NOT_LAST = 249, /* a DRHD follows one of the same segment that has INCLUDE_PCI_ALL set, and does not have it set itself */
+    ACPISET_RMRR_RANGE = 250,           /* the memory of an RMRR does not begin or end at a multiple of 4096, or its limit is not above its base */
+    ACPISET_RMRR_NO_DEVICE = 251,       /* an RMRR has no device scope */
+    ACPISET_RHSA_NOWHERE = 252,         /* an RHSA has a Register Base Address that no DRHD has */
+    ACPISET_RHSA_DOMAIN = 253,          /* an RHSA is in a proximity domain that the SRAT does not have */
+    ACPISET_SAME_RHSA = 254,            /* two RHSAs have the same Register Base Address */
+    ACPISET_ANDD_NAME = 255,            /* the ACPI Object Name of an ANDD has no byte that is 0 */
+    ACPISET_ANDD_NOWHERE = 256,         /* a device scope names an ANDD that the DMAR does not have, or no DRHD has a device scope of an ANDD */
+    ACPISET_IO_APIC_UNMAPPED = 257,     /* interrupts are remapped, and an I/O APIC of the MADT is in no device scope of a DRHD */
+    ACPISET_SAME_SCOPE = 258,           /* two device scopes of DRHDs are of the same I/O APIC */
+    ACPISET_IVRS_CUT = 259,             /* the IVRS is shorter than 48 bytes, or after its last block there are bytes that are not a block */
+    ACPISET_IVRS_SHORT = 260,           /* a block of the IVRS is shorter than the fields of its type */
+    ACPISET_NO_IVHD = 261,              /* the IVRS has no IVHD */
+    ACPISET_IVHD_ADDRESS = 262,         /* an IVHD has an IOMMU Base Address that is 0 or no multiple of 16384 */
+    ACPISET_SAME_IVHD = 263,            /* two IVHDs of one type and one PCI Segment Group have the same DeviceID */
+    ACPISET_IVHD_DIFFERS = 264,         /* two IVHDs have the same IOMMU Base Address, or the same PCI Segment Group and DeviceID, and not both */
+    ACPISET_IVHD_ENTRY_CUT = 265,       /* after the last device entry of an IVHD there are bytes that are not a device entry */
+    ACPISET_IVHD_ENTRY_TYPE = 266,      /* a device entry of the IVRS is of a type that its block does not have, or has a Variety, a Hardware ID or a UID that is reserved */
+    ACPISET_IVHD_RANGE = 267,           /* a device entry of the IVRS starts a range that the next one does not end, or ends one that the one before does not start, or that starts at a higher DeviceID */
+    ACPISET_IO_APIC_NOT_IN_IVRS = 268,  /* the IVHDs of one type have special devices that are I/O APICs, and an I/O APIC of the MADT is none of them */
+    ACPISET_SAME_SPECIAL = 269,         /* two special devices of one Variety, in IVHDs of one type, have the same Handle */
+    ACPISET_IVMD_RANGE = 270,           /* an IVMD has reserved flags or none of a mapping, an empty range of memory or one that ends above the highest address, or a range of devices that ends below its start */
     ACPISET_SPCR_LENGTH = 271,          /* the SPCR is too short for its Revision */
     ACPISET_SPCR_ADDRESS = 272,         /* the SPCR's base address is neither in memory nor in I/O ports, or is in memory with an access size above 3 (32 bits) */
     ACPISET_SPCR_BAUD = 273,            /* the SPCR's baud rate has a reserved value, and there is no precise baud rate */
@@ -605,6 +636,37 @@ static inline const char *acpiset_number_name(uint32_t number) {
     case ACPISET_WATCHDOG: return "Watchdog";
     case ACPISET_TIMER_NO_SPI: return "TimerNoSpi";
     case ACPISET_TIMER_OVERLAP: return "TimerOverlap";
+    case ACPISET_DMAR_WIDTH: return "DmarWidth";
+    case ACPISET_DMAR_CUT: return "DmarCut";
+    case ACPISET_DMAR_SHORT: return "DmarShort";
+    case ACPISET_NO_DRHD: return "NoDrhd";
+    case ACPISET_SCOPE_CUT: return "ScopeCut";
+    case ACPISET_SCOPE_TYPE: return "ScopeType";
+    case ACPISET_DRHD_ADDRESS: return "DrhdAddress";
+    case ACPISET_DRHD_OVERLAP: return "DrhdOverlap";
+    case ACPISET_SECOND_INCLUDE_ALL: return "SecondIncludeAll";
+    case ACPISET_INCLUDE_ALL_NOT_LAST: return "IncludeAllNotLast";
+    case ACPISET_RMRR_RANGE: return "RmrrRange";
+    case ACPISET_RMRR_NO_DEVICE: return "RmrrNoDevice";
+    case ACPISET_RHSA_NOWHERE: return "RhsaNowhere";
+    case ACPISET_RHSA_DOMAIN: return "RhsaDomain";
+    case ACPISET_SAME_RHSA: return "SameRhsa";
+    case ACPISET_ANDD_NAME: return "AnddName";
+    case ACPISET_ANDD_NOWHERE: return "AnddNowhere";
+    case ACPISET_IO_APIC_UNMAPPED: return "IoApicUnmapped";
+    case ACPISET_SAME_SCOPE: return "SameScope";
+    case ACPISET_IVRS_CUT: return "IvrsCut";
+    case ACPISET_IVRS_SHORT: return "IvrsShort";
+    case ACPISET_NO_IVHD: return "NoIvhd";
+    case ACPISET_IVHD_ADDRESS: return "IvhdAddress";
+    case ACPISET_SAME_IVHD: return "SameIvhd";
+    case ACPISET_IVHD_DIFFERS: return "IvhdDiffers";
+    case ACPISET_IVHD_ENTRY_CUT: return "IvhdEntryCut";
+    case ACPISET_IVHD_ENTRY_TYPE: return "IvhdEntryType";
+    case ACPISET_IVHD_RANGE: return "IvhdRange";
+    case ACPISET_IO_APIC_NOT_IN_IVRS: return "IoApicNotInIvrs";
+    case ACPISET_SAME_SPECIAL: return "SameSpecial";
+    case ACPISET_IVMD_RANGE: return "IvmdRange";
     case ACPISET_SPCR_LENGTH: return "SpcrLength";
     case ACPISET_SPCR_ADDRESS: return "SpcrAddress";
     case ACPISET_SPCR_BAUD: return "SpcrBaud";
@@ -701,6 +763,9 @@ static inline uint32_t acpiset_severity_of(uint32_t number) {
     case ACPISET_SAME_TIMER:
     case ACPISET_SAME_FRAME:
     case ACPISET_TIMER_OVERLAP:
+    case ACPISET_INCLUDE_ALL_NOT_LAST:
+    case ACPISET_RHSA_DOMAIN:
+    case ACPISET_IVHD_ENTRY_TYPE:
     case ACPISET_SPCR_PCI:
     case ACPISET_RSDP_TEXT:
     case ACPISET_ROOT_HEADER:
@@ -813,6 +878,34 @@ static inline uint32_t acpiset_severity_of(uint32_t number) {
     case ACPISET_TIMER_FRAME:
     case ACPISET_WATCHDOG:
     case ACPISET_TIMER_NO_SPI:
+    case ACPISET_DMAR_WIDTH:
+    case ACPISET_DMAR_CUT:
+    case ACPISET_DMAR_SHORT:
+    case ACPISET_NO_DRHD:
+    case ACPISET_SCOPE_CUT:
+    case ACPISET_SCOPE_TYPE:
+    case ACPISET_DRHD_ADDRESS:
+    case ACPISET_DRHD_OVERLAP:
+    case ACPISET_SECOND_INCLUDE_ALL:
+    case ACPISET_RMRR_RANGE:
+    case ACPISET_RMRR_NO_DEVICE:
+    case ACPISET_RHSA_NOWHERE:
+    case ACPISET_SAME_RHSA:
+    case ACPISET_ANDD_NAME:
+    case ACPISET_ANDD_NOWHERE:
+    case ACPISET_IO_APIC_UNMAPPED:
+    case ACPISET_SAME_SCOPE:
+    case ACPISET_IVRS_CUT:
+    case ACPISET_IVRS_SHORT:
+    case ACPISET_NO_IVHD:
+    case ACPISET_IVHD_ADDRESS:
+    case ACPISET_SAME_IVHD:
+    case ACPISET_IVHD_DIFFERS:
+    case ACPISET_IVHD_ENTRY_CUT:
+    case ACPISET_IVHD_RANGE:
+    case ACPISET_IO_APIC_NOT_IN_IVRS:
+    case ACPISET_SAME_SPECIAL:
+    case ACPISET_IVMD_RANGE:
     case ACPISET_SPCR_LENGTH:
     case ACPISET_SPCR_ADDRESS:
     case ACPISET_SPCR_BAUD:

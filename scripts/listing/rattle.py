@@ -5,39 +5,14 @@ from itertools import accumulate
 from textwrap import wrap
 
 from .rules import SEVERITIES
-from .tree import CRATES, SCRIPT, Wrong, lines_of, named, quoted, replaced, wrapped
+from .tree import CRATES, SCRIPT, lines_of, named, quoted, replaced, wrapped
 
 RULE = CRATES / "acpi_lint/src/rule.rt"
 ROWS = CRATES / "acpi_lint/specs/Rules/Rows.antt"
 RULE_NUMBERS = CRATES / "acpi_lint/proofs/RuleNumbers.antt"
 EXPLAINED = CRATES / "acpi_c/src/explained.rt"
 BEGIN, END = f"    // begin: rules, made by {SCRIPT}", "    // end: rules"
-COLUMNS_OF_NUMBERS = 96  # of a line of numbers, as `rt fmt` fills it
-WIDEST = 60  # characters between parentheses, beyond which `rt fmt` writes a line for each item
-
-
-TABLE = re.compile(r"^const ROWS: \[\(([^)]*)\); [^\]]*\] = \[\n", re.M)
-# What a row of this table has in a column of this type.
-COLUMNS = {
-    "Rule": lambda rule: f"Rule::{rule.name}",
-    "u16": lambda rule: str(rule.number),
-    "&str": lambda rule: quoted(rule.name),
-}
-
-
-def row_of(rule, columns):
-    items = [column(rule) for column in columns]
-    inside = ", ".join(items)
-    return [f"    ({inside}),"] if len(inside) <= WIDEST else ["    (", *(f"        {item}," for item in items), "    ),"]
-
-
-def columns_of(text):
-    """What the rows of the table ROWS have, by its type."""
-    table = TABLE.search(text)
-    types = table[1].split(", ") if table else []
-    if not types or not COLUMNS.keys() >= set(types):
-        raise Wrong(f"{named(RULE)}: no table ROWS whose columns are of the types {', '.join(COLUMNS)}")
-    return [COLUMNS[kind] for kind in types]
+COLUMNS_OF_NUMBERS = 95  # of a line of numbers, as `rt fmt` fills it
 
 
 def variants(rules):
@@ -50,9 +25,11 @@ def rule_source(text, rules):
     """What src/rule.rt of acpi_lint has to be."""
     body = lines_of([BEGIN, *variants(rules), END])
     text = replaced(r"(^pub enum Rule \{\n).*?(?=^\})", text, body, f"{named(RULE)}: the enum Rule")
-    columns = columns_of(text)
-    rows = lines_of([BEGIN, *(line for rule in rules for line in row_of(rule, columns)), END])
-    text = replaced(rf"({TABLE.pattern}).*?(?=^\];)", text, rows, f"{named(RULE)}: the table ROWS")
+    rows = lines_of([BEGIN, *(f"    (Rule::{rule.name}, {rule.number})," for rule in rules), END])
+    text = replaced(r"(^const ROWS: [^\n]* = \[\n).*?(?=^\];)", text, rows, f"{named(RULE)}: the table ROWS")
+    arms = (f"    Rule::{rule.name} => {quoted(rule.name)}," for rule in rules)
+    names = lines_of(f"        {line}" for line in (BEGIN, *arms, END))
+    text = replaced(r"(^    pub fn name\(.*?^        match self \{\n).*?(?=^        \}\n)", text, names, f"{named(RULE)}: the function name")
     for constant, kind, value in (("COUNT", "usize", len(rules)), ("FIRST", "u16", rules[0].number), ("LAST", "u16", rules[-1].number)):
         where = rf"(^    pub const {constant}: {kind} = )\d+(?=;$)"
         text = replaced(where, text, str(value), f"{named(RULE)}: the constant {constant}")
@@ -75,18 +52,17 @@ def rule_bounds(text, rules):
     return replaced(highest, text, str(rules[-1].number), f"{named(RULE_NUMBERS)}: the highest number of a rule")
 
 
-def texts_of(page, name, count, what, some):
-    """The texts of some, one after another, and where each begins, and the last ends, in bytes."""
-    texts = [page.explained(one.number) for one in some]
+def texts_of(name, starts_name, count, what, texts):
+    """Texts one after another, and where each begins, and the last ends, in bytes."""
     starts = [0, *accumulate(len(text.encode()) for text in texts)]
     return [
         f"/// {what}, one text after another.",
-        f'pub const {name}_TEXTS: &str = "\\',
+        f'pub const {name}: &str = "\\',
         *(f"    {quoted(text)[1:-1]}\\" for text in texts[:-1]),
         f'    {quoted(texts[-1])[1:]};',
         "",
         "/// The offsets in bytes where these begin, and where the last one ends.",
-        f"pub const {name}_STARTS: [u32; {count} + 1] = [",
+        f"pub const {starts_name}: [u32; {count} + 1] = [",
         *(f"    {line}" for line in wrap(" ".join(f"{start}," for start in starts), COLUMNS_OF_NUMBERS)),
         "];",
         "",
@@ -96,6 +72,7 @@ def texts_of(page, name, count, what, some):
 def explained(codes, rules, page):
     """What src/explained.rt of acpi_c has to be."""
     variants_of = {severity: severity.title().replace(" ", "") for severity in SEVERITIES}
+    of_codes, of_rules = ([page.explained(one.number) for one in some] for some in (codes, rules))
     return lines_of(
         [
             f"//! What docs/FAULTS.md says of the codes and the rules. {SCRIPT} writes this file.",
@@ -104,8 +81,9 @@ def explained(codes, rules, page):
             "use acpi_base::Code;",
             "use acpi_lint::Rule;",
             "",
-            *texts_of(page, "CODE", "Code::COUNT", "What is wrong and how it is mended, of each code by its number", codes),
-            *texts_of(page, "RULE", "Rule::COUNT", "What is found and how it is mended, of each rule by its number", rules),
+            *texts_of("CODE_TEXTS", "CODE_STARTS", "Code::COUNT", "What is wrong and how it is mended, of each code by its number", of_codes),
+            *texts_of("RULE_TEXTS", "RULE_STARTS", "Rule::COUNT", "What is found and how it is mended, of each rule by its number", of_rules),
+            *texts_of("RULE_NAMES", "NAME_STARTS", "Rule::COUNT", "The name of each rule by its number", [rule.name for rule in rules]),
             "/// The severity of each rule, by its number.",
             "pub const SEVERITIES: [Severity; Rule::COUNT] = [",
             *(f"    Severity::{variants_of[rule.severity]}," for rule in rules),

@@ -19,8 +19,9 @@ from .tree import CRATES, Wrong, capital, named, text_of
 
 SOURCE = CRATES / "acpi_lint" / "src"
 SEVERITIES = ("not looked at", "look at it", "likely wrong")
-# Sections of ACPI, or another standard with its version, and mostly its sections.
-SECTIONS = r"\d[\d., to]*|[A-Z][\w' -]* \d+\.\d+\w?(?:, \d[\d., to]*)?"
+# Sections of ACPI, or another standard with its version, or its sections, or both.
+NUMBERS, STANDARD = r"\d[\d., to]*", r"[A-Z][\w' -]*"
+SECTIONS = rf"{NUMBERS}|{STANDARD} \d+\.\d+\w?(?:, {NUMBERS})?|{STANDARD}, {NUMBERS}"
 HEAD = re.compile(rf"(\d+) ([A-Z]\w*), ({'|'.join(SEVERITIES)})(?: \(({SECTIONS})\))?: ((?:(?!\. ).)+)\.")
 TOLD = re.compile(r'(?:If `(at|other|point)` is (0x[1-9a-f][0-9a-f]*|0): )?"([A-Z][^"]*\.)"')
 PLACE = re.compile(r"\{(at|other|point)(?::[ds])?\}")

@@ -98,6 +98,14 @@ def walk(table, first, length_at, length_size, least, count=None):
     return Walk(structures, None)
 
 
+def walk_within(structure, first, length_at, length_size, least):
+    """The same of the structures within another one, up to its end, by offsets in the table."""
+    inner, cut = walk(structure, first, length_at, length_size, least)
+    for it in inner:
+        it.offset += structure.offset
+    return Walk(inner, cut and (structure.offset + cut[0], cut[1], structure.offset + cut[2]))
+
+
 # ---- entries: byte 0 is the type and byte 1 the length (5.2.12, 5.2.16, 5.2.30)
 
 

@@ -439,6 +439,127 @@ def watchdog(refresh=0x20000, control=0x30000, gsiv=48, length=28):
     return of_gtdt(1, length, _4=number(refresh, 8), _12=number(control, 8), _20=number(gsiv, 4))
 
 
+# ---- DMAR (Intel VT-d specification, 8)
+
+# The types of remapping structures, and of device scopes.
+DRHD, RMRR, ATSR, RHSA, ANDD, SATC, SIDP = range(7)
+ENDPOINT, BRIDGE, SCOPE_IO_APIC, SCOPE_HPET, NAMESPACE_DEVICE = range(1, 6)
+INCLUDE_PCI_ALL = ALL_PORTS = 1 << 0
+# Where the registers of a DRHD are, unless another address is given.
+REGISTERS_AT = 0xFED90000
+
+
+def dmar(*structures, width=47, flags=0, revision=1):
+    """A DMAR of addresses of 48 bits, unless another width less one is given."""
+    return table(b"DMAR", bytes([width, flags]) + bytes(10) + b"".join(structures), revision)
+
+
+def of_dmar(kind, length, **fields):
+    """A remapping structure, of which a shorter one is cut off, with these fields as far as it goes."""
+    return placed((number(kind, 2) + number(length, 2) + bytes(length))[:length], **fields)
+
+
+def scoped(kind, least, scopes, length, **fields):
+    """A remapping structure with scopes behind its fields. Of a shorter one the end is cut off, and a longer one has zeros there."""
+    within = b"".join(scopes)
+    return of_dmar(kind, least + len(within) if length is None else length, **fields, **{f"_{least}": within})
+
+
+def drhd(*scopes, base=REGISTERS_AT, flags=0, segment=0, size=0, length=None):
+    """An IOMMU (8.3)."""
+    fields = {"_4": bytes([flags, size]), "_6": number(segment, 2), "_8": number(base, 8)}
+    return scoped(DRHD, 16, scopes, length, **fields)
+
+
+def rmrr(*scopes, base=0x1000, limit=0x1FFF, segment=0, length=None):
+    """A region of memory that devices use (8.4)."""
+    fields = {"_6": number(segment, 2), "_8": number(base, 8), "_16": number(limit, 8)}
+    return scoped(RMRR, 24, scopes, length, **fields)
+
+
+def atsr(*scopes, flags=0, segment=0, length=None):
+    """Root ports that take requests of translated addresses (8.5)."""
+    return scoped(ATSR, 8, scopes, length, _4=bytes([flags]), _6=number(segment, 2))
+
+
+def rhsa(base=REGISTERS_AT, domain=0, length=20):
+    """The domain of an IOMMU (8.6)."""
+    return of_dmar(RHSA, length, _8=number(base, 8), _16=number(domain, 4))
+
+
+def andd(device_number=1, name=b"\\_SB.DEV\0", length=None):
+    """A device of the namespace (8.7)."""
+    return of_dmar(ANDD, 8 + len(name) if length is None else length, _7=bytes([device_number]), _8=name)
+
+
+def satc(*scopes, flags=0, segment=0, length=None):
+    """Devices of the processor's package with a cache of translated addresses (8.8)."""
+    return scoped(SATC, 8, scopes, length, _4=bytes([flags]), _6=number(segment, 2))
+
+
+def sidp(*scopes, segment=0, length=None):
+    """Devices of the processor's package with properties of their own (8.9)."""
+    return scoped(SIDP, 8, scopes, length, _6=number(segment, 2))
+
+
+def scope(kind=ENDPOINT, scope_id=0, bus=0, steps=((2, 0),), length=None):
+    """A device scope (8.3.1) with a path of these devices and functions. Of a shorter one the end is cut off, and a longer one has zeros
+    there."""
+    path = b"".join(map(bytes, steps))
+    length = 6 + len(path) if length is None else length
+    return (bytes([kind, length, 0, 0, scope_id, bus]) + path + bytes(length))[:length]
+
+
+# ---- IVRS (AMD I/O Virtualization specification, 48882, 5.2)
+
+# The types of blocks: of an IOMMU, and of memory for all devices, for one, and for a range.
+IVHD_10, IVHD_11, IVHD_40 = 0x10, 0x11, 0x40
+IVMD_ALL, IVMD_ONE, IVMD_RANGE, IVMD_OTHER = range(0x20, 0x24)
+ALL_DEVICES, ONE_DEVICE, RANGE_START, RANGE_END = range(1, 5)
+ALIAS, ALIAS_START, EXTENDED, EXTENDED_START, SPECIAL, ACPI_HID = 0x42, 0x43, 0x46, 0x47, 0x48, 0xF0
+VARIETY_IO_APIC, VARIETY_HPET = 1, 2
+IS_UNITY = 1 << 0
+
+
+def ivrs(*blocks, info=0x2800, revision=2):
+    return table(b"IVRS", number(info, 4) + bytes(8) + b"".join(blocks), revision)
+
+
+def of_ivrs(kind, length, **fields):
+    """A block, of which a shorter one is cut off, with these fields as far as it goes."""
+    return placed((bytes([kind, 0]) + number(length, 2) + bytes(length))[:length], **fields)
+
+
+def ivhd(*entries, kind=IVHD_10, device=2, base=0xFED80000, segment=0, flags=0, length=None):
+    """An IOMMU (5.2.2) with these entries behind its fields. Of a shorter one the end is cut off, and a longer one has zeros there, which
+    are entries of 4 bytes."""
+    within, first = b"".join(entries), 24 if kind == IVHD_10 else 40
+    fields = {"_1": bytes([flags]), "_4": number(device, 2) + number(0x40, 2) + number(base, 8) + number(segment, 2)}
+    return of_ivrs(kind, first + len(within) if length is None else length, **fields, **{f"_{first}": within})
+
+
+def ivmd(kind=IVMD_ALL, device=0, last=0, start=0x1000, size=0x1000, flags=IS_UNITY, length=32):
+    """Memory that devices use (5.2.3)."""
+    fields = {"_1": bytes([flags]), "_4": number(device, 2) + number(last, 2), "_16": number(start, 8) + number(size, 8)}
+    return of_ivrs(kind, length, **fields)
+
+
+def device_entry(kind=ONE_DEVICE, device=0, setting=0):
+    """A device entry of 4 bytes, or of 8 if it is of a type from 40h on."""
+    return (bytes([kind]) + number(device, 2) + bytes([setting]) + bytes(4))[: 4 if kind < 0x40 else 8]
+
+
+def special(variety=VARIETY_IO_APIC, handle=0, device=0xA0):
+    """A device entry of an I/O APIC or an HPET."""
+    return bytes([SPECIAL, 0, 0, 0, handle]) + number(device, 2) + bytes([variety])
+
+
+def acpi_hid(hid=b"AMDI0020", uid_kind=0, uid=b"", device=0, uid_length=None):
+    """A device entry of a device of the namespace."""
+    uid_length = len(uid) if uid_length is None else uid_length
+    return bytes([ACPI_HID]) + number(device, 2) + b"\0" + hid.ljust(8, b"\0") + bytes(8) + bytes([uid_kind, uid_length]) + uid
+
+
 # ---- images
 
 

@@ -15,6 +15,7 @@ sys.path.insert(0, str(Path(__file__).resolve().parents[1]))
 
 import further
 import further_tables
+import iommus
 import sets
 from acpi_images.program import IMAGES as FIRMWARE_AT, finish
 from explained import IMAGES, TOP, Tests
@@ -115,6 +116,38 @@ SENTENCES = [
     ("TimerFrame 0x7c 0x0 0x8", "The frame at 0x7c of the GTDT has the number 8, above 7."),
     ("TimerFrame 0x7c 0x4 0x0", "The non-secure frame at 0x7c of the GTDT has the CntBase address 0."),
     ("TimerNoSpi 0x7c 0x1c 0x1f", "The virtual timer of the frame at 0x7c of the GTDT has the GSIV 31, which is no SPI of a GIC."),
+    ("DmarWidth 0x24 0x0 0xa", "The Host Address Width at 0x24 of the DMAR is 10, not 11 to 63."),
+    ("DmarWidth 0x4 0x30 0x2f", "The DMAR's Length, at 0x4, is 47, and it needs 48 bytes."),
+    ("DmarCut 0x40 0x0 0x42", "At 0x40 of the DMAR there is no structure: the length there is 0, or the table ends at 0x42, before it."),
+    ("DmarCut 0x30 0x11 0x40", "..the length there, 17, is below 4 or goes past the table's end at 0x40."),
+    ("ScopeCut 0x48 0x0 0x49", "..no device scope: the length there is 0, or the structure ends at 0x49, before it."),
+    ("ScopeCut 0x38 0xa 0x40", "..the length there, 10, is below 8 or goes past the structure's end at 0x40."),
+    ("ScopeType 0x40 0x0 0x6", "..has a type that is not 1 to 5, or the step of a path there has a Device above 31: 6."),
+    ("ScopeType 0x38 0x1 0x9", "..at 0x38 of the DMAR has an odd length, or the step of a path there has a Function above 7: 9."),
+    ("DrhdAddress 0x30 0x8 0x0", "The DRHD at 0x30 of the DMAR has the Register Base Address 0."),
+    ("DrhdAddress 0x30 0x8 0x800", "The DRHD at 0x30 of the DMAR has the Register Base Address 0x800, which is no multiple of 4096."),
+    ("RmrrRange 0x30 0x8 0x1001", "The RMRR at 0x30 of the DMAR has the base address 0x1001, which is no multiple of 4096."),
+    ("RmrrRange 0x30 0x10 0x2000", "..has the limit address 0x2000, whose bits 11:0 are not all set, or which is not above the base address."),
+    ("AnddName 0x30 0x8 0x0", "The ACPI Object Name of the ANDD at 0x30 of the DMAR does not end: none of the bytes from 8 on is 0."),
+    ("AnddNowhere 0x40 0x4 0x3", "..has the Enumeration ID 3, which is the ACPI Device Number of no ANDD."),
+    ("AnddNowhere 0x48 0x7 0x2", "..the ACPI Device Number 2, which is the Enumeration ID of no device scope of a DRHD."),
+    ("IvrsCut 0x4 0x30 0x2f", "The IVRS's Length, at 0x4, is 47, and it needs 48 bytes."),
+    ("IvrsCut 0x48 0x0 0x4b", "At 0x48 of the IVRS there is no block: the length there is 0, or the table ends at 0x4b, before it."),
+    ("IvrsCut 0x30 0x3 0x48", "..the length there, 3, is below 4 or goes past the table's end at 0x48."),
+    ("IvhdAddress 0x30 0x8 0x0", "The IVHD at 0x30 of the IVRS has the IOMMU Base Address 0."),
+    ("IvhdAddress 0x30 0x8 0x2000", "The IVHD at 0x30 of the IVRS has the IOMMU Base Address 0x2000, which is no multiple of 16384."),
+    ("IvhdEntryCut 0x48 0x0 0x4c", "..the type there has no length, or the block ends at 0x4c, before the length."),
+    ("IvhdEntryCut 0x48 0x8 0x4c", "..no device entry: one of the type there has 8 bytes, and the block ends at 0x4c."),
+    ("IvhdEntryType 0x48 0x0 0x5", "The device entry at 0x48 of the IVRS has the type 0x5, which is reserved."),
+    ("IvhdEntryType 0x48 0x0 0xf0", "..has the type 0xf0, which a block of type 0x10 or 0x11 does not have."),
+    ("IvhdEntryType 0x48 0x4 0x0", "The ACPI HID device at 0x48 of the IVRS has a Hardware ID that begins with 0."),
+    ("IvhdEntryType 0x48 0x7 0xf0", "The special device at 0x48 of the IVRS has the Variety 240, not 1 to 3."),
+    ("IvhdEntryType 0x48 0x14 0x3", "The ACPI HID device at 0x48 of the IVRS has the UID Format 3, above 2."),
+    ("IvhdEntryType 0x48 0x15 0xf0", "..has the UID Length 240, which its UID Format does not allow."),
+    ("IvmdRange 0x30 0x1 0x10", "..has the Flags 0x10, with neither bit 0 nor bit 3 set, or with a bit above bit 3 set."),
+    ("IvmdRange 0x30 0x6 0x1", "The IVMD at 0x30 of the IVRS has the last DeviceID 0x1, below the first one."),
+    ("IvmdRange 0x30 0x10 0xfffffffffffff000", "..with the IVMD Start Address 0xfffffffffffff000, ends above the highest address."),
+    ("IvmdRange 0x30 0x18 0x0", "The IVMD at 0x30 of the IVRS has the IVMD Memory Block Length 0."),
     ("SpcrAddress 0x28 0x0 0x2", "The SPCR's base address, at 0x28, has the address space 0x2, neither memory nor I/O ports."),
     ("SpcrAddress 0x2b 0x0 0x4", "The access size at 0x2b of the SPCR is 4, above 3 (32 bits)."),
     ("SpcrGsi 0x34 0x0 0x3", "The interrupt type at 0x34 of the SPCR is 0x3, neither 0 nor 8, the GIC that the MADT has."),
@@ -481,11 +514,11 @@ def advised(tests):
 
 def numbered(tests):
     """Fields and lengths that a line names by their offsets, and texts of headers."""
-    for line, texts, image in (*further.CASES, *further_tables.CASES):
+    for line, texts, image in (*further.CASES, *further_tables.CASES, *iommus.CASES):
         tests.says(f"advice {line}", texts, image, without=[MISMATCH])
     for line, texts, image in further.FIELDS:
         tests.says(f"advice {line}", texts, image)
-    for line, text, image in (*further.MISMATCHES, *further_tables.MISMATCHES):
+    for line, text, image in (*further.MISMATCHES, *further_tables.MISMATCHES, *iommus.MISMATCHES):
         tests.says(f"advice {line}", f"{text}: i{MISMATCH}", image)
     tests.says("advice MadtRevision 0x8 0x0 0x5", "Revision is 5", further.REVISION_5, without=["of Revision 3:"])
     tests.says("advice EcamOverlap 0x2c 0x3c 0x0", *further_tables.WITHOUT_ECAM)

@@ -15,7 +15,7 @@ int main(void) {
     for (uint32_t kind = 0; kind < 300; kind++)
         if (*acpiset_kind_name(kind)) printf("kind %lu %s\n", (unsigned long)kind, acpiset_kind_name(kind));
     /* far outside, and with the low bits of good ones */
-    static const uint32_t none[] = {257, 65536 + 1, 0x80000001, UINT32_MAX};
+    static const uint32_t none[] = {512 + 1, 65536 + 1, 0x80000001, UINT32_MAX};
     for (int i = 0; i < 4; i++)
         if (*acpiset_number_name(none[i]) || acpiset_stage_of(none[i]) || acpiset_severity_of(none[i]) || *acpiset_kind_name(none[i]))
             printf("%lu has a name, a stage or a severity\n", (unsigned long)none[i]);

@@ -67,8 +67,8 @@ BadLine NoAddress TextOverlap TextPastEnd TextTooLong Unaligned TableTooLong Pas
 # The rules of which nothing is known to be wrong, and those whose findings may be right; those of all others are likely wrong.
 NOT_LOOKED_AT = {127, 128, 309}
 LOOK_AT_IT = {
-    121, 123, 129, *range(145, 150), 153, 157, 158, 172, 178, 181, 183, 184, 198, 199, 201, 202, 206, 212, 216, 219, 275, *range(279, 287),
-    291, 298, 300, 301, 305, 306, 307, 310, 311,
+    121, 123, 129, *range(145, 150), 153, 157, 158, 172, 178, 181, 183, 184, 198, 199, 201, 202, 206, 212, 216, 219, 249, 253, 266, 275,
+    *range(279, 287), 291, 298, 300, 301, 305, 306, 307, 310, 311,
 }
 
 

@@ -47,7 +47,7 @@ static void explained(uint32_t number) {
 }
 
 int main(void) {
-    static const uint32_t others[] = {256 + 1, 256 + 101, 65536 + 1, 0x80000000u + 1, UINT32_MAX};
+    static const uint32_t others[] = {512 + 1, 512 + 101, 65536 + 1, 0x80000000u + 1, UINT32_MAX};
     for (uint32_t number = 0; number < LAST; number++) {
         count_case(acpiset_stage(number) == acpiset_stage_of(number), "the stage of %u", number);
         count_case(acpiset_severity(number) == acpiset_severity_of(number), "the severity of %u", number);

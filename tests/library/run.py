@@ -83,7 +83,8 @@ def subjects(scratch):
     library has at most; and many pieces in falling order. None is so large that it cannot be asked a thousand times."""
     made = [("a complete set", COMPLETE), *((f"stage {row.answer.split()[1]}", row.pieces) for row in one_of_each_stage())]
     with_most = sorted((it for it in EXPECTED if it.words == "--rsdp e0000"), key=lambda it: -len(it.lines))[:6]
-    made += [(f"findings {place}", it.pieces) for place, it in enumerate(with_most)]
+    # In rising order: more than 20 pieces in another one are sorted in place if the buffer of the sort is refused, so no call is refused.
+    made += [(f"findings {place}", dict(sorted(it.pieces.items()))) for place, it in enumerate(with_most)]
     made += [("scattered", {address: b"\0" for address in range(1000, 0, -2)})]
     for name, rsdp, text in firmware():
         yield Subject(rsdp[1], FIRMWARE / f"{name}.img.txt")

@@ -352,10 +352,187 @@ def frames():
     ), advised("TimerFrame 0x7c 0x4")
 
 
+# ---- the DMAR
+
+# How many scopes of 8 bytes one structure has, whose length is a number of 16 bits, and how many structures have a million of them; and how
+# many IOMMUs with an RHSA and an affinity, of 52 bytes, fit into a text.
+IN_ONE, HOLDING, UNITS = 8000, COUNT // 8000, 500_000
+UNIT = struct.Struct("<HHBBHQ")
+
+
+def unit(place, scopes=b"", flags=0, segment=0):
+    """An IOMMU whose registers are at this page, with scopes."""
+    return UNIT.pack(0, 16 + len(scopes), flags, 0, segment, 4096 * (place + 1)) + scopes
+
+
+def scopes_of_units():
+    """A million scopes in as few IOMMUs as can have them: of endpoints, the last of which has a function that there is not, or is cut; of
+    I/O APICs, of which there are 256; and of a device of the namespace."""
+    one = scope()
+    made = lambda scopes, last: dmar(b"".join(unit(place, scopes) for place in range(HOLDING - 1)), unit(HOLDING - 1, last))
+    end = 48 + HOLDING * (16 + 8 * IN_ONE)
+    yield "clean", made(one * IN_ONE, one * IN_ONE), advised()
+    last = made(one * IN_ONE, one * (IN_ONE - 1) + scope(steps=[(0, 8)]))
+    yield "the last", last, advised(f"ScopeType {end - 2:#x} 0x1 0x8")
+    yield "a byte behind the last", made(one * IN_ONE, one * IN_ONE + b"\1"), advised(f"ScopeCut {end:#x} 0x0 {end + 1:#x}")
+    apics = b"".join(scope(SCOPE_IO_APIC, place % 256) for place in range(IN_ONE))
+    yield "of I/O APICs", made(apics, apics), advised(f"SameScope {64 + 8 * 256:#x} 0x40")
+    yield "of devices", made(scope(NAMESPACE_DEVICE, 7) * IN_ONE, one), advised("AnddNowhere 0x40 0x4 0x7")
+    long = scope(steps=[(31, 7)] * 124) * 250
+    last = made(long, long[:-2] + b"\40\0")
+    yield "long paths", last, advised(f"ScopeType {48 + HOLDING * (16 + len(long)) - 2:#x} 0x0 0x20")
+
+
+def regions():
+    """Regions with a scope each, at falling addresses; the last one ends within a page, or is of no device; and all end before they
+    begin."""
+    entry, one = struct.Struct("<HHHHQQ"), scope()
+    region = lambda place, length=32, less=0: entry.pack(1, length, 0, 0, 4096 * (RANGES - place), 4096 * (RANGES - place + 1) - 1 - less)
+    alike = b"".join(region(place) + one for place in range(RANGES))
+    end = 64 + 32 * RANGES
+    yield "clean", dmar(unit(0), alike), advised()
+    yield "the last", dmar(unit(0), alike, region(0, less=1), one), advised(f"RmrrRange {end:#x} 0x10 {4096 * (RANGES + 1) - 2:#x}")
+    yield "the last of no device", dmar(unit(0), alike, region(0, 24)), advised(f"RmrrNoDevice {end:#x} 0x20 0x18")
+    yield "all", dmar(unit(0), (region(0, less=4096) + one) * RANGES), advised(f"RmrrRange 0x40 0x10 {4096 * RANGES - 1:#x}")
+
+
+def units():
+    """IOMMUs at addresses in no order, the last of which is at that of the first, or all at one; and of segments, each of which ends with
+    one of all other devices, with one more of some devices, or of all, after them."""
+    order = random.Random(9).sample(range(COUNT), COUNT)
+    alike, end = b"".join(map(unit, order)), 48 + 16 * COUNT
+    at = lambda place: f"{4096 * (place + 1):#x}"
+    yield "clean", dmar(alike), advised()
+    yield "the last like the first", dmar(alike, unit(order[0])), advised(f"DrhdOverlap 0x30 {end:#x} {at(order[0])}")
+    yield "all at one address", dmar(unit(0) * COUNT), advised("DrhdOverlap 0x30 0x40 0x1000")
+    yield "all at 0", dmar(unit(-1) * COUNT), advised("DrhdAddress 0x30 0x8")
+    some = b"".join(unit(place, segment=order[place] % 65536) for place in range(COUNT))
+    of_all = b"".join(unit(COUNT + segment, flags=1, segment=segment) for segment in range(65536))
+    past, last_of = end + 16 * 65536, end + 16 * 1234
+    yield "segments", dmar(some, of_all), advised()
+    after = dmar(some, of_all, unit(2 * COUNT, segment=1234))
+    yield "segments, and one after them", after, advised(f"IncludeAllNotLast {past:#x} {last_of:#x} 0x4d2")
+    again = dmar(some, of_all, unit(2 * COUNT, flags=1, segment=1234))
+    yield "segments, and one of all after them", again, advised(f"SecondIncludeAll {past:#x} {last_of:#x} 0x4d2")
+    yield "all of all", dmar(*(unit(place, flags=1) for place in range(COUNT))), advised("SecondIncludeAll 0x40 0x30")
+
+
+def rhsas():
+    """RHSAs of IOMMUs in no order, in domains that fall; the last one is of no IOMMU, in no domain, or of the first IOMMU; and all are of
+    one IOMMU."""
+    entry = struct.Struct("<HHIQI")
+    rhsa_of = lambda place, domain: entry.pack(3, 20, 0, 4096 * (place + 1), domain)
+    order = random.Random(10).sample(range(UNITS), UNITS)
+    there, units_of = affinities_of(range(UNITS)), b"".join(map(unit, range(UNITS)))
+    alike = b"".join(rhsa_of(place, UNITS - 1 - index) for index, place in enumerate(order[:-1]))
+    made = lambda *last: (dmar(units_of, alike, *last), there)
+    first = 48 + 16 * UNITS
+    last = first + 20 * (UNITS - 1)
+    yield "clean", made(rhsa_of(order[-1], 0)), advised()
+    yield "the last of no IOMMU", made(rhsa_of(UNITS, 0)), advised(f"RhsaNowhere {last:#x} 0x8 {4096 * (UNITS + 1):#x}")
+    yield "the last in no domain", made(rhsa_of(order[-1], UNITS)), advised(f"RhsaDomain {last:#x} 0x10 {UNITS:#x}")
+    yield "the last like the first", made(rhsa_of(order[0], 0)), advised(f"SameRhsa {last:#x} {first:#x} {4096 * (order[0] + 1):#x}")
+    yield "all", dmar(unit(0), rhsa_of(0, 0) * COUNT), advised("SameRhsa 0x54 0x40 0x1000")
+
+
+def structures_of_4_bytes():
+    """Structures of 4 bytes, of a type that there is not, with a byte behind them or none, and without an IOMMU; and IOMMUs and devices of
+    the namespace that are too short."""
+    nothing, end = of_dmar(7, 4) * COUNT, 48 + 4 * COUNT
+    yield "clean", dmar(nothing, drhd()), advised()
+    yield "a byte behind them", dmar(nothing, b"\1"), advised(f"DmarCut {end:#x} 0x0 {end + 1:#x}")
+    yield "no IOMMU", dmar(nothing), advised("NoDrhd")
+    yield "all", dmar(of_dmar(0, 4) * COUNT), advised("DmarShort 0x30 0x10 0x4")
+    yield "devices", dmar(of_dmar(4, 4) * COUNT), advised("DmarShort 0x30 0x9 0x4")
+
+
+def devices_of_the_namespace():
+    """Devices of the namespace with 255 numbers, each of which has a scope; the last has a number that no scope has, or a name that is
+    open."""
+    entry = struct.Struct("<HHHxBB")
+    alike = b"".join(entry.pack(4, 9, 0, place % 255, 0) for place in range(COUNT))
+    made = lambda *last: dmar(drhd(*(scope(NAMESPACE_DEVICE, place) for place in range(255))), alike, *last)
+    end = 48 + 16 + 8 * 255 + 9 * COUNT
+    yield "clean", made(), advised()
+    yield "the last in no scope", made(entry.pack(4, 9, 0, 255, 0)), advised(f"AnddNowhere {end:#x} 0x7 0xff")
+    yield "the last with an open name", made(entry.pack(4, 9, 0, 3, 65)), advised(f"AnddName {end:#x} 0x8")
+
+
+# ---- the IVRS
+
+# How many entries of 4 bytes a block has, whose length is a number of 16 bits, and how many blocks have a million of them.
+ENTRIES, BLOCKS = 16_000, 63
+BLOCK = struct.Struct("<BBHHHQHHI")
+
+
+def block(place, entries=b"", base=None):
+    """An IOMMU of type 10h, the device and the segment of which are of this number, as its address is, with entries."""
+    base = 16384 * (place + 1) if base is None else base
+    return BLOCK.pack(0x10, 0, 24 + len(entries), place % 65536, 0, base, place // 65536, 0, 0) + entries
+
+
+def device_entries():
+    """A million entries of 4 bytes: of single devices, the last of which has a type that there is not, or is cut; and of ranges, the last
+    of which ends before it starts, or all of which have no end."""
+    single = device_entry(ALL_DEVICES, 5)
+    made = lambda entries, last: ivrs(b"".join(block(place, entries) for place in range(BLOCKS - 1)), block(BLOCKS - 1, last))
+    end = 48 + BLOCKS * (24 + 4 * ENTRIES)
+    most = single * (ENTRIES - 1)
+    yield "clean", made(single * ENTRIES, single * ENTRIES), advised()
+    yield "the last", made(single * ENTRIES, most + device_entry(5)), advised(f"IvhdEntryType {end - 4:#x} 0x0 0x5")
+    yield "the last cut", made(single * ENTRIES, most + b"\1\1\1"), advised(f"IvhdEntryCut {end - 4:#x} 0x4 {end - 1:#x}")
+    ranges_of = b"".join(device_entry(RANGE_START, place) + device_entry(RANGE_END, place) for place in range(ENTRIES // 2))
+    yield "ranges", made(ranges_of, ranges_of), advised()
+    last = ranges_of[:-4] + device_entry(RANGE_END, ENTRIES // 2 - 2)
+    yield "ranges, the last reversed", made(ranges_of, last), advised(f"IvhdRange {end - 4:#x} 0x1 {ENTRIES // 2 - 2:#x}")
+    yield "starts alone", made(device_entry(RANGE_START, 9) * ENTRIES, single), advised("IvhdRange 0x48 0x1 0x9")
+
+
+def special_entries():
+    """Half a million entries of I/O APICs and HPETs in one block after another, and a MADT of 256 I/O APICs, of which one has no entry; and
+    entries of one."""
+    count = ENTRIES // 2
+    some = b"".join(special(VARIETY_IO_APIC, place % 255) + special(VARIETY_HPET, place % 255) for place in range(count // 2))
+    made = lambda entries: ivrs(*(block(place, entries) for place in range(BLOCKS)))
+    apics = madt_of(lapic(0, 0), *(io_apic(0x1000 * (place + 1), 24 * place, place) for place in range(256)))
+    nowhere = f"IoApicNotInIvrs {52 + 12 * 255:#x} 0x2 0xff"
+    yield "of 255 numbers", (made(some), apics), advised(nowhere, f"SameSpecial {72 + 16 * 255:#x} 0x48")
+    yield "all", made(special(VARIETY_IO_APIC, 3) * count), advised("SameSpecial 0x50 0x48 0x3")
+
+
+def iommus():
+    """IOMMUs at addresses in no order; the last is the first one once more, at its address or at another one, or another device at its
+    address; and all are one."""
+    order = random.Random(11).sample(range(COUNT), COUNT)
+    alike, end = b"".join(map(block, order)), 48 + 24 * COUNT
+    here, device = 16384 * (order[0] + 1), f"{order[0] % 65536:#x}"
+    same = f"SameIvhd {end:#x} 0x30 {device}"
+    yield "clean", ivrs(alike), advised()
+    yield "the last like the first", ivrs(alike, block(order[0])), advised(same)
+    other = ivrs(alike, block(order[0], base=16384 * (COUNT + 1)))
+    yield "the last at another address", other, advised(same, f"IvhdDiffers {end:#x} 0x30 {16384 * (COUNT + 1):#x}")
+    yield "another device at the first address", ivrs(alike, block(COUNT, base=here)), advised(f"IvhdDiffers {end:#x} 0x30 {here:#x}")
+    yield "all one", ivrs(block(3) * COUNT), advised("SameIvhd 0x48 0x30 0x3")
+
+
+def blocks_of_memory():
+    """Blocks of memory, the last of which has no bytes, or all of which have no flag; and blocks of 4 bytes."""
+    some = ivmd() * RANGES
+    yield "clean", ivrs(block(0), some), advised()
+    yield "the last", ivrs(block(0), some, ivmd(size=0)), advised(f"IvmdRange {72 + 32 * RANGES:#x} 0x18")
+    yield "all", ivrs(block(0), ivmd(flags=0) * RANGES), advised("IvmdRange 0x48 0x1")
+    nothing, end = of_ivrs(0x12, 4) * COUNT, 48 + 4 * COUNT
+    yield "of 4 bytes", ivrs(nothing, block(0)), advised()
+    yield "of 4 bytes, and a byte", ivrs(nothing, b"\1"), advised(f"IvrsCut {end:#x} 0x0 {end + 1:#x}")
+    yield "of 4 bytes, and no IOMMU", ivrs(nothing), advised("NoIvhd")
+    yield "of 4 bytes, all IOMMUs", ivrs(of_ivrs(0x10, 4) * COUNT), advised("IvrsShort 0x30 0x18 0x4")
+
+
 OF_ENTRIES = (
     interrupt_sources, processors, io_apics, x2apics, unread_entries, giccs, harts, overrides, redistributors, its_and_frames,
     distributors, ranges, affinities_of_its, localities, nodes, caches, ecams, cells, initiators, structures_of_8_bytes, proximities,
-    watchdogs, timers_of_4_bytes, frames,
+    watchdogs, timers_of_4_bytes, frames, scopes_of_units, regions, units, rhsas, structures_of_4_bytes, devices_of_the_namespace,
+    device_entries, special_entries, iommus, blocks_of_memory,
 )
 
 

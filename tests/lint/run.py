@@ -59,7 +59,7 @@ NO_RULES = (
 )
 WITHOUT_ALLOW = ("check", "find", "show", "confirm --witness 0", "rebuild --base 0")
 NO_IMAGE = {b"@0\n1\n": "line 2: bad line", b"01\n": "line 1: no address", b"@0\n01\n@0\n01\n": "address 0x0 twice"}
-SEEN_BY_CHECK, ALL_MISTAKES = 11, 91
+SEEN_BY_CHECK, ALL_MISTAKES = 11, 122
 
 
 # ---- what is wrong with the program's answers

@@ -60,7 +60,7 @@ def by_hand():
 
 
 def of_few(count):
-    """So many entries, of which `lint` looks for numbers that occur twice: it has one way for up to 20 of them, and one for more."""
+    """So many entries, of which `lint` looks for numbers that occur twice: the sort has one way for up to 20 of them, and one for more."""
     order = random.Random(count).sample(range(count), count)
     apics = [x2apic(1000 + place, 2000 + place) for place in order]
     last = f"{44 + 16 * (count - 1):#x} 0x2c"

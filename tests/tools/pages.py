@@ -241,7 +241,11 @@ def read_by_advice(cases):
     titles = f"{mcfg} at 0x4f0b0a98", f"{spcr} at 0x4f0b0918", f"{gtdt} at 0x4f0b0818"
     has_titles(cases, page, map=[f"{title}, contents checked in part" for title in titles])
     cases.count("tables checked by advice", "60 bytes: checked by advice" not in page.text and page.titles("map"))
-    has_titles(cases, page_of("sb-q35-hmat", cases), map=[f"{hmat} at 0xffe232f, contents checked in part"])
+    for name, title in (
+        ("sb-q35-hmat", f"{hmat} at 0xffe232f"), ("sb-q35-intel-iommu", "DMA Remapping Table at 0x7fe2214"),
+        ("sb-q35-amd-iommu", "I/O Virtualization Reporting Structure at 0x7fe2225"),
+    ):
+        has_titles(cases, page_of(name, cases), map=[f"{title}, contents checked in part"])
     twice = [table(b"MCFG", bytes(8) + number(0xE0000000, 8) + bytes(8))] * 2
     page = made(cases, text_of(image_of(sound_fadt(), *twice)), ["--rsdp", "e0000"], 0)
     titles = [f"{mcfg} at 0x3000, contents checked in part", f"{mcfg} at 0x4000, header, Length, checksum"]

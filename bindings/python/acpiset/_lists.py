@@ -192,6 +192,37 @@ class Rule(IntEnum):
     Watchdog = 217  # a watchdog of the GTDT does not have 28 bytes, or one of its addresses is 0
     TimerNoSpi = 218  # the GTDT gives a platform timer an interrupt that is no SPI
     TimerOverlap = 219  # two ranges of registers of the GTDT's platform timers share an address
+    DmarWidth = 240  # the DMAR is shorter than 48 bytes, or its Host Address Width is not 11 to 63
+    DmarCut = 241  # after the last structure of the DMAR there are bytes that are not a structure
+    DmarShort = 242  # a structure of the DMAR is shorter than the fields of its type
+    NoDrhd = 243  # the DMAR has no DRHD
+    ScopeCut = 244  # after the last device scope of a structure of the DMAR there are bytes that are not a device scope
+    ScopeType = 245  # a device scope of the DMAR has an unknown type or an odd length, or a step of its path has a Device above 31 or a Function above 7
+    DrhdAddress = 246  # a DRHD has a Register Base Address that is 0 or no multiple of 4096
+    DrhdOverlap = 247  # the registers of two DRHDs share an address
+    SecondIncludeAll = 248  # two DRHDs of one segment have INCLUDE_PCI_ALL set, or two ATSRs of one segment have ALL_PORTS set
+    IncludeAllNotLast = 249  # a DRHD follows one of the same segment that has INCLUDE_PCI_ALL set, and does not have it set itself
+    RmrrRange = 250  # the memory of an RMRR does not begin or end at a multiple of 4096, or its limit is not above its base
+    RmrrNoDevice = 251  # an RMRR has no device scope
+    RhsaNowhere = 252  # an RHSA has a Register Base Address that no DRHD has
+    RhsaDomain = 253  # an RHSA is in a proximity domain that the SRAT does not have
+    SameRhsa = 254  # two RHSAs have the same Register Base Address
+    AnddName = 255  # the ACPI Object Name of an ANDD has no byte that is 0
+    AnddNowhere = 256  # a device scope names an ANDD that the DMAR does not have, or no DRHD has a device scope of an ANDD
+    IoApicUnmapped = 257  # interrupts are remapped, and an I/O APIC of the MADT is in no device scope of a DRHD
+    SameScope = 258  # two device scopes of DRHDs are of the same I/O APIC
+    IvrsCut = 259  # the IVRS is shorter than 48 bytes, or after its last block there are bytes that are not a block
+    IvrsShort = 260  # a block of the IVRS is shorter than the fields of its type
+    NoIvhd = 261  # the IVRS has no IVHD
+    IvhdAddress = 262  # an IVHD has an IOMMU Base Address that is 0 or no multiple of 16384
+    SameIvhd = 263  # two IVHDs of one type and one PCI Segment Group have the same DeviceID
+    IvhdDiffers = 264  # two IVHDs have the same IOMMU Base Address, or the same PCI Segment Group and DeviceID, and not both
+    IvhdEntryCut = 265  # after the last device entry of an IVHD there are bytes that are not a device entry
+    IvhdEntryType = 266  # a device entry of the IVRS is of a type that its block does not have, or has a Variety, a Hardware ID or a UID that is reserved
+    IvhdRange = 267  # a device entry of the IVRS starts a range that the next one does not end, or ends one that the one before does not start, or that starts at a higher DeviceID
+    IoApicNotInIvrs = 268  # the IVHDs of one type have special devices that are I/O APICs, and an I/O APIC of the MADT is none of them
+    SameSpecial = 269  # two special devices of one Variety, in IVHDs of one type, have the same Handle
+    IvmdRange = 270  # an IVMD has reserved flags or none of a mapping, an empty range of memory or one that ends above the highest address, or a range of devices that ends below its start
     SpcrLength = 271  # the SPCR is too short for its Revision
     SpcrAddress = 272  # the SPCR's base address is neither in memory nor in I/O ports, or is in memory with an access size above 3 (32 bits)
     SpcrBaud = 273  # the SPCR's baud rate has a reserved value, and there is no precise baud rate
@@ -253,11 +284,13 @@ SEVERITY_OF: Dict[int, int] = {
     173: 3, 174: 3, 175: 3, 176: 3, 177: 3, 178: 2, 179: 3, 180: 3, 181: 2, 182: 3, 183: 2, 184: 2,
     185: 3, 186: 3, 187: 3, 188: 3, 189: 3, 190: 3, 191: 3, 192: 3, 193: 3, 194: 3, 195: 3, 196: 3,
     197: 3, 198: 2, 199: 2, 200: 3, 201: 2, 202: 2, 203: 3, 204: 3, 205: 3, 206: 2, 207: 3, 208: 3,
-    209: 3, 210: 3, 211: 3, 212: 2, 213: 3, 214: 3, 215: 3, 216: 2, 217: 3, 218: 3, 219: 2, 271: 3,
-    272: 3, 273: 3, 274: 3, 275: 2, 276: 3, 279: 2, 280: 2, 281: 2, 282: 2, 283: 2, 284: 2, 285: 2,
-    286: 2, 287: 3, 288: 3, 289: 3, 290: 3, 291: 2, 292: 3, 293: 3, 294: 3, 295: 3, 296: 3, 297: 3,
-    298: 2, 299: 3, 300: 2, 301: 2, 302: 3, 303: 3, 304: 3, 305: 2, 306: 2, 307: 2, 308: 3, 309: 1,
-    310: 2, 311: 2,
+    209: 3, 210: 3, 211: 3, 212: 2, 213: 3, 214: 3, 215: 3, 216: 2, 217: 3, 218: 3, 219: 2, 240: 3,
+    241: 3, 242: 3, 243: 3, 244: 3, 245: 3, 246: 3, 247: 3, 248: 3, 249: 2, 250: 3, 251: 3, 252: 3,
+    253: 2, 254: 3, 255: 3, 256: 3, 257: 3, 258: 3, 259: 3, 260: 3, 261: 3, 262: 3, 263: 3, 264: 3,
+    265: 3, 266: 2, 267: 3, 268: 3, 269: 3, 270: 3, 271: 3, 272: 3, 273: 3, 274: 3, 275: 2, 276: 3,
+    279: 2, 280: 2, 281: 2, 282: 2, 283: 2, 284: 2, 285: 2, 286: 2, 287: 3, 288: 3, 289: 3, 290: 3,
+    291: 2, 292: 3, 293: 3, 294: 3, 295: 3, 296: 3, 297: 3, 298: 2, 299: 3, 300: 2, 301: 2, 302: 3,
+    303: 3, 304: 3, 305: 2, 306: 2, 307: 2, 308: 3, 309: 1, 310: 2, 311: 2,
 }
 
 # What each means and what to fix: lines of text, with an LF between any two.
@@ -1334,6 +1367,199 @@ TEXT_OF: Dict[int, str] = {
         "Numbers: `at` and `other` are the offsets in the GTDT of the addresses of two such ranges, first that of the one that "
         "begins lower, and of two that begin together the lower offset; `point` is the lowest address at which two overlap.\n"
         "Fix: write the addresses of the registers."
+    ),
+    240: (
+        "The DMAR's Length is below 48, or Host Address Width is below 11 or above 63.\n"
+        "Numbers: `at` is the offset of the field, 0x4 of Length or 0x24 (36) of Host Address Width, `point` is the field; for "
+        "Length `other` is 0x30 (48).\n"
+        "Fix: write the number of bits of the machine's physical addresses less one, such as 38, 45 or 51."
+    ),
+    241: (
+        "After the last structure of the DMAR there are bytes that are not a structure: fewer than 4 bytes, a length below 4, or "
+        "a length that goes past the end of the table.\n"
+        "Numbers: `at` is the offset of these bytes, `other` is the length that they say, or 0 if they are fewer than 4, `point` "
+        "is the DMAR's Length.\n"
+        "Fix: correct the structure's length or the table's Length. Often the length of the structure before it is wrong."
+    ),
+    242: (
+        "A structure is too short for its type: a DRHD needs 16 bytes, an RMRR 24, an RHSA 20, an ANDD 9, and an ATSR, an SATC or "
+        "an SIDP 8.\n"
+        "Numbers: `at` is the structure's offset, `other` is the length that its type needs, `point` is its length.\n"
+        "Fix: correct the length or the type."
+    ),
+    243: (
+        "The DMAR has no DRHD.\n"
+        "Numbers: all 0.\n"
+        "Fix: write a DRHD for each unit of remapping hardware; or list no DMAR if the machine has none."
+    ),
+    244: (
+        "After the last device scope of a structure there are bytes that are not a device scope: a single byte, a length below 8, "
+        "or a length that goes past the end of the structure.\n"
+        "Numbers: `at` is the offset of these bytes, `other` is the length that they say, or 0 if there is 1 byte, `point` is the "
+        "offset at which the structure ends.\n"
+        "Fix: correct the length of the device scope, which is 6 plus 2 for each step of its path, or that of the structure."
+    ),
+    245: (
+        "The type of a device scope is 0 or above 5, or its length is odd; or a step of its path has a Device above 31 or a "
+        "Function above 7.\n"
+        "Numbers: `at` is the offset of the device scope or of the step, `other` is 0 for the scope's type or the step's Device, "
+        "0x1 for the scope's length or the step's Function, `point` is that number.\n"
+        "Fix: write the type of the device, and the steps that lead to it from Start Bus Number on."
+    ),
+    246: (
+        "Register Base Address of a DRHD is 0, or no multiple of 4096.\n"
+        "Numbers: `at` is the structure's offset, `other` is 0x8, the offset of Register Base Address in it, `point` is that "
+        "address.\n"
+        "Fix: write the address to which the chipset maps the registers of the unit; or leave the DRHD out if the unit is "
+        "disabled."
+    ),
+    247: (
+        "The registers of two DRHDs share an address. They have 4096 * 2^n bytes, where n is bits 3:0 of Size. There are none "
+        "where Register Base Address is 0.\n"
+        "Numbers: `at` and `other` are the offsets of two such structures, first the one whose registers begin lower, and of two "
+        "that begin together the one at the lower offset; `point` is the lowest address at which two overlap.\n"
+        "Fix: write to each DRHD the address and the size of its own registers."
+    ),
+    248: (
+        "Two DRHDs of one segment have INCLUDE_PCI_ALL set; or two ATSRs of one segment have ALL_PORTS set.\n"
+        "Numbers: `at` is the structure's offset, `other` that of the first one of its type with this flag and this segment, "
+        "`point` is its Segment Number.\n"
+        "Fix: set the flag in one of them, and list the devices or ports of the other one in device scopes."
+    ),
+    249: (
+        "A DRHD without INCLUDE_PCI_ALL comes after one of the same segment that has it. The specification asks that this one is "
+        "the last of its segment.\n"
+        "Numbers: `at` is the structure's offset, `other` that of the first DRHD of its segment with INCLUDE_PCI_ALL, `point` is "
+        "its Segment Number.\n"
+        "Fix: move the DRHD with INCLUDE_PCI_ALL behind all others of its segment."
+    ),
+    250: (
+        "The base address of an RMRR is no multiple of 4096; or bits 11:0 of its limit address are not all set; or its limit "
+        "address is not above its base address.\n"
+        "Numbers: `at` is the structure's offset, `other` is the offset in it of the address, 0x8 of Reserved Memory Region Base "
+        "Address or 0x10 (16) of Reserved Memory Region Limit Address, `point` is that address.\n"
+        "Fix: write the addresses of the first and the last byte of the region, in whole pages."
+    ),
+    251: (
+        "An RMRR has 24 bytes, so it has no device scope.\n"
+        "Numbers: `at` is the structure's offset, `other` is 0x20 (32), the least length with a device scope, `point` is its "
+        "length.\n"
+        "Fix: add the device scopes of the devices that use the region; or leave the RMRR out."
+    ),
+    252: (
+        "No DRHD has the Register Base Address of an RHSA.\n"
+        "Numbers: `at` is the structure's offset, `other` is 0x8, the offset of Register Base Address in it, `point` is that "
+        "address.\n"
+        "Fix: write the Register Base Address of the unit's DRHD; or leave the RHSA out if the unit has no DRHD."
+    ),
+    253: (
+        "No structure of the SRAT has Proximity Domain of an RHSA. Applies if SratUnread finds nothing.\n"
+        "Numbers: `at` is the structure's offset in the DMAR, `other` is 0x10 (16), the offset of Proximity Domain in it, `point` "
+        "is the domain.\n"
+        "Fix: write the domain of the SRAT that the unit is in."
+    ),
+    254: (
+        "Two RHSAs have the same Register Base Address.\n"
+        "Numbers: `at` is the structure's offset, `other` that of the first RHSA with this address, `point` is the address.\n"
+        "Fix: write one RHSA for each DRHD."
+    ),
+    255: (
+        "None of the bytes of ACPI Object Name of an ANDD is 0.\n"
+        "Numbers: `at` is the structure's offset, `other` is 0x8, the offset of ACPI Object Name in it.\n"
+        "Fix: end the name with a 0, and count it in the length."
+    ),
+    256: (
+        "Enumeration ID of a device scope of type 5 is the ACPI Device Number of no ANDD; or the ACPI Device Number of an ANDD is "
+        "the Enumeration ID of no device scope of type 5 in a DRHD.\n"
+        "Numbers: `at` is the offset of the device scope or of the ANDD, `other` is the offset in it of its number, 0x4 of the "
+        "scope's Enumeration ID or 0x7 of ACPI Device Number, `point` is that number.\n"
+        "Fix: give the ANDD and the device scope in the DRHD of its unit the same number."
+    ),
+    257: (
+        "Bit 0 of the DMAR's Flags is set, and no device scope of type 3 in a DRHD has the ID of an I/O APIC of the MADT.\n"
+        "Numbers: `at` is the offset of the I/O APIC in the MADT, `other` is 0x2, the offset of its ID in it, `point` is the ID.\n"
+        "Fix: add to the DRHD of its unit a device scope of type 3 with the I/O APIC's ID."
+    ),
+    258: (
+        "Two device scopes of type 3, in DRHDs, have the same Enumeration ID.\n"
+        "Numbers: `at` is the device scope's offset, `other` that of the first one with this ID, `point` is its Enumeration ID.\n"
+        "Fix: write to each device scope the ID of its own I/O APIC."
+    ),
+    259: (
+        "The IVRS's Length is below 48; or after its last block there are bytes that are not a block: fewer than 4 bytes, a "
+        "length below 4, or a length that goes past the end of the table.\n"
+        "Numbers: `at` is 0x4, the offset of Length, or the offset of these bytes; `other` is 0x30 (48), or the length that the "
+        "bytes say, 0 if they are fewer than 4; `point` is the IVRS's Length.\n"
+        "Fix: correct the block's length or the table's Length. Often the length of the block before it is wrong."
+    ),
+    260: (
+        "A block is too short for its type: an IVHD of type 0x10 needs 24 bytes, one of type 0x11 or 0x40 needs 40, and an IVMD "
+        "32.\n"
+        "Numbers: `at` is the block's offset, `other` is the length that its type needs, `point` is its length.\n"
+        "Fix: correct the length or the type."
+    ),
+    261: (
+        "The IVRS has no IVHD.\n"
+        "Numbers: all 0.\n"
+        "Fix: write an IVHD for each IOMMU; or list no IVRS if the machine has none."
+    ),
+    262: (
+        "IOMMU Base Address of an IVHD is 0, or no multiple of 16384.\n"
+        "Numbers: `at` is the block's offset, `other` is 0x8, the offset of IOMMU Base Address in it, `point` is that address.\n"
+        "Fix: write the address of the registers that the firmware wrote to the capability of the IOMMU."
+    ),
+    263: (
+        "Two IVHDs of one type and one PCI Segment Group have the same DeviceID.\n"
+        "Numbers: `at` is the block's offset, `other` that of the first IVHD of its type and PCI Segment Group with this "
+        "DeviceID, `point` is the DeviceID.\n"
+        "Fix: write one IVHD of each type for an IOMMU, with the DeviceID of that IOMMU."
+    ),
+    264: (
+        "An IVHD has another IOMMU Base Address than the first IVHD with its PCI Segment Group and DeviceID; or another PCI "
+        "Segment Group or DeviceID than the first one with its IOMMU Base Address.\n"
+        "Numbers: `at` is the block's offset, `other` that of the first IVHD that has its IOMMU Base Address, or its PCI Segment "
+        "Group and DeviceID, `point` is its IOMMU Base Address.\n"
+        "Fix: write the same three fields to all IVHDs of an IOMMU."
+    ),
+    265: (
+        "After the last device entry of an IVHD there are bytes that are not a device entry: their type has no length, or a "
+        "length that goes past the end of the block.\n"
+        "Numbers: `at` is the offset of these bytes, `other` is the length of the type that they say, 0 if they say none, `point` "
+        "is the offset at which the block ends.\n"
+        "Fix: correct the type, UID Length, or the length of the IVHD."
+    ),
+    266: (
+        "A device entry is of an unknown type, or of type 0xf0 in an IVHD of another type than 0x40. Of type 0x48: Variety is 0 "
+        "or above 3. Of type 0xf0: Hardware ID begins with 0; or UID Format is above 2; or UID Length is not 0 for the format 0, "
+        "or not 8 for 1.\n"
+        "Numbers: `at` is the device entry's offset, `other` is the offset in it of the byte that is wrong, 0 of its type, 0x4 of "
+        "Hardware ID, 0x7 of Variety, 0x14 (20) of UID Format, 0x15 (21) of UID Length, `point` is that byte.\n"
+        "Fix: write a type that the block may have, and the fields of the device."
+    ),
+    267: (
+        "A device entry that starts a range is not followed by one that ends it; or one that ends a range does not follow one "
+        "that starts it, or has a lower DeviceID than that one.\n"
+        "Numbers: `at` is the device entry's offset, `other` is 0x1, the offset of DeviceID in it, `point` is the DeviceID.\n"
+        "Fix: write the first DeviceID to the start of a range, and the last one to an entry of type 4 just after it."
+    ),
+    268: (
+        "IVHDs of a type have device entries of type 0x48 with Variety 1, and none of these has the ID of an I/O APIC of the MADT "
+        "as Handle.\n"
+        "Numbers: `at` is the offset of the I/O APIC in the MADT, `other` is 0x2, the offset of its ID in it, `point` is the ID.\n"
+        "Fix: add the device entry to an IVHD of each type, with the I/O APIC's ID and its Source Device ID."
+    ),
+    269: (
+        "Two device entries of type 0x48 with one Variety, in IVHDs of one type, have the same Handle.\n"
+        "Numbers: `at` is the device entry's offset, `other` that of the first one of its Variety with this Handle in IVHDs of "
+        "this type, `point` is the Handle.\n"
+        "Fix: write to each device entry the ID of its own I/O APIC, or the number of its own HPET."
+    ),
+    270: (
+        "An IVMD of type 0x20 to 0x22 has neither Unity nor exclusion range set, or a higher bit of Flags; or IVMD Memory Block "
+        "Length is 0, or the memory ends above the highest address; or, of type 0x22, the last DeviceID is below the first.\n"
+        "Numbers: `at` is the block's offset, `other` is the offset in it of the field that is wrong, 0x1 of Flags, 0x6 of the "
+        "last DeviceID, 0x10 (16) of IVMD Start Address, 0x18 (24) of IVMD Memory Block Length, `point` is that field.\n"
+        "Fix: write the memory, the devices and the Flags: for a unity mapping bit 0, with bit 1 for reads and bit 2 for writes."
     ),
     271: (
         "The SPCR's Length is below 80, or, from Revision 4 on, below 88.\n"

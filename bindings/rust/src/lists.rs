@@ -1028,6 +1028,178 @@ numbered! {
         /// one that begins lower, and of two that begin together the lower offset; `point` is the lowest address at
         /// which two overlap.
         TimerOverlap = 219,
+        /// The DMAR's Length is below 48, or Host Address Width is below 11 or above 63.
+        ///
+        /// Numbers: `at` is the offset of the field, 0x4 of Length or 0x24 (36) of Host Address Width, `point` is the
+        /// field; for Length `other` is 0x30 (48).
+        DmarWidth = 240,
+        /// After the last structure of the DMAR there are bytes that are not a structure: fewer than 4 bytes, a length
+        /// below 4, or a length that goes past the end of the table.
+        ///
+        /// Numbers: `at` is the offset of these bytes, `other` is the length that they say, or 0 if they are fewer than
+        /// 4, `point` is the DMAR's Length.
+        DmarCut = 241,
+        /// A structure is too short for its type: a DRHD needs 16 bytes, an RMRR 24, an RHSA 20, an ANDD 9, and an
+        /// ATSR, an SATC or an SIDP 8.
+        ///
+        /// Numbers: `at` is the structure's offset, `other` is the length that its type needs, `point` is its length.
+        DmarShort = 242,
+        /// The DMAR has no DRHD.
+        ///
+        /// Numbers: all 0.
+        NoDrhd = 243,
+        /// After the last device scope of a structure there are bytes that are not a device scope: a single byte, a
+        /// length below 8, or a length that goes past the end of the structure.
+        ///
+        /// Numbers: `at` is the offset of these bytes, `other` is the length that they say, or 0 if there is 1 byte,
+        /// `point` is the offset at which the structure ends.
+        ScopeCut = 244,
+        /// The type of a device scope is 0 or above 5, or its length is odd; or a step of its path has a Device above
+        /// 31 or a Function above 7.
+        ///
+        /// Numbers: `at` is the offset of the device scope or of the step, `other` is 0 for the scope's type or the
+        /// step's Device, 0x1 for the scope's length or the step's Function, `point` is that number.
+        ScopeType = 245,
+        /// Register Base Address of a DRHD is 0, or no multiple of 4096.
+        ///
+        /// Numbers: `at` is the structure's offset, `other` is 0x8, the offset of Register Base Address in it, `point`
+        /// is that address.
+        DrhdAddress = 246,
+        /// The registers of two DRHDs share an address. They have 4096 * 2^n bytes, where n is bits 3:0 of Size. There
+        /// are none where Register Base Address is 0.
+        ///
+        /// Numbers: `at` and `other` are the offsets of two such structures, first the one whose registers begin lower,
+        /// and of two that begin together the one at the lower offset; `point` is the lowest address at which two
+        /// overlap.
+        DrhdOverlap = 247,
+        /// Two DRHDs of one segment have INCLUDE_PCI_ALL set; or two ATSRs of one segment have ALL_PORTS set.
+        ///
+        /// Numbers: `at` is the structure's offset, `other` that of the first one of its type with this flag and this
+        /// segment, `point` is its Segment Number.
+        SecondIncludeAll = 248,
+        /// A DRHD without INCLUDE_PCI_ALL comes after one of the same segment that has it. The specification asks that
+        /// this one is the last of its segment.
+        ///
+        /// Numbers: `at` is the structure's offset, `other` that of the first DRHD of its segment with INCLUDE_PCI_ALL,
+        /// `point` is its Segment Number.
+        IncludeAllNotLast = 249,
+        /// The base address of an RMRR is no multiple of 4096; or bits 11:0 of its limit address are not all set; or
+        /// its limit address is not above its base address.
+        ///
+        /// Numbers: `at` is the structure's offset, `other` is the offset in it of the address, 0x8 of Reserved Memory
+        /// Region Base Address or 0x10 (16) of Reserved Memory Region Limit Address, `point` is that address.
+        RmrrRange = 250,
+        /// An RMRR has 24 bytes, so it has no device scope.
+        ///
+        /// Numbers: `at` is the structure's offset, `other` is 0x20 (32), the least length with a device scope, `point`
+        /// is its length.
+        RmrrNoDevice = 251,
+        /// No DRHD has the Register Base Address of an RHSA.
+        ///
+        /// Numbers: `at` is the structure's offset, `other` is 0x8, the offset of Register Base Address in it, `point`
+        /// is that address.
+        RhsaNowhere = 252,
+        /// No structure of the SRAT has Proximity Domain of an RHSA. Applies if SratUnread finds nothing.
+        ///
+        /// Numbers: `at` is the structure's offset in the DMAR, `other` is 0x10 (16), the offset of Proximity Domain in
+        /// it, `point` is the domain.
+        RhsaDomain = 253,
+        /// Two RHSAs have the same Register Base Address.
+        ///
+        /// Numbers: `at` is the structure's offset, `other` that of the first RHSA with this address, `point` is the
+        /// address.
+        SameRhsa = 254,
+        /// None of the bytes of ACPI Object Name of an ANDD is 0.
+        ///
+        /// Numbers: `at` is the structure's offset, `other` is 0x8, the offset of ACPI Object Name in it.
+        AnddName = 255,
+        /// Enumeration ID of a device scope of type 5 is the ACPI Device Number of no ANDD; or the ACPI Device Number
+        /// of an ANDD is the Enumeration ID of no device scope of type 5 in a DRHD.
+        ///
+        /// Numbers: `at` is the offset of the device scope or of the ANDD, `other` is the offset in it of its number,
+        /// 0x4 of the scope's Enumeration ID or 0x7 of ACPI Device Number, `point` is that number.
+        AnddNowhere = 256,
+        /// Bit 0 of the DMAR's Flags is set, and no device scope of type 3 in a DRHD has the ID of an I/O APIC of the
+        /// MADT.
+        ///
+        /// Numbers: `at` is the offset of the I/O APIC in the MADT, `other` is 0x2, the offset of its ID in it, `point`
+        /// is the ID.
+        IoApicUnmapped = 257,
+        /// Two device scopes of type 3, in DRHDs, have the same Enumeration ID.
+        ///
+        /// Numbers: `at` is the device scope's offset, `other` that of the first one with this ID, `point` is its
+        /// Enumeration ID.
+        SameScope = 258,
+        /// The IVRS's Length is below 48; or after its last block there are bytes that are not a block: fewer than 4
+        /// bytes, a length below 4, or a length that goes past the end of the table.
+        ///
+        /// Numbers: `at` is 0x4, the offset of Length, or the offset of these bytes; `other` is 0x30 (48), or the
+        /// length that the bytes say, 0 if they are fewer than 4; `point` is the IVRS's Length.
+        IvrsCut = 259,
+        /// A block is too short for its type: an IVHD of type 0x10 needs 24 bytes, one of type 0x11 or 0x40 needs 40,
+        /// and an IVMD 32.
+        ///
+        /// Numbers: `at` is the block's offset, `other` is the length that its type needs, `point` is its length.
+        IvrsShort = 260,
+        /// The IVRS has no IVHD.
+        ///
+        /// Numbers: all 0.
+        NoIvhd = 261,
+        /// IOMMU Base Address of an IVHD is 0, or no multiple of 16384.
+        ///
+        /// Numbers: `at` is the block's offset, `other` is 0x8, the offset of IOMMU Base Address in it, `point` is that
+        /// address.
+        IvhdAddress = 262,
+        /// Two IVHDs of one type and one PCI Segment Group have the same DeviceID.
+        ///
+        /// Numbers: `at` is the block's offset, `other` that of the first IVHD of its type and PCI Segment Group with
+        /// this DeviceID, `point` is the DeviceID.
+        SameIvhd = 263,
+        /// An IVHD has another IOMMU Base Address than the first IVHD with its PCI Segment Group and DeviceID; or
+        /// another PCI Segment Group or DeviceID than the first one with its IOMMU Base Address.
+        ///
+        /// Numbers: `at` is the block's offset, `other` that of the first IVHD that has its IOMMU Base Address, or its
+        /// PCI Segment Group and DeviceID, `point` is its IOMMU Base Address.
+        IvhdDiffers = 264,
+        /// After the last device entry of an IVHD there are bytes that are not a device entry: their type has no
+        /// length, or a length that goes past the end of the block.
+        ///
+        /// Numbers: `at` is the offset of these bytes, `other` is the length of the type that they say, 0 if they say
+        /// none, `point` is the offset at which the block ends.
+        IvhdEntryCut = 265,
+        /// A device entry is of an unknown type, or of type 0xf0 in an IVHD of another type than 0x40. Of type 0x48:
+        /// Variety is 0 or above 3. Of type 0xf0: Hardware ID begins with 0; or UID Format is above 2; or UID Length is
+        /// not 0 for the format 0, or not 8 for 1.
+        ///
+        /// Numbers: `at` is the device entry's offset, `other` is the offset in it of the byte that is wrong, 0 of its
+        /// type, 0x4 of Hardware ID, 0x7 of Variety, 0x14 (20) of UID Format, 0x15 (21) of UID Length, `point` is that
+        /// byte.
+        IvhdEntryType = 266,
+        /// A device entry that starts a range is not followed by one that ends it; or one that ends a range does not
+        /// follow one that starts it, or has a lower DeviceID than that one.
+        ///
+        /// Numbers: `at` is the device entry's offset, `other` is 0x1, the offset of DeviceID in it, `point` is the
+        /// DeviceID.
+        IvhdRange = 267,
+        /// IVHDs of a type have device entries of type 0x48 with Variety 1, and none of these has the ID of an I/O APIC
+        /// of the MADT as Handle.
+        ///
+        /// Numbers: `at` is the offset of the I/O APIC in the MADT, `other` is 0x2, the offset of its ID in it, `point`
+        /// is the ID.
+        IoApicNotInIvrs = 268,
+        /// Two device entries of type 0x48 with one Variety, in IVHDs of one type, have the same Handle.
+        ///
+        /// Numbers: `at` is the device entry's offset, `other` that of the first one of its Variety with this Handle in
+        /// IVHDs of this type, `point` is the Handle.
+        SameSpecial = 269,
+        /// An IVMD of type 0x20 to 0x22 has neither Unity nor exclusion range set, or a higher bit of Flags; or IVMD
+        /// Memory Block Length is 0, or the memory ends above the highest address; or, of type 0x22, the last DeviceID
+        /// is below the first.
+        ///
+        /// Numbers: `at` is the block's offset, `other` is the offset in it of the field that is wrong, 0x1 of Flags,
+        /// 0x6 of the last DeviceID, 0x10 (16) of IVMD Start Address, 0x18 (24) of IVMD Memory Block Length, `point` is
+        /// that field.
+        IvmdRange = 270,
         /// The SPCR's Length is below 80, or, from Revision 4 on, below 88.
         ///
         /// Numbers: `at` is 0x4, the offset of Length, `other` is the length that the Revision needs, `point` is
@@ -1276,6 +1448,9 @@ impl Rule {
             | Rule::SameTimer
             | Rule::SameFrame
             | Rule::TimerOverlap
+            | Rule::IncludeAllNotLast
+            | Rule::RhsaDomain
+            | Rule::IvhdEntryType
             | Rule::SpcrPci
             | Rule::RsdpText
             | Rule::RootHeader
@@ -1387,6 +1562,34 @@ impl Rule {
             | Rule::TimerFrame
             | Rule::Watchdog
             | Rule::TimerNoSpi
+            | Rule::DmarWidth
+            | Rule::DmarCut
+            | Rule::DmarShort
+            | Rule::NoDrhd
+            | Rule::ScopeCut
+            | Rule::ScopeType
+            | Rule::DrhdAddress
+            | Rule::DrhdOverlap
+            | Rule::SecondIncludeAll
+            | Rule::RmrrRange
+            | Rule::RmrrNoDevice
+            | Rule::RhsaNowhere
+            | Rule::SameRhsa
+            | Rule::AnddName
+            | Rule::AnddNowhere
+            | Rule::IoApicUnmapped
+            | Rule::SameScope
+            | Rule::IvrsCut
+            | Rule::IvrsShort
+            | Rule::NoIvhd
+            | Rule::IvhdAddress
+            | Rule::SameIvhd
+            | Rule::IvhdDiffers
+            | Rule::IvhdEntryCut
+            | Rule::IvhdRange
+            | Rule::IoApicNotInIvrs
+            | Rule::SameSpecial
+            | Rule::IvmdRange
             | Rule::SpcrLength
             | Rule::SpcrAddress
             | Rule::SpcrBaud

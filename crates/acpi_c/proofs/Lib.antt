@@ -6,4 +6,5 @@ mod Meanings
 mod PermutedPieces
 mod PiecesMean
 mod RefusedPieces
+mod RuleNames
 mod ShownOrRebuilt

@@ -195,6 +195,37 @@ pub const RULE_TEXTS: &str = "\
     Found: a watchdog does not have 28 bytes; or its RefreshFrame or WatchdogControlFrame address is 0.\nFix: write the length 28, and the addresses of both frames.\
     Found: a GSIV of a frame or a watchdog is not 0, and no SPI: neither 32 to 1019 nor 4096 to 5119.\nFix: write the interrupt ID of the SPI: for SPI n it is 32 + n, for extended SPI n 4096 + n.\
     Found: two of these ranges of 4096 bytes share an address: those from the CntCtlBase of a GT Block, from the CntBase or CntEL0Base of a frame, and from the RefreshFrame or WatchdogControlFrame of a watchdog. An address of 0 or 2^64 - 1 has no range.\nFix: write the addresses of the registers.\
+    Found: the DMAR's Length is below 48, or Host Address Width is below 11 or above 63.\nFix: write the number of bits of the machine's physical addresses less one, such as 38, 45 or 51.\
+    Found: after the last structure of the DMAR there are bytes that are not a structure: fewer than 4 bytes, a length below 4, or a length that goes past the end of the table.\nFix: correct the structure's length or the table's Length. Often the length of the structure before it is wrong.\
+    Found: a structure is too short for its type: a DRHD needs 16 bytes, an RMRR 24, an RHSA 20, an ANDD 9, and an ATSR, an SATC or an SIDP 8.\nFix: correct the length or the type.\
+    Found: the DMAR has no DRHD.\nFix: write a DRHD for each unit of remapping hardware; or list no DMAR if the machine has none.\
+    Found: after the last device scope of a structure there are bytes that are not a device scope: a single byte, a length below 8, or a length that goes past the end of the structure.\nFix: correct the length of the device scope, which is 6 plus 2 for each step of its path, or that of the structure.\
+    Found: the type of a device scope is 0 or above 5, or its length is odd; or a step of its path has a Device above 31 or a Function above 7.\nFix: write the type of the device, and the steps that lead to it from Start Bus Number on.\
+    Found: Register Base Address of a DRHD is 0, or no multiple of 4096.\nFix: write the address to which the chipset maps the registers of the unit; or leave the DRHD out if the unit is disabled.\
+    Found: the registers of two DRHDs share an address. They have 4096 * 2^n bytes, where n is bits 3:0 of Size. There are none where Register Base Address is 0.\nFix: write to each DRHD the address and the size of its own registers.\
+    Found: two DRHDs of one segment have INCLUDE_PCI_ALL set; or two ATSRs of one segment have ALL_PORTS set.\nFix: set the flag in one of them, and list the devices or ports of the other one in device scopes.\
+    Found: a DRHD without INCLUDE_PCI_ALL comes after one of the same segment that has it. The specification asks that this one is the last of its segment.\nFix: move the DRHD with INCLUDE_PCI_ALL behind all others of its segment.\
+    Found: the base address of an RMRR is no multiple of 4096; or bits 11:0 of its limit address are not all set; or its limit address is not above its base address.\nFix: write the addresses of the first and the last byte of the region, in whole pages.\
+    Found: an RMRR has 24 bytes, so it has no device scope.\nFix: add the device scopes of the devices that use the region; or leave the RMRR out.\
+    Found: no DRHD has the Register Base Address of an RHSA.\nFix: write the Register Base Address of the unit's DRHD; or leave the RHSA out if the unit has no DRHD.\
+    Found: no structure of the SRAT has Proximity Domain of an RHSA. Applies if SratUnread finds nothing.\nFix: write the domain of the SRAT that the unit is in.\
+    Found: two RHSAs have the same Register Base Address.\nFix: write one RHSA for each DRHD.\
+    Found: none of the bytes of ACPI Object Name of an ANDD is 0.\nFix: end the name with a 0, and count it in the length.\
+    Found: Enumeration ID of a device scope of type 5 is the ACPI Device Number of no ANDD; or the ACPI Device Number of an ANDD is the Enumeration ID of no device scope of type 5 in a DRHD.\nFix: give the ANDD and the device scope in the DRHD of its unit the same number.\
+    Found: bit 0 of the DMAR's Flags is set, and no device scope of type 3 in a DRHD has the ID of an I/O APIC of the MADT.\nFix: add to the DRHD of its unit a device scope of type 3 with the I/O APIC's ID.\
+    Found: two device scopes of type 3, in DRHDs, have the same Enumeration ID.\nFix: write to each device scope the ID of its own I/O APIC.\
+    Found: the IVRS's Length is below 48; or after its last block there are bytes that are not a block: fewer than 4 bytes, a length below 4, or a length that goes past the end of the table.\nFix: correct the block's length or the table's Length. Often the length of the block before it is wrong.\
+    Found: a block is too short for its type: an IVHD of type 0x10 needs 24 bytes, one of type 0x11 or 0x40 needs 40, and an IVMD 32.\nFix: correct the length or the type.\
+    Found: the IVRS has no IVHD.\nFix: write an IVHD for each IOMMU; or list no IVRS if the machine has none.\
+    Found: IOMMU Base Address of an IVHD is 0, or no multiple of 16384.\nFix: write the address of the registers that the firmware wrote to the capability of the IOMMU.\
+    Found: two IVHDs of one type and one PCI Segment Group have the same DeviceID.\nFix: write one IVHD of each type for an IOMMU, with the DeviceID of that IOMMU.\
+    Found: an IVHD has another IOMMU Base Address than the first IVHD with its PCI Segment Group and DeviceID; or another PCI Segment Group or DeviceID than the first one with its IOMMU Base Address.\nFix: write the same three fields to all IVHDs of an IOMMU.\
+    Found: after the last device entry of an IVHD there are bytes that are not a device entry: their type has no length, or a length that goes past the end of the block.\nFix: correct the type, UID Length, or the length of the IVHD.\
+    Found: a device entry is of an unknown type, or of type 0xf0 in an IVHD of another type than 0x40. Of type 0x48: Variety is 0 or above 3. Of type 0xf0: Hardware ID begins with 0; or UID Format is above 2; or UID Length is not 0 for the format 0, or not 8 for 1.\nFix: write a type that the block may have, and the fields of the device.\
+    Found: a device entry that starts a range is not followed by one that ends it; or one that ends a range does not follow one that starts it, or has a lower DeviceID than that one.\nFix: write the first DeviceID to the start of a range, and the last one to an entry of type 4 just after it.\
+    Found: IVHDs of a type have device entries of type 0x48 with Variety 1, and none of these has the ID of an I/O APIC of the MADT as Handle.\nFix: add the device entry to an IVHD of each type, with the I/O APIC's ID and its Source Device ID.\
+    Found: two device entries of type 0x48 with one Variety, in IVHDs of one type, have the same Handle.\nFix: write to each device entry the ID of its own I/O APIC, or the number of its own HPET.\
+    Found: an IVMD of type 0x20 to 0x22 has neither Unity nor exclusion range set, or a higher bit of Flags; or IVMD Memory Block Length is 0, or the memory ends above the highest address; or, of type 0x22, the last DeviceID is below the first.\nFix: write the memory, the devices and the Flags: for a unity mapping bit 0, with bit 1 for reads and bit 2 for writes.\
     Found: the SPCR's Length is below 80, or, from Revision 4 on, below 88.\nFix: write all fields of the Revision, and set Length; or set the Revision to that of the fields.\
     Found: the SPCR's base address is neither in memory (address space 0) nor in I/O ports (1); or it is in memory, and its access size is above 3 (32 bits). Applies if the address is not 0 and the interface type is not 0x15, the RISC-V SBI console.\nFix: write the address space and the access size of the serial port's registers.\
     Found: the SPCR's baud rate is none of 0, 3, 4, 6 and 7, and there is no precise one: the Revision is below 4, or the number at 80 is 0.\nFix: write 3 for 9600, 4 for 19200, 6 for 57600, 7 for 115200, or 0 for the rate that the firmware has set.\
@@ -245,10 +276,219 @@ pub const RULE_STARTS: [u32; Rule::COUNT + 1] = [
     19952, 20092, 20241, 20438, 20662, 20905, 21144, 21390, 21569, 21832, 22209, 22479, 22675,
     22827, 22994, 23212, 23390, 23577, 23727, 23809, 23952, 24195, 24388, 24673, 24960, 25108,
     25327, 25467, 25724, 25843, 26140, 26310, 26462, 26729, 26915, 27110, 27287, 27437, 27644,
-    27797, 28124, 28386, 28622, 28720, 28879, 29069, 29361, 29530, 29856, 30100, 30614, 30921,
-    31239, 31475, 31778, 32123, 32349, 32527, 32775, 32983, 33254, 33581, 33894, 34097, 34381,
-    34581, 34741, 34893, 35216, 35464, 35667, 35850, 35983, 36210, 36380, 36595, 36761, 37123,
-    37311, 37531, 37729, 37883, 38176, 38356, 38530, 38844,
+    27797, 28124, 28386, 28622, 28720, 28879, 29069, 29361, 29543, 29828, 30003, 30127, 30423,
+    30653, 30844, 31072, 31276, 31501, 31749, 31890, 32050, 32206, 32294, 32411, 32678, 32879,
+    33014, 33305, 33471, 33575, 33738, 33896, 34150, 34377, 34711, 34998, 35236, 35427, 35787,
+    35956, 36282, 36526, 37040, 37347, 37665, 37901, 38204, 38549, 38775, 38953, 39201, 39409,
+    39680, 40007, 40320, 40523, 40807, 41007, 41167, 41319, 41642, 41890, 42093, 42276, 42409,
+    42636, 42806, 43021, 43187, 43549, 43737, 43957, 44155, 44309, 44602, 44782, 44956, 45270,
+];
+
+/// The name of each rule by its number, one text after another.
+pub const RULE_NAMES: &str = "\
+    ListedTwice\
+    SecondTable\
+    ListedApart\
+    FadtOfRevision\
+    FacsDiffers\
+    DsdtDiffers\
+    BlockDiffers\
+    SciNowhere\
+    SameUid\
+    SameApicId\
+    IoApicAtZero\
+    SameIoApicId\
+    SameIoApicAddress\
+    NmiNowhere\
+    SecondGicd\
+    NoProcessor\
+    TwoUidDomains\
+    AffinityNowhere\
+    NoDomain\
+    DomainPastSlit\
+    SlitDiffers\
+    SameLeaf\
+    CacheShape\
+    SameCacheId\
+    NoLeaf\
+    LeafNowhere\
+    MadtUnread\
+    SratUnread\
+    NullSlot\
+    RsdtDiffers\
+    TablesOverlap\
+    NoDsdt\
+    DsdtWrong\
+    NoPm1Block\
+    BlockWidth\
+    HalfBlock\
+    PortsOverlap\
+    PortPastEnd\
+    GpeOverlap\
+    SmiHalf\
+    SciZero\
+    ResetNowhere\
+    FadtForArch\
+    SleepRegister\
+    FadtReserved\
+    FacsReserved\
+    RsdpReserved\
+    HeaderText\
+    SecondOther\
+    X2ApicBelow255\
+    BroadcastId\
+    CapableTooEarly\
+    EnabledAndCapable\
+    OverridePastIsa\
+    TimerLevel\
+    TwoSourcesOneGsi\
+    LintNotOne\
+    NoIoApic\
+    NoDistributor\
+    NoRedistributor\
+    GicrTooSmall\
+    GiccBaseDiffers\
+    SameMpidr\
+    MpidrReserved\
+    GicrEmpty\
+    SameIts\
+    SameMsiFrame\
+    GicOverlap\
+    RedistributorTwice\
+    NoBootMethod\
+    SameHart\
+    MadtReserved\
+    NoMemoryRange\
+    EmptyRange\
+    InitiatorOff\
+    DomainPastRevision\
+    ItsNowhere\
+    SratReserved\
+    RemoteAsLocal\
+    LeafUnflagged\
+    LeafAsParent\
+    NoPackage\
+    CacheNumbers\
+    PpttReserved\
+    McfgLength\
+    EcamAddress\
+    BusesReversed\
+    EcamWraps\
+    EcamTooHigh\
+    SameBus\
+    EcamOverlap\
+    HpetLength\
+    HpetSpace\
+    HpetAddress\
+    HmatHeader\
+    HmatCut\
+    HmatLength\
+    HmatDataType\
+    HmatHierarchy\
+    HmatUnit\
+    HmatTooLarge\
+    HmatSameDomain\
+    HmatProximity\
+    HmatDomainNowhere\
+    HmatCacheNowhere\
+    HmatCache\
+    HmatAlone\
+    GtdtLength\
+    NoGtdt\
+    NoTimer\
+    TimerNoPpi\
+    SameTimer\
+    PlatformTimerCut\
+    TimerBlock\
+    TimerFrame\
+    SameFrame\
+    Watchdog\
+    TimerNoSpi\
+    TimerOverlap\
+    DmarWidth\
+    DmarCut\
+    DmarShort\
+    NoDrhd\
+    ScopeCut\
+    ScopeType\
+    DrhdAddress\
+    DrhdOverlap\
+    SecondIncludeAll\
+    IncludeAllNotLast\
+    RmrrRange\
+    RmrrNoDevice\
+    RhsaNowhere\
+    RhsaDomain\
+    SameRhsa\
+    AnddName\
+    AnddNowhere\
+    IoApicUnmapped\
+    SameScope\
+    IvrsCut\
+    IvrsShort\
+    NoIvhd\
+    IvhdAddress\
+    SameIvhd\
+    IvhdDiffers\
+    IvhdEntryCut\
+    IvhdEntryType\
+    IvhdRange\
+    IoApicNotInIvrs\
+    SameSpecial\
+    IvmdRange\
+    SpcrLength\
+    SpcrAddress\
+    SpcrBaud\
+    SpcrGsi\
+    SpcrPci\
+    SpcrName\
+    RsdpText\
+    RootHeader\
+    DsdtText\
+    FadtPastRevision\
+    ArmBootEarly\
+    FixedInReduced\
+    SmiHandshake\
+    S4BiosDiffers\
+    GpePastEnd\
+    BlockTooLong\
+    BlockSpace\
+    BlockUsualWidth\
+    SleepNotReduced\
+    FadtForRiscv\
+    GiccShort\
+    GiccNoGicr\
+    CapableNoGicr\
+    GiccDiffers\
+    SameGicrBase\
+    ParkingVersion\
+    GiccNoPpi\
+    PicVersion\
+    FurtherReserved\
+    HartInvalid\
+    WakeupMailbox\
+    LapicAtZero\
+    MadtRevision\
+    AffinityReserved\
+    DeviceHandle\
+    ItsDomain\
+    PpttUnread\
+    CacheIdZero\
+    SameCacheType";
+
+/// The offsets in bytes where these begin, and where the last one ends.
+pub const NAME_STARTS: [u32; Rule::COUNT + 1] = [
+    0, 11, 22, 33, 47, 58, 69, 81, 91, 98, 108, 120, 132, 149, 159, 169, 180, 193, 208, 216, 230,
+    241, 249, 259, 270, 276, 287, 297, 307, 315, 326, 339, 345, 354, 364, 374, 383, 395, 406, 416,
+    423, 430, 442, 453, 466, 478, 490, 502, 512, 523, 537, 548, 563, 580, 595, 605, 621, 631, 639,
+    652, 667, 679, 694, 703, 716, 725, 732, 744, 754, 772, 784, 792, 804, 817, 827, 839, 857, 867,
+    879, 892, 905, 917, 926, 938, 950, 960, 971, 984, 993, 1004, 1011, 1022, 1032, 1041, 1052,
+    1062, 1069, 1079, 1091, 1104, 1112, 1124, 1138, 1151, 1168, 1184, 1193, 1202, 1212, 1218, 1225,
+    1235, 1244, 1260, 1270, 1280, 1289, 1297, 1307, 1319, 1328, 1335, 1344, 1350, 1358, 1367, 1378,
+    1389, 1405, 1422, 1431, 1443, 1454, 1464, 1472, 1480, 1491, 1505, 1514, 1521, 1530, 1536, 1547,
+    1555, 1566, 1578, 1591, 1600, 1615, 1626, 1635, 1645, 1656, 1664, 1671, 1678, 1686, 1694, 1704,
+    1712, 1728, 1740, 1754, 1766, 1779, 1789, 1801, 1811, 1826, 1841, 1853, 1862, 1872, 1885, 1896,
+    1908, 1922, 1931, 1941, 1956, 1967, 1980, 1991, 2003, 2019, 2031, 2040, 2050, 2061, 2074,
 ];
 
 /// The severity of each rule, by its number.
@@ -372,6 +612,37 @@ pub const SEVERITIES: [Severity; Rule::COUNT] = [
     Severity::LikelyWrong,
     Severity::LikelyWrong,
     Severity::LookAtIt,
+    Severity::LikelyWrong,
+    Severity::LikelyWrong,
+    Severity::LikelyWrong,
+    Severity::LikelyWrong,
+    Severity::LikelyWrong,
+    Severity::LikelyWrong,
+    Severity::LikelyWrong,
+    Severity::LikelyWrong,
+    Severity::LikelyWrong,
+    Severity::LookAtIt,
+    Severity::LikelyWrong,
+    Severity::LikelyWrong,
+    Severity::LikelyWrong,
+    Severity::LookAtIt,
+    Severity::LikelyWrong,
+    Severity::LikelyWrong,
+    Severity::LikelyWrong,
+    Severity::LikelyWrong,
+    Severity::LikelyWrong,
+    Severity::LikelyWrong,
+    Severity::LikelyWrong,
+    Severity::LikelyWrong,
+    Severity::LikelyWrong,
+    Severity::LikelyWrong,
+    Severity::LikelyWrong,
+    Severity::LikelyWrong,
+    Severity::LookAtIt,
+    Severity::LikelyWrong,
+    Severity::LikelyWrong,
+    Severity::LikelyWrong,
+    Severity::LikelyWrong,
     Severity::LikelyWrong,
     Severity::LikelyWrong,
     Severity::LikelyWrong,

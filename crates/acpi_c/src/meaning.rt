@@ -1,11 +1,15 @@
 //! What the number of a finding means, for C: its stage, its severity, its name, and a text that explains it.
 
-ghost use Rattle.std.specs.Prelude.{◌≡◌, ◌≤◌, ℕ, IfSome, IsNone, List, [], length};
+ghost use Rattle.std.specs.Prelude.{◌≡◌, ◌+◌, ◌≤◌, ℕ, IfSome, IsNone, List, [], Some, length};
+ghost use Rattle.std.specs.List.{slice_get, slice_range};
+ghost use Rattle.acpi_lint.specs.Rules.Rows.{rule_name};
 ghost use Rattle.acpi_c.specs.Answers.{written_over};
 ghost use Rattle.acpi_c.specs.Meanings.{IsNumbered, IsStageOf, IsSeverityOf, IsNameOf, IsNoNumber, IsWrittenTo};
 
 use crate::answer::copy_to;
-use crate::explained::{CODE_STARTS, CODE_TEXTS, RULE_STARTS, RULE_TEXTS, SEVERITIES};
+use crate::explained::{
+    CODE_STARTS, CODE_TEXTS, NAME_STARTS, RULE_NAMES, RULE_STARTS, RULE_TEXTS, SEVERITIES,
+};
 use acpi_base::Code;
 use acpi_lint::Rule;
 
@@ -95,7 +99,13 @@ fn rule_severity(rule: Rule) -> Severity {
 
 /// One of texts that stand one after another, of which it is known where each begins. A table of references to them would
 /// be larger, since the library can be loaded at any address.
-fn nth_text(texts: &'static str, starts: &[u32], place: usize) -> &'static [u8] {
+// Its code stands once, and not in each of its callers.
+#[inline(never)]
+fn nth_text(texts: &'static str, starts: &[u32], place: usize) -> &'static [u8]
+    ensures { (start end : ℕ) → slice_get starts.now place ≡ Some start
+        → slice_get starts.now (place + 1) ≡ Some end → start ≤ end → end ≤ length texts.now
+        → result.now ≡ slice_range texts.now start end }
+{
     let Some(start) = starts.get(place) else {
         return b"";
     };
@@ -122,19 +132,20 @@ fn rule_text(rule: Rule) -> &'static [u8] {
     nth_text(RULE_TEXTS, RULE_STARTS.as_slice(), rule.place())
 }
 
+/// The name of a rule.
+fn rule_name(rule: Rule) -> &'static [u8]
+    ensures { result.now ≡ rule_name rule }
+{
+    nth_text(RULE_NAMES, NAME_STARTS.as_slice(), rule.place())
+}
+
 /// Writes the bytes of a text to the room, as many as fit, and returns how many there are.
+#[inline(never)]
 fn write_bytes(room: &mut [u8], bytes: &[u8]) -> usize
     ensures { IsWrittenTo bytes.now room.old room.new result }
 {
     copy_to(room, bytes);
     bytes.len()
-}
-
-/// The same of a text.
-fn write_to(room: &mut [u8], text: &str) -> usize
-    ensures { IsWrittenTo text.now room.old room.new result }
-{
-    write_bytes(room, text.as_bytes())
 }
 
 /// Writes the name of the code or the rule with this number to the room, as many bytes of it as fit, without a final
@@ -145,11 +156,11 @@ pub extern "C" fn acpiset_name(number: u32, room: &mut [u8]) -> usize
     ensures { (name : List ℕ) × IsNameOf number name × IsWrittenTo name room.old room.new result }
 {
     let name = match with_number(number) {
-        Some(Numbered::Code(code)) => code.name(),
-        Some(Numbered::Rule(rule)) => rule.name(),
-        None => "",
+        Some(Numbered::Code(code)) => code.name().as_bytes(),
+        Some(Numbered::Rule(rule)) => rule_name(rule),
+        None => b"",
     };
-    write_to(room, name)
+    write_bytes(room, name)
 }
 
 /// Writes a text that explains the code or the rule with this number to the room, as many bytes of it as fit, without a

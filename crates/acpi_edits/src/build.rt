@@ -3,7 +3,9 @@
 use crate::changes::{LONGEST, changes_of_clause, head_of};
 use crate::lists::List;
 use crate::pair::{Pair, Structure, put_field, structures};
-use acpi_rules::{Case, Clause, Form, Head, Kind, Row, Source, Tables, Value, first_finding};
+use acpi_rules::{
+    Case, Clause, Clauses, Form, Head, Kind, Row, Source, Tables, Value, first_finding,
+};
 use std::alloc::{AllocError, Global};
 
 /// The tables as a path through one of them sees them.
@@ -27,7 +29,7 @@ pub fn first_with(
     clauses: &[Clause],
 ) -> Result<Option<u64>, AllocError> {
     let nothing = Value::Number(0);
-    let cases: [Case<'_>; 1] = [(kind, clauses, 0, nothing, nothing)];
+    let cases: [Case<'_>; 1] = [(kind, Clauses::All(clauses), 0, nothing, nothing)];
     let row: Row<'_> = (0, Form::Given, &[], (list.path, &cases, &[]), None);
     let found = first_finding(alloc, &row, &seen(pair, list.source))?;
     Ok(found.map(|place| place.at))
@@ -98,7 +100,8 @@ pub fn satisfy(
     list: &List,
     case: &Case<'_>,
 ) -> Result<bool, AllocError> {
-    let (kind, clauses, ..) = *case;
+    let (kind, clauses, ..) = case;
+    let (kind, clauses) = (*kind, clauses.as_slice());
     if first_with(alloc, pair, list, kind, &[])?.is_none()
         && let Some(head) = head_of(list)
     {
@@ -122,7 +125,7 @@ pub fn append_twin(
     list: &List,
     case: &Case<'_>,
 ) -> Result<(), AllocError> {
-    let Some(at) = first_with(alloc, pair, list, case.0, case.1)? else {
+    let Some(at) = first_with(alloc, pair, list, case.0, case.1.as_slice())? else {
         return Ok(());
     };
     let Some(of) = structure_at(alloc, pair, list, at)? else {

@@ -51,11 +51,21 @@ fn push_fields(value: &Value, fields: &mut Vec<(Within, Field)>) -> Result<(), A
             fields.push((within, columns))?;
         }
         Value::Keyed(_, field) => fields.push((Within::Own, field))?,
+        Value::Pair(one, other) | Value::Excess(one, other) => {
+            for field in [one, other] {
+                fields.push((Within::Own, field))?;
+            }
+        }
+        Value::FirstZero(within, from) => {
+            let place = from.saturating_mul(16).saturating_add(1);
+            fields.push((within, Field { place }))?;
+        }
         Value::Number(_)
         | Value::Largest
         | Value::Length(_)
         | Value::Behind(..)
-        | Value::Offset(_) => {}
+        | Value::Offset(..)
+        | Value::End(_) => {}
     }
     Ok(())
 }
@@ -93,6 +103,7 @@ fn named_number(value: &Value) -> Option<u64> {
     match *value {
         Value::Number(number) | Value::Behind(_, number) => Some(u64::from(number)),
         Value::Largest => Some(u64::MAX),
+        Value::Offset(_, number) | Value::FirstZero(_, number) => Some(u64::from(number)),
         Value::Bits(_, _, number) | Value::Sum(_, _, _, number) | Value::Matrix(_, number, _, _) =>
             { Some(u64::from(number)) }
         Value::SumBits(_, _, mask, _, _) => Some(u64::from(mask)),
@@ -113,7 +124,7 @@ fn push_numbers(value: &Value, numbers: &mut Vec<u64>) -> Result<(), AllocError>
 /// The fields that a case reads.
 pub fn fields_of_case(alloc: Global, case: &Case<'_>) -> Result<Vec<(Within, Field)>, AllocError> {
     let mut fields = Vec::new(alloc);
-    for clause in case.1 {
+    for clause in case.1.as_slice() {
         push_fields(&clause.left, &mut fields)?;
         push_fields(&clause.right, &mut fields)?;
     }
@@ -419,7 +430,7 @@ pub fn changes_of_case(
     case: &Case<'_>,
 ) -> Result<Vec<Change>, AllocError> {
     let mut around = Around::new(alloc);
-    for clause in case.1 {
+    for clause in case.1.as_slice() {
         around.add_clause(clause)?;
     }
     around.add(&case.3)?;

@@ -2,7 +2,7 @@
 //! that it has the type of the rows themselves.
 
 use crate::near::{clauses_near, values_near};
-use acpi_rules::{Case, Clause, Field, Guard, Kind, Known, Row, Value, Within};
+use acpi_rules::{Case, Clause, Clauses, Field, Guard, Kind, Known, Row, Value, Within};
 use std::alloc::{AllocError, Global};
 
 /// A change of one number or one comparison of a case.
@@ -33,7 +33,7 @@ pub struct Reads {
 pub fn edits_of(alloc: Global, case: &Case<'_>, reads: Reads) -> Result<Vec<Edit>, AllocError> {
     let (_, clauses, place, value, number) = *case;
     let mut edits = Vec::new(alloc);
-    for (index, clause) in clauses.iter().enumerate() {
+    for (index, clause) in clauses.as_slice().iter().enumerate() {
         for near in clauses_near(alloc, clause)? {
             edits.push(Edit::Clause(index, near))?;
         }
@@ -60,8 +60,8 @@ pub fn edits_of(alloc: Global, case: &Case<'_>, reads: Reads) -> Result<Vec<Edit
 }
 
 /// Clauses that stay: an edited row has references to them until the program ends.
-fn kept_clauses(clauses: Vec<Clause>) -> &'static [Clause] {
-    clauses.leak()
+fn kept_clauses(clauses: Vec<Clause>) -> Clauses<&'static [Clause]> {
+    Clauses::All(clauses.leak())
 }
 
 /// Cases that stay.
@@ -83,7 +83,7 @@ fn edited_case(
     let (kind, clauses, place, value, number) = *case;
     match *edit {
         Edit::Clause(index, near) => {
-            let mut edited = Vec::from_slice(alloc, clauses)?;
+            let mut edited = Vec::from_slice(alloc, clauses.as_slice())?;
             if let Some(clause) = edited.get_mut(index) {
                 *clause = near;
             }
@@ -172,6 +172,30 @@ impl Swap {
             Value::Sum(within, field, times, added) => {
                 Value::Sum(within, self.field(kind, within, field), times, added)
             }
+            Value::Keyed(within, field) => {
+                Value::Keyed(within, self.field(kind, Within::Own, field))
+            }
+            Value::SumOf(..)
+            | Value::SumBits(..)
+            | Value::Product(..)
+            | Value::Product3(..)
+            | Value::Matrix(..)
+            | Value::Pair(..)
+            | Value::Excess(..) => self.value_of_fields(kind, value),
+            Value::Number(_)
+            | Value::Largest
+            | Value::Length(_)
+            | Value::Behind(..)
+            | Value::Offset(..)
+            | Value::End(_)
+            | Value::FirstZero(..) => *value,
+        }
+    }
+
+    /// One of several fields.
+    fn value_of_fields(&self, kind: u16, value: &Value) -> Value {
+        let own = |field| self.field(kind, Within::Own, field);
+        match *value {
             Value::SumOf(within, field, times, added) => Value::SumOf(
                 within,
                 self.field(kind, within, field),
@@ -185,30 +209,31 @@ impl Swap {
                 self.field(kind, within, field),
                 self.field(kind, within, added),
             ),
-            Value::Product(within, one, other) => Value::Product(
-                within,
-                self.field(kind, within, one),
-                self.field(kind, Within::Own, other),
-            ),
-            Value::Product3(one, other, third) => Value::Product3(
-                self.field(kind, Within::Own, one),
-                self.field(kind, Within::Own, other),
-                self.field(kind, Within::Own, third),
-            ),
+            Value::Product(within, one, other) => {
+                Value::Product(within, self.field(kind, within, one), own(other))
+            }
+            Value::Product3(one, other, third) => {
+                Value::Product3(own(one), own(other), own(third))
+            }
             Value::Matrix(within, base, rows, columns) => Value::Matrix(
                 within,
                 base,
                 self.field(kind, within, rows),
                 self.field(kind, within, columns),
             ),
-            Value::Keyed(within, field) => {
-                Value::Keyed(within, self.field(kind, Within::Own, field))
-            }
+            Value::Pair(one, other) => Value::Pair(own(one), own(other)),
+            Value::Excess(one, other) => Value::Excess(own(one), own(other)),
             Value::Number(_)
+            | Value::Of(..)
             | Value::Largest
+            | Value::Bits(..)
             | Value::Length(_)
             | Value::Behind(..)
-            | Value::Offset(_) => *value,
+            | Value::Offset(..)
+            | Value::End(_)
+            | Value::Sum(..)
+            | Value::Keyed(..)
+            | Value::FirstZero(..) => *value,
         }
     }
 }
@@ -222,7 +247,7 @@ fn swapped_case(
     let (kind, clauses, place, value, number) = *case;
     let of = kind.first;
     let mut swapped = Vec::new(alloc);
-    for clause in clauses {
+    for clause in clauses.as_slice() {
         swapped.push(Clause {
             left: swap.value(of, &clause.left),
             test: clause.test,

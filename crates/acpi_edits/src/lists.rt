@@ -1,6 +1,6 @@
 //! The lists of cases of a row.
 
-use acpi_rules::{Case, Form, Known, LookUp, Need, Path, Row, Source};
+use acpi_rules::{Case, Form, FoundAs, Known, LookUp, Need, Path, Row, Source};
 use std::alloc::{AllocError, Global};
 
 /// What a list of cases of a row is for.
@@ -76,7 +76,10 @@ impl Role {
     pub fn reads_place(self, form: Form) -> bool {
         match self {
             Role::Given => true,
-            Role::Known => form == Form::LookedUp(LookUp::Somewhere),
+            Role::Known => matches!(
+                form,
+                Form::LookedUp(LookUp::Found(FoundAs::First | FoundAs::Behind))
+            ),
             _ => false,
         }
     }

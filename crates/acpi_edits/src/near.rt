@@ -116,14 +116,36 @@ pub fn values_near(alloc: Global, value: &Value) -> Result<Vec<Value>, AllocErro
                 near.push(Value::Matrix(within, base, rows, columns))?;
             }
         }
+        Value::Offset(within, behind) => {
+            for behind in short_numbers_near(alloc, behind)? {
+                near.push(Value::Offset(within, behind))?;
+            }
+        }
+        Value::FirstZero(within, from) => {
+            for from in short_numbers_near(alloc, from)? {
+                near.push(Value::FirstZero(within, from))?;
+            }
+        }
         Value::Of(..)
         | Value::Length(_)
-        | Value::Offset(_)
+        | Value::End(_)
         | Value::Product(..)
         | Value::Product3(..)
-        | Value::Keyed(..) => {}
+        | Value::Keyed(..)
+        | Value::Pair(..)
+        | Value::Excess(..) => {}
     }
     Ok(near)
+}
+
+/// Whether another comparison of a clause's values is the same: no number is below 0.
+fn is_same_with_0(clause: &Clause, other: Test) -> bool {
+    let nothing = Value::Number(0);
+    match (clause.test, other) {
+        (Test::Is, Test::UpTo) | (Test::UpTo, Test::Is) => clause.right == nothing,
+        (Test::IsNot, Test::Below) | (Test::Below, Test::IsNot) => clause.left == nothing,
+        _ => false,
+    }
 }
 
 /// A comparison with each of its numbers changed, but those of fields, and each other comparison of its values.
@@ -137,7 +159,7 @@ pub fn clauses_near(alloc: Global, clause: &Clause) -> Result<Vec<Clause>, Alloc
         near.push(Clause { left, test, right })?;
     }
     for other in [Test::Is, Test::IsNot, Test::Below, Test::UpTo] {
-        if other != test {
+        if other != test && !is_same_with_0(clause, other) {
             let test = other;
             near.push(Clause { left, test, right })?;
         }

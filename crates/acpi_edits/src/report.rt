@@ -91,8 +91,7 @@ fn mark_clauses(
     seeds: &[Seed],
     seen: &mut [bool],
 ) -> Result<(), AllocError> {
-    let (_, clauses, ..) = *case;
-    for (index, clause) in clauses.iter().enumerate() {
+    for (index, clause) in case.1.as_slice().iter().enumerate() {
         mark_clause(alloc, aim, list, (index, clause), edits, seeds, seen)?;
     }
     Ok(())
@@ -222,7 +221,7 @@ fn print_edit(
     let word = role_word(used.role);
     print!(rt; "{number} row {group}.{at} {word} {list}.{index} ")?;
     match edit {
-        Edit::Clause(clause, to) => match case.1.get(*clause) {
+        Edit::Clause(clause, to) => match case.1.as_slice().get(*clause) {
             Some(from) => {
                 let from = ClauseText(from);
                 let to = ClauseText(to);

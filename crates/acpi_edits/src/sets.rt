@@ -5,17 +5,30 @@ use acpi_base::TableKind;
 use acpi_lint::{FurtherTable, RowTable};
 use std::alloc::{AllocError, Global};
 
-/// The tables of a set, in the order FADT, MADT, SRAT, SLIT, PPTT, MCFG, HPET, HMAT, GTDT, SPCR; one that the set does not
-/// have has no bytes.
+/// The tables of a set, in the order FADT, MADT, SRAT, SLIT, PPTT, MCFG, HPET, HMAT, GTDT, DMAR, IVRS, SPCR; one that the set does
+/// not have has no bytes.
 #[derive(Clone, Copy, Debug)]
 pub struct Set<'a> {
-    tables: [&'a [u8]; 10],
+    tables: [&'a [u8]; 12],
 }
 
 impl<'a> Set<'a> {
     /// One of its tables.
     pub fn table(&self, table: RowTable) -> &'a [u8] {
-        let [fadt, madt, srat, slit, pptt, mcfg, hpet, hmat, gtdt, spcr] = self.tables;
+        let [
+            fadt,
+            madt,
+            srat,
+            slit,
+            pptt,
+            mcfg,
+            hpet,
+            hmat,
+            gtdt,
+            dmar,
+            ivrs,
+            spcr,
+        ] = self.tables;
         match table {
             RowTable::Kind(TableKind::Fadt) => fadt,
             RowTable::Kind(TableKind::Madt) => madt,
@@ -26,6 +39,8 @@ impl<'a> Set<'a> {
             RowTable::Further(FurtherTable::Hpet) => hpet,
             RowTable::Further(FurtherTable::Hmat) => hmat,
             RowTable::Further(FurtherTable::Gtdt) => gtdt,
+            RowTable::Further(FurtherTable::Dmar) => dmar,
+            RowTable::Further(FurtherTable::Ivrs) => ivrs,
             RowTable::Further(FurtherTable::Spcr) => spcr,
         }
     }
@@ -54,8 +69,12 @@ fn split_set(bytes: &[u8]) -> Option<(Set<'_>, &[u8])> {
     let (hpet, rest) = split_table(rest)?;
     let (hmat, rest) = split_table(rest)?;
     let (gtdt, rest) = split_table(rest)?;
+    let (dmar, rest) = split_table(rest)?;
+    let (ivrs, rest) = split_table(rest)?;
     let (spcr, rest) = split_table(rest)?;
-    let tables = [fadt, madt, srat, slit, pptt, mcfg, hpet, hmat, gtdt, spcr];
+    let tables = [
+        fadt, madt, srat, slit, pptt, mcfg, hpet, hmat, gtdt, dmar, ivrs, spcr,
+    ];
     Some((Set { tables }, rest))
 }
 

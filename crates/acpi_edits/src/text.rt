@@ -86,6 +86,16 @@ fn write_product<W: fmt::Write>(
     write_field(f, Within::Own, other)
 }
 
+/// Writes what is asked of a structure: its length, say.
+fn write_of<W: fmt::Write>(
+    f: &mut fmt::Formatter<W>,
+    what: &'static str,
+    within: Within,
+) -> fmt::Result {
+    let word = within_word(within);
+    write!(f, "{what} {word}")
+}
+
 impl<'a> fmt::Display for ValueText<'a> {
     fn fmt<W: fmt::Write>(&self, f: &mut fmt::Formatter<W>) -> fmt::Result {
         match *self.0 {
@@ -93,48 +103,86 @@ impl<'a> fmt::Display for ValueText<'a> {
             Value::Of(within, field) => write_field(f, within, field),
             Value::Largest => write!(f, "2^64 - 1"),
             Value::Bits(within, field, mask) => write_bits(f, within, field, mask),
-            Value::Length(within) => {
-                let word = within_word(within);
-                write!(f, "length {word}")
-            }
+            Value::Length(within) => write_of(f, "length", within),
             Value::Behind(within, offset) => {
-                let word = within_word(within);
-                write!(f, "length {word} - {offset}")
+                write_of(f, "length", within)?;
+                write!(f, " - {offset}")
             }
-            Value::Offset(within) => {
-                let word = within_word(within);
-                write!(f, "offset {word}")
+            Value::Offset(within, 0) => write_of(f, "offset", within),
+            Value::Offset(within, behind) => {
+                write_of(f, "offset", within)?;
+                write!(f, " + {behind}")
             }
-            Value::Sum(within, field, times, added) => {
-                write!(f, "{added:#x}")?;
-                write_multiple(f, within, times, field)
+            Value::End(within) => write_of(f, "end", within),
+            Value::FirstZero(within, from) => {
+                write_of(f, "first zero", within)?;
+                write!(f, " from {from}")
             }
-            Value::SumOf(within, field, times, added) => {
-                write_field(f, within, added)?;
-                write_multiple(f, within, times, field)
-            }
-            Value::SumBits(within, times, mask, field, added) => {
-                write_bits(f, within, added, u16::from(mask))?;
-                write_multiple(f, within, u16::from(times), field)
-            }
-            Value::Product(within, one, other) => write_product(f, within, one, other),
-            Value::Product3(one, other, third) => {
-                write_product(f, Within::Own, one, other)?;
-                write!(f, " * ")?;
-                write_field(f, Within::Own, third)
-            }
-            Value::Matrix(within, base, rows, columns) => {
-                write!(f, "{base:#x} + a matrix of ")?;
-                write_field(f, within, rows)?;
-                write!(f, " and ")?;
-                write_field(f, within, columns)
-            }
-            Value::Keyed(within, field) => {
-                let word = within_word(within);
-                write!(f, "key of {word}: ")?;
-                write_field(f, Within::Own, field)
-            }
+            Value::Sum(..)
+            | Value::SumOf(..)
+            | Value::SumBits(..)
+            | Value::Product(..)
+            | Value::Product3(..)
+            | Value::Matrix(..)
+            | Value::Keyed(..)
+            | Value::Pair(..)
+            | Value::Excess(..) => write_of_fields(f, self.0),
         }
+    }
+}
+
+/// Writes a value of several fields.
+fn write_of_fields<W: fmt::Write>(f: &mut fmt::Formatter<W>, value: &Value) -> fmt::Result {
+    match *value {
+        Value::Sum(within, field, times, added) => {
+            write!(f, "{added:#x}")?;
+            write_multiple(f, within, times, field)
+        }
+        Value::SumOf(within, field, times, added) => {
+            write_field(f, within, added)?;
+            write_multiple(f, within, times, field)
+        }
+        Value::SumBits(within, times, mask, field, added) => {
+            write_bits(f, within, added, u16::from(mask))?;
+            write_multiple(f, within, u16::from(times), field)
+        }
+        Value::Product(within, one, other) => write_product(f, within, one, other),
+        Value::Product3(one, other, third) => {
+            write_product(f, Within::Own, one, other)?;
+            write!(f, " * ")?;
+            write_field(f, Within::Own, third)
+        }
+        Value::Matrix(within, base, rows, columns) => {
+            write!(f, "{base:#x} + a matrix of ")?;
+            write_field(f, within, rows)?;
+            write!(f, " and ")?;
+            write_field(f, within, columns)
+        }
+        Value::Keyed(within, field) => {
+            write_of(f, "key of", within)?;
+            write!(f, ": ")?;
+            write_field(f, Within::Own, field)
+        }
+        Value::Pair(one, other) => {
+            write_field(f, Within::Own, one)?;
+            write!(f, " and ")?;
+            write_field(f, Within::Own, other)
+        }
+        Value::Excess(one, other) => {
+            write_field(f, Within::Own, one)?;
+            write!(f, " + ")?;
+            write_field(f, Within::Own, other)?;
+            write!(f, " - 2^64")
+        }
+        Value::Number(_)
+        | Value::Of(..)
+        | Value::Largest
+        | Value::Bits(..)
+        | Value::Length(_)
+        | Value::Behind(..)
+        | Value::Offset(..)
+        | Value::End(_)
+        | Value::FirstZero(..) => Ok(()),
     }
 }
 

@@ -7,15 +7,16 @@ use Rattle.acpi_rules.specs.Cases.{gives, has_length, has_type, in_case, is_kind
 use Rattle.acpi_rules.specs.Clauses.{all_hold, holds, passes}
 use Rattle.acpi_rules.specs.Fields.{reading}
 use Rattle.acpi_rules.specs.Rows.{Row, guard_holds}
-use Rattle.acpi_rules.specs.Series.{first_bytes, head_said, kind_in, most_of, said_in, size_in, start_of}
-use Rattle.acpi_rules.specs.Sites.{sites_inside, sites_inside_all}
+use Rattle.acpi_rules.specs.Known.{is_reported, other_told}
+use Rattle.acpi_rules.specs.Series.{first_bytes, head_said, kind_in, length_by, most_of, said_in, size_in, start_by, start_of}
+use Rattle.acpi_rules.specs.Sites.{cut_inside, sites_inside, sites_inside_all}
 use Rattle.acpi_rules.specs.Terms.{value_number}
 use Rattle.acpi_rules.specs.Walks.{cut_from, structures_from}
 use Rattle.acpi_rules.proofs.Computed.{finds_broken, first_broken}
 use Rattle.acpi_rules.specs.declared.place.Place.{Place}
-use Rattle.acpi_lint.specs.RowGroups.{fadt_further_group, fadt_group, fadt_with_madt_group, gic_group, gtdt_group, gtdt_with_madt_group, hmat_group, hmat_with_srat_group, hpet_group, madt_further_group, madt_group, madt_with_fadt_group, madt_with_pptt_group, madt_with_srat_group, mcfg_group, pptt_group, pptt_with_madt_group, spcr_group, spcr_with_madt_group, srat_group, srat_with_madt_group, srat_with_slit_group}
+use Rattle.acpi_lint.specs.RowGroups.{devices_group, dmar_group, dmar_scopes_group, dmar_with_srat_group, fadt_further_group, fadt_group, fadt_with_madt_group, gic_group, gtdt_group, gtdt_with_madt_group, hmat_group, hmat_with_srat_group, hpet_group, ivrs_group, madt_further_group, madt_group, madt_with_dmar_group, madt_with_fadt_group, madt_with_ivrs_group, madt_with_pptt_group, madt_with_srat_group, mcfg_group, pptt_group, pptt_with_madt_group, spcr_group, spcr_with_madt_group, srat_group, srat_with_madt_group, srat_with_slit_group}
 use Rattle.acpi_lint.specs.Rules.Rows.{rule_number}
-use Rattle.acpi_examples.specs.Rows.{AreFound, AreRowsFound, Example, tables_of, fadt_examples, fadt_further_examples, fadt_with_madt_examples, gic_examples, gtdt_examples, gtdt_with_madt_examples, hmat_examples, hmat_with_srat_examples, hpet_examples, madt_examples, madt_further_examples, madt_with_fadt_examples, madt_with_pptt_examples, madt_with_srat_examples, mcfg_examples, pptt_examples, pptt_with_madt_examples, spcr_examples, spcr_with_madt_examples, srat_examples, srat_with_madt_examples, srat_with_slit_examples}
+use Rattle.acpi_examples.specs.Rows.{AreFound, AreRowsFound, Example, tables_of, devices_examples, dmar_examples, dmar_scopes_examples, dmar_with_srat_examples, fadt_examples, fadt_further_examples, fadt_with_madt_examples, gic_examples, gtdt_examples, gtdt_with_madt_examples, hmat_examples, hmat_with_srat_examples, hpet_examples, ivrs_examples, madt_examples, madt_further_examples, madt_with_dmar_examples, madt_with_fadt_examples, madt_with_ivrs_examples, madt_with_pptt_examples, madt_with_srat_examples, mcfg_examples, pptt_examples, pptt_with_madt_examples, spcr_examples, spcr_with_madt_examples, srat_examples, srat_with_madt_examples, srat_with_slit_examples}
 
 -- what two functions give for each element, if the lists are the same
 same_of : {X Y : Type 0} (f g : X → Y) (xs : List X) → map f xs ≡ map g xs → (x : X) → Contains xs x → f x ≡ g x
@@ -39,12 +40,13 @@ all_computed rows examples same = λ e listed.
 
 pub rows_found : AreRowsFound
 unfolding field number_bytes gives has_length has_type in_case is_kind all_hold holds passes reading guard_holds
-    first_bytes head_said kind_in most_of said_in size_in start_of value_number cut_from structures_from sites_inside
-    sites_inside_all computed
+    first_bytes head_said kind_in length_by most_of said_in size_in start_by start_of value_number cut_from
+    structures_from cut_inside sites_inside sites_inside_all is_reported other_told computed
     madt_group madt_further_group gic_group madt_with_fadt_group fadt_with_madt_group madt_with_srat_group
     srat_with_madt_group srat_group srat_with_slit_group madt_with_pptt_group pptt_with_madt_group pptt_group
     fadt_group fadt_further_group mcfg_group hpet_group spcr_group spcr_with_madt_group
     hmat_group hmat_with_srat_group gtdt_group gtdt_with_madt_group
+    dmar_group dmar_scopes_group dmar_with_srat_group madt_with_dmar_group ivrs_group devices_group madt_with_ivrs_group
 rows_found = record {
   madt = all_computed madt_group.rows madt_examples refl;
   madt_further = all_computed madt_further_group.rows madt_further_examples refl;
@@ -68,4 +70,11 @@ rows_found = record {
   hmat_with_srat = all_computed hmat_with_srat_group.rows hmat_with_srat_examples refl;
   gtdt = all_computed gtdt_group.rows gtdt_examples refl;
   gtdt_with_madt = all_computed gtdt_with_madt_group.rows gtdt_with_madt_examples refl;
+  dmar = all_computed dmar_group.rows dmar_examples refl;
+  dmar_scopes = all_computed dmar_scopes_group.rows dmar_scopes_examples refl;
+  dmar_with_srat = all_computed dmar_with_srat_group.rows dmar_with_srat_examples refl;
+  madt_with_dmar = all_computed madt_with_dmar_group.rows madt_with_dmar_examples refl;
+  ivrs = all_computed ivrs_group.rows ivrs_examples refl;
+  devices = all_computed devices_group.rows devices_examples refl;
+  madt_with_ivrs = all_computed madt_with_ivrs_group.rows madt_with_ivrs_examples refl;
 }

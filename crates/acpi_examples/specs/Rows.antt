@@ -1,12 +1,12 @@
 -- Examples of the rules that are rows: of each tables that break it, with the three numbers of the first finding, and tables that
 -- just keep it. Proved by computing: a further example is a line here.
-use Rattle.std.specs.Prelude.{ℕ, ◌+◌, ◌-◌, ◌*◌, List, [], ◌∷◌, ◌++◌, length, map, replicate, take, drop, Contains, Option, Some, None}
+use Rattle.std.specs.Prelude.{ℕ, ◌+◌, ◌-◌, ◌*◌, ◌^◌, List, [], ◌∷◌, ◌++◌, length, map, replicate, take, drop, Contains, Option, Some, None}
 use Rattle.acpi_base.specs.Number.{number_bytes}
 use Rattle.acpi_rules.specs.Places.{FindsLeast}
 use Rattle.acpi_rules.specs.Rows.{Row}
 use Rattle.acpi_rules.specs.Terms.{TwoTables}
 use Rattle.acpi_rules.specs.declared.place.Place.{Place}
-use Rattle.acpi_lint.specs.RowGroups.{BreaksRow, OfAny, fadt_further_group, fadt_group, fadt_with_madt_group, gic_group, gtdt_group, gtdt_with_madt_group, hmat_group, hmat_with_srat_group, hpet_group, madt_further_group, madt_group, madt_with_fadt_group, madt_with_pptt_group, madt_with_srat_group, mcfg_group, pptt_group, pptt_with_madt_group, spcr_group, spcr_with_madt_group, srat_group, srat_with_madt_group, srat_with_slit_group}
+use Rattle.acpi_lint.specs.RowGroups.{BreaksRow, OfAny, devices_group, dmar_group, dmar_scopes_group, dmar_with_srat_group, fadt_further_group, fadt_group, fadt_with_madt_group, gic_group, gtdt_group, gtdt_with_madt_group, hmat_group, hmat_with_srat_group, hpet_group, ivrs_group, madt_further_group, madt_group, madt_with_dmar_group, madt_with_fadt_group, madt_with_ivrs_group, madt_with_pptt_group, madt_with_srat_group, mcfg_group, pptt_group, pptt_with_madt_group, spcr_group, spcr_with_madt_group, srat_group, srat_with_madt_group, srat_with_slit_group}
 use Rattle.acpi_lint.specs.Rules.Rows.{rule_number}
 use Rattle.acpi_lint.specs.declared.rule.Rule.{Rule}
 use Rattle.acpi_lint.specs.declared.rule.Rule.TheVariants as rule
@@ -327,6 +327,108 @@ loose_block frames = patched 1 (number_bytes 2 (21 + 40 * length frames)) (block
 abbrev pub frame : ℕ → ℕ → ℕ → ℕ → List ℕ
 frame number base physical virtual =
     number ∷ 0 ∷ 0 ∷ 0 ∷ number_bytes 8 base ++ zeros ++ number_bytes 4 physical ++ replicate 4 0 ++ number_bytes 4 virtual ++ zeros
+
+-- a DMAR with this Host Address Width and these flags (Intel VT-d specification, 8.1), and one without flags
+abbrev pub dmar_of : ℕ → ℕ → List (List ℕ) → List ℕ
+dmar_of width flags structures =
+    patched 4 (number_bytes 4 (48 + length (joined structures))) (patched 36 (width ∷ flags ∷ []) (replicate 48 0))
+    ++ joined structures
+
+abbrev pub dmar : List (List ℕ) → List ℕ
+dmar = dmar_of 38 0
+
+-- a structure of this type with these bytes at these offsets, and behind its fields these device scopes
+abbrev pub remapping : ℕ → ℕ → List (ℕ × ℕ) → List (List ℕ) → List ℕ
+remapping kind size bytes scopes =
+    set_bytes bytes (kind ∷ 0 ∷ (size + length (joined scopes)) ∷ 0 ∷ replicate (size - 4) 0) ++ joined scopes
+
+-- a DRHD (8.3) whose registers begin at 0x1000 times a number
+abbrev pub drhd : ℕ → ℕ → ℕ → List (List ℕ) → List ℕ
+drhd flags segment page scopes = remapping 0 16 ((4, flags) ∷ (6, segment) ∷ (9, 16 * page) ∷ []) scopes
+
+abbrev pub scoped : List (List ℕ) → List ℕ
+scoped = drhd 0 0 1
+
+-- a DRHD with these registers and this size
+abbrev pub sized_drhd : ℕ → ℕ → List ℕ
+sized_drhd base size = patched 8 (number_bytes 8 base) (remapping 0 16 ((5, size) ∷ []) [])
+
+abbrev pub atsr : ℕ → ℕ → List (List ℕ) → List ℕ
+atsr flags segment scopes = remapping 2 8 ((4, flags) ∷ (6, segment) ∷ []) scopes
+
+abbrev pub rmrr : ℕ → ℕ → List (List ℕ) → List ℕ
+rmrr base limit scopes =
+    patched 8 (number_bytes 8 base ++ number_bytes 8 limit) (remapping 1 24 [] scopes)
+
+abbrev pub rhsa : ℕ → ℕ → List ℕ
+rhsa page domain = remapping 3 20 ((9, 16 * page) ∷ (16, domain) ∷ []) []
+
+abbrev pub andd : ℕ → List ℕ → List ℕ
+andd number name = remapping 4 8 ((7, number) ∷ []) (name ∷ [])
+
+-- a device scope (8.3.1) with this Enumeration ID and this path
+abbrev pub scope : ℕ → ℕ → List ℕ → List ℕ
+scope kind id path = kind ∷ (6 + length path) ∷ 0 ∷ 0 ∷ id ∷ 0 ∷ path
+
+abbrev pub device : List ℕ
+device = scope 1 0 (31 ∷ 7 ∷ [])
+
+-- structures that keep a DMAR from being well-formed: bytes that are none, one that is too short, and a DRHD with bytes that are
+-- no device scope
+abbrev pub unread_structures : List (List ℕ)
+unread_structures = (9 ∷ []) ∷ remapping 3 19 [] [] ∷ scoped ((9 ∷ []) ∷ []) ∷ []
+
+-- the sizes of a DRHD's registers, of which 4096 bytes are the least, as powers of two
+abbrev pub sizes_of_registers : List ℕ
+sizes_of_registers = 0 ∷ 1 ∷ 2 ∷ 3 ∷ 4 ∷ 5 ∷ 6 ∷ 7 ∷ 8 ∷ 9 ∷ 10 ∷ 11 ∷ 12 ∷ 13 ∷ 14 ∷ 15 ∷ []
+
+-- a DMAR of these structures keeps the rule
+abbrev pub keeps_alone : Rule → List (List ℕ) → Example
+keeps_alone r structures = keeps r (dmar structures) []
+
+-- the least length of each type
+abbrev pub least_remappings : List (ℕ × ℕ)
+least_remappings = (0, 16) ∷ (1, 24) ∷ (2, 8) ∷ (3, 20) ∷ (4, 9) ∷ (5, 8) ∷ (6, 8) ∷ []
+
+-- an IVRS (AMD 48882, 5.2.1)
+abbrev pub ivrs : List (List ℕ) → List ℕ
+ivrs blocks = patched 4 (number_bytes 4 (48 + length (joined blocks))) (replicate 48 0) ++ joined blocks
+
+-- a block of this type with these bytes at these offsets, and behind its fields these device entries
+abbrev pub ivrs_block : ℕ → ℕ → List (ℕ × ℕ) → List (List ℕ) → List ℕ
+ivrs_block kind size bytes entries =
+    set_bytes bytes (kind ∷ 0 ∷ (size + length (joined entries)) ∷ 0 ∷ replicate (size - 4) 0) ++ joined entries
+
+-- an IVHD of type 0x10, and one of type 0x11 or 0x40 (5.2.2), with these DeviceID and segment, and registers at 0x1000 times a number
+abbrev pub ivhd_10 : ℕ → ℕ → ℕ → List (List ℕ) → List ℕ
+ivhd_10 id segment page entries = ivrs_block 0x10 24 ((4, id) ∷ (9, 16 * page) ∷ (16, segment) ∷ []) entries
+
+abbrev pub ivhd : ℕ → ℕ → ℕ → ℕ → List (List ℕ) → List ℕ
+ivhd kind id segment page entries = ivrs_block kind 40 ((4, id) ∷ (9, 16 * page) ∷ (16, segment) ∷ []) entries
+
+abbrev pub entries_in : List (List ℕ) → List ℕ
+entries_in entries = ivrs (ivhd_10 0 0 4 entries ∷ [])
+
+-- an IVMD (5.2.3)
+abbrev pub ivmd : ℕ → ℕ → ℕ → ℕ → List ℕ
+ivmd kind flags start size =
+    patched 16 (number_bytes 8 start ++ number_bytes 8 size) (ivrs_block kind 32 ((1, flags) ∷ (6, 5) ∷ []) [])
+
+-- device entries of 4 and of 8 bytes, a special device, and an ACPI HID device
+abbrev pub entry_4 : ℕ → ℕ → List ℕ
+entry_4 kind id = kind ∷ id ∷ 0 ∷ 0 ∷ []
+
+abbrev pub entry_8 : ℕ → ℕ → List ℕ
+entry_8 kind id = kind ∷ id ∷ replicate 6 0
+
+abbrev pub special : ℕ → ℕ → List ℕ
+special handle variety = 0x48 ∷ 0 ∷ 0 ∷ 0 ∷ handle ∷ 0 ∷ 0 ∷ variety ∷ []
+
+abbrev pub hid_device : ℕ → ℕ → ℕ → List ℕ
+hid_device id format size = 0xf0 ∷ 0 ∷ 0 ∷ 0 ∷ id ∷ replicate 15 0 ++ format ∷ size ∷ replicate size 0
+
+abbrev pub least_blocks : List (ℕ × ℕ)
+least_blocks = (0x10, 24) ∷ (0x11, 40) ∷ (0x40, 40) ∷ (0x20, 32) ∷ (0x21, 32) ∷ (0x22, 32) ∷ (0x23, 32) ∷ []
 
 -- numbers next to those of PPIs, and of SPIs
 abbrev pub no_ppis : List ℕ
@@ -865,6 +967,183 @@ gtdt_with_madt_examples =
     ++ keeps rule.TimerNoSpi (timed (block (map (λ n. frame 7 1 n 0) no_spis ++ map (λ n. frame 7 1 0 n) no_spis) ∷ [])) with_gic
     ∷ map (keeps rule.TimerNoSpi (timed (block (frame 7 1 1 1 ∷ []) ∷ watchdog 1 1 1 ∷ []))) without_gic
 
+-- the DMAR (Intel VT-d specification, 8.1 to 8.9)
+abbrev pub dmar_examples : List Example
+dmar_examples =
+    edge rule.DmarWidth (sized 1 47) (4, 48, 47) (dmar [])
+    ++ edge rule.DmarWidth (dmar_of 10 0 []) (36, 0, 10) (dmar_of 11 0 [])
+    ++ edge rule.DmarWidth (dmar_of 64 0 []) (36, 0, 64) (dmar_of 63 0 [])
+    ++ edge rule.DmarCut (dmar ((9 ∷ 0 ∷ 3 ∷ 0 ∷ []) ∷ [])) (48, 3, 52) (dmar ((9 ∷ 0 ∷ 4 ∷ 0 ∷ []) ∷ []))
+    ++ edge rule.DmarCut (dmar ((9 ∷ 0 ∷ 5 ∷ 0 ∷ []) ∷ [])) (48, 5, 52) (sized 1 47)
+    ++ breaks rule.DmarCut (dmar (scoped [] ∷ (9 ∷ 0 ∷ 4 ∷ []) ∷ [])) [] 64 0 67
+    ∷ map (λ (k : ℕ × ℕ). breaks rule.DmarShort (dmar (remapping k.0 (k.1 - 1) [] [] ∷ [])) [] 48 k.1 (k.1 - 1)) least_remappings
+    ++ map (λ (k : ℕ × ℕ). keeps rule.DmarShort (dmar (remapping k.0 k.1 [] [] ∷ [])) []) ((7, 4) ∷ least_remappings)
+    ++ edge rule.NoDrhd (dmar (rhsa 1 0 ∷ [])) (0, 0, 0) (dmar (rhsa 1 0 ∷ scoped [] ∷ []))
+    ++ map (λ e. keeps rule.NoDrhd (dmar (e ∷ [])) []) unread_structures
+    ++ breaks rule.NoDrhd (dmar []) [] 0 0 0
+    ∷ keeps rule.NoDrhd (sized 1 47) []
+    ∷ edge rule.DrhdAddress (dmar (drhd 0 0 0 [] ∷ [])) (48, 8, 0) (dmar (drhd 0 0 1 [] ∷ []))
+    ++ edge rule.DrhdAddress (dmar (sized_drhd 0x1800 0 ∷ [])) (48, 8, 0x1800) (dmar (remapping 0 15 [] [] ∷ []))
+    ++ map
+    (λ n. breaks rule.DrhdOverlap (dmar (sized_drhd 0x1000 n ∷ sized_drhd (0x1000 * 2 ^ n) 0 ∷ [])) [] 48 64 (0x1000 * 2 ^ n))
+    sizes_of_registers
+    ++ map
+    (λ n. keeps rule.DrhdOverlap (dmar (sized_drhd 0x1000 (n + 16) ∷ sized_drhd (0x1000 + 0x1000 * 2 ^ n) 0 ∷ [])) [])
+    sizes_of_registers
+    ++ keeps rule.DrhdOverlap (dmar (sized_drhd 0 0 ∷ sized_drhd 0 0 ∷ [])) []
+    ∷ edge rule.SecondIncludeAll (dmar (drhd 1 5 1 [] ∷ drhd 1 5 2 [] ∷ [])) (64, 48, 5)
+    (dmar (drhd 1 5 1 [] ∷ drhd 1 4 2 [] ∷ []))
+    ++ edge rule.SecondIncludeAll (dmar (atsr 3 5 [] ∷ atsr 1 5 [] ∷ [])) (56, 48, 5) (dmar (atsr 1 5 [] ∷ atsr 1 4 [] ∷ []))
+    ++ map (keeps_alone rule.SecondIncludeAll)
+    ((drhd 1 5 1 [] ∷ atsr 1 5 [] ∷ []) ∷ (drhd 1 5 1 [] ∷ drhd 2 5 2 [] ∷ []) ∷ (atsr 1 5 [] ∷ atsr 2 5 [] ∷ []) ∷ [])
+    ++ edge rule.IncludeAllNotLast (dmar (drhd 1 5 1 [] ∷ drhd 1 5 2 [] ∷ drhd 2 5 3 [] ∷ [])) (80, 48, 5)
+    (dmar (drhd 0 5 1 [] ∷ drhd 1 5 2 [] ∷ []))
+    ++ map (keeps_alone rule.IncludeAllNotLast)
+    ((drhd 1 4 1 [] ∷ drhd 0 5 2 [] ∷ []) ∷ (drhd 1 5 1 [] ∷ drhd 1 5 2 [] ∷ []) ∷ (atsr 1 5 [] ∷ drhd 0 5 2 [] ∷ []) ∷ [])
+    ++ edge rule.RmrrRange (dmar (rmrr 0x1800 0x2fff [] ∷ [])) (48, 8, 0x1800) (dmar (rmrr 0x1000 0x1fff [] ∷ []))
+    ++ map (λ (r : ℕ × ℕ). breaks rule.RmrrRange (dmar (rmrr r.0 r.1 [] ∷ [])) [] 48 16 r.1)
+    ((0x1000, 0x1ffe) ∷ (0x1000, 0x2000) ∷ (0x2000, 0x1fff) ∷ [])
+    ++ edge rule.RmrrNoDevice (dmar (rmrr 0 0 [] ∷ [])) (48, 32, 24) (dmar (rmrr 0 0 (device ∷ []) ∷ []))
+    ++ edge rule.RhsaNowhere (dmar (scoped [] ∷ rhsa 2 0 ∷ [])) (64, 8, 0x2000) (dmar (rhsa 1 0 ∷ scoped [] ∷ []))
+    ++ map (λ e. keeps rule.RhsaNowhere (dmar (rhsa 2 0 ∷ e ∷ [])) []) unread_structures
+    ++ edge rule.SameRhsa (dmar (rhsa 1 0 ∷ rhsa 1 1 ∷ [])) (68, 48, 0x1000) (dmar (rhsa 1 0 ∷ rhsa 2 0 ∷ scoped [] ∷ []))
+    ++ edge rule.AnddName (dmar (andd 7 (65 ∷ 66 ∷ []) ∷ [])) (48, 8, 0) (dmar (andd 7 (65 ∷ 0 ∷ []) ∷ []))
+    ++ edge rule.AnddName (dmar (andd 0 (65 ∷ []) ∷ [])) (48, 8, 0) (dmar (andd 7 (0 ∷ 65 ∷ []) ∷ []))
+    ++ edge rule.AnddNowhere (dmar (andd 7 (0 ∷ []) ∷ [])) (48, 7, 7)
+    (dmar (andd 7 (0 ∷ []) ∷ scoped (scope 5 7 (0 ∷ 0 ∷ []) ∷ []) ∷ []))
+    ++ map (λ e. breaks rule.AnddNowhere (dmar (andd 7 (0 ∷ []) ∷ e ∷ [])) [] 48 7 7)
+    (scoped (scope 4 7 (0 ∷ 0 ∷ []) ∷ []) ∷ scoped (scope 5 6 (0 ∷ 0 ∷ []) ∷ []) ∷ atsr 0 0 (scope 5 7 (0 ∷ 0 ∷ []) ∷ []) ∷ [])
+    ++ map (λ e. keeps rule.AnddNowhere (dmar (andd 7 (0 ∷ []) ∷ e ∷ [])) []) unread_structures
+
+-- the device scopes of the DMAR
+abbrev pub dmar_scopes_examples : List Example
+dmar_scopes_examples =
+    map (λ (e : List ℕ × ℕ × ℕ × ℕ). breaks rule.ScopeCut (dmar (e.0 ∷ [])) [] e.1 e.2 e.3)
+    ((scoped ((1 ∷ 7 ∷ zeros) ∷ []), 64, 7, 74) ∷ (scoped ((1 ∷ 11 ∷ zeros) ∷ []), 64, 11, 74) ∷ (scoped ((1 ∷ []) ∷ []), 64, 0, 65)
+    ∷ (rmrr 0 0 (device ∷ (1 ∷ 0 ∷ []) ∷ []), 80, 0, 82) ∷ (atsr 0 0 ((1 ∷ []) ∷ []), 56, 0, 57)
+    ∷ (remapping 5 8 [] ((1 ∷ []) ∷ []), 56, 0, 57) ∷ (remapping 6 8 [] ((1 ∷ []) ∷ []), 56, 0, 57) ∷ [])
+    ++ map (λ e. keeps rule.ScopeCut (dmar (e ∷ [])) [])
+    (scoped (device ∷ (1 ∷ 10 ∷ zeros) ∷ []) ∷ remapping 3 21 [] [] ∷ remapping 4 10 [] [] ∷ remapping 7 21 [] [] ∷ remapping 0 15 [] []
+    ∷ [])
+    ++ map (λ n. breaks rule.ScopeType (dmar (scoped (device ∷ scope n 0 (0 ∷ 0 ∷ []) ∷ []) ∷ [])) [] 72 0 n) (0 ∷ 6 ∷ 255 ∷ [])
+    ++ map (λ n. keeps rule.ScopeType (dmar (rmrr 0 0 (device ∷ scope n 0 (0 ∷ 0 ∷ []) ∷ []) ∷ [])) []) (1 ∷ 2 ∷ 3 ∷ 4 ∷ 5 ∷ [])
+    ++ breaks rule.ScopeType (dmar (scoped (scope 1 0 (0 ∷ 0 ∷ 99 ∷ []) ∷ []) ∷ [])) [] 64 1 9
+    ∷ map (λ e. breaks rule.ScopeType (dmar (e ∷ [])) [] 80 0 32)
+    (rmrr 0 0 (scope 1 0 (31 ∷ 7 ∷ 32 ∷ 8 ∷ []) ∷ []) ∷ scoped (device ∷ scope 2 0 (0 ∷ 0 ∷ 32 ∷ 0 ∷ []) ∷ []) ∷ [])
+    ++ breaks rule.ScopeType (dmar (atsr 0 0 (scope 1 0 (31 ∷ 8 ∷ []) ∷ []) ∷ [])) [] 62 1 8
+    ∷ edge rule.AnddNowhere (dmar (scoped (scope 5 7 (0 ∷ 0 ∷ []) ∷ []) ∷ andd 6 (0 ∷ []) ∷ [])) (64, 4, 7)
+    (dmar (scoped (scope 5 7 (0 ∷ 0 ∷ []) ∷ []) ∷ andd 7 (0 ∷ []) ∷ []))
+    ++ edge rule.AnddNowhere (dmar (atsr 0 0 (scope 5 7 (0 ∷ 0 ∷ []) ∷ []) ∷ [])) (56, 4, 7)
+    (dmar (scoped (scope 4 7 (0 ∷ 0 ∷ []) ∷ []) ∷ []))
+    ++ map (λ e. keeps rule.AnddNowhere (dmar (scoped (scope 5 7 (0 ∷ 0 ∷ []) ∷ []) ∷ e ∷ [])) []) unread_structures
+    ++ edge rule.SameScope (dmar (scoped (scope 3 7 (0 ∷ 0 ∷ []) ∷ []) ∷ scoped (scope 3 7 (1 ∷ 0 ∷ []) ∷ []) ∷ [])) (88, 64, 7)
+    (dmar (scoped (scope 3 7 (0 ∷ 0 ∷ []) ∷ scope 3 6 (1 ∷ 0 ∷ []) ∷ scope 4 7 (0 ∷ 0 ∷ []) ∷ scope 4 7 (0 ∷ 0 ∷ []) ∷ []) ∷ []))
+    ++ keeps rule.SameScope (dmar (scoped (scope 3 7 (0 ∷ 0 ∷ []) ∷ []) ∷ atsr 0 0 (scope 3 7 (0 ∷ 0 ∷ []) ∷ []) ∷ [])) []
+    ∷ []
+
+-- the DMAR with the SRAT, and the MADT with the DMAR
+abbrev pub dmar_with_srat_examples : List Example
+dmar_with_srat_examples =
+    breaks rule.RhsaDomain (dmar (rhsa 1 7 ∷ [])) (memory_in 8) 48 16 7
+    ∷ map (keeps rule.RhsaDomain (dmar (rhsa 1 7 ∷ []))) (srats_of_seven ++ unread_srats)
+
+abbrev pub madt_with_dmar_examples : List Example
+madt_with_dmar_examples =
+    breaks rule.IoApicUnmapped (madt (io_apic 2 1 ∷ io_apic 3 1 ∷ [])) (dmar_of 38 1 (scoped (scope 3 2 (0 ∷ 0 ∷ []) ∷ []) ∷ [])) 56 2 3
+    ∷ map (λ e. breaks rule.IoApicUnmapped (madt (io_apic 3 1 ∷ [])) (dmar_of 38 3 (e ∷ [])) 44 2 3)
+    (scoped [] ∷ scoped (scope 4 3 (0 ∷ 0 ∷ []) ∷ []) ∷ atsr 0 0 (scope 3 3 (0 ∷ 0 ∷ []) ∷ []) ∷ [])
+    ++ map (keeps rule.IoApicUnmapped (madt (io_apic 3 1 ∷ [])))
+    (dmar_of 38 1 (scoped (scope 3 3 (0 ∷ 0 ∷ []) ∷ []) ∷ []) ∷ dmar_of 38 2 (scoped [] ∷ []) ∷ patched 37 (1 ∷ []) (sized 1 47)
+    ∷ map (λ e. dmar_of 38 1 (e ∷ [])) unread_structures)
+    ++ map (λ e. keeps rule.IoApicUnmapped (madt (io_apic 3 1 ∷ e ∷ [])) (dmar_of 38 1 (scoped [] ∷ []))) ((9 ∷ []) ∷ entry 0 7 ∷ [])
+
+-- the IVRS (AMD 48882, 5.2)
+abbrev pub ivrs_examples : List Example
+ivrs_examples =
+    edge rule.IvrsCut (sized 1 47) (4, 48, 47) (sized 1 48)
+    ++ edge rule.IvrsCut (ivrs ((9 ∷ 0 ∷ 3 ∷ 0 ∷ []) ∷ [])) (48, 3, 52) (ivrs ((9 ∷ 0 ∷ 4 ∷ 0 ∷ []) ∷ []))
+    ++ breaks rule.IvrsCut (ivrs ((9 ∷ 0 ∷ 5 ∷ 0 ∷ []) ∷ [])) [] 48 5 52
+    ∷ breaks rule.IvrsCut (ivrs (ivhd_10 0 0 4 [] ∷ (9 ∷ 0 ∷ 4 ∷ []) ∷ [])) [] 72 0 75
+    ∷ map (λ (k : ℕ × ℕ). breaks rule.IvrsShort (ivrs (ivrs_block k.0 (k.1 - 1) [] [] ∷ [])) [] 48 k.1 (k.1 - 1)) least_blocks
+    ++ map (λ (k : ℕ × ℕ). keeps rule.IvrsShort (ivrs (ivrs_block k.0 k.1 [] [] ∷ [])) []) ((0x12, 4) ∷ (0x24, 4) ∷ least_blocks)
+    ++ breaks rule.NoIvhd (ivrs (ivmd 0x20 1 0 1 ∷ [])) [] 0 0 0
+    ∷ breaks rule.NoIvhd (ivrs []) [] 0 0 0
+    ∷ keeps rule.NoIvhd (sized 1 47) []
+    ∷ map (λ e. keeps rule.NoIvhd (ivrs (e ∷ [])) [])
+    ((9 ∷ []) ∷ ivrs_block 0x20 31 [] [] ∷ ivhd_10 0 0 4 [] ∷ ivhd 0x11 0 0 4 [] ∷ ivhd 0x40 0 0 4 [] ∷ [])
+    ++ map (λ e. breaks rule.IvhdAddress (ivrs (e ∷ [])) [] 48 8 0) (ivhd_10 0 0 0 [] ∷ ivhd 0x11 0 0 0 [] ∷ ivhd 0x40 0 0 0 [] ∷ [])
+    ++ map (λ e. breaks rule.IvhdAddress (ivrs (e ∷ [])) [] 48 8 0x2000)
+    (ivhd_10 0 0 2 [] ∷ ivhd 0x11 0 0 2 [] ∷ ivhd 0x40 0 0 2 [] ∷ [])
+    ++ map (λ e. keeps rule.IvhdAddress (ivrs (e ∷ [])) [])
+    (ivhd_10 0 0 4 [] ∷ ivhd 0x11 0 0 4 [] ∷ ivhd 0x40 0 0 4 [] ∷ ivrs_block 0x10 23 [] [] ∷ ivhd 0x12 0 0 0 [] ∷ [])
+    ++ breaks rule.SameIvhd (ivrs (ivhd_10 7 5 4 [] ∷ ivhd_10 7 5 4 [] ∷ [])) [] 72 48 7
+    ∷ map (λ k. breaks rule.SameIvhd (ivrs (ivhd k 7 5 4 [] ∷ ivhd k 7 5 4 [] ∷ [])) [] 88 48 7) (0x11 ∷ 0x40 ∷ [])
+    ++ map (λ bs. keeps rule.SameIvhd (ivrs bs) [])
+    ((ivhd_10 7 5 4 [] ∷ ivhd_10 7 6 4 [] ∷ ivhd_10 8 5 4 [] ∷ []) ∷ (ivhd_10 7 5 4 [] ∷ ivhd 0x11 7 5 4 [] ∷ ivhd 0x40 7 5 4 [] ∷ []) ∷ [])
+    ++ breaks rule.IvhdDiffers (ivrs (ivhd_10 7 5 4 [] ∷ ivhd 0x11 7 5 8 [] ∷ [])) [] 72 48 0x8000
+    ∷ map (λ e. breaks rule.IvhdDiffers (ivrs (ivhd 0x11 7 5 4 [] ∷ e ∷ [])) [] 88 48 0x4000)
+    (ivhd 0x40 7 6 4 [] ∷ ivhd_10 8 5 4 [] ∷ [])
+    ++ map (λ e. keeps rule.IvhdDiffers (ivrs (ivhd_10 7 5 4 [] ∷ e ∷ [])) [])
+    (ivhd 0x40 7 5 4 [] ∷ ivhd 0x11 8 6 8 [] ∷ ivhd_10 7 6 8 [] ∷ ivhd_10 8 5 8 [] ∷ [])
+    ++ map (λ (m : List ℕ × ℕ × ℕ). breaks rule.IvmdRange (ivrs (m.0 ∷ [])) [] 48 m.1 m.2)
+    ((ivmd 0x20 6 0 1, 1, 6) ∷ (ivmd 0x21 0x11 0 1, 1, 0x11) ∷ (patched 4 (6 ∷ []) (ivmd 0x22 1 0 1), 6, 5)
+    ∷ (ivmd 0x20 1 0xfffffffffffff000 0x1001, 16, 0xfffffffffffff000) ∷ (ivmd 0x22 8 0 0, 24, 0) ∷ [])
+    ++ map (λ m. keeps rule.IvmdRange (ivrs (m ∷ [])) [])
+    (ivmd 0x20 15 0xfffffffffffff000 0x1000 ∷ ivmd 0x21 8 0 0xffffffffffffffff ∷ patched 4 (5 ∷ []) (ivmd 0x22 1 0 1)
+    ∷ patched 4 (6 ∷ []) (ivmd 0x21 1 0 1) ∷ ivmd 0x23 0 0 0 ∷ [])
+
+-- the device entries of the IVRS
+abbrev pub devices_examples : List Example
+devices_examples =
+    map (λ (e : List ℕ × ℕ × ℕ). breaks rule.IvhdEntryCut (entries_in (entry_4 0x3f 0 ∷ e.0 ∷ [])) [] 76 e.1 e.2)
+    ((0x80 ∷ 0 ∷ 0 ∷ 0 ∷ [], 0, 80) ∷ (1 ∷ 0 ∷ 0 ∷ [], 4, 79) ∷ (0x7f ∷ replicate 6 0, 8, 83) ∷ (0xf0 ∷ replicate 20 0, 0, 97)
+    ∷ (0xf0 ∷ replicate 20 0 ++ 2 ∷ 0 ∷ [], 24, 99) ∷ (0xff ∷ replicate 30 0, 0, 107) ∷ [])
+    ++ map (λ k. breaks rule.IvhdEntryCut (ivrs (ivhd k 0 0 4 ((1 ∷ []) ∷ []) ∷ [])) [] 88 4 89) (0x11 ∷ 0x40 ∷ [])
+    ++ map (λ e. keeps rule.IvhdEntryCut (ivrs (e ∷ [])) [])
+    (ivhd_10 0 0 4 (entry_4 0 0 ∷ entry_8 0x40 0 ∷ hid_device 1 2 3 ∷ []) ∷ ivhd 0x12 0 0 4 ((1 ∷ []) ∷ [])
+    ∷ patched 0 (0x20 ∷ []) (ivmd 0x20 1 0 1 ++ 1 ∷ []) ∷ [])
+    ++ map (λ k. breaks rule.IvhdEntryType (entries_in (entry_4 k 0 ∷ [])) [] 72 0 k) (5 ∷ 0x3f ∷ [])
+    ++ map (λ k. breaks rule.IvhdEntryType (entries_in (entry_8 k 0 ∷ [])) [] 72 0 k) (0x41 ∷ 0x44 ∷ 0x45 ∷ 0x49 ∷ 0x7f ∷ [])
+    ++ map (λ k. keeps rule.IvhdEntryType (entries_in (entry_4 k 0 ∷ [])) []) (0 ∷ 1 ∷ 2 ∷ 3 ∷ 4 ∷ [])
+    ++ map (λ k. keeps rule.IvhdEntryType (entries_in (entry_8 k 0 ∷ [])) []) (0x40 ∷ 0x42 ∷ 0x43 ∷ 0x46 ∷ 0x47 ∷ [])
+    ++ map (λ n. breaks rule.IvhdEntryType (entries_in (special 0 n ∷ [])) [] 72 7 n) (0 ∷ 4 ∷ [])
+    ++ map (λ n. keeps rule.IvhdEntryType (entries_in (special 0 n ∷ [])) []) (1 ∷ 2 ∷ 3 ∷ [])
+    ++ breaks rule.IvhdEntryType (entries_in (hid_device 1 2 0 ∷ [])) [] 72 0 0xf0
+    ∷ breaks rule.IvhdEntryType (ivrs (ivhd 0x11 0 0 4 (hid_device 1 2 0 ∷ []) ∷ [])) [] 88 0 0xf0
+    ∷ map (λ (h : List ℕ × ℕ × ℕ). breaks rule.IvhdEntryType (ivrs (ivhd 0x40 0 0 4 (h.0 ∷ []) ∷ [])) [] 88 h.1 h.2)
+    ((hid_device 0 2 0, 4, 0) ∷ (hid_device 1 3 0, 20, 3) ∷ (hid_device 1 0 1, 21, 1) ∷ (hid_device 1 1 7, 21, 7)
+    ∷ (hid_device 1 1 0, 21, 0) ∷ [])
+    ++ map (λ h. keeps rule.IvhdEntryType (ivrs (ivhd 0x40 0 0 4 (h ∷ []) ∷ [])) [])
+    (hid_device 1 0 0 ∷ hid_device 1 1 8 ∷ hid_device 1 2 3 ∷ [])
+    ++ map (λ es. breaks rule.IvhdRange (entries_in es) [] 72 1 7)
+    ((entry_4 3 7 ∷ []) ∷ (entry_8 0x43 7 ∷ []) ∷ (entry_8 0x47 7 ∷ []) ∷ (entry_4 3 7 ∷ entry_4 2 8 ∷ [])
+    ∷ (entry_8 0x43 7 ∷ entry_8 0x46 8 ∷ []) ∷ (entry_8 0x47 7 ∷ entry_4 3 8 ∷ entry_4 4 9 ∷ []) ∷ (entry_4 4 7 ∷ []) ∷ [])
+    ++ map (λ es. breaks rule.IvhdRange (entries_in es) [] 76 1 7)
+    ((entry_4 2 7 ∷ entry_4 4 7 ∷ []) ∷ (entry_4 0 7 ∷ entry_4 4 7 ∷ []) ∷ (entry_4 3 8 ∷ entry_4 4 7 ∷ []) ∷ [])
+    ++ map (λ k. breaks rule.IvhdRange (entries_in (entry_8 k 8 ∷ entry_4 4 7 ∷ [])) [] 80 1 7) (0x42 ∷ 0x43 ∷ 0x46 ∷ 0x47 ∷ 0x48 ∷ [])
+    ++ breaks rule.IvhdRange (entries_in (entry_4 3 7 ∷ entry_4 4 7 ∷ entry_4 4 9 ∷ [])) [] 80 1 9
+    ∷ map (λ k. breaks rule.IvhdRange (ivrs (ivhd k 0 0 4 (entry_4 4 7 ∷ []) ∷ [])) [] 88 1 7) (0x11 ∷ 0x40 ∷ [])
+    ++ map (λ es. keeps rule.IvhdRange (entries_in es) [])
+    ((entry_4 3 7 ∷ entry_4 4 7 ∷ []) ∷ (entry_8 0x43 7 ∷ entry_4 4 8 ∷ entry_8 0x47 9 ∷ entry_4 4 9 ∷ []) ∷ (entry_4 3 7 ∷ (4 ∷ []) ∷ [])
+    ∷ [])
+    ++ breaks rule.SameSpecial (entries_in (special 7 1 ∷ special 7 1 ∷ [])) [] 80 72 7
+    ∷ map (λ k. breaks rule.SameSpecial (ivrs (ivhd k 0 0 4 (special 7 2 ∷ []) ∷ ivhd k 1 0 8 (special 7 2 ∷ []) ∷ [])) [] 136 88 7)
+    (0x11 ∷ 0x40 ∷ [])
+    ++ map (λ bs. keeps rule.SameSpecial (ivrs bs) [])
+    ((ivhd_10 0 0 4 (special 7 1 ∷ special 7 2 ∷ special 6 1 ∷ []) ∷ [])
+    ∷ (ivhd_10 0 0 4 (special 7 1 ∷ []) ∷ ivhd 0x11 0 0 4 (special 7 1 ∷ []) ∷ ivhd 0x40 0 0 4 (special 7 1 ∷ []) ∷ []) ∷ [])
+
+-- the MADT with the IVRS
+abbrev pub madt_with_ivrs_examples : List Example
+madt_with_ivrs_examples =
+    breaks rule.IoApicNotInIvrs (madt (io_apic 2 1 ∷ io_apic 3 1 ∷ [])) (entries_in (special 2 1 ∷ [])) 56 2 3
+    ∷ map (λ e. breaks rule.IoApicNotInIvrs (madt (io_apic 3 1 ∷ [])) (ivrs (ivhd_10 0 0 4 (special 3 1 ∷ []) ∷ e ∷ [])) 44 2 3)
+    (ivhd 0x11 0 0 4 (special 2 1 ∷ []) ∷ ivhd 0x40 0 0 4 (special 2 1 ∷ special 3 2 ∷ []) ∷ [])
+    ++ map (λ bs. keeps rule.IoApicNotInIvrs (madt (io_apic 3 1 ∷ [])) (ivrs bs))
+    ((ivhd_10 0 0 4 (special 2 1 ∷ special 3 1 ∷ []) ∷ []) ∷ (ivhd_10 0 0 4 (special 2 2 ∷ []) ∷ []) ∷ (ivhd 0x40 0 0 4 [] ∷ [])
+    ∷ map (λ e. ivhd_10 0 0 4 (special 2 1 ∷ []) ∷ e ∷ []) ((9 ∷ []) ∷ ivrs_block 0x20 31 [] [] ∷ ivhd 0x11 0 0 4 ((1 ∷ []) ∷ []) ∷ []))
+    ++ map (λ e. keeps rule.IoApicNotInIvrs (madt (io_apic 3 1 ∷ e ∷ [])) (entries_in (special 2 1 ∷ []))) ((9 ∷ []) ∷ entry 0 7 ∷ [])
+
 -- each of these finds what it says
 pub record AreRowsFound : Type 0 where
   pub madt : AreFound madt_group.rows madt_examples
@@ -889,3 +1168,10 @@ pub record AreRowsFound : Type 0 where
   pub hmat_with_srat : AreFound hmat_with_srat_group.rows hmat_with_srat_examples
   pub gtdt : AreFound gtdt_group.rows gtdt_examples
   pub gtdt_with_madt : AreFound gtdt_with_madt_group.rows gtdt_with_madt_examples
+  pub dmar : AreFound dmar_group.rows dmar_examples
+  pub dmar_scopes : AreFound dmar_scopes_group.rows dmar_scopes_examples
+  pub dmar_with_srat : AreFound dmar_with_srat_group.rows dmar_with_srat_examples
+  pub madt_with_dmar : AreFound madt_with_dmar_group.rows madt_with_dmar_examples
+  pub ivrs : AreFound ivrs_group.rows ivrs_examples
+  pub devices : AreFound devices_group.rows devices_examples
+  pub madt_with_ivrs : AreFound madt_with_ivrs_group.rows madt_with_ivrs_examples

@@ -13,7 +13,9 @@ table_signed signature =
     cond (starts_with nat_eq signature (codes "MCFG")) further.Mcfg
     (cond (starts_with nat_eq signature (codes "HPET")) further.Hpet
     (cond (starts_with nat_eq signature (codes "HMAT")) further.Hmat
-    (cond (starts_with nat_eq signature (codes "GTDT")) further.Gtdt further.Spcr)))
+    (cond (starts_with nat_eq signature (codes "GTDT")) further.Gtdt
+    (cond (starts_with nat_eq signature (codes "DMAR")) further.Dmar
+    (cond (starts_with nat_eq signature (codes "IVRS")) further.Ivrs further.Spcr)))))
 
 signed_table : (table : FurtherTable) → table_signed (further_signature table) ≡ table
 unfolding table_signed
@@ -21,6 +23,8 @@ signed_table further.Mcfg = refl
 signed_table further.Hpet = refl
 signed_table further.Hmat = refl
 signed_table further.Gtdt = refl
+signed_table further.Dmar = refl
+signed_table further.Ivrs = refl
 signed_table further.Spcr = refl
 
 four_bytes : (table : FurtherTable) → length (further_signature table) ≡ 4
@@ -28,6 +32,8 @@ four_bytes further.Mcfg = refl
 four_bytes further.Hpet = refl
 four_bytes further.Hmat = refl
 four_bytes further.Gtdt = refl
+four_bytes further.Dmar = refl
+four_bytes further.Ivrs = refl
 four_bytes further.Spcr = refl
 
 first_four : (bytes : List ℕ) (table : FurtherTable) → has_signature bytes (further_signature table) ≡ true

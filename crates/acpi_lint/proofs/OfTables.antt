@@ -82,8 +82,10 @@ pub are_first_slots : {m : Memory} {p : ℕ} (firsts : FirstSlots)
     → FindsSlot m p (IsSought m (sought.Further further.Hpet)) firsts.hpet
     → FindsSlot m p (IsSought m (sought.Further further.Hmat)) firsts.hmat
     → FindsSlot m p (IsSought m (sought.Further further.Gtdt)) firsts.gtdt
+    → FindsSlot m p (IsSought m (sought.Further further.Dmar)) firsts.dmar
+    → FindsSlot m p (IsSought m (sought.Further further.Ivrs)) firsts.ivrs
     → FindsSlot m p (IsSought m (sought.Further further.Spcr)) firsts.spcr → AreFirstSlots m p firsts
-are_first_slots {m} {p} firsts fadt madt srat slit pptt mcfg hpet hmat gtdt spcr =
+are_first_slots {m} {p} firsts fadt madt srat slit pptt mcfg hpet hmat gtdt dmar ivrs spcr =
     record { kinds = kinds; further = all }
   where
     kinds : (k : TableKind) → FindsSlot m p (IsSought m (sought.Kind k)) (first_of firsts k)
@@ -98,6 +100,8 @@ are_first_slots {m} {p} firsts fadt madt srat slit pptt mcfg hpet hmat gtdt spcr
     all further.Hpet = hpet
     all further.Hmat = hmat
     all further.Gtdt = gtdt
+    all further.Dmar = dmar
+    all further.Ivrs = ivrs
     all further.Spcr = spcr
 
 -- the root table and each table are those of the set
@@ -109,8 +113,10 @@ pub are_whole : {m : Memory} {p : ℕ} (tables : CompleteTables)
     → IsFound m p (further_signature further.Hpet) tables.hpet
     → IsFound m p (further_signature further.Hmat) tables.hmat
     → IsFound m p (further_signature further.Gtdt) tables.gtdt
+    → IsFound m p (further_signature further.Dmar) tables.dmar
+    → IsFound m p (further_signature further.Ivrs) tables.ivrs
     → IsFound m p (further_signature further.Spcr) tables.spcr → AreCompleteTables m p tables
-are_whole {m} {p} tables root slots firsts fadt madt srat slit pptt mcfg hpet hmat gtdt spcr =
+are_whole {m} {p} tables root slots firsts fadt madt srat slit pptt mcfg hpet hmat gtdt dmar ivrs spcr =
     record { root = root; slots = slots; firsts = firsts; listed = listed; further = all }
   where
     listed : (k : TableKind) → IsFound m p (signature_of k) (table_of tables k)
@@ -125,6 +131,8 @@ are_whole {m} {p} tables root slots firsts fadt madt srat slit pptt mcfg hpet hm
     all further.Hpet = hpet
     all further.Hmat = hmat
     all further.Gtdt = gtdt
+    all further.Dmar = dmar
+    all further.Ivrs = ivrs
     all further.Spcr = spcr
 
 -- any table is that of the set

@@ -23,7 +23,7 @@ use Rattle.acpi_rules.specs.Rows as rows
 use Rattle.acpi_rules.specs.Terms.{TwoTables}
 use Rattle.acpi_rules.specs.declared.place.Place.{Place}
 use Rattle.acpi_lint.specs.CompleteTables.{AreCompleteTables, IsFound, IsLong, row_table_of, table_of}
-use Rattle.acpi_lint.specs.RowFindings.{AreBroken, AreFirsts, AreIndexes, AreTablesOf, FindsIndex, HasFound, HasTable, IsLongTable, IsLowestOf, IsUpTo, index_of_kind}
+use Rattle.acpi_lint.specs.RowFindings.{AreBroken, AreFirsts, AreIndexes, AreTablesOf, FindsIndex, HasFound, HasTable, IsLongTable, IsLowestOf, IsUpTo, index_of_table}
 use Rattle.acpi_lint.specs.FurtherTables.{row_length, row_signature}
 use Rattle.acpi_lint.specs.declared.further_table.RowTable.{RowTable}
 use Rattle.acpi_lint.specs.RowGroups.{BreaksRow, IsRowBroken, OfAny, OfTable, OfTables, RowGroup, row_groups}
@@ -367,15 +367,15 @@ index_found result least found view table bytes same is long right =
     let equal : table ≡ whole = same_Some table whole (sym own ∙ at) in
     subst (λ (b : List ℕ). IfSome index (λ i. IsIndexOf i b)) (same ∙ equal) indexes) right
 
--- the index of a kind is that of its table
-pub indexed_right : (tables : CompleteTables) (indexes : Indexes) (k : TableKind) (index : Option (Bor Index))
+-- the index is that of the table
+pub indexed_right : (tables : CompleteTables) (indexes : Indexes) (k : RowTable) (index : Option (Bor Index))
     (i : Bor Index) (view : Option (List ℕ)) (table bytes : List ℕ) → AreIndexes tables indexes
-    → option_map (λ j. j.now) index ≡ index_of_kind indexes k → index ≡ Some i → bytes ≡ table → view ≡ Some table
-    → IsLong (least_length k) (table_of tables k) view → IsIndexOf i.now bytes
+    → option_map (λ j. j.now) index ≡ index_of_table indexes k → index ≡ Some i → bytes ≡ table → view ≡ Some table
+    → IsLong (row_length k) (row_table_of tables k) view → IsIndexOf i.now bytes
 indexed_right tables indexes k index i view table bytes are said is same seen long =
-    let own : table_of tables k ≡ Some table = (rw seen at long).0 in
-    let of_kind_is : index_of_kind indexes k ≡ Some i.now = sym said ∙ ap (option_map (λ j. j.now)) is in
-    rw same (rw of_kind_is at (are k table own))
+    let own : row_table_of tables k ≡ Some table = (rw seen at long).0 in
+    let of_table_is : index_of_table indexes k ≡ Some i.now = sym said ∙ ap (option_map (λ j. j.now)) is in
+    rw same (rw of_table_is at (are k table own))
 
 -- ---- from the tables that were found to the set
 

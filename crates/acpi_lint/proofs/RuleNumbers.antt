@@ -7,7 +7,6 @@ use Rattle.std.proofs.lemmas.Bool.{and_parts, eqb-true}
 use Rattle.std.proofs.lemmas.Bool.Decides.{eqb_tells}
 use Rattle.std.proofs.lemmas.List.{at_drop_more}
 use Rattle.std.proofs.lemmas.Option.{same_Some}
-use Rattle.std.proofs.lemmas.Slice.Eq.{bytes_eq-Decides}
 use Rattle.acpi_lint.specs.Rules.Rows.{AreRows, BorRule, all_rules, is_row, rule_name, rule_named, rule_number, rule_numbered, rule_place}
 use Rattle.acpi_lint.specs.declared.rule.Rule.{Rule}
 use Rattle.acpi_lint.specs.declared.rule.Rule.TheVariants as rule
@@ -39,14 +38,7 @@ same_rule r s same = same_Some r s (sym (rule_found r) ∙ ap rule_numbered same
 -- ---- the table of the rules
 
 pub has_number : (row : BorRule) → is_row row ≡ true → row.1 ≡ rule_number row.0
-has_number row is =
-    eqb-true row.1 (rule_number row.0)
-    (and_parts (row.1 == rule_number row.0) (bytes_eq row.2.now (rule_name row.0)) is).0
-
-pub has_name : (row : BorRule) → is_row row ≡ true → row.2.now ≡ rule_name row.0
-has_name row is =
-    (bytes_eq-Decides row.2.now (rule_name row.0)).0
-    (and_parts (row.1 == rule_number row.0) (bytes_eq row.2.now (rule_name row.0)) is).1
+has_number row is = eqb-true row.1 (rule_number row.0) is
 
 row_at : (rows : List BorRule) (rules : List Rule) (k : ℕ) (d : BorRule) (r : Rule) → map (λ row. row.0) rows ≡ rules
     → list_all is_row rows ≡ true → slice_get rules k ≡ Some r
@@ -94,11 +86,10 @@ numbered_rows number rows are =
     ∙ ap (find (λ r. rule_number r == number)) are.all
 
 pub named_rows : (name : List ℕ) (rows : List BorRule) → AreRows rows
-    → rule_by (λ row. bytes_eq row.2.now name) rows ≡ rule_named name
+    → rule_by (λ row. bytes_eq (rule_name row.0) name) rows ≡ rule_named name
 unfolding rule_named
 named_rows name rows are =
-    rule_as (λ row. bytes_eq row.2.now name) (λ r. bytes_eq (rule_name r) name) rows
-    (λ row is. ap (λ own. bytes_eq own name) (has_name row is)) are.each
+    rule_as (λ row. bytes_eq (rule_name row.0) name) (λ r. bytes_eq (rule_name r) name) rows (λ row is. refl) are.each
     ∙ ap (find (λ r. bytes_eq (rule_name r) name)) are.all
 
 -- if the test does not hold of the row at the index, it is a later one

@@ -34,6 +34,8 @@ further_of tables further.Mcfg = tables.mcfg
 further_of tables further.Hpet = tables.hpet
 further_of tables further.Hmat = tables.hmat
 further_of tables further.Gtdt = tables.gtdt
+further_of tables further.Dmar = tables.dmar
+further_of tables further.Ivrs = tables.ivrs
 further_of tables further.Spcr = tables.spcr
 
 abbrev pub row_table_of : CompleteTables → RowTable → Option (List ℕ)

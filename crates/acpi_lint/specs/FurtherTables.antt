@@ -1,6 +1,6 @@
 -- The tables that rules of advice read: those that `check` reads, and the MCFG (PCI Firmware Specification 3.3, 4.1.2), the HPET
--- (IA-PC HPET 1.0a, 3.2.4), the HMAT (ACPI 6.5, 5.2.28), the GTDT (ACPI 6.5, 5.2.25) and the SPCR (Microsoft's Serial Port Console
--- Redirection Table 1.10).
+-- (IA-PC HPET 1.0a, 3.2.4), the HMAT (ACPI 6.5, 5.2.28), the GTDT (ACPI 6.5, 5.2.25), the DMAR (Intel VT-d specification, 8.1),
+-- the IVRS (AMD 48882, 5.2.1) and the SPCR (Microsoft's Serial Port Console Redirection Table 1.10).
 use Rattle.std.specs.Prelude.{◌≡◌, ℕ, List, Option, Some, None, codes, true, false}
 use Rattle.acpi_base.specs.Signature.{has_signature}
 use Rattle.acpi_base.specs.TableKinds.{signature_of}
@@ -15,6 +15,8 @@ further_signature further.Mcfg = codes "MCFG"
 further_signature further.Hpet = codes "HPET"
 further_signature further.Hmat = codes "HMAT"
 further_signature further.Gtdt = codes "GTDT"
+further_signature further.Dmar = codes "DMAR"
+further_signature further.Ivrs = codes "IVRS"
 further_signature further.Spcr = codes "SPCR"
 
 -- the one with these bytes; none where they begin with no such signature

@@ -1,17 +1,18 @@
 -- What the rules that are rows find in a set.
 use Rattle.std.specs.Prelude.{◌≡◌, ℕ, ◌≤◌, ◌⊎◌, List, [], length, Contains, Option, Some, None, IfSome, IsSome, MatchOption}
-use Rattle.acpi_base.specs.declared.table_kind.TableKind.{TableKind}
 use Rattle.acpi_base.specs.declared.table_kind.TableKind.TheVariants as kind
 use Rattle.acpi_rules.specs.Indexes.{IsIndexOf}
 use Rattle.acpi_rules.specs.Places.{IsNotAfter}
 use Rattle.acpi_rules.specs.Terms.{TwoTables}
 use Rattle.acpi_rules.specs.declared.index.Index.{Index}
 use Rattle.acpi_rules.specs.declared.place.Place.{Place}
-use Rattle.acpi_lint.specs.CompleteTables.{row_table_of, table_of}
+use Rattle.acpi_lint.specs.CompleteTables.{row_table_of}
 use Rattle.acpi_lint.specs.FurtherTables.{row_length}
 use Rattle.acpi_lint.specs.RowGroups.{BreaksRow, OfAny, RowGroup}
 use Rattle.acpi_lint.specs.declared.complete_tables.CompleteTables.{CompleteTables}
+use Rattle.acpi_lint.specs.declared.further_table.FurtherTable.TheVariants as further
 use Rattle.acpi_lint.specs.declared.further_table.RowTable.{RowTable}
+use Rattle.acpi_lint.specs.declared.further_table.RowTable.TheVariants.{Further, Kind}
 use Rattle.acpi_lint.specs.declared.row_findings.Found.{Found}
 use Rattle.acpi_lint.specs.declared.row_findings.Indexes.{Indexes}
 
@@ -42,17 +43,20 @@ AreBroken tables g number at other point =
 
 -- ---- the index of a table, if it has one
 
-abbrev pub index_of_kind : Indexes → TableKind → Option Index
-index_of_kind i kind.Madt = i.madt
-index_of_kind i kind.Srat = i.srat
-index_of_kind i kind.Pptt = i.pptt
-index_of_kind i _ = None
+abbrev pub index_of_table : Indexes → RowTable → Option Index
+index_of_table i (Kind kind.Madt) = i.madt
+index_of_table i (Kind kind.Srat) = i.srat
+index_of_table i (Kind kind.Pptt) = i.pptt
+index_of_table i (Further further.Hmat) = i.hmat
+index_of_table i (Further further.Dmar) = i.dmar
+index_of_table i (Further further.Ivrs) = i.ivrs
+index_of_table i _ = None
 
 abbrev pub FindsIndex : Option (List ℕ) → Option Index → Type 0
 FindsIndex table index = (whole : List ℕ) → table ≡ Some whole → IfSome index (λ i. IsIndexOf i whole)
 
 abbrev pub AreIndexes : CompleteTables → Indexes → Type 0
-AreIndexes tables i = (kind : TableKind) → FindsIndex (table_of tables kind) (index_of_kind i kind)
+AreIndexes tables i = (table : RowTable) → FindsIndex (row_table_of tables table) (index_of_table i table)
 
 -- ---- what is found
 

@@ -10,10 +10,12 @@ use Rattle.acpi_lint.specs.FurtherTables.{row_length, row_signature}
 use Rattle.acpi_lint.specs.declared.further_table.FurtherTable.TheVariants as further
 use Rattle.acpi_lint.specs.declared.further_table.RowTable.{RowTable}
 use Rattle.acpi_lint.specs.declared.further_table.RowTable.TheVariants.{Further, Kind}
+use Rattle.acpi_lint.specs.declared.rows.dmar.TheConstants.{DMAR, DMAR_SCOPES, DMAR_WITH_SRAT, MADT_WITH_DMAR}
 use Rattle.acpi_lint.specs.declared.rows.fadt.TheConstants.{FADT, FADT_FURTHER, FADT_WITH_MADT}
 use Rattle.acpi_lint.specs.declared.rows.gtdt.TheConstants.{GTDT, GTDT_WITH_MADT}
 use Rattle.acpi_lint.specs.declared.rows.hmat.TheConstants.{HMAT, HMAT_WITH_SRAT}
 use Rattle.acpi_lint.specs.declared.rows.hpet.TheConstants.{HPET}
+use Rattle.acpi_lint.specs.declared.rows.ivrs.TheConstants.{DEVICES, IVRS, MADT_WITH_IVRS}
 use Rattle.acpi_lint.specs.declared.rows.madt.TheConstants.{GIC, MADT, MADT_FURTHER, MADT_WITH_FADT, MADT_WITH_PPTT, MADT_WITH_SRAT}
 use Rattle.acpi_lint.specs.declared.rows.mcfg.TheConstants.{MCFG}
 use Rattle.acpi_lint.specs.declared.rows.pptt.TheConstants.{PPTT, PPTT_WITH_MADT}
@@ -97,13 +99,36 @@ gtdt_group = record { table = Further further.Gtdt; other = None; rows = rows_sa
 unfoldable pub gtdt_with_madt_group : RowGroup
 gtdt_with_madt_group = record { table = Further further.Gtdt; other = Some (Kind kind.Madt); rows = rows_said GTDT_WITH_MADT }
 
+unfoldable pub dmar_group : RowGroup
+dmar_group = record { table = Further further.Dmar; other = None; rows = rows_said DMAR }
+
+unfoldable pub dmar_scopes_group : RowGroup
+dmar_scopes_group = record { table = Further further.Dmar; other = None; rows = rows_said DMAR_SCOPES }
+
+unfoldable pub dmar_with_srat_group : RowGroup
+dmar_with_srat_group = record { table = Further further.Dmar; other = Some (Kind kind.Srat); rows = rows_said DMAR_WITH_SRAT }
+
+unfoldable pub madt_with_dmar_group : RowGroup
+madt_with_dmar_group = record { table = Kind kind.Madt; other = Some (Further further.Dmar); rows = rows_said MADT_WITH_DMAR }
+
+unfoldable pub ivrs_group : RowGroup
+ivrs_group = record { table = Further further.Ivrs; other = None; rows = rows_said IVRS }
+
+unfoldable pub devices_group : RowGroup
+devices_group = record { table = Further further.Ivrs; other = None; rows = rows_said DEVICES }
+
+unfoldable pub madt_with_ivrs_group : RowGroup
+madt_with_ivrs_group = record { table = Kind kind.Madt; other = Some (Further further.Ivrs); rows = rows_said MADT_WITH_IVRS }
+
 -- all of them
 abbrev pub row_groups : List RowGroup
 row_groups =
     fadt_group ∷ fadt_further_group ∷ fadt_with_madt_group ∷ madt_group ∷ madt_further_group ∷ gic_group
     ∷ madt_with_fadt_group ∷ madt_with_srat_group ∷ madt_with_pptt_group ∷ srat_group
     ∷ srat_with_madt_group ∷ srat_with_slit_group ∷ pptt_group ∷ pptt_with_madt_group ∷ mcfg_group ∷ hpet_group
-    ∷ spcr_group ∷ spcr_with_madt_group ∷ hmat_group ∷ hmat_with_srat_group ∷ gtdt_group ∷ gtdt_with_madt_group ∷ []
+    ∷ spcr_group ∷ spcr_with_madt_group ∷ hmat_group ∷ hmat_with_srat_group ∷ gtdt_group ∷ gtdt_with_madt_group
+    ∷ dmar_group ∷ dmar_scopes_group ∷ dmar_with_srat_group ∷ madt_with_dmar_group ∷ ivrs_group ∷ devices_group
+    ∷ madt_with_ivrs_group ∷ []
 
 -- ---- the tables: the first listed one with a signature, if it is complete, whatever its checksum, and long enough for its fields
 

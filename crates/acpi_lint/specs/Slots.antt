@@ -98,6 +98,8 @@ first_of_further firsts further.Mcfg = firsts.mcfg
 first_of_further firsts further.Hpet = firsts.hpet
 first_of_further firsts further.Hmat = firsts.hmat
 first_of_further firsts further.Gtdt = firsts.gtdt
+first_of_further firsts further.Dmar = firsts.dmar
+first_of_further firsts further.Ivrs = firsts.ivrs
 first_of_further firsts further.Spcr = firsts.spcr
 
 -- these are the first slots of each kind, and of each further table

@@ -45,6 +45,10 @@ pub struct CompleteTables<'a> {
     pub hmat: Option<Table<'a>>,
     /// The GTDT.
     pub gtdt: Option<Table<'a>>,
+    /// The DMAR.
+    pub dmar: Option<Table<'a>>,
+    /// The IVRS.
+    pub ivrs: Option<Table<'a>>,
     /// The SPCR.
     pub spcr: Option<Table<'a>>,
 }
@@ -109,6 +113,8 @@ impl<'a> CompleteTables<'a> {
             hpet: found_further(image, &firsts, FurtherTable::Hpet),
             hmat: found_further(image, &firsts, FurtherTable::Hmat),
             gtdt: found_further(image, &firsts, FurtherTable::Gtdt),
+            dmar: found_further(image, &firsts, FurtherTable::Dmar),
+            ivrs: found_further(image, &firsts, FurtherTable::Ivrs),
             spcr: found_further(image, &firsts, FurtherTable::Spcr),
             root,
             slots,
@@ -139,6 +145,8 @@ impl<'a> CompleteTables<'a> {
             FurtherTable::Hpet => &self.hpet,
             FurtherTable::Hmat => &self.hmat,
             FurtherTable::Gtdt => &self.gtdt,
+            FurtherTable::Dmar => &self.dmar,
+            FurtherTable::Ivrs => &self.ivrs,
             FurtherTable::Spcr => &self.spcr,
         };
         let table = table.as_ref()?.copied();

@@ -24,7 +24,7 @@ pub struct Findings {
 /// bytes from the policy's address on has only the fault `RsdpOut`, and no advice.
 ///
 /// Refuses with `AllocError` if out of memory: it allocates for each finding, and for what is compared or looked up,
-/// at most for each slot of the root table, each entry of the MADT, the SRAT and the PPTT, and each byte of the PPTT.
+/// at most for each slot of the root table, each structure of the tables that it reads, and each byte of the PPTT.
 pub fn lint(alloc: Global, image: &LentImage<'_>, policy: &Policy) -> Result<Findings, AllocError>
     ensures { IfOk result (λ found.
         AreFindings image.now policy.now found.faults.items found.advice.items) }

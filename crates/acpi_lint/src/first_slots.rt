@@ -31,6 +31,10 @@ pub struct FirstSlots {
     pub hmat: Option<Slot>,
     /// Of a GTDT.
     pub gtdt: Option<Slot>,
+    /// Of a DMAR.
+    pub dmar: Option<Slot>,
+    /// Of an IVRS.
+    pub ivrs: Option<Slot>,
     /// Of an SPCR.
     pub spcr: Option<Slot>,
 }
@@ -51,6 +55,8 @@ impl FirstSlots {
             hpet: first_slot(slots, Sought::Further(FurtherTable::Hpet)),
             hmat: first_slot(slots, Sought::Further(FurtherTable::Hmat)),
             gtdt: first_slot(slots, Sought::Further(FurtherTable::Gtdt)),
+            dmar: first_slot(slots, Sought::Further(FurtherTable::Dmar)),
+            ivrs: first_slot(slots, Sought::Further(FurtherTable::Ivrs)),
             spcr: first_slot(slots, Sought::Further(FurtherTable::Spcr)),
         }
     }
@@ -77,6 +83,8 @@ impl FirstSlots {
             FurtherTable::Hpet => self.hpet,
             FurtherTable::Hmat => self.hmat,
             FurtherTable::Gtdt => self.gtdt,
+            FurtherTable::Dmar => self.dmar,
+            FurtherTable::Ivrs => self.ivrs,
             FurtherTable::Spcr => self.spcr,
         }
     }

@@ -17,6 +17,10 @@ pub enum FurtherTable {
     Hmat,
     /// `GTDT` (ACPI 6.5, 5.2.25).
     Gtdt,
+    /// `DMAR` (Intel VT-d specification, 8.1).
+    Dmar,
+    /// `IVRS` (AMD 48882, 5.2.1).
+    Ivrs,
     /// `SPCR` (Microsoft's Serial Port Console Redirection Table 1.10).
     Spcr,
 }
@@ -44,6 +48,10 @@ impl FurtherTable {
             Some(FurtherTable::Hmat)
         } else if is_signed(bytes, FurtherTable::Gtdt.signature()) {
             Some(FurtherTable::Gtdt)
+        } else if is_signed(bytes, FurtherTable::Dmar.signature()) {
+            Some(FurtherTable::Dmar)
+        } else if is_signed(bytes, FurtherTable::Ivrs.signature()) {
+            Some(FurtherTable::Ivrs)
         } else if is_signed(bytes, FurtherTable::Spcr.signature()) {
             Some(FurtherTable::Spcr)
         } else {
@@ -60,6 +68,8 @@ impl FurtherTable {
             FurtherTable::Hpet => b"HPET",
             FurtherTable::Hmat => b"HMAT",
             FurtherTable::Gtdt => b"GTDT",
+            FurtherTable::Dmar => b"DMAR",
+            FurtherTable::Ivrs => b"IVRS",
             FurtherTable::Spcr => b"SPCR",
         }
     }

@@ -1,18 +1,21 @@
 //! What the rules that are rows find in a set.
 
 ghost use Rattle.std.specs.Prelude.{◌≡◌, IfOk, IsSome, OnErr, map, option_map};
-ghost use Rattle.acpi_lint.specs.CompleteTables.{IsLong, further_of, row_table_of, table_of};
+ghost use Rattle.acpi_lint.specs.CompleteTables.{IsLong, row_table_of};
 ghost use Rattle.acpi_lint.specs.FurtherTables.{row_length};
-ghost use Rattle.acpi_lint.specs.RowFindings.{AreBroken, AreFirsts, AreIndexes, FindsIndex, FindsTables, HasTable, IsLowestOf, index_of_kind};
+ghost use Rattle.acpi_lint.specs.RowFindings.{AreBroken, AreFirsts, AreIndexes, FindsIndex, FindsTables, HasTable, IsLowestOf, index_of_table};
 ghost use Rattle.acpi_lint.specs.RowGroups.{BreaksRow, OfAny, group_value, row_groups};
-ghost use Rattle.acpi_lint.specs.TableLengths.{least_length};
 ghost use Rattle.acpi_rules.specs.Rows.{row_value};
 ghost use Rattle.acpi_rules.specs.Terms.{tables_value};
 
 use crate::complete_tables::CompleteTables;
 use crate::further_table::{FurtherTable, RowTable};
-use crate::rows::{MADT_SERIES, PPTT_SERIES, RowGroup, SRAT_SERIES, row_groups};
+use crate::rows::{
+    DMAR_SERIES, HMAT_SERIES, IVRS_SERIES, MADT_SERIES, PPTT_SERIES, RowGroup, SRAT_SERIES,
+    row_groups,
+};
 use acpi_base::TableKind;
+use acpi_read::Table;
 use acpi_rules::{Index, IndexedTable, Place, Row, Series, Tables, first_finding, lesser};
 use std::alloc::{AllocError, Global};
 
@@ -25,7 +28,7 @@ pub struct Found {
     pub place: Place,
 }
 
-/// The entries of the tables that have some, found once for all rules.
+/// The structures of the tables that may have many, found once for all rules.
 #[derive(Drop)]
 struct Indexes {
     /// Those of the MADT.
@@ -34,88 +37,102 @@ struct Indexes {
     srat: Option<Index>,
     /// Those of the PPTT.
     pptt: Option<Index>,
+    /// Those of the HMAT.
+    hmat: Option<Index>,
+    /// Those of the DMAR.
+    dmar: Option<Index>,
+    /// Those of the IVRS.
+    ivrs: Option<Index>,
 }
 
-/// The index of a table of a set, if it has the table. Allocates for each entry: refuses if out of memory, but not where
-/// there is no table.
+/// A table that rows are about, if the set has a complete one with all its fields.
+fn table_of<'a>(tables: &'a CompleteTables<'_>, table: RowTable) -> Option<Table<'a>>
+    ensures { IsLong (row_length table) (row_table_of tables.now table) result }
+{
+    match table {
+        RowTable::Kind(kind) => tables.long(kind),
+        RowTable::Further(table) => tables.further(table),
+    }
+}
+
+/// The index of a table of a set, if it has the table. Allocates for each structure: refuses if out of memory, but not
+/// where there is no table.
 fn index_of(
     alloc: Global,
     tables: &CompleteTables<'_>,
-    kind: TableKind,
+    table: RowTable,
     series: &Series,
 ) -> Result<Option<Index>, AllocError>
-    ensures index { IfOk result (FindsIndex (table_of tables.now kind)) }
-    ensures memory { OnErr result (IsSome (table_of tables.now kind)) }
+    ensures index { IfOk result (FindsIndex (row_table_of tables.now table)) }
+    ensures memory { OnErr result (IsSome (row_table_of tables.now table)) }
 {
-    match tables.long(kind) {
+    match table_of(tables, table) {
         Some(table) => Index::of(alloc, series, table.bytes()),
         None => Ok(None),
     }
 }
 
 impl Indexes {
-    /// Those of a set's tables. Allocates for each entry: refuses if out of memory, but not where there is no table.
+    /// Those of a set's tables. Allocates for each structure: refuses if out of memory, but not where there is no table.
     fn of(alloc: Global, tables: &CompleteTables<'_>) -> Result<Indexes, AllocError>
         ensures indexes { IfOk result (AreIndexes tables.now) }
         ensures memory { OnErr result (HasTable tables.now) }
     {
         Ok(Indexes {
-            madt: index_of(alloc, tables, TableKind::Madt, &MADT_SERIES)?,
-            srat: index_of(alloc, tables, TableKind::Srat, &SRAT_SERIES)?,
-            pptt: index_of(alloc, tables, TableKind::Pptt, &PPTT_SERIES)?,
+            madt: index_of(alloc, tables, RowTable::Kind(TableKind::Madt), &MADT_SERIES)?,
+            srat: index_of(alloc, tables, RowTable::Kind(TableKind::Srat), &SRAT_SERIES)?,
+            pptt: index_of(alloc, tables, RowTable::Kind(TableKind::Pptt), &PPTT_SERIES)?,
+            hmat: index_of(
+                alloc,
+                tables,
+                RowTable::Further(FurtherTable::Hmat),
+                &HMAT_SERIES,
+            )?,
+            dmar: index_of(
+                alloc,
+                tables,
+                RowTable::Further(FurtherTable::Dmar),
+                &DMAR_SERIES,
+            )?,
+            ivrs: index_of(
+                alloc,
+                tables,
+                RowTable::Further(FurtherTable::Ivrs),
+                &IVRS_SERIES,
+            )?,
         })
     }
 
-    /// The entries of a table of a kind.
-    fn of_kind(&self, kind: TableKind) -> Option<&Index>
-        ensures { option_map (λ i. i.now) result ≡ index_of_kind self.now kind }
+    /// The structures of a table.
+    fn of_table(&self, table: RowTable) -> Option<&Index>
+        ensures { option_map (λ i. i.now) result ≡ index_of_table self.now table }
     {
-        match kind {
-            TableKind::Madt => self.madt.as_ref(),
-            TableKind::Srat => self.srat.as_ref(),
-            TableKind::Pptt => self.pptt.as_ref(),
-            TableKind::Fadt | TableKind::Slit => None,
+        match table {
+            RowTable::Kind(TableKind::Madt) => self.madt.as_ref(),
+            RowTable::Kind(TableKind::Srat) => self.srat.as_ref(),
+            RowTable::Kind(TableKind::Pptt) => self.pptt.as_ref(),
+            RowTable::Further(FurtherTable::Hmat) => self.hmat.as_ref(),
+            RowTable::Further(FurtherTable::Dmar) => self.dmar.as_ref(),
+            RowTable::Further(FurtherTable::Ivrs) => self.ivrs.as_ref(),
+            _ => None,
         }
     }
 }
 
-/// The table of a kind, if the set has a complete one with all its fields.
+/// A table that rows are about, if the set has a complete one with all its fields, and its index if it has one.
 fn indexed<'a>(
     tables: &'a CompleteTables<'_>,
     indexes: &'a Indexes,
-    kind: TableKind,
+    of: RowTable,
 ) -> Option<IndexedTable<'a>>
     requires { AreIndexes tables.now indexes.now }
-    ensures { IsLong (least_length kind) (table_of tables.now kind)
+    ensures { IsLong (row_length of) (row_table_of tables.now of)
         (option_map (λ t. t.bytes.now) result) }
 {
-    let table = tables.long(kind)?;
-    match indexes.of_kind(kind) {
+    let table = table_of(tables, of)?;
+    match indexes.of_table(of) {
         Some(index) => Some(IndexedTable::with(table.bytes(), index)),
         None => Some(IndexedTable::new(table.bytes())),
-    }
-}
-
-/// A further table, if the set has a complete one.
-fn further<'a>(tables: &'a CompleteTables<'_>, table: FurtherTable) -> Option<IndexedTable<'a>>
-    ensures { IsLong 36 (further_of tables.now table) (option_map (λ t. t.bytes.now) result) }
-{
-    Some(IndexedTable::new(tables.further(table)?.bytes()))
-}
-
-/// A table that rows are about, if the set has a complete one with all its fields.
-fn table_of<'a>(
-    tables: &'a CompleteTables<'_>,
-    indexes: &'a Indexes,
-    table: RowTable,
-) -> Option<IndexedTable<'a>>
-    requires { AreIndexes tables.now indexes.now }
-    ensures { IsLong (row_length table) (row_table_of tables.now table)
-        (option_map (λ t. t.bytes.now) result) }
-{
-    match table {
-        RowTable::Kind(kind) => indexed(tables, indexes, kind),
-        RowTable::Further(table) => further(tables, table),
     }
 }
 
@@ -128,9 +145,9 @@ fn tables_of<'a>(
     requires { AreIndexes tables.now indexes.now }
     ensures { FindsTables tables.now group.now.0 group.now.1 (option_map tables_value result) }
 {
-    let table = table_of(tables, indexes, group.0)?;
+    let table = indexed(tables, indexes, group.0)?;
     let other = match group.1 {
-        Some(other) => table_of(tables, indexes, other)?,
+        Some(other) => indexed(tables, indexes, other)?,
         None => IndexedTable::new(&[]),
     };
     Some(Tables { table, other })
@@ -197,8 +214,8 @@ fn found_by_all(
     Ok(found)
 }
 
-/// The first finding of each row that a set's tables break. Allocates for each, for each entry of the MADT, the SRAT and
-/// the PPTT, and for the numbers of rows on such as occur again or are looked up: refuses if out of memory, but not where
+/// The first finding of each row that a set's tables break. Allocates for each, for each structure of the tables that have
+/// an index, and for the numbers of rows on such as occur again or are looked up: refuses if out of memory, but not where
 /// there is no table.
 pub fn row_findings(alloc: Global, tables: &CompleteTables<'_>) -> Result<Vec<Found>, AllocError>
     ensures found { IfOk result (λ found.

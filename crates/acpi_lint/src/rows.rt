@@ -1,7 +1,7 @@
 //! Rules as rows of data, table by table. What a row means is said by `acpi_rules`.
 
 ghost use Rattle.std.specs.Prelude.{◌≡◌, map};
-ghost use Rattle.acpi_lint.specs.RowGroups.{group_value, row_groups, fadt_further_group, fadt_group, fadt_with_madt_group, gic_group, gtdt_group, gtdt_with_madt_group, hmat_group, hmat_with_srat_group, hpet_group, madt_further_group, madt_group, madt_with_fadt_group, madt_with_pptt_group, madt_with_srat_group, mcfg_group, pptt_group, pptt_with_madt_group, spcr_group, spcr_with_madt_group, srat_group, srat_with_madt_group, srat_with_slit_group};
+ghost use Rattle.acpi_lint.specs.RowGroups.{group_value, row_groups, devices_group, dmar_group, dmar_scopes_group, dmar_with_srat_group, fadt_further_group, fadt_group, fadt_with_madt_group, gic_group, gtdt_group, gtdt_with_madt_group, hmat_group, hmat_with_srat_group, hpet_group, ivrs_group, madt_further_group, madt_group, madt_with_dmar_group, madt_with_fadt_group, madt_with_ivrs_group, madt_with_pptt_group, madt_with_srat_group, mcfg_group, pptt_group, pptt_with_madt_group, spcr_group, spcr_with_madt_group, srat_group, srat_with_madt_group, srat_with_slit_group};
 
 // ---- how rows are written
 
@@ -14,7 +14,7 @@ macro_rules! field {
     };
 }
 
-/// Structures of a type and a length, of a type and at least a length, or of some types and any length.
+/// Structures of a type and a length, of a type and at least a length, or of some types and any length or at least one.
 macro_rules! kind {
     ($kind:literal, $size:literal) => {
         Kind {
@@ -33,10 +33,13 @@ macro_rules! kind {
         }
     };
     ($first:literal ..= $last:literal) => {
+        kind!($first ..= $last, 0..)
+    };
+    ($first:literal ..= $last:literal, $least:literal ..) => {
         Kind {
             first: $first,
             last: $last,
-            least: 0,
+            least: $least,
             most: 0xffff,
         }
     };
@@ -87,8 +90,9 @@ macro_rules! sum {
 }
 
 /// A number of at most 32 bits, 2^64 - 1, a field, bits of a field, the length of a structure or what of it is behind an
-/// offset, its offset, a multiple of a field with or without something added, a product of two or three fields, the length of
-/// a structure with a matrix, or a field's number that is told apart by a structure.
+/// offset, its offset or one behind that, the offset of its end or of its first byte that is 0, a multiple of a field with or
+/// without something added, a product of two or three fields, the length of a structure with a matrix, a field's number that is
+/// told apart by a structure or by another field, or how far the sum of two fields is above 2^64.
 macro_rules! value {
     ((length $within:ident)) => {
         Value::Length(within!($within))
@@ -97,7 +101,22 @@ macro_rules! value {
         Value::Behind(within!($within), $offset)
     };
     ((offset $within:ident)) => {
-        Value::Offset(within!($within))
+        Value::Offset(within!($within), 0)
+    };
+    ((offset $within:ident + $behind:literal)) => {
+        Value::Offset(within!($within), $behind)
+    };
+    ((end $within:ident)) => {
+        Value::End(within!($within))
+    };
+    ((zero $within:ident $from:literal)) => {
+        Value::FirstZero(within!($within), $from)
+    };
+    ((pair $one:ident $other:ident)) => {
+        Value::Pair($one, $other)
+    };
+    ((excess $one:ident $other:ident)) => {
+        Value::Excess($one, $other)
     };
     ((table $field:ident)) => {
         Value::Of(Within::Table, $field)
@@ -190,9 +209,23 @@ macro_rules! clause {
     };
 }
 
+/// Comparisons that all hold.
+macro_rules! clauses {
+    () => {
+        Clauses::None
+    };
+    ($left:tt $test:tt $right:tt) => {
+        Clauses::One(clause!($left, $test, $right))
+    };
+    ($($left:tt $test:tt $right:tt),+) => {
+        Clauses::All(&[$(clause!($left, $test, $right)),+])
+    };
+}
+
 /// What structures give, by cases: `{KIND if CLAUSE && CLAUSE => at OFFSET shows VALUE, NUMBER; ..}`, or a list of
 /// cases with a name. A finding has the offset in the table as `at`, VALUE as `other` and NUMBER as `point`, but those of
-/// numbers that occur again or are found elsewhere: their `other` is the place of the first one. In a row `overlap`
+/// numbers that occur again or are found elsewhere: their `other` is the place of the first one, in a row `found_field` or
+/// `found_field_below` the offset after that word. In a row `overlap`
 /// NUMBER is where a range begins and VALUE how many numbers it has, or in a row `overlap_to` its last number; `at` and
 /// `other` are the places of the two, and `point` is the lowest number in both.
 macro_rules! cases {
@@ -202,7 +235,7 @@ macro_rules! cases {
     );+}) => {
         &[$((
             kind_of!($kind),
-            &[$($(clause!($left, $test, $right)),+)?],
+            clauses!($($($left $test $right),+)?),
             $at,
             value!($value),
             value!($number),
@@ -218,7 +251,7 @@ macro_rules! any {
     ({$($kind:tt $(if $($left:tt $test:tt $right:tt)&&+)?);+}) => {
         &[$((
             kind_of!($kind),
-            &[$($(clause!($left, $test, $right)),+)?],
+            clauses!($($($left $test $right),+)?),
             0,
             value!(0),
             value!(0),
@@ -286,7 +319,16 @@ macro_rules! form {
         Form::LookedUp(LookUp::Nowhere)
     };
     (somewhere) => {
-        Form::LookedUp(LookUp::Somewhere)
+        Form::LookedUp(LookUp::Found(FoundAs::First))
+    };
+    (behind) => {
+        Form::LookedUp(LookUp::Found(FoundAs::Behind))
+    };
+    (found_field $offset:literal) => {
+        Form::LookedUp(LookUp::Found(FoundAs::Field($offset)))
+    };
+    (found_field_below $offset:literal) => {
+        Form::LookedUp(LookUp::Found(FoundAs::FieldBelow($offset)))
     };
     (overlap) => {
         Form::Overlap(Range::Count)
@@ -320,13 +362,13 @@ macro_rules! rule {
         )
     };
     (
-        $number:literal $name:ident, $form:ident in $path:ident $(where $($guard:tt),+)?:
+        $number:literal $name:ident, $form:ident $($offset:literal)? in $path:ident $(where $($guard:tt),+)?:
         $cases:tt $(except $except:tt)?
         among $source:ident $known_path:ident $known:tt $(except $known_except:tt)?
     ) => {
         (
             $number,
-            form!($form),
+            form!($form $($offset)?),
             &[$($(guard!($guard)),+)?],
             numbers!($path, $cases $(, $except)?),
             Some(&(source!($source), numbers!($known_path, $known $(, $known_except)?))),
@@ -346,6 +388,8 @@ macro_rules! rule {
     };
 }
 
+mod dmar;
+mod dmar_fields;
 mod fadt;
 mod fadt_fields;
 mod gtdt;
@@ -354,6 +398,8 @@ mod hmat;
 mod hmat_fields;
 mod hpet;
 mod hpet_fields;
+mod ivrs;
+mod ivrs_fields;
 mod madt;
 mod madt_fields;
 mod mcfg;
@@ -370,11 +416,16 @@ mod table_fields;
 use crate::further_table::{FurtherTable, RowTable};
 use acpi_base::TableKind;
 use acpi_rules::Row;
+use dmar::{DMAR, DMAR_SCOPES, DMAR_WITH_SRAT, MADT_WITH_DMAR};
+pub use dmar_fields::DMAR_SERIES;
 use fadt::{FADT, FADT_FURTHER, FADT_WITH_MADT};
 pub use gtdt::TIMER_RANGES;
 use gtdt::{GTDT, GTDT_WITH_MADT};
 use hmat::{HMAT, HMAT_WITH_SRAT};
+pub use hmat_fields::HMAT_SERIES;
 use hpet::HPET;
+use ivrs::{DEVICES, IVRS, MADT_WITH_IVRS};
+pub use ivrs_fields::IVRS_SERIES;
 pub use madt::{GICR_LENGTHS, GICRS_ARE_KNOWN, NEEDS_GTDT, USABLE_GICCS};
 use madt::{GIC, MADT, MADT_FURTHER, MADT_WITH_FADT, MADT_WITH_PPTT, MADT_WITH_SRAT};
 pub use madt_fields::{MADT_ENTRIES, MADT_SERIES};
@@ -591,8 +642,84 @@ fn gtdt_with_madt_group() -> RowGroup<'static>
     )
 }
 
+/// Those on the DMAR.
+#[tactic(auto, unfolding(crate::specs::RowGroups::dmar_group))]
+fn dmar_group() -> RowGroup<'static>
+    ensures { group_value result ≡ dmar_group }
+{
+    (RowTable::Further(FurtherTable::Dmar), None, DMAR.as_slice())
+}
+
+/// Those on the device scopes of the DMAR.
+#[tactic(auto, unfolding(crate::specs::RowGroups::dmar_scopes_group))]
+fn dmar_scopes_group() -> RowGroup<'static>
+    ensures { group_value result ≡ dmar_scopes_group }
+{
+    (
+        RowTable::Further(FurtherTable::Dmar),
+        None,
+        DMAR_SCOPES.as_slice(),
+    )
+}
+
+/// Those on the DMAR with the SRAT.
+#[tactic(auto, unfolding(crate::specs::RowGroups::dmar_with_srat_group))]
+fn dmar_with_srat_group() -> RowGroup<'static>
+    ensures { group_value result ≡ dmar_with_srat_group }
+{
+    (
+        RowTable::Further(FurtherTable::Dmar),
+        Some(OF_SRAT),
+        DMAR_WITH_SRAT.as_slice(),
+    )
+}
+
+/// Those on the MADT with the DMAR.
+#[tactic(auto, unfolding(crate::specs::RowGroups::madt_with_dmar_group))]
+fn madt_with_dmar_group() -> RowGroup<'static>
+    ensures { group_value result ≡ madt_with_dmar_group }
+{
+    (
+        OF_MADT,
+        Some(RowTable::Further(FurtherTable::Dmar)),
+        MADT_WITH_DMAR.as_slice(),
+    )
+}
+
+/// Those on the IVRS.
+#[tactic(auto, unfolding(crate::specs::RowGroups::ivrs_group))]
+fn ivrs_group() -> RowGroup<'static>
+    ensures { group_value result ≡ ivrs_group }
+{
+    (RowTable::Further(FurtherTable::Ivrs), None, IVRS.as_slice())
+}
+
+/// Those on the device entries of the IVRS.
+#[tactic(auto, unfolding(crate::specs::RowGroups::devices_group))]
+fn devices_group() -> RowGroup<'static>
+    ensures { group_value result ≡ devices_group }
+{
+    (
+        RowTable::Further(FurtherTable::Ivrs),
+        None,
+        DEVICES.as_slice(),
+    )
+}
+
+/// Those on the MADT with the IVRS.
+#[tactic(auto, unfolding(crate::specs::RowGroups::madt_with_ivrs_group))]
+fn madt_with_ivrs_group() -> RowGroup<'static>
+    ensures { group_value result ≡ madt_with_ivrs_group }
+{
+    (
+        OF_MADT,
+        Some(RowTable::Further(FurtherTable::Ivrs)),
+        MADT_WITH_IVRS.as_slice(),
+    )
+}
+
 /// All rows. Each group is told by a function, since the proof of one that names all constants takes too many steps.
-pub fn row_groups() -> [RowGroup<'static>; 22]
+pub fn row_groups() -> [RowGroup<'static>; 29]
     ensures { map group_value result ≡ row_groups }
 {
     [
@@ -618,5 +745,12 @@ pub fn row_groups() -> [RowGroup<'static>; 22]
         hmat_with_srat_group(),
         gtdt_group(),
         gtdt_with_madt_group(),
+        dmar_group(),
+        dmar_scopes_group(),
+        dmar_with_srat_group(),
+        madt_with_dmar_group(),
+        ivrs_group(),
+        devices_group(),
+        madt_with_ivrs_group(),
     ]
 }

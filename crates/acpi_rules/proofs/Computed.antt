@@ -8,6 +8,7 @@ use Rattle.std.proofs.lemmas.Bool.Decides.{Decides-and, Decides-eqb, Decides-ltb
 use Rattle.std.proofs.lemmas.Option.{same_Some}
 use Rattle.acpi_base.proofs.Elements.{first_element, first_or_later, later_element, no_element}
 use Rattle.acpi_rules.specs.Cases.{Case, gives}
+use Rattle.acpi_rules.specs.Known.{found_place, is_reported}
 use Rattle.acpi_rules.specs.Numbered.{IsNoLater, IsRepeated, IsTold, repeat_place}
 use Rattle.acpi_rules.specs.Places.{FindsLeast, IsNotAfter}
 use Rattle.acpi_rules.specs.Numbers.{Counts, GivenIn, Numbers}
@@ -16,6 +17,7 @@ use Rattle.acpi_rules.specs.Sites.{first_cut, sites_of}
 use Rattle.acpi_rules.specs.Terms.{TwoTables}
 use Rattle.acpi_rules.specs.declared.known.LookUp.{LookUp}
 use Rattle.acpi_rules.specs.declared.known.LookUp.TheVariants as lookup
+use Rattle.acpi_rules.specs.declared.known.FoundAs.{FoundAs}
 use Rattle.acpi_rules.specs.declared.numbered.Numbered.{Numbered}
 use Rattle.acpi_rules.specs.declared.numbered.Repeat.{Repeat}
 use Rattle.acpi_rules.specs.declared.numbered.Repeat.TheVariants as repeat
@@ -331,29 +333,36 @@ decides_unknown row t g =
     known : List Numbered
     known = known_counted row.known t
 
--- the place of g, that of f, and the value of g
-abbrev found_place : Numbered → Numbered → Place
-found_place g f = record { at = g.at; other = f.at; point = g.value }
+-- f is the first one of g's number, by which something is told
+abbrev is_found : FoundAs → List Numbered → Numbered → Numbered → Bool
+is_found w known g f = ((g.number == f.number) && is_first known f) && is_reported w g f
 
--- f is the first one of g's number
-abbrev is_found : List Numbered → Numbered → Numbered → Bool
-is_found known g f = (g.number == f.number) && is_first known f
+abbrev found_here : FoundAs → List Numbered → Numbered → Numbered → Option Place
+found_here w known g f =
+    if is_found w known g f then Some (found_place w g f) else None
 
-abbrev found_here : List Numbered → Numbered → Numbered → Option Place
-found_here known g f =
-    if is_found known g f then Some (found_place g f) else None
+abbrev found_places : FoundAs → List Numbered → List Numbered → List Place
+found_places w known all = over (λ g. filter_map (found_here w known g) known) all
 
-abbrev somewhere : List Numbered → List Numbered → List Place
-somewhere known all = over (λ g. filter_map (found_here known g) known) all
+-- f is not later than each of these with its number
+abbrev IsFirstOf : List Numbered → Numbered → Type 0
+IsFirstOf known f = (h : Numbered) → Contains known h → (¬ (h.number ≡ f.number)) ⊎ IsNoLater f h
 
-somewhere_has : (row : Row) (t : TwoTables) (at other point : ℕ) → IsLookedUp lookup.Somewhere row t at other point
-    → IsAmong (somewhere (known_counted row.known t) (counted t row.numbers)) at other point
-somewhere_has row t at other point (g, f, (counts, first, same), p, q, r) =
-    over_has (λ h. filter_map (found_here known h) known) (counted t row.numbers) g _
+decides_found : (w : FoundAs) (known : List Numbered) (g f : Numbered)
+    → Decides (is_found w known g f) (((g.number ≡ f.number) × IsFirstOf known f) × (is_reported w g f ≡ true))
+decides_found w known g f =
+    Decides-and _ (is_reported w g f)
+    (Decides-and (g.number == f.number) _ (Decides-eqb g.number f.number) (decides_first known f))
+    (λ passes. passes, λ holds. holds)
+
+found_has : (w : FoundAs) (row : Row) (t : TwoTables) (at other point : ℕ)
+    → IsLookedUp (lookup.Found w) row t at other point
+    → IsAmong (found_places w (known_counted row.known t) (counted t row.numbers)) at other point
+found_has w row t at other point (g, f, (counts, first, same), told, p, q, r) =
+    over_has (λ h. filter_map (found_here w known h) known) (counted t row.numbers) g _
     (counted_has t row.numbers g counts)
-    (kept_has (found_here known g) known f _ (known_has row.known t f first.here)
-    (of (is_found known g f)
-    ((Decides-and (g.number == f.number) _ (Decides-eqb g.number f.number) (decides_first known f)).1 (same, firsts))))
+    (kept_has (found_here w known g) known f _ (known_has row.known t f first.here)
+    (of (is_found w known g f) ((decides_found w known g f).1 ((same, firsts), told))))
   where
     known : List Numbered
     known = known_counted row.known t
@@ -366,31 +375,30 @@ somewhere_has row t at other point (g, f, (counts, first, same), p, q, r) =
         ]
 
     of : (b : Bool) → b ≡ true
-        → (if b then Some (found_place g f) else None)
+        → (if b then Some (found_place w g f) else None)
         ≡ Some (record { at = at; other = other; point = point })
     of b passes = rw passes (ap Some (λ i. record { at = sym p i; other = sym q i; point = sym r i }))
 
-somewhere_from : (row : Row) (t : TwoTables) (at other point : ℕ)
-    → IsAmong (somewhere (known_counted row.known t) (counted t row.numbers)) at other point
-    → IsLookedUp lookup.Somewhere row t at other point
-somewhere_from row t at other point among =
-    let (g, in_all, within) = over_from (λ h. filter_map (found_here known h) known) (counted t row.numbers) _ among in
-    let (f, listed, is) = kept_from (found_here known g) known _ within in
-    of g in_all f listed (is_found known g f)
-    (Decides-and (g.number == f.number) _ (Decides-eqb g.number f.number) (decides_first known f)) is
+found_from : (w : FoundAs) (row : Row) (t : TwoTables) (at other point : ℕ)
+    → IsAmong (found_places w (known_counted row.known t) (counted t row.numbers)) at other point
+    → IsLookedUp (lookup.Found w) row t at other point
+found_from w row t at other point among =
+    let found : Numbered → List Place = λ h. filter_map (found_here w known h) known in
+    let (g, in_all, within) = over_from found (counted t row.numbers) _ among in
+    let (f, listed, is) = kept_from (found_here w known g) known _ within in
+    of g in_all f listed (is_found w known g f) (decides_found w known g f) is
   where
     known : List Numbered
     known = known_counted row.known t
 
     of : (g : Numbered) → Contains (counted t row.numbers) g → (f : Numbered) → Contains known f → (b : Bool)
-        → Decides b ((g.number ≡ f.number)
-        × ((h : Numbered) → Contains known h → (¬ (h.number ≡ f.number)) ⊎ IsNoLater f h))
-        → (if b then Some (found_place g f) else None)
+        → Decides b (((g.number ≡ f.number) × IsFirstOf known f) × (is_reported w g f ≡ true))
+        → (if b then Some (found_place w g f) else None)
         ≡ Some (record { at = at; other = other; point = point })
-        → IsLookedUp lookup.Somewhere row t at other point
+        → IsLookedUp (lookup.Found w) row t at other point
     of g in_all f listed false decides is = absurd cc
     of g in_all f listed true decides is =
-        let (same, firsts) = decides.0 refl in
+        let ((same, firsts), told) = decides.0 refl in
         let here = same_Some _ _ is in (
           g,
           f,
@@ -406,6 +414,7 @@ somewhere_from row t at other point among =
             },
             same,
           ),
+          told,
           sym (ap (λ (x : Place). x.at) here),
           sym (ap (λ (x : Place). x.other) here),
           sym (ap (λ (x : Place). x.point) here),
@@ -418,7 +427,7 @@ cut_place (Some cut) = record { at = cut.at; other = cut.said; point = cut.end }
 abbrev looked_up : LookUp → Row → TwoTables → List Place
 looked_up lookup.Nowhere row t =
     filter_map (passed (unknown (known_counted row.known t))) (counted t row.numbers)
-looked_up lookup.Somewhere row t = somewhere (known_counted row.known t) (counted t row.numbers)
+looked_up (lookup.Found w) row t = found_places w (known_counted row.known t) (counted t row.numbers)
 
 abbrev places : Form → Row → TwoTables → List Place
 places form.Given row t = filter_map (passed (λ g. true)) (counted t row.numbers)
@@ -437,7 +446,7 @@ looked_up_has lookup.Nowhere row t at other point (counts, none) =
     (λ g. (x : Numbered) → Knows row t x → ¬ (x.number ≡ g.number)) (decides_unknown row t) (counted t row.numbers)
     at other point
     (counted_has t row.numbers _ counts) none
-looked_up_has lookup.Somewhere row t at other point is = somewhere_has row t at other point is
+looked_up_has (lookup.Found w) row t at other point is = found_has w row t at other point is
 
 looked_up_from : (l : LookUp) (row : Row) (t : TwoTables) (at other point : ℕ)
     → IsAmong (looked_up l row t) at other point → IsLookedUp l row t at other point
@@ -446,7 +455,7 @@ looked_up_from lookup.Nowhere row t at other point among =
     (λ g. (x : Numbered) → Knows row t x → ¬ (x.number ≡ g.number)) (decides_unknown row t) (counted t row.numbers)
     at other point among in
     (counted_from t row.numbers _ listed, none)
-looked_up_from lookup.Somewhere row t at other point among = somewhere_from row t at other point among
+looked_up_from (lookup.Found w) row t at other point among = found_from w row t at other point among
 
 in_form_has : (f : Form) (row : Row) (t : TwoTables) (at other point : ℕ) → InForm f row t at other point
     → IsAmong (places f row t) at other point

@@ -1,12 +1,12 @@
 -- What is found in each form of a rule.
-use Rattle.std.proofs.Common.{◌≡◌, ◌∙◌, ℕ, List, [], ◌∷◌, length, map, Option, Result, Ok, Err, true, false, refl, sym, ap, arith, subst, Some, None}
+use Rattle.std.proofs.Common.{◌≡◌, ◌∙◌, ℕ, Bool, List, [], ◌∷◌, length, map, Option, Result, Ok, Err, true, false, refl, sym, ap, arith, subst, Some, None}
 use Rattle.std.specs.Prelude.{◌↔◌, ◌==◌, AllPairs, Contains, IfOk, if◌then◌else◌, option_map}
 use Rattle.std.specs.List.Sorted.{IsPermutation}
 use Rattle.std.specs.Option.{is_some}
 use Rattle.std.proofs.lemmas.Bool.{eqb-true}
 use Rattle.std.proofs.lemmas.List.Sorted.{Contains-permutation, IsPermutation-sym}
 use Rattle.acpi_rules.specs.Cases.{BorCase, Case, case_value, gives}
-use Rattle.acpi_rules.specs.Known.{first_of, place_by, told}
+use Rattle.acpi_rules.specs.Known.{first_of, found_place, is_reported, place_by, told}
 use Rattle.acpi_rules.specs.Numbered.{IsFirst, IsNotAbove, IsRepeated, Repeats}
 use Rattle.acpi_rules.specs.Numbers.{AreExcepted, Counts, GivenBeside, GivenIn, IsGiven, IsToldOf, Numbers, gives_any}
 use Rattle.acpi_rules.specs.Places.{FindsLeast}
@@ -110,6 +110,14 @@ first_moved f same first =
 back : {P Q : Numbered → Type 0} → ((x : Numbered) → P x ↔ Q x) → (x : Numbered) → Q x ↔ P x
 back same x = ((same x).1, (same x).0)
 
+if_some : {A : Type 0} (b : Bool) (x y : A) → (if b then Some x else None) ≡ Some y → (b ≡ true) × (x ≡ y)
+if_some true x y is = (refl, same_Some _ _ is)
+if_some false x y is = absurd cc
+
+some_if : {A : Type 0} (b : Bool) (x y : A) → b ≡ true → x ≡ y → (if b then Some x else None) ≡ Some y
+some_if true x y passes same = ap Some same
+some_if false x y passes same = absurd cc
+
 -- what is told by what is found is what the rule says
 tells_of : (l : LookUp) (row : Row) (t : TwoTables) (known : List Numbered) (g : Numbered) (at other point : ℕ)
     → AllPairs IsNotAbove known → AreKnown row t known → Counts t row.numbers g → (o : Option Numbered)
@@ -120,13 +128,14 @@ tells_of lookup.Nowhere row t known g at other point order are counts None none 
     (same_reported g at other point (same_Some (given_place g) _ tells))
     (counts, λ x knows same. first_of_none known g.number none x ((are x).1 knows) same)
 tells_of lookup.Nowhere row t known g at other point order are counts (Some f) some tells = absurd cc
-tells_of lookup.Somewhere row t known g at other point order are counts None none tells = absurd cc
-tells_of lookup.Somewhere row t known g at other point order are counts (Some f) some tells =
+tells_of (lookup.Found w) row t known g at other point order are counts None none tells = absurd cc
+tells_of (lookup.Found w) row t known g at other point order are counts (Some f) some tells =
     let (first, same) = first_of_is known g.number f order some in
-    let is = same_Some _ _ tells in (
+    let (told, is) = if_some (is_reported w g f) (found_place w g f) _ tells in (
       g,
       f,
       (counts, first_moved f are first, sym same),
+      told,
       sym (ap (λ (p : Place). p.at) is),
       sym (ap (λ (p : Place). p.other) is),
       sym (ap (λ (p : Place). p.point) is),
@@ -150,12 +159,14 @@ told_as lookup.Nowhere row t known at other point order are (counts, unknown) = 
     go (Some f) some =
         let (first, same) = first_of_is known point f order some in
         absurd (unknown f ((are f).0 first.here) same)
-told_as lookup.Somewhere row t known at other point order are (g, f, (counts, first, same), p, q, r) =
+told_as (lookup.Found w) row t known at other point order are (g, f, (counts, first, same), tells, p, q, r) =
     let found = first_of_found known f order (first_moved f (back are) first) in
     let here : first_of known g.number ≡ Some f = ap (first_of known) same ∙ found in (
       g,
       counts,
-      ap (place_by lookup.Somewhere g) here ∙ ap Some (λ i. record { at = sym p i; other = sym q i; point = sym r i }),
+      ap (place_by (lookup.Found w) g) here
+          ∙ some_if (is_reported w g f) (found_place w g f) _ tells
+          (λ i. record { at = sym p i; other = sym q i; point = sym r i }),
     )
 
 pub looked_up_as : (l : LookUp) (row : Row) (t : TwoTables) (except known : List Numbered) (found : Option Place)
@@ -178,7 +189,7 @@ pub none_looked_up : (l : LookUp) (row : Row) (t : TwoTables) → gives_any t ro
     → FindsLeast (IsLookedUp l row t) None
 none_looked_up lookup.Nowhere row t none at other point (counts, unknown) =
     none_given t row.numbers.path row.numbers.cases none _ counts.0
-none_looked_up lookup.Somewhere row t none at other point (g, f, (counts, first, same), p, q, r) =
+none_looked_up (lookup.Found w) row t none at other point (g, f, (counts, first, same), told, p, q, r) =
     none_given t row.numbers.path row.numbers.cases none g counts.0
 
 -- ---- numbers that occur again

@@ -286,6 +286,25 @@ pub none_given_twice : (t : TwoTables) (path : Path) (cases : List Case) (sites 
 none_given_twice t path cases sites left None same (none, end) is_none = rw (sym same, none) refl
 none_given_twice t path cases sites left (Some g) same one is_none = absurd cc
 
+nothing_kept : (f : SiteValue → Option Numbered) (sites : List SiteValue)
+    → list_any (λ s. is_some (f s)) sites ≡ false → filter_map f sites ≡ []
+nothing_kept f [] none = refl
+nothing_kept f (s ∷ sites) none =
+    elim (cases_Option (f s)) [
+      | inl (g, is) ↦ let some : true ≡ false = rw is at none in absurd cc
+      | inr empty ↦ rw empty (nothing_kept f sites (rw empty at none))
+    ]
+
+pub no_first : (t : TwoTables) (path : Path) (cases : List Case) → gives_any t path cases ≡ false
+    → false ≡ first_is_some t path cases
+no_first t path cases none =
+    rw (first_kept (gives t cases) (sites_of path t.table), nothing_kept (gives t cases) (sites_of path t.table) none)
+    refl
+
+pub no_two : (t : TwoTables) (path : Path) (cases : List Case) → gives_any t path cases ≡ false
+    → false ≡ gives_two t path cases
+no_two t path cases none = rw (nothing_kept (gives t cases) (sites_of path t.table) none) refl
+
 -- ---- a list that is gone over
 
 pub all_of : (taken left all : List Numbered) → left ≡ [] → taken ++ left ≡ all → taken ≡ all

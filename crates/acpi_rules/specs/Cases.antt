@@ -2,11 +2,12 @@
 use Rattle.std.specs.Prelude.{◌≡◌, ℕ, ◌+◌, Bool, List, [], ◌∷◌, length, Option, Some, None, nat_le, nat_lt, ◌&&◌, ◌||◌, ◌==◌, if◌then◌else◌}
 use Rattle.std.specs.Option.{option_or}
 use denote.Ref.{Bor}
-use Rattle.acpi_rules.specs.Clauses.{all_hold}
+use Rattle.acpi_rules.specs.Clauses.{all_hold, clauses_in, clauses_value}
 use Rattle.acpi_rules.specs.Sites.{SiteValue}
 use Rattle.acpi_rules.specs.Terms.{TwoTables, value_number}
 use Rattle.acpi_rules.specs.declared.case.Kind.{Kind}
 use Rattle.acpi_rules.specs.declared.clause.Clause.{Clause}
+use Rattle.acpi_rules.specs.declared.clause.Clauses.{Clauses}
 use Rattle.acpi_rules.specs.declared.numbered.Numbered.{Numbered}
 use Rattle.acpi_rules.specs.declared.term.Value.{Value}
 
@@ -54,10 +55,10 @@ gives t cases s = first_some (in_case t s) cases
 
 -- a case as the code has it
 abbrev pub BorCase : Type 0
-BorCase = Kind × Bor (List Clause) × ℕ × Value × Value
+BorCase = Kind × Clauses (Bor (List Clause)) × ℕ × Value × Value
 
 abbrev pub case_value : BorCase → Case
-case_value c = record { kind = c.0; all = c.1.now; at = c.2; value = c.3; number = c.4 }
+case_value c = record { kind = c.0; all = clauses_value c.1; at = c.2; value = c.3; number = c.4 }
 
 -- what a constant refers to, and a case as a constant has it
 abbrev pub SaidOne : Type 0 → Type 0
@@ -67,10 +68,10 @@ abbrev pub Said : Type 0 → Type 0
 Said A = SaidOne (List A)
 
 abbrev pub SaidCase : Type 0
-SaidCase = Kind × Said Clause × ℕ × Value × Value
+SaidCase = Kind × Clauses (Said Clause) × ℕ × Value × Value
 
 abbrev pub case_said : SaidCase → Case
-case_said c = record { kind = c.0; all = c.1.now; at = c.2; value = c.3; number = c.4 }
+case_said c = record { kind = c.0; all = clauses_in (λ l. l.now) c.1; at = c.2; value = c.3; number = c.4 }
 
 -- for structures of a type these cases give the same
 abbrev pub GiveSame : ℕ → List Case → List Case → Type 0

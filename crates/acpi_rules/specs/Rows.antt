@@ -4,6 +4,7 @@ use Rattle.std.specs.List.{filter_map, list_all}
 use Rattle.std.specs.Option.{is_none, option_map_or}
 use denote.Ref.{Bor}
 use Rattle.acpi_rules.specs.Cases.{BorCase, Case, Said, SaidCase, SaidOne, case_said, case_value, first_some, gives}
+use Rattle.acpi_rules.specs.Known.{is_reported, other_told}
 use Rattle.acpi_rules.specs.Numbered.{IsFirst, IsRepeated}
 use Rattle.acpi_rules.specs.Numbers.{BorNumbers, Counts, Numbers, SaidNumbers, gives_any, has_except, numbers_said, numbers_value}
 use Rattle.acpi_rules.specs.Overlaps.{IsOverlap}
@@ -80,12 +81,13 @@ Knows row t g = IsKnown row.known t g
 abbrev pub IsFound : Row → TwoTables → Numbered → Numbered → Type 0
 IsFound row t g f = Counts t row.numbers g × IsFirst (Knows row t) f × (g.number ≡ f.number)
 
--- what is told of numbers that are looked up: that there is none of them, or where the first one is
+-- what is told of numbers that are looked up: that there is none of them, or by the first one
 abbrev pub IsLookedUp : LookUp → Row → TwoTables → ℕ → ℕ → ℕ → Type 0
 IsLookedUp lookup.Nowhere row t at other point =
     Counts t row.numbers (reported at other point) × ((g : Numbered) → Knows row t g → ¬ (g.number ≡ point))
-IsLookedUp lookup.Somewhere row t at other point =
-    (g : Numbered) × (f : Numbered) × IsFound row t g f × (at ≡ g.at) × (other ≡ f.at) × (point ≡ g.value)
+IsLookedUp (lookup.Found w) row t at other point =
+    (g : Numbered) × (f : Numbered) × IsFound row t g f × (is_reported w g f ≡ true)
+    × (at ≡ g.at) × (other ≡ other_told w f) × (point ≡ g.value)
 
 -- the first cut of the walks that find the structures of the path is at `at`; `other` is the length that is said there, and `point`
 -- the end of what encloses it

@@ -5,7 +5,7 @@ ghost use Rattle.acpi_rules.specs.Cases.{GiveSame, case_value, gives, has_length
 ghost use Rattle.acpi_rules.specs.Sites.{site_value};
 ghost use Rattle.acpi_rules.specs.Terms.{tables_value};
 
-use crate::clause::{Clause, all_hold};
+use crate::clause::{Clause, Clauses, all_hold};
 use crate::numbered::Numbered;
 use crate::sites::Site;
 use crate::term::{Tables, Value};
@@ -27,7 +27,7 @@ pub struct Kind {
 /// value and the number. The structure has the byte at that offset, and the fields of both numbers are there.
 ///
 /// It is a tuple since a clause cannot name a constant of a struct that has references.
-pub type Case<'a> = (Kind, &'a [Clause], u16, Value, Value);
+pub type Case<'a> = (Kind, Clauses<&'a [Clause]>, u16, Value, Value);
 
 impl Kind {
     /// Whether structures of this type may be of this kind.
@@ -68,7 +68,7 @@ fn in_case(case: &Case<'_>, tables: &Tables<'_>, site: &Site<'_>) -> Option<Numb
     // Most structures are of another kind: nothing else of the case is read before that.
     if !case.0.has(site)
         || usize::from(case.2) >= site.own.bytes.len()
-        || !all_hold(case.1, tables, site)
+        || !all_hold(&case.1, tables, site)
     {
         return None;
     }

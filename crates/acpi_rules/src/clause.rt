@@ -1,12 +1,13 @@
 //! Comparisons of numbers.
 
 ghost use Rattle.std.specs.Prelude.{◌≡◌};
-ghost use Rattle.acpi_rules.specs.Clauses.{all_hold, holds, passes};
+ghost use Rattle.acpi_rules.specs.Clauses.{all_hold, clauses_value, holds, passes};
 ghost use Rattle.acpi_rules.specs.Sites.{site_value};
 ghost use Rattle.acpi_rules.specs.Terms.{tables_value};
 
 use crate::sites::Site;
 use crate::term::{Tables, Value};
+use std::slice::from_ref;
 
 /// How two numbers compare.
 #[derive(Clone, Copy, Debug, PartialEq, Eq)]
@@ -30,6 +31,20 @@ pub struct Clause {
     pub test: Test,
     /// The second value.
     pub right: Value,
+}
+
+/// The clauses of a case: none, one, or all of a slice.
+///
+/// Most cases have one. It stands in the case itself, since each reference in the rows takes 24 bytes of the shared library
+/// beside its own.
+#[derive(Clone, Copy, Debug, PartialEq, Eq)]
+pub enum Clauses<L> {
+    /// None.
+    None,
+    /// One.
+    One(Clause),
+    /// All of these.
+    All(L),
 }
 
 impl Test {
@@ -64,10 +79,28 @@ impl Clause {
     }
 }
 
+impl<'a> Clauses<&'a [Clause]> {
+    /// The clauses as a slice.
+    pub fn as_slice(&self) -> &[Clause]
+        ensures { result.now ≡ clauses_value self.now }
+    {
+        match self {
+            Clauses::None => &[],
+            Clauses::One(clause) => from_ref(clause),
+            Clauses::All(clauses) => clauses,
+        }
+    }
+}
+
 /// Whether all these clauses hold for a structure.
 #[tactic(auto, unfolding(crate::specs::Clauses::all_hold))]
-pub(crate) fn all_hold(clauses: &[Clause], tables: &Tables<'_>, site: &Site<'_>) -> bool
-    ensures { result ≡ all_hold (tables_value tables.now) (site_value site.now) clauses.now }
+pub(crate) fn all_hold(clauses: &Clauses<&[Clause]>, tables: &Tables<'_>, site: &Site<'_>) -> bool
+    ensures { result
+        ≡ all_hold (tables_value tables.now) (site_value site.now) (clauses_value clauses.now) }
 {
-    clauses.iter().all(|clause| clause.holds(tables, site))
+    match clauses {
+        Clauses::None => true,
+        Clauses::One(clause) => clause.holds(tables, site),
+        Clauses::All(clauses) => clauses.iter().all(|clause| clause.holds(tables, site)),
+    }
 }

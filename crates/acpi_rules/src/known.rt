@@ -1,7 +1,7 @@
 //! Numbers that are looked up among others.
 
 ghost use Rattle.std.specs.Prelude.{◌≡◌, AllPairs};
-ghost use Rattle.acpi_rules.specs.Known.{first_of, told};
+ghost use Rattle.acpi_rules.specs.Known.{first_of, is_reported, other_told, told};
 ghost use Rattle.acpi_rules.specs.Numbered.{IsNotAbove};
 
 use crate::numbered::Numbered;
@@ -12,8 +12,21 @@ use crate::place::Place;
 pub enum LookUp {
     /// Of those that are not found: the place, the value and the number.
     Nowhere,
-    /// Of those that are found: the place, the place of the first one that is the same, and the value.
-    Somewhere,
+    /// Of those that are found, by the first one that is the same.
+    Found(FoundAs),
+}
+
+/// Of which numbers that are found something is told, and what.
+#[derive(Clone, Copy, Debug, PartialEq, Eq)]
+pub enum FoundAs {
+    /// Of all: the place, the place of the first one, and the value.
+    First,
+    /// Of those behind the first one: the same.
+    Behind,
+    /// Of all: the place, this offset, of a field, and the value.
+    Field(u16),
+    /// Of those with a value below that of the first one: the same.
+    FieldBelow(u16),
 }
 
 /// The first of these, which are in order, that has a number.
@@ -28,6 +41,31 @@ pub fn first_of(known: &[Numbered], number: u64) -> Option<Numbered>
         return Some(known[before]);
     }
     None
+}
+
+impl FoundAs {
+    /// Whether something is told of a number by the first one that is the same.
+    #[tactic(auto, unfolding(crate::specs::Known::is_reported))]
+    fn tells(self, given: &Numbered, first: &Numbered) -> bool
+        ensures { result ≡ is_reported self given.now first.now }
+    {
+        match self {
+            FoundAs::First | FoundAs::Field(_) => true,
+            FoundAs::Behind => first.at < given.at,
+            FoundAs::FieldBelow(_) => given.value < first.value,
+        }
+    }
+
+    /// What is told beside its place and its value: the place of the first one, or the offset of a field.
+    #[tactic(auto, unfolding(crate::specs::Known::other_told))]
+    fn other(self, first: &Numbered) -> u64
+        ensures { result ≡ other_told self first.now }
+    {
+        match self {
+            FoundAs::First | FoundAs::Behind => first.at,
+            FoundAs::Field(offset) | FoundAs::FieldBelow(offset) => u64::from(offset),
+        }
+    }
 }
 
 /// What is told of a number that is looked up among others, unless its place is one that does not count.
@@ -51,11 +89,13 @@ pub(crate) fn told(
             other: given.value,
             point: given.number,
         }),
-        (LookUp::Somewhere, Some(first)) => Some(Place {
-            at: given.at,
-            other: first.at,
-            point: given.value,
-        }),
+        (LookUp::Found(found), Some(first)) if found.tells(given, &first) => {
+            Some(Place {
+                at: given.at,
+                other: found.other(&first),
+                point: given.value,
+            })
+        }
         _ => None,
     }
 }

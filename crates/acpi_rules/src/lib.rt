@@ -14,7 +14,7 @@
 //!     other: IndexedTable::new(&[]),
 //! };
 //! let path = Path::Entries(ENTRIES);
-//! let cases: [Case<'_>; 1] = [(IO_APIC, &[], 0, ID, ID)];
+//! let cases: [Case<'_>; 1] = [(IO_APIC, Clauses::None, 0, ID, ID)];
 //! let row: Row<'_> = (
 //!     112,
 //!     Form::Repeated(Repeat::Twice),
@@ -50,11 +50,11 @@ mod tests;
 mod window;
 
 pub use case::{Case, Kind};
-pub use clause::{Clause, Test};
+pub use clause::{Clause, Clauses, Test};
 pub use field::Field;
 pub use index::{Index, Listed, OfType};
 pub use indexed_table::IndexedTable;
-pub use known::{LookUp, first_of};
+pub use known::{FoundAs, LookUp, first_of};
 pub use numbered::{Numbered, Repeat, first_repeated, lesser, sort_numbers};
 pub use numbers::{Numbers, numbers_in_order, sorted_given};
 pub use overlap::{Range, first_overlap};
@@ -64,7 +64,7 @@ pub use row::{
     given_by_row,
 };
 pub use series::{
-    Extent, Head, Inner, LengthRows, Multiple, Path, Series, Shape, Start, Sum, Types,
+    Extent, Head, Inner, LengthRows, Multiple, Path, Series, Shape, Start, StartRows, Sum, Types,
 };
 pub use sites::{Site, WalkedSites};
 pub use structures::Cut;

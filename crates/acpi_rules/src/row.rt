@@ -121,6 +121,10 @@ fn is_whole(path: &Path, table: &IndexedTable<'_>) -> bool
 fn gives_two(path: &Path, cases: &[Case<'_>], tables: &Tables<'_>) -> bool
     ensures { result ≡ gives_two (tables_value tables.now) path.now (map case_value cases.now) }
 {
+    // An index tells at once that none does.
+    if !gives_any(path, cases, tables) {
+        return false;
+    }
     let mut walked = WalkedSites::along(path, tables.table.bytes);
     if first_walked(cases, tables, &mut walked).is_none() {
         return false;
@@ -133,6 +137,9 @@ fn is_first_some(path: &Path, cases: &[Case<'_>], tables: &Tables<'_>) -> bool
     ensures { result
         ≡ first_is_some (tables_value tables.now) path.now (map case_value cases.now) }
 {
+    if !gives_any(path, cases, tables) {
+        return false;
+    }
     let mut walked = WalkedSites::along(path, tables.table.bytes);
     match first_walked(cases, tables, &mut walked) {
         Some(first) => first.number != 0,

@@ -3,7 +3,7 @@
 //! A description has no reference, so that contracts can name it. Any description is allowed.
 
 ghost use Rattle.std.specs.Prelude.{◌≡◌, ◌≤◌, ◌<◌, ◌^◌, IfSome};
-ghost use Rattle.acpi_rules.specs.Series.{head_end, head_said, is_counted, kind_in, length_by, most_of, said_in, size_in, start_of, sum_in};
+ghost use Rattle.acpi_rules.specs.Series.{head_end, head_said, is_counted, kind_in, length_by, length_of, most_of, said_in, size_in, start_by, start_of, sum_in};
 
 use crate::field::{Field, number_in};
 
@@ -27,6 +27,16 @@ pub struct Sum {
     pub second: Multiple,
 }
 
+/// Which rule says where structures begin by the type of the one that they are in.
+#[derive(Clone, Copy, Debug, PartialEq, Eq)]
+pub enum StartRows {
+    /// The device scopes of a DMAR's remapping structures: at 16 in type 0, 24 in type 1, and 8 in types 2, 5 and 6. No
+    /// other type has any.
+    DeviceScopes,
+    /// The device entries of an IVHD: at 24 in type 16, and at 40 in types 17 and 64. No other type has any.
+    IvhdDevices,
+}
+
 /// Where structures begin in the one that they are in.
 #[derive(Clone, Copy, Debug, PartialEq, Eq)]
 pub enum Start {
@@ -42,6 +52,14 @@ pub enum Start {
     /// At an offset that follows from two of its fields: behind lists with so many members. There are no structures
     /// if one of the two is not in it.
     Behind(Sum),
+    /// At an offset that follows from its type, or at its end if that comes before it. There are no structures if its
+    /// type is not in it.
+    OfType {
+        /// The type.
+        kind: Field,
+        /// The offsets.
+        starts: StartRows,
+    },
 }
 
 /// Where structures that follow one another end.
@@ -141,6 +159,21 @@ fn sum_in(bytes: &[u8], sum: Sum) -> u128
         + u128::from(sum.second.times) * u128::from(number_in(bytes, sum.second.of))
 }
 
+/// Where structures begin in one of this type; none if there are none.
+#[tactic(auto, unfolding(crate::specs::Series::start_by))]
+fn start_by(starts: StartRows, kind: u64) -> Option<u64>
+    ensures { result ≡ start_by starts kind }
+{
+    match (starts, kind) {
+        (StartRows::DeviceScopes, 0) => Some(16),
+        (StartRows::DeviceScopes, 1) => Some(24),
+        (StartRows::DeviceScopes, 2 | 5 | 6) => Some(8),
+        (StartRows::IvhdDevices, 16) => Some(24),
+        (StartRows::IvhdDevices, 17 | 64) => Some(40),
+        _ => None,
+    }
+}
+
 /// Where structures begin in one with these bytes; none if there are none.
 #[tactic(auto, unfolding(crate::specs::Series::start_of))]
 pub(crate) fn start_of(bytes: &[u8], start: Start) -> Option<u64>
@@ -159,6 +192,10 @@ pub(crate) fn start_of(bytes: &[u8], start: Start) -> Option<u64>
                 return None;
             }
             Some(sum_in(bytes, sum).min(u128::from(FARTHEST)) as u64)
+        }
+        Start::OfType { kind, starts } => {
+            let start = start_by(starts, kind.read(bytes)?)?;
+            Some(start.min(size))
         }
     }
 }
@@ -187,7 +224,7 @@ pub(crate) fn is_counted(extent: Extent) -> bool
     }
 }
 
-/// The length of a structure of a type that begins with these bytes; 0 if it is not known.
+/// The length of a structure of a type that begins with these bytes; 0 if the type has none or they end before it.
 #[tactic(auto, unfolding(crate::specs::Series::length_by))]
 fn length_by(bytes: &[u8], lengths: LengthRows, kind: u64) -> u64
     ensures { result ≡ length_by lengths kind bytes.now }
@@ -197,9 +234,18 @@ fn length_by(bytes: &[u8], lengths: LengthRows, kind: u64) -> u64
             0..=63 => 4,
             64..=127 => 8,
             240 if bytes.len() > 21 => 22 + u64::from(bytes[21]),
-            240 => 22,
             _ => 0,
         },
+    }
+}
+
+/// The length of a structure that begins with these bytes, by its type; 0 if there is none.
+fn length_of(bytes: &[u8], types: Types) -> u64
+    ensures { result ≡ length_of types bytes.now }
+{
+    match types.kind.read(bytes) {
+        Some(kind) => length_by(bytes, types.lengths, kind),
+        None => 0,
     }
 }
 
@@ -244,7 +290,7 @@ pub(crate) fn said_in(bytes: &[u8], shape: Shape) -> u64
     match shape {
         Shape::Headed(head) => head_said(bytes, head),
         Shape::Records(_) => 0,
-        Shape::ByType(_) => 0,
+        Shape::ByType(types) => length_of(bytes, types),
     }
 }
 
@@ -264,9 +310,6 @@ pub(crate) fn size_in(bytes: &[u8], shape: Shape) -> u64
                 said
             }
         }
-        Shape::ByType(types) => match types.kind.read(bytes) {
-            Some(kind) => length_by(bytes, types.lengths, kind),
-            None => 0,
-        },
+        Shape::ByType(types) => length_of(bytes, types),
     }
 }

@@ -3,7 +3,7 @@
 ghost use Rattle.std.specs.Prelude.{◌≡◌};
 ghost use Rattle.acpi_rules.specs.Walks.{placed};
 ghost use Rattle.acpi_rules.specs.Sites.{site_value};
-ghost use Rattle.acpi_rules.specs.Terms.{bits_in, keyed_in, matrix_in, product, sum_of, tables_value, value_number, window_of, within_64_bits};
+ghost use Rattle.acpi_rules.specs.Terms.{bits_in, excess_in, first_zero, keyed_in, matrix_in, pair_in, product, sum_of, tables_value, value_number, window_of, within_64_bits};
 
 use crate::field::Field;
 use crate::indexed_table::IndexedTable;
@@ -51,8 +51,10 @@ pub enum Value {
     Length(Within),
     /// How many it has behind this offset; there is no such number if it ends before that.
     Behind(Within, u32),
-    /// The offset of a structure from its table's start, in bytes.
-    Offset(Within),
+    /// The offset that is so many bytes behind a structure's start, from its table's start.
+    Offset(Within, u16),
+    /// The offset behind a structure, from its table's start.
+    End(Within),
     /// A multiple of a field's number, and this number.
     Sum(Within, Field, u16, u16),
     /// A multiple of a field's number, and the number of a field of the same structure.
@@ -70,6 +72,13 @@ pub enum Value {
     /// A field of at most 4 bytes of the structure that the rule is about, told apart by where this structure is, at an
     /// offset below 2^32: 2^32 times that offset, and the field's number. So numbers are the same only inside one structure.
     Keyed(Within, Field),
+    /// 2^32 times a field of the structure that the rule is about, and another field of it, of at most 4 bytes.
+    Pair(Field, Field),
+    /// How far the sum of two fields of the structure that the rule is about is above 2^64; 0 if it is not.
+    Excess(Field, Field),
+    /// The offset in a structure of the first byte that is 0, of those from this offset on; the structure's length if none
+    /// is, and no number if it ends before this offset.
+    FirstZero(Within, u16),
 }
 
 impl Within {
@@ -139,9 +148,40 @@ fn keyed_in(at: u64, bytes: &[u8], field: Field) -> Option<u64>
     Some(within_64_bits(0x1_0000_0000 * u128::from(at) + u128::from(number)))
 }
 
+/// 2^32 times the number of a field, and that of another field, if both are there.
+fn pair_in(bytes: &[u8], one: Field, other: Field) -> Option<u64>
+    ensures { result ≡ pair_in bytes.now one other }
+{
+    let one = one.read(bytes)?;
+    let other = other.read(bytes)?;
+    Some(within_64_bits(0x1_0000_0000 * u128::from(one) + u128::from(other)))
+}
+
+/// How far the sum of two fields is above 2^64, if both are there.
+fn excess_in(bytes: &[u8], one: Field, other: Field) -> Option<u64>
+    ensures { result ≡ excess_in bytes.now one other }
+{
+    let one = u128::from(one.read(bytes)?);
+    let other = u128::from(other.read(bytes)?);
+    Some((one + other).saturating_sub(1 << 64) as u64)
+}
+
+/// The offset of the first byte that is 0, of those from an offset on, or how many bytes there are.
+fn first_zero(bytes: &[u8], from: u16) -> Option<u64>
+    ensures { result ≡ first_zero bytes.now from }
+{
+    let mut at = usize::from(from);
+    if at > bytes.len() {
+        return None;
+    }
+    while at < bytes.len() && bytes[at] != 0 {
+        at += 1;
+    }
+    Some(at as u64)
+}
+
 impl Value {
     /// The number, if each field is within its structure.
-    #[inline(always)]
     #[tactic(auto, unfolding(crate::specs::Terms::value_number))]
     pub(crate) fn number(&self, tables: &Tables<'_>, site: &Site<'_>) -> Option<u64>
         ensures { result ≡ value_number (tables_value tables.now) (site_value site.now) self.now }
@@ -157,7 +197,13 @@ impl Value {
             Value::Behind(within, offset) => {
                 (within.window(tables, site).bytes.len() as u64).checked_sub(u64::from(offset))
             }
-            Value::Offset(within) => Some(within.window(tables, site).at),
+            Value::Offset(within, behind) => {
+                Some(within.window(tables, site).at + u64::from(behind))
+            }
+            Value::End(within) => {
+                let window = within.window(tables, site);
+                Some(window.at + window.bytes.len() as u64)
+            }
             Value::Sum(within, field, times, added) => sum_of(
                 field.read(within.window(tables, site).bytes),
                 times,
@@ -189,6 +235,9 @@ impl Value {
             Value::Keyed(within, field) => {
                 keyed_in(within.window(tables, site).at, site.own.bytes, field)
             }
+            Value::Pair(one, other) => pair_in(site.own.bytes, one, other),
+            Value::Excess(one, other) => excess_in(site.own.bytes, one, other),
+            Value::FirstZero(within, from) => first_zero(within.window(tables, site).bytes, from),
         }
     }
 }

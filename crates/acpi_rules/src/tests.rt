@@ -3,8 +3,8 @@
 ghost use Rattle.acpi_rules.specs.Indexes.{IsIndexOf};
 
 use crate::{
-    Case, Extent, Field, Form, Head, Index, IndexedTable, Kind, Numbered, Path, Place, Range,
-    Repeat, Row, Series, Shape, Start, Tables, Value, Within, first_finding, first_overlap,
+    Case, Clauses, Extent, Field, Form, Head, Index, IndexedTable, Kind, Numbered, Path, Place,
+    Range, Repeat, Row, Series, Shape, Start, Tables, Value, Within, first_finding, first_overlap,
 };
 use std::alloc::{AllocError, Global};
 use std::test::*;
@@ -50,7 +50,7 @@ fn example_finds_the_same_id_twice(rt: HostRuntime) -> Result<(), Fail> {
         other: IndexedTable::new(&[]),
     };
     let path = Path::Entries(ENTRIES);
-    let cases: [Case<'_>; 1] = [(IO_APIC, &[], 0, ID, ID)];
+    let cases: [Case<'_>; 1] = [(IO_APIC, Clauses::None, 0, ID, ID)];
     let row: Row<'_> = (
         112,
         Form::Repeated(Repeat::Twice),
@@ -72,7 +72,7 @@ fn found_by_index(alloc: Global, index: &Index) -> Result<Option<Place>, AllocEr
         other: IndexedTable::new(&[]),
     };
     let path = Path::Entries(ENTRIES);
-    let cases: [Case<'_>; 1] = [(IO_APIC, &[], 0, ID, ID)];
+    let cases: [Case<'_>; 1] = [(IO_APIC, Clauses::None, 0, ID, ID)];
     let row: Row<'_> = (
         112,
         Form::Repeated(Repeat::Twice),

@@ -1,6 +1,6 @@
 """What a line of acpiset is about in an image."""
 
-from . import entries, fadt, fixed, further_tables, gtdt, hmat
+from . import dmar, entries, fadt, fixed, further_tables, gtdt, hmat, ivrs
 from .document import FIRST_RULE
 from .report import Report
 from .sentences import ROWS
@@ -18,6 +18,8 @@ OF_ROWS = {
     further_tables.hpet: ("hpet",),
     hmat.hmat: ("hmat", "hmat_with_srat"),
     gtdt.gtdt: ("gtdt", "gtdt_with_madt"),
+    dmar.dmar: ("dmar", "dmar_scopes", "dmar_with_srat", "madt_with_dmar"),
+    ivrs.ivrs: ("ivrs", "devices", "madt_with_ivrs"),
     further_tables.spcr: ("spcr",),
 }
 BY_HAND = {

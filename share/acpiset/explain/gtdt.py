@@ -4,9 +4,8 @@ from .entries import listing
 from .fadt import no_field
 from .fixed import signatures
 from .further_tables import length
-from .program import MISMATCH
 from .report import both, known
-from .walked import MOST_SHOWN, Found, Shape, Walk, cut, not_there, say_one, told_of
+from .walked import MOST_SHOWN, Found, Shape, Walk, both_have, cut, not_there, registers_from, say_one, told_of
 
 SHAPE = Shape(1, 1, 2, 4)
 BLOCK_SIZE, FRAME_SIZE, WATCHDOG_SIZE = 20, 40, 28
@@ -96,7 +95,7 @@ def platform_timers(report, table, at):
     if found:
         say(report, "the platform timer", found)
         return
-    cut(report, table, walk, at)
+    cut(report, walk, at)
     report.say(f"the number of platform timers before it is {walk.marks.count(1)}")
     before = walk.before(at)
     if before:
@@ -151,7 +150,8 @@ def frame(report, walk, what, at):
 
 
 def registers(report, walk, at):
-    """The address at an offset, of the registers of a platform timer or a frame; None if none is there."""
+    """The registers of a platform timer or a frame whose address is at an offset: their first address, and the one after the last; None
+    if no such address is there."""
     whole = walk.of(at)
     part, _ = frame_of(walk, at)
     found, names = (part, FRAME_ADDRESSES) if part else (whole, ADDRESSES.get(whole.kind, {}) if whole else {})
@@ -162,11 +162,4 @@ def registers(report, walk, at):
         return None
     what = "the frame" if part else NAMES[found.kind].replace("a ", "the ")
     report.field(walk.table, f"{name} of {what} at {both(found.at)}", at, 8)
-    report.say(f"its registers are at {address:#x} to {min(address + REGISTERS, 1 << 64) - 1:#x}")
-    return address
-
-
-def both_have(report, addresses, point):
-    if None not in addresses:
-        is_shared = all(address <= point < address + REGISTERS for address in addresses)
-        report.say(f"both have the address {point:#x}" if is_shared else f"not both have the address {point:#x}: {MISMATCH}")
+    return registers_from(report, address, REGISTERS)

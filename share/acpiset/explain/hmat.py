@@ -34,7 +34,7 @@ def hmat(report, code, at, other, point):
     if code == 195:
         header(report, table, at)
     elif code == 196:
-        cut(report, table, walk, at)
+        cut(report, walk, at)
         before = walk.before(at)
         if before:
             say(report, "the structure before", before)

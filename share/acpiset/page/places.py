@@ -33,6 +33,9 @@ BY_CODE = {
     **dict.fromkeys(range(192, 195), ("hpet",)),
     **dict.fromkeys(range(195, 208), ("hmat",)),
     **dict.fromkeys((208, *range(210, 220)), ("gtdt",)),
+    **dict.fromkeys((*range(240, 257), 258), ("dmar",)),
+    **dict.fromkeys((257, 268), ("madt-{at:#x}", "madt")),
+    **dict.fromkeys((*range(259, 268), 269, 270), ("ivrs",)),
     **dict.fromkeys(range(271, 277), ("spcr",)),
 }
 # Stages whose one fault is about two entries, which is known without the documents.

@@ -23,14 +23,14 @@ DEPTHS = {
 # The stage that checks a table's contents: an earlier last stage leaves it at its header.
 STAGES = {"FACP": 4, "FACS": 5, "APIC": 6, "SRAT": 9, "SLIT": 11, "PPTT": 12}
 # Tables at whose contents only rules of advice look.
-ADVISED = ("MCFG", "HPET", "HMAT", "GTDT", "SPCR")
+ADVISED = ("MCFG", "HPET", "HMAT", "GTDT", "DMAR", "IVRS", "SPCR")
 TITLES = {
     "APIC": "Multiple APIC Description Table", "FACP": "Fixed ACPI Description Table", "FACS": "Firmware ACPI Control Structure",
     "SRAT": "System Resource Affinity Table", "SLIT": "System Locality Information Table",
     "PPTT": "Processor Properties Topology Table", "DSDT": "Differentiated System Description Table, which is AML",
     "MCFG": "PCI Memory-Mapped Configuration Space Table", "HPET": "High Precision Event Timer Table",
     "HMAT": "Heterogeneous Memory Attribute Table", "GTDT": "Generic Timer Description Table",
-    "SPCR": "Serial Port Console Redirection Table",
+    "DMAR": "DMA Remapping Table", "IVRS": "I/O Virtualization Reporting Structure", "SPCR": "Serial Port Console Redirection Table",
 }
 
 

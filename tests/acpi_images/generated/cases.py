@@ -17,7 +17,9 @@ from .texts import damaged, lines_of_every_form, longest_text, rendered
 # One of this many cases is about the form of texts, and the others are about sets. One of this many about texts has the maximum size.
 TEXT_EVERY, LONGEST_EVERY = 5, 40
 NAMES = list(STAGE_OF)
-SIGNATURES = (b"FACP", b"APIC", b"SRAT", b"SLIT", b"PPTT", b"XSDT", b"RSDT", b"SSDT", b"HPET", b"MCFG", b"SPCR", b"HMAT", b"GTDT")
+SIGNATURES = (
+    b"FACP", b"APIC", b"SRAT", b"SLIT", b"PPTT", b"XSDT", b"RSDT", b"SSDT", b"HPET", b"MCFG", b"SPCR", b"HMAT", b"GTDT", b"DMAR", b"IVRS",
+)
 # How many faults of a set `confirm` is asked about, and how many that are near one of these.
 MOST_ASKED, MOST_MISSED = 12, 3
 BASES = (0, 0x40, 0xE0000, 0x7FFE0000, 0xFFFFFF00, 1 << 32, 0x123456789AC0, TOP - 0x1000, TOP - 64, 1, 0x20, 0xFFFF)

@@ -14,8 +14,8 @@ from ..table_set import MadtEntries, PpttEntries, SratEntries, TableSet, complet
 from ..tables import *
 from ..text import Image, read
 from .sets import (
-    LATER_FIELDS, further_domain, further_entry, further_processor, gic_entries, gic_part, some_device, some_gtdt, some_hmat, some_hpet,
-    some_mcfg, some_spcr,
+    LATER_FIELDS, further_domain, further_entry, further_processor, gic_entries, gic_part, some_device, some_dmar, some_gtdt, some_hmat,
+    some_hpet, some_ivrs, some_mcfg, some_spcr,
 )
 
 KINDS = {b"APIC": MadtEntries, b"SRAT": SratEntries, b"PPTT": PpttEntries}
@@ -172,9 +172,9 @@ def new_table(dice):
 def new_set(dice):
     """A set of all tables that are looked into."""
     listed = [new_fadt(dice) if dice.random() < 0.5 else fadt(), new_madt(dice), new_srat(dice), new_slit(dice), new_pptt(dice)]
-    listed += [make(dice) for make in (some_mcfg, some_hpet, some_spcr, some_hmat, some_gtdt)]
+    listed += [make(dice) for make in (some_mcfg, some_hpet, some_spcr, some_hmat, some_gtdt, some_dmar, some_ivrs)]
     dice.shuffle(listed)
-    addresses = [0x10000 * place for place in range(2, 12)]
+    addresses = [0x10000 * place for place in range(2, 14)]
     return image_of(slots=addresses, others={**dict(zip(addresses, listed)), FACS_AT: facs(), FACS_AT + 0x1000: facs()})
 
 

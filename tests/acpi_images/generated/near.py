@@ -1,16 +1,17 @@
 """Sets near the edges of the rules of advice on the FADT, the MADT, the SRAT, the SLIT and the PPTT: each entry of a table with each of
 its bytes changed, beside entries with which a rule may be broken; entries of each type with lengths around that of the type; a FADT with
-each field, and each two of them, changed, and with a DSDT or a FACS; and on the MCFG, the HPET, the HMAT, the GTDT and the SPCR, with each
-byte changed, with numbers around the limits of each field, and of each Length. A set has one table or two. None is random, so a set is the
-same each time."""
+each field, and each two of them, changed, and with a DSDT or a FACS; and on the MCFG, the HPET, the HMAT, the GTDT, the DMAR, the IVRS and
+the SPCR, with each byte changed, with numbers around the limits of each field, and of each Length. A set has one table or two. None is
+random, so a set is the same each time."""
 
 from __future__ import annotations
 
 from itertools import product
 
 from ..tables import (
-    OF_NAME, OF_PORT, TABLES_AT, changed, ecam, generic_address, gtdt, hmat, hpet, mcfg, number, of_gtdt, of_hmat, placed, proximity,
-    side_cache, spcr, speeds, table, timer_block, timer_frame, watchdog,
+    NAMESPACE_DEVICE, OF_NAME, OF_PORT, SCOPE_IO_APIC, TABLES_AT, acpi_hid, andd, atsr, changed, device_entry, dmar, drhd, ecam,
+    generic_address, gtdt, hmat, hpet, ivhd, ivmd, ivrs, mcfg, number, of_dmar, of_gtdt, of_hmat, of_ivrs, placed, proximity, rhsa, rmrr,
+    satc, scope, side_cache, sidp, special, spcr, speeds, table, timer_block, timer_frame, watchdog,
 )
 from ..text import TOP
 
@@ -586,11 +587,180 @@ def timers_of_gics():
             yield there, gtdt(watchdog(flags, gsiv=gsiv), of_gtdt(2, 28, _20=number(gsiv, 4)))
 
 
+# ---- the DMAR
+
+APIC_SCOPE, DEVICE_SCOPE = scope(SCOPE_IO_APIC, 2, 0xF0, [(31, 7)]), scope(NAMESPACE_DEVICE, 1)
+# Structures of each type, with what is sought of them.
+IN_DMAR = (
+    drhd(APIC_SCOPE, DEVICE_SCOPE, flags=1), rmrr(scope()), atsr(scope(), flags=1), rhsa(domain=2), andd(1, b"\\A\0"), satc(scope()),
+    sidp(scope()),
+)
+HOLDERS = (drhd, rmrr, atsr, satc, sidp)
+# Addresses of registers, of which two are within those of others.
+UNITS_AT = (0, 1, 0x1000, 0x1800, 0x2000, 0x3000, TOP - 0x1000, TOP - 1)
+
+
+def dmars():
+    """DMARs of each Length, with each byte of the table's fields and of each structure changed."""
+    for length, fill in product(range(36, 130), (bytes(100), b"\xff" * 100, b"".join(IN_DMAR))):
+        yield table(b"DMAR", (bytes([47, 1]) + bytes(10) + fill)[: length - 36])
+    yield from (table(b"DMAR", body) for body in with_byte(dmar(IN_DMAR[0])[36:52], 0))
+    yield from (dmar(drhd(), width=width, flags=flags) for width, flags in product(range(256), (0, 1)))
+    for one, before in product(IN_DMAR, ((), (drhd(),), (rmrr(),), IN_DMAR)):
+        yield from (dmar(*before, other) for other in with_byte(one, 0))
+
+
+def lengths_in_dmars():
+    """DMARs of structures of each type and length, and with a part of one at the end."""
+    for kind, length, fill, after in product((*range(8), 0x100, 0x103), range(4, 44), (0, 1, 255), ((), (drhd(),))):
+        yield dmar(of_dmar(kind, length, _4=bytes([fill]) * 40), *after)
+    for before, size, said in product(((), (drhd(),), IN_DMAR), range(9), (0, 1, 3, 4, 5, 8, 9, 16, 256, 264, 0xFFFF)):
+        yield dmar(*before, of_dmar(2, size, _2=number(said, 2)))
+
+
+def scopes_in_dmars():
+    """DMARs of scopes of each type and length, of steps around their limits, and with a part of a scope at the end of a structure."""
+    for make, kind, length in product(HOLDERS, (*range(8), 255), range(8, 20)):
+        yield dmar(make(scope(kind, 1, 0, [(31, 7)] * 8, length)))
+    for make, before, size, said in product(HOLDERS, ((), (scope(),)), range(1, 13), (0, 1, 6, 7, 8, 9, 10, 12, 13, 255)):
+        yield dmar(make(*before, placed(scope(length=size), _1=bytes([said]))), drhd())
+    edges = product((0, 31, 32, 255), (0, 7, 8, 255))
+    for first, second, make in product(tuple(edges), ((0, 0), (31, 7), (32, 7), (31, 8)), HOLDERS):
+        yield dmar(make(scope(steps=[first, second])))
+        yield dmar(make(scope(), scope(steps=[second, first], length=9)))
+
+
+def units_of_dmars():
+    """DMARs of IOMMUs at addresses around each other's, of sizes and of segments, and of regions around a page."""
+    for one, other, size in product(UNITS_AT, UNITS_AT, range(18)):
+        yield dmar(drhd(base=one, size=size), drhd(base=other))
+        yield dmar(drhd(base=one), drhd(base=other, size=size), rhsa(base=one), rhsa(base=other))
+    yield from (dmar(*(drhd(base=base) for base in bases)) for bases in product(UNITS_AT, repeat=3))
+    made = [make(flags=flags, segment=segment) for make in (drhd, atsr) for flags in (0, 1, 2) for segment in (0, 1)]
+    yield from (dmar(*some) for some in product(made, repeat=3))
+    yield from (dmar(*some, drhd(b"\1")) for some in product(made, repeat=2))
+    edges = (0, 1, 0xFFE, 0xFFF, 0x1000, 0x1001, 0x1FFE, 0x1FFF, 0x2000, 0x2FFF, 2**32 - 1, 2**32, TOP - 0x1000, TOP - 1)
+    yield from (dmar(rmrr(*inner, base=base, limit=limit)) for base, limit, inner in product(edges, edges, ((), (scope(),))))
+
+
+def namespaces_of_dmars():
+    """DMARs of devices of the namespace, of RHSAs and of I/O APICs: such as are named, and such as are not, where all is read or not."""
+    some = (
+        drhd(scope(5, 1)), drhd(scope(5, 2)), atsr(scope(5, 1)), satc(scope(5, 2)), andd(1, b"\0"), andd(2, b"A"), andd(2, b"A\0"),
+        drhd(scope(3, 1)), drhd(scope(3, 1), scope(3, 2)), rmrr(scope(3, 1)), rhsa(base=0x1000), drhd(base=0x1000), rhsa(base=0x2000),
+    )  # fmt: skip
+    for one, other, last in product(some, some, (b"", drhd(), of_dmar(7, 4), b"\1", of_dmar(3, 19), atsr(b"\1"), *some)):
+        yield dmar(one, other, last)
+    yield from (dmar(andd(1, b"AB\0AB"[: size - 8], length=size)) for size in range(9, 16))
+
+
+def dmars_with_tables():
+    """A DMAR with an SRAT of each type of entries, or with a MADT of I/O APICs, or one that is not read to its end."""
+    for domain in (*range(9), 256, 2**24, 2**32 - 1):
+        yield from ((dmar(rhsa(domain=domain)), srat(*entries)) for entries in ((), IN_DOMAINS, (*IN_DOMAINS, b"\1"), (entry(8, 8),)))
+        yield from ((dmar(rhsa(), rhsa(domain=domain), b"\1"), srat(it)) for it in IN_DOMAINS)
+    yield from ((dmar(rhsa(domain=0x101)), srat(other)) for other in with_byte(entry(0, 16, (2, 1, 1), (9, 3, 1))))
+    with_ids = [tuple(entry(1, 12, (2, 1, number)) for number in numbers) for numbers in ((), (1,), (2,), (255,), (1, 2), (2, 1), (1, 1))]
+    cuts = ((), (b"\1",), (entry(1, 11),), (entry(0, 7),), (entry(9, 15),), (entry(11, 39),), (entry(127, 2),))
+    of_scopes = ((), (1,), (2,), (1, 2), (255, 1))
+    for entries, more, flags, numbers in product(with_ids, cuts, (0, 1, 3), of_scopes):
+        scopes = [scope(3, number) for number in numbers]
+        yield madt(*entries, *more), dmar(drhd(*scopes), flags=flags)
+        yield dmar(atsr(*scopes), drhd(*scopes[1:]), flags=flags), madt(*more, *entries)
+        yield madt(*entries, *more), dmar(drhd(*scopes), b"\1", flags=flags)
+    yield from ((madt(IO_APIC), dmar(other, flags=1)) for other in with_byte(drhd(scope(3))))
+
+
+# ---- the IVRS
+
+IVHD_KINDS = (0x10, 0x11, 0x40)
+# Entries of each length, and blocks with all of them, or with those of a range.
+IN_IVHD = (device_entry(2), device_entry(3, 1), device_entry(4, 2), device_entry(0x42, 3), special(1, 2), special(2, 2))
+IN_IVRS = (
+    ivhd(*IN_IVHD), ivhd(*IN_IVHD, kind=0x11), ivhd(*IN_IVHD, acpi_hid(uid_kind=2, uid=b"A"), kind=0x40), ivmd(), ivmd(0x21, 1),
+    ivmd(0x22, 1, 2, flags=8), ivmd(0x23),
+)
+
+
+def ivrss():
+    """IVRSs of each Length, with each byte of the table's fields and of each block changed."""
+    for length, fill in product(range(36, 160), (bytes(130), b"\xff" * 130, b"".join(IN_IVRS))):
+        yield table(b"IVRS", (bytes(12) + fill)[: length - 36], 2)
+    yield from (table(b"IVRS", body, 2) for body in with_byte(ivrs(ivmd())[36:52], 0))
+    for one, before in product(IN_IVRS, ((), (ivhd(),), (ivmd(),), IN_IVRS)):
+        yield from (ivrs(*before, other) for other in with_byte(one, 0))
+
+
+def lengths_in_ivrss():
+    """IVRSs of blocks of each type and length, and with a part of one at the end."""
+    kinds = (0, 0x0F, 0x10, 0x11, 0x12, 0x1F, 0x20, 0x21, 0x22, 0x23, 0x24, 0x3F, 0x40, 0x41, 0xFF)
+    for kind, length, fill, after in product(kinds, range(4, 50), (0, 1, 255), ((), (ivhd(),))):
+        yield ivrs(of_ivrs(kind, length, _4=bytes([fill]) * 46), *after)
+    for before, size, said in product(((), (ivhd(),), IN_IVRS), range(9), (0, 1, 3, 4, 5, 8, 9, 16, 256, 264, 0xFFFF)):
+        yield ivrs(*before, of_ivrs(0x12, size, _2=number(said, 2)))
+
+
+def entries_in_ivrss():
+    """IVRSs of entries of each type, and of parts of one; special ones of each variety; and devices of the namespace."""
+    for kind, entry_kind, size in product(IVHD_KINDS, range(256), (1, 4, 8, 22)):
+        yield ivrs(ivhd((bytes([entry_kind]) + bytes([0, 0, 0, 65]) + bytes(17))[:size], kind=kind))
+    for kind, variety, handle in product(IVHD_KINDS, (*range(6), 128, 255), (0, 1, 255)):
+        yield ivrs(ivhd(special(variety, handle), device_entry(), kind=kind))
+    for kind, uid_kind, uid_length, present in product(IVHD_KINDS, (0, 1, 2, 3, 255), (0, 1, 7, 8, 9, 255), (0, 1, 7, 8, 9, 30)):
+        yield ivrs(ivhd(acpi_hid(uid_kind=uid_kind, uid=bytes(present), uid_length=uid_length), kind=kind))
+    starts, ends = (device_entry(kind, 5) for kind in (3, 0x43, 0x47)), (device_entry(4, last) for last in (4, 5, 6))
+    some = (device_entry(1, 5), *starts, *ends, special(), b"\x80")
+    for kind, entries in product(IVHD_KINDS, product(some, repeat=3)):
+        yield ivrs(ivhd(*entries, kind=kind))
+    yield from (ivrs(ivhd(*entries, acpi_hid(), kind=0x40)) for entries in product(some, repeat=2))
+
+
+def units_of_ivrss():
+    """IVRSs of a few IOMMUs, of one device or of several, at one address or at several, and of memory around its limits."""
+    made = [
+        ivhd(kind=kind, device=device, base=base, segment=segment)
+        for kind in IVHD_KINDS for device, base, segment in ((2, 0x4000, 0), (2, 0x8000, 0), (3, 0x4000, 0), (2, 0x4000, 1), (3, 0x8000, 1))
+    ]  # fmt: skip
+    yield from (ivrs(*some) for some in product(made, repeat=2))
+    yield from (ivrs(*some, of_ivrs(0x10, 23)) for some in product(made, repeat=2))
+    yield from (ivrs(*some) for some in product(made[:10], repeat=3))
+    for kind, base in product(IVHD_KINDS, (0, 1, 0x1000, 0x2000, 0x3FFF, 0x4000, 2**32, TOP - 0x4000)):
+        yield ivrs(ivhd(kind=kind, base=base))
+    edges = (0, 1, 2, 2**32, 2**63, TOP - 0x1000, TOP - 2, TOP - 1)
+    for kind, start, size, flags in product((0x20, 0x22, 0x23), edges, edges, (0, 1, 8)):
+        yield ivrs(ivmd(kind, 0, 0, start, size, flags))
+    for kind, flags, devices in product((0x20, 0x21, 0x22, 0x23), range(34), ((0, 0), (1, 0), (0x100, 0xFF))):
+        yield ivrs(ivmd(kind, *devices, flags=flags))
+
+
+def specials_of_ivrss():
+    """IVRSs of special entries, some of them twice, in one block or in several, and of no block of an IOMMU."""
+    some = [special(variety, handle) for variety in (0, 1, 2) for handle in (1, 2)]
+    for one, other, kind, more in product(some, some, IVHD_KINDS, ((), (ivmd(),), (b"\1",))):
+        yield ivrs(ivhd(one, other, kind=kind), *more)
+        yield ivrs(ivhd(one), ivhd(other, kind=kind), *more)
+    yield from (ivrs(*blocks) for blocks in product((ivmd(), ivmd(0x23), of_ivrs(0x12, 24), of_ivrs(0x10, 23), ivhd(), b"\1"), repeat=2))
+
+
+def ivrss_with_madts():
+    """An IVRS with a MADT of I/O APICs, or one that is not read to its end."""
+    with_ids = [tuple(entry(1, 12, (2, 1, number)) for number in numbers) for numbers in ((), (1,), (2,), (255,), (1, 2), (2, 1), (1, 1))]
+    cuts = ((), (b"\1",), (entry(1, 11),), (entry(0, 7),), (entry(9, 15),), (entry(11, 39),), (entry(127, 2),))
+    for entries, more, kind in product(with_ids, cuts, IVHD_KINDS):
+        for first, second in product(((), (1,), (2,), (1, 2)), repeat=2):
+            one, other = (ivhd(*(special(1, number) for number in numbers), kind=it) for numbers, it in ((first, kind), (second, 0x11)))
+            yield madt(*entries, *more), ivrs(one, other)
+        yield ivrs(ivhd(special(1, 2), kind=kind), b"\1"), madt(*more, *entries)
+        yield ivrs(ivhd(special(2, 2), special(1, 3), b"\1", kind=kind)), madt(*more, *entries)
+    yield from ((madt(IO_APIC), ivrs(other)) for one in (ivhd(special(), special(1, 9)), IN_IVRS[2]) for other in with_byte(one, 0))
+
+
 def tables_twice():
     """Two tables of one signature, of which the first counts, and of which it may be that the header alone is there."""
     pairs = (
         (mcfg(ECAM), mcfg()), (hpet(), hpet(0)), (spcr(), spcr(length=79)), (mcfg(ECAM), mcfg(ecam(1), ecam(1))), (hmat(), hmat(b"\1")),
-        (gtdt(), gtdt(length=103)), (hmat(), srat()), (hmat(), srat(b"\1")),
+        (gtdt(), gtdt(length=103)), (hmat(), srat()), (hmat(), srat(b"\1")), (dmar(drhd()), dmar(b"\1")),
+        (ivrs(ivhd()), ivrs(b"\1")), (dmar(drhd()), ivrs(ivhd())),
     )
     for right, wrong in pairs:
         yield from ((right, wrong), (wrong, right), (wrong[:-1], right), (right[:-1], wrong), (right[:35], wrong), (wrong[:35], right))
@@ -602,6 +772,8 @@ def near_sets():
     single = ((it,) for tables in (fadts, blocks, madts, gics, srats, pptts) for it in tables())
     several = (hierarchies, typed_caches, pairs, domains, starts, named_by_fadt)
     of_devices = (mcfgs, meeting_entries, hpets, hmats, lengths_in_hmats, cells_in_hmats, gtdts, platform_timers, frames_of_blocks)
+    of_devices += (dmars, lengths_in_dmars, scopes_in_dmars, units_of_dmars, namespaces_of_dmars)
+    of_devices += (ivrss, lengths_in_ivrss, entries_in_ivrss, units_of_ivrss, specials_of_ivrss)
     devices = ((it,) for tables in (*of_devices, spcrs, names_of_ports) for it in tables())
-    more = (domains_in_hmats, timers_of_gics, interrupts_of_ports, tables_twice)
+    more = (domains_in_hmats, timers_of_gics, dmars_with_tables, ivrss_with_madts, interrupts_of_ports, tables_twice)
     return list(dict.fromkeys((*single, *(it for sets in several for it in sets()), *devices, *(it for sets in more for it in sets()))))

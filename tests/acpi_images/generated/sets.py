@@ -245,8 +245,70 @@ def some_gtdt(dice):
     return built.table(b"GTDT", made[36:-1], made[8]) if dice.random() < 1 / 8 else made
 
 
+# Where registers of IOMMUs are: at one place, beside each other, or nowhere.
+UNIT_BASES = (0x4000, 0x4000, 0x8000, 0x8000, 0xC000, 0x10000, 0x5000, 0, 1, LOW, TOP - 0x4000, TOP - 1)
+
+
+def some_scopes(dice):
+    """A few scopes, some of which are one of the others. Some have another length, or a part of one at the end."""
+    steps = lambda: [(dice.choice((0, 0, 31, 31, 32)), dice.choice((0, 0, 7, 7, 8))) for _ in range(dice.choice((1, 1, 2)))]
+    kind, length = lambda: dice.choice((1, 2, 3, 3, 4, 5, 5, 5)), lambda: dice.choice((None,) * 24 + (7, 8, 9, 10))
+    scopes = [built.scope(kind(), dice.choice((0, 1, 2)), 0, steps(), length()) for _ in range(dice.choice((0, 1, 1, 2, 3)))]
+    return scopes + dice.choice(([],) * 16 + ([b"\1"], [built.scope(0)], [built.scope(6)], scopes[:1], scopes[:1]))
+
+
+def some_dmar(dice):
+    """A DMAR of a few structures, some of which name what is not there. Some have another length, or a part of one at the end."""
+    base, segment, flags = lambda: dice.choice(UNIT_BASES), lambda: dice.choice((0, 0, 1)), lambda: dice.choice((0, 0, 1))
+    limit, name = lambda: dice.choice((0x1FFF, 0x4FFF, 0xFFFF, 0x4000, 0x5FFE, LOW - 1)), lambda: dice.choice((b"\\A\0",) * 7 + (b"\\A",))
+    make = (
+        lambda: built.drhd(*some_scopes(dice), base=base(), flags=flags(), segment=segment(), size=dice.choice((0, 0, 1, 2, 15))),
+        lambda: built.rmrr(*some_scopes(dice), base=base(), limit=limit()),
+        lambda: built.atsr(*some_scopes(dice), flags=flags(), segment=segment()),
+        lambda: built.rhsa(base(), dice.choice((0, 1, 2, 7))),
+        lambda: built.andd(dice.choice((0, 1, 2)), name()),
+        lambda: dice.choice((built.satc, built.sidp))(*some_scopes(dice)),
+        lambda: built.of_dmar(dice.choice((0, 1, 2, 3, 4, 5, 6, 7, 0x100)), dice.choice((4, 8, 16, 20, 24))),
+    )
+    structures = [dice.choice((make[0], make[0], *make[:6] * 2, *make))() for _ in range(dice.choice((0, 1, 2, 3, 5)))]
+    width = dice.choice((38, 47, 47, 47, 11, 10, 64))
+    made = built.dmar(*structures, bytes(dice.choice((0,) * 8 + (1, 4))), width=width, flags=dice.choice((0, 1, 1)))
+    return built.table(b"DMAR", made[36:47]) if dice.random() < 1 / 16 else made
+
+
+def some_entries(dice):
+    """Device entries, many of them ranges of devices. Some have a part of one at the end."""
+    device = lambda: dice.choice((0, 1, 1, 2, 0x100))
+    span = lambda: built.device_entry(dice.choice((3, 0x43, 0x47)), device()) + built.device_entry(4, dice.choice((1, 2, 0x100, 0x101)))
+    hid = lambda: built.acpi_hid(dice.choice((b"AMDI0020", b"A", b"")), dice.choice((0, 1, 2, 3)), dice.choice((b"", b"A", bytes(8))))
+    make = (
+        span,
+        lambda: built.special(dice.choice((1, 1, 2, 2, 3, 0)), dice.choice((0, 1, 2))),
+        lambda: built.device_entry(dice.choice((1, 2)), device()),
+        lambda: built.device_entry(dice.choice((0x40, 0x42, 0x46)), device()),
+        hid,
+        lambda: built.device_entry(dice.choice((3, 4, 5, 0x41, 0x43, 0x48, 0x80))),
+    )
+    entries = [dice.choice((*make[:4] * 3, *make))() for _ in range(dice.choice((0, 1, 2, 4)))]
+    return entries + dice.choice(([],) * 12 + ([b"\1"], [b"\x80"], [built.acpi_hid()[:21]], entries[:1]))
+
+
+def some_ivrs(dice):
+    """An IVRS of a few blocks, some of which are of one IOMMU. Some have another length, or a part of one at the end."""
+    device, base, kind = lambda: dice.choice((2, 2, 3)), lambda: dice.choice(UNIT_BASES), lambda: dice.choice((0x10, 0x11, 0x40))
+    start, size = lambda: dice.choice((0, 0x1000, TOP - 0x1000)), lambda: dice.choice((0, 0x1000, 0x1000, 0x1001))
+    make = (
+        lambda: built.ivhd(*some_entries(dice), kind=kind(), device=device(), base=base(), segment=dice.choice((0, 0, 0, 1))),
+        lambda: built.ivmd(dice.choice((0x20, 0x21, 0x22, 0x23)), device(), device(), start(), size(), dice.choice((1, 1, 3, 8, 0, 16))),
+        lambda: built.of_ivrs(dice.choice((0x10, 0x11, 0x12, 0x20, 0x40)), dice.choice((4, 23, 24, 31, 32, 39, 40))),
+    )
+    blocks = [dice.choice((*make[:1] * 4, *make[:2] * 3, *make))() for _ in range(dice.choice((0, 1, 1, 2, 3)))]
+    made = built.ivrs(*blocks, bytes(dice.choice((0,) * 8 + (1, 4))))
+    return built.table(b"IVRS", made[36:47], 2) if dice.random() < 1 / 16 else made
+
+
 def some_device(dice):
-    return dice.choice((some_mcfg, some_hpet, some_spcr, some_hmat, some_hmat, some_gtdt, some_gtdt))(dice)
+    return dice.choice((some_mcfg, some_hpet, some_spcr, *[some_hmat, some_gtdt, some_dmar, some_ivrs] * 2))(dice)
 
 
 # ---- PPTT (5.2.30)

@@ -1,6 +1,6 @@
 """Mistakes that firmware makes, put by hand into sets of real firmware one at a time, and the lines that `lint` has to write of
 each, worked out by hand from the rules in docs/TABLES.md and docs/FAULTS.md and from what tests/show/images says of the set.
-Eleven of 91 break a rule that `check` looks at, and of the first 26, which other tools were given too, nine; the others are seen by
+Eleven of 122 break a rule that `check` looks at, and of the first 26, which other tools were given too, nine; the others are seen by
 advice alone."""
 
 from __future__ import annotations
@@ -97,6 +97,17 @@ def of_numa(name, signature, changes, *lines, **more):
     """A mistake in the set of a PC with 2 processors and 2 domains, of whose HMAT proximities are at 0x28 and 0x50, and at 0x78 the speeds
     of one initiator at 0x98 and of two targets at 0x9C and 0xA0, with cells from 0xA4 on."""
     MISTAKES.append(Mistake(name, "sb-q35-hmat", signature, changes, list(map(with_numbers, lines)), **more))
+
+
+def of_intel(name, signature, changes, *lines, **more):
+    """A mistake in the set of a PC with one processor and an IOMMU, of whose DMAR this is at 0x30, with scopes of 8 bytes from 0x40 on, of
+    which the first is that of the I/O APIC, the only one, at 0x34 of the MADT."""
+    MISTAKES.append(Mistake(name, "sb-q35-intel-iommu", signature, changes, list(map(with_numbers, lines)), **more))
+
+
+def of_amd(name, signature, changes, *lines, **more):
+    """The same with an IVRS, of which the IOMMU is at 0x30, with entries of 4 bytes from 0x48 to 0x58, and at 0x5C that of the I/O APIC."""
+    MISTAKES.append(Mistake(name, "sb-q35-amd-iommu", signature, changes, list(map(with_numbers, lines)), **more))
 
 
 # ---- what check sees
@@ -295,3 +306,96 @@ of_arm(
     "the control frame of a watchdog is its refresh frame", b"XSDT", GTDT_SLOT, "yes", "advice TimerOverlap 0x6c 0x74 0x2a440000",
     others=arm_timers(watchdog(0x2A440000, 0x2A440000)),
 )
+
+# ---- what the rules on the DMAR and the IVRS see
+# What a slot leads to in the place of the DMAR or the IVRS, and in the set of several domains in the place of the HPET.
+IOMMU_SLOT = {52: number(MOVED, 4)}
+# The IOMMUs of the two sets, and what else their tables have: before the IOMMU, or after it.
+INTEL_SCOPES = scope(SCOPE_IO_APIC, 0, 0xFF, [(0, 0)]), scope(steps=[(0, 0)]), *(scope(steps=[(31, function)]) for function in (0, 2, 3))
+AMD_ENTRIES = *(device_entry(ALL_DEVICES, device) for device in (0, 8, 0xF8, 0xFA, 0xFB)), special(VARIETY_IO_APIC, 0)
+
+
+def intel_dmar(*more, before=(), **fields):
+    return {MOVED: dmar(*before, drhd(*INTEL_SCOPES, **fields), *more, width=38, flags=1)}
+
+
+def amd_ivrs(*more, entries=AMD_ENTRIES, **fields):
+    return {MOVED: ivrs(ivhd(*entries, device=8, **fields), *more, revision=1)}
+
+
+of_intel("the width of addresses is left 0", b"DMAR", {36: b"\0"}, "yes", "advice DmarWidth 0x24")
+of_intel("the length of the IOMMU counts a scope too much", b"DMAR", {0x32: b"\x40"}, "yes", "advice DmarCut 0x30 0x40 0x68")
+of_intel(
+    "a region ends after its limit's first half", b"RSDT", IOMMU_SLOT, "yes", "advice DmarShort 0x68 0x18 0x14",
+    others=intel_dmar(rmrr(length=20)),
+)
+of_intel("the IOMMU has a type that there is not", b"DMAR", {0x30: b"\7"}, "yes", "advice NoDrhd", "advice IoApicUnmapped 0x34 0x2")
+of_intel("the last scope's length is left 0", b"DMAR", {0x61: b"\0"}, "yes", "advice ScopeCut 0x60 0x0 0x68")
+of_intel("the device and the function of a step are one byte", b"DMAR", {0x66: b"\xfb\0"}, "yes", "advice ScopeType 0x66 0x0 0xfb")
+of_intel("the IOMMU's address is left 0", b"DMAR", {0x38: bytes(8)}, "yes", "advice DrhdAddress 0x30 0x8")
+of_intel(
+    "a second IOMMU is within the registers of the first", b"RSDT", IOMMU_SLOT, "yes", "advice DrhdOverlap 0x30 0x68 0xfed91000",
+    others=intel_dmar(drhd(base=0xFED91000), size=1),
+)
+of_intel(
+    "two IOMMUs have all other devices", b"RSDT", IOMMU_SLOT, "yes", "advice SecondIncludeAll 0x68 0x30",
+    others=intel_dmar(drhd(base=0xFED91000, flags=1), flags=1),
+)
+of_intel(
+    "the IOMMU of all other devices is the first", b"RSDT", IOMMU_SLOT, "yes", "advice IncludeAllNotLast 0x40 0x30",
+    others=intel_dmar(before=[drhd(base=0xFED91000, flags=1)]),
+)
+of_intel(
+    "the limit of a region is its end", b"RSDT", IOMMU_SLOT, "yes", "advice RmrrRange 0x68 0x10 0x7c000000",
+    others=intel_dmar(rmrr(scope(steps=[(2, 0)]), base=0x7B800000, limit=0x7C000000)),
+)
+of_intel(
+    "a region is of no device", b"RSDT", IOMMU_SLOT, "yes", "advice RmrrNoDevice 0x68 0x20 0x18",
+    others=intel_dmar(rmrr(base=0x7B800000, limit=0x7BFFFFFF)),
+)
+of_intel(
+    "an RHSA has the address of an IOMMU that is not there", b"RSDT", IOMMU_SLOT, "yes", "advice RhsaNowhere 0x68 0x8 0xfed91000",
+    others=intel_dmar(rhsa(base=0xFED91000)),
+)
+of_pc(
+    "the domains of IOMMUs are counted from 1", b"RSDT", HPET_SLOT, "yes", "advice RhsaDomain 0x8c 0x10 0x4",
+    others=intel_dmar(rhsa(domain=4), before=[drhd(base=0xFED91000), rhsa(0xFED91000, 3)]),
+)
+of_intel(
+    "an RHSA is copied, and its address not changed", b"RSDT", IOMMU_SLOT, "yes", "advice SameRhsa 0x7c 0x68 0xfed90000",
+    others=intel_dmar(rhsa(), rhsa(domain=1)),
+)
+of_intel(
+    "the name of a device has no zero at its end", b"RSDT", IOMMU_SLOT, "yes", "advice AnddName 0x50 0x8",
+    others={MOVED: dmar(drhd(INTEL_SCOPES[0], scope(NAMESPACE_DEVICE, 1)), andd(1, b"\\_SB.I2C0"), flags=1)},
+)
+of_intel(
+    "a scope is of a device that has no name", b"RSDT", IOMMU_SLOT, "yes", "advice AnddNowhere 0x48 0x4 0x2",
+    others={MOVED: dmar(drhd(INTEL_SCOPES[0], scope(NAMESPACE_DEVICE, 2), scope(NAMESPACE_DEVICE, 1)), andd(1), flags=1)},
+)
+of_intel("the number of the I/O APIC is counted from 1", b"DMAR", {0x44: b"\1"}, "yes", "advice IoApicUnmapped 0x34 0x2")
+of_intel("the scope of the host bridge is that of the I/O APIC", b"DMAR", {0x48: b"\3"}, "yes", "advice SameScope 0x48 0x40")
+of_amd("the length of the IOMMU counts 8 bytes too much", b"IVRS", {0x32: b"\x3c"}, "yes", "advice IvrsCut 0x30 0x3c 0x64")
+of_amd(
+    "a block of memory ends before its length does", b"RSDT", IOMMU_SLOT, "yes", "advice IvrsShort 0x64 0x20 0x18",
+    others=amd_ivrs(ivmd(length=24)),
+)
+of_amd("the IOMMU has a type that there is not", b"IVRS", {0x30: b"\x12"}, "yes", "advice NoIvhd")
+of_amd("the IOMMU's address is that of the next page", b"IVRS", {0x39: b"\x10"}, "yes", "advice IvhdAddress 0x30 0x8 0xfed81000")
+of_amd(
+    "the second IOMMU has the device of the first", b"RSDT", IOMMU_SLOT, "yes", "advice SameIvhd 0x64 0x30 0x8",
+    "advice IvhdDiffers 0x64 0x30 0xfed84000", others=amd_ivrs(ivhd(device=8, base=0xFED84000)),
+)
+of_amd(
+    "the block of a later type has another address", b"RSDT", IOMMU_SLOT, "yes", "advice IvhdDiffers 0x64 0x30 0xfed84000",
+    others=amd_ivrs(ivhd(*AMD_ENTRIES, kind=IVHD_11, device=8, base=0xFED84000)),
+)
+of_amd("an entry has the type 82h", b"IVRS", {0x4C: b"\x82"}, "yes", "advice IvhdEntryCut 0x4c 0x0 0x64")
+of_amd("the variety of the I/O APIC is left 0", b"IVRS", {0x63: b"\0"}, "yes", "advice IvhdEntryType 0x5c 0x7")
+of_amd("a range of devices starts, and does not end", b"IVRS", {0x58: b"\3"}, "yes", "advice IvhdRange 0x58 0x1 0xfb")
+of_amd("the number of the I/O APIC is counted from 1", b"IVRS", {0x60: b"\1"}, "yes", "advice IoApicNotInIvrs 0x34 0x2")
+of_amd(
+    "the I/O APIC has two entries", b"RSDT", IOMMU_SLOT, "yes", "advice SameSpecial 0x64 0x5c",
+    others=amd_ivrs(entries=(*AMD_ENTRIES, special(VARIETY_IO_APIC, 0, 0xA1))),
+)
+of_amd("memory has neither of its flags", b"RSDT", IOMMU_SLOT, "yes", "advice IvmdRange 0x64 0x1", others=amd_ivrs(ivmd(flags=0)))

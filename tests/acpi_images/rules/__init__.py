@@ -2,4 +2,4 @@
 named in it, which shares no code with the program. A rule whose tables or fields are not there is kept."""
 
 # Each adds its rules to the list of rule.py.
-from . import domains, fadt, gic, gtdt, hmat, hpet, madt, mcfg, pptt, spcr, tables
+from . import dmar, domains, fadt, gic, gtdt, hmat, hpet, ivrs, madt, mcfg, pptt, spcr, tables

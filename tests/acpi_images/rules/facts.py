@@ -176,6 +176,16 @@ class Facts:
         return self.tables.table(b"SPCR")
 
     @cached_property
+    def dmar(self):
+        """The same of the DMAR."""
+        return self.tables.table(b"DMAR")
+
+    @cached_property
+    def ivrs(self):
+        """The same of the IVRS."""
+        return self.tables.table(b"IVRS")
+
+    @cached_property
     def uids(self):
         return {it.uid for it in self.processors}
 

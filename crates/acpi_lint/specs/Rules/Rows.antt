@@ -1,8 +1,7 @@
 -- The rules of advice: their numbers and names. scripts/lists.py writes rule_row and all_rules.
-use Rattle.std.specs.Prelude.{◌≡◌, ℕ, Bool, true, List, [], ◌∷◌, ◌==◌, ◌&&◌, Option, codes, find, map}
+use Rattle.std.specs.Prelude.{◌≡◌, ℕ, Bool, true, List, [], ◌∷◌, ◌==◌, Option, codes, find, map}
 use Rattle.std.specs.List.{list_all}
 use Rattle.std.specs.Str.{bytes_eq}
-use denote.Ref.{Bor}
 use Rattle.acpi_lint.specs.declared.rule.Rule.{Rule}
 use Rattle.acpi_lint.specs.declared.rule.Rule.TheVariants as rule
 
@@ -127,45 +126,76 @@ rule_row rule.SameFrame = (115, 216, codes "SameFrame")
 rule_row rule.Watchdog = (116, 217, codes "Watchdog")
 rule_row rule.TimerNoSpi = (117, 218, codes "TimerNoSpi")
 rule_row rule.TimerOverlap = (118, 219, codes "TimerOverlap")
-rule_row rule.SpcrLength = (119, 271, codes "SpcrLength")
-rule_row rule.SpcrAddress = (120, 272, codes "SpcrAddress")
-rule_row rule.SpcrBaud = (121, 273, codes "SpcrBaud")
-rule_row rule.SpcrGsi = (122, 274, codes "SpcrGsi")
-rule_row rule.SpcrPci = (123, 275, codes "SpcrPci")
-rule_row rule.SpcrName = (124, 276, codes "SpcrName")
-rule_row rule.RsdpText = (125, 279, codes "RsdpText")
-rule_row rule.RootHeader = (126, 280, codes "RootHeader")
-rule_row rule.DsdtText = (127, 281, codes "DsdtText")
-rule_row rule.FadtPastRevision = (128, 282, codes "FadtPastRevision")
-rule_row rule.ArmBootEarly = (129, 283, codes "ArmBootEarly")
-rule_row rule.FixedInReduced = (130, 284, codes "FixedInReduced")
-rule_row rule.SmiHandshake = (131, 285, codes "SmiHandshake")
-rule_row rule.S4BiosDiffers = (132, 286, codes "S4BiosDiffers")
-rule_row rule.GpePastEnd = (133, 287, codes "GpePastEnd")
-rule_row rule.BlockTooLong = (134, 288, codes "BlockTooLong")
-rule_row rule.BlockSpace = (135, 289, codes "BlockSpace")
-rule_row rule.BlockUsualWidth = (136, 290, codes "BlockUsualWidth")
-rule_row rule.SleepNotReduced = (137, 291, codes "SleepNotReduced")
-rule_row rule.FadtForRiscv = (138, 292, codes "FadtForRiscv")
-rule_row rule.GiccShort = (139, 293, codes "GiccShort")
-rule_row rule.GiccNoGicr = (140, 294, codes "GiccNoGicr")
-rule_row rule.CapableNoGicr = (141, 295, codes "CapableNoGicr")
-rule_row rule.GiccDiffers = (142, 296, codes "GiccDiffers")
-rule_row rule.SameGicrBase = (143, 297, codes "SameGicrBase")
-rule_row rule.ParkingVersion = (144, 298, codes "ParkingVersion")
-rule_row rule.GiccNoPpi = (145, 299, codes "GiccNoPpi")
-rule_row rule.PicVersion = (146, 300, codes "PicVersion")
-rule_row rule.FurtherReserved = (147, 301, codes "FurtherReserved")
-rule_row rule.HartInvalid = (148, 302, codes "HartInvalid")
-rule_row rule.WakeupMailbox = (149, 303, codes "WakeupMailbox")
-rule_row rule.LapicAtZero = (150, 304, codes "LapicAtZero")
-rule_row rule.MadtRevision = (151, 305, codes "MadtRevision")
-rule_row rule.AffinityReserved = (152, 306, codes "AffinityReserved")
-rule_row rule.DeviceHandle = (153, 307, codes "DeviceHandle")
-rule_row rule.ItsDomain = (154, 308, codes "ItsDomain")
-rule_row rule.PpttUnread = (155, 309, codes "PpttUnread")
-rule_row rule.CacheIdZero = (156, 310, codes "CacheIdZero")
-rule_row rule.SameCacheType = (157, 311, codes "SameCacheType")
+rule_row rule.DmarWidth = (119, 240, codes "DmarWidth")
+rule_row rule.DmarCut = (120, 241, codes "DmarCut")
+rule_row rule.DmarShort = (121, 242, codes "DmarShort")
+rule_row rule.NoDrhd = (122, 243, codes "NoDrhd")
+rule_row rule.ScopeCut = (123, 244, codes "ScopeCut")
+rule_row rule.ScopeType = (124, 245, codes "ScopeType")
+rule_row rule.DrhdAddress = (125, 246, codes "DrhdAddress")
+rule_row rule.DrhdOverlap = (126, 247, codes "DrhdOverlap")
+rule_row rule.SecondIncludeAll = (127, 248, codes "SecondIncludeAll")
+rule_row rule.IncludeAllNotLast = (128, 249, codes "IncludeAllNotLast")
+rule_row rule.RmrrRange = (129, 250, codes "RmrrRange")
+rule_row rule.RmrrNoDevice = (130, 251, codes "RmrrNoDevice")
+rule_row rule.RhsaNowhere = (131, 252, codes "RhsaNowhere")
+rule_row rule.RhsaDomain = (132, 253, codes "RhsaDomain")
+rule_row rule.SameRhsa = (133, 254, codes "SameRhsa")
+rule_row rule.AnddName = (134, 255, codes "AnddName")
+rule_row rule.AnddNowhere = (135, 256, codes "AnddNowhere")
+rule_row rule.IoApicUnmapped = (136, 257, codes "IoApicUnmapped")
+rule_row rule.SameScope = (137, 258, codes "SameScope")
+rule_row rule.IvrsCut = (138, 259, codes "IvrsCut")
+rule_row rule.IvrsShort = (139, 260, codes "IvrsShort")
+rule_row rule.NoIvhd = (140, 261, codes "NoIvhd")
+rule_row rule.IvhdAddress = (141, 262, codes "IvhdAddress")
+rule_row rule.SameIvhd = (142, 263, codes "SameIvhd")
+rule_row rule.IvhdDiffers = (143, 264, codes "IvhdDiffers")
+rule_row rule.IvhdEntryCut = (144, 265, codes "IvhdEntryCut")
+rule_row rule.IvhdEntryType = (145, 266, codes "IvhdEntryType")
+rule_row rule.IvhdRange = (146, 267, codes "IvhdRange")
+rule_row rule.IoApicNotInIvrs = (147, 268, codes "IoApicNotInIvrs")
+rule_row rule.SameSpecial = (148, 269, codes "SameSpecial")
+rule_row rule.IvmdRange = (149, 270, codes "IvmdRange")
+rule_row rule.SpcrLength = (150, 271, codes "SpcrLength")
+rule_row rule.SpcrAddress = (151, 272, codes "SpcrAddress")
+rule_row rule.SpcrBaud = (152, 273, codes "SpcrBaud")
+rule_row rule.SpcrGsi = (153, 274, codes "SpcrGsi")
+rule_row rule.SpcrPci = (154, 275, codes "SpcrPci")
+rule_row rule.SpcrName = (155, 276, codes "SpcrName")
+rule_row rule.RsdpText = (156, 279, codes "RsdpText")
+rule_row rule.RootHeader = (157, 280, codes "RootHeader")
+rule_row rule.DsdtText = (158, 281, codes "DsdtText")
+rule_row rule.FadtPastRevision = (159, 282, codes "FadtPastRevision")
+rule_row rule.ArmBootEarly = (160, 283, codes "ArmBootEarly")
+rule_row rule.FixedInReduced = (161, 284, codes "FixedInReduced")
+rule_row rule.SmiHandshake = (162, 285, codes "SmiHandshake")
+rule_row rule.S4BiosDiffers = (163, 286, codes "S4BiosDiffers")
+rule_row rule.GpePastEnd = (164, 287, codes "GpePastEnd")
+rule_row rule.BlockTooLong = (165, 288, codes "BlockTooLong")
+rule_row rule.BlockSpace = (166, 289, codes "BlockSpace")
+rule_row rule.BlockUsualWidth = (167, 290, codes "BlockUsualWidth")
+rule_row rule.SleepNotReduced = (168, 291, codes "SleepNotReduced")
+rule_row rule.FadtForRiscv = (169, 292, codes "FadtForRiscv")
+rule_row rule.GiccShort = (170, 293, codes "GiccShort")
+rule_row rule.GiccNoGicr = (171, 294, codes "GiccNoGicr")
+rule_row rule.CapableNoGicr = (172, 295, codes "CapableNoGicr")
+rule_row rule.GiccDiffers = (173, 296, codes "GiccDiffers")
+rule_row rule.SameGicrBase = (174, 297, codes "SameGicrBase")
+rule_row rule.ParkingVersion = (175, 298, codes "ParkingVersion")
+rule_row rule.GiccNoPpi = (176, 299, codes "GiccNoPpi")
+rule_row rule.PicVersion = (177, 300, codes "PicVersion")
+rule_row rule.FurtherReserved = (178, 301, codes "FurtherReserved")
+rule_row rule.HartInvalid = (179, 302, codes "HartInvalid")
+rule_row rule.WakeupMailbox = (180, 303, codes "WakeupMailbox")
+rule_row rule.LapicAtZero = (181, 304, codes "LapicAtZero")
+rule_row rule.MadtRevision = (182, 305, codes "MadtRevision")
+rule_row rule.AffinityReserved = (183, 306, codes "AffinityReserved")
+rule_row rule.DeviceHandle = (184, 307, codes "DeviceHandle")
+rule_row rule.ItsDomain = (185, 308, codes "ItsDomain")
+rule_row rule.PpttUnread = (186, 309, codes "PpttUnread")
+rule_row rule.CacheIdZero = (187, 310, codes "CacheIdZero")
+rule_row rule.SameCacheType = (188, 311, codes "SameCacheType")
 
 abbrev pub rule_place : Rule → ℕ
 rule_place r = (rule_row r).0
@@ -202,14 +232,20 @@ all_rules =
     rule.HmatProximity ∷ rule.HmatDomainNowhere ∷ rule.HmatCacheNowhere ∷ rule.HmatCache ∷ rule.HmatAlone ∷
     rule.GtdtLength ∷ rule.NoGtdt ∷ rule.NoTimer ∷ rule.TimerNoPpi ∷ rule.SameTimer ∷ rule.PlatformTimerCut ∷
     rule.TimerBlock ∷ rule.TimerFrame ∷ rule.SameFrame ∷ rule.Watchdog ∷ rule.TimerNoSpi ∷ rule.TimerOverlap ∷
-    rule.SpcrLength ∷ rule.SpcrAddress ∷ rule.SpcrBaud ∷ rule.SpcrGsi ∷ rule.SpcrPci ∷ rule.SpcrName ∷
-    rule.RsdpText ∷ rule.RootHeader ∷ rule.DsdtText ∷ rule.FadtPastRevision ∷ rule.ArmBootEarly ∷
-    rule.FixedInReduced ∷ rule.SmiHandshake ∷ rule.S4BiosDiffers ∷ rule.GpePastEnd ∷ rule.BlockTooLong ∷
-    rule.BlockSpace ∷ rule.BlockUsualWidth ∷ rule.SleepNotReduced ∷ rule.FadtForRiscv ∷ rule.GiccShort ∷
-    rule.GiccNoGicr ∷ rule.CapableNoGicr ∷ rule.GiccDiffers ∷ rule.SameGicrBase ∷ rule.ParkingVersion ∷
-    rule.GiccNoPpi ∷ rule.PicVersion ∷ rule.FurtherReserved ∷ rule.HartInvalid ∷ rule.WakeupMailbox ∷
-    rule.LapicAtZero ∷ rule.MadtRevision ∷ rule.AffinityReserved ∷ rule.DeviceHandle ∷ rule.ItsDomain ∷
-    rule.PpttUnread ∷ rule.CacheIdZero ∷ rule.SameCacheType ∷ []
+    rule.DmarWidth ∷ rule.DmarCut ∷ rule.DmarShort ∷ rule.NoDrhd ∷ rule.ScopeCut ∷ rule.ScopeType ∷
+    rule.DrhdAddress ∷ rule.DrhdOverlap ∷ rule.SecondIncludeAll ∷ rule.IncludeAllNotLast ∷ rule.RmrrRange ∷
+    rule.RmrrNoDevice ∷ rule.RhsaNowhere ∷ rule.RhsaDomain ∷ rule.SameRhsa ∷ rule.AnddName ∷
+    rule.AnddNowhere ∷ rule.IoApicUnmapped ∷ rule.SameScope ∷ rule.IvrsCut ∷ rule.IvrsShort ∷ rule.NoIvhd ∷
+    rule.IvhdAddress ∷ rule.SameIvhd ∷ rule.IvhdDiffers ∷ rule.IvhdEntryCut ∷ rule.IvhdEntryType ∷
+    rule.IvhdRange ∷ rule.IoApicNotInIvrs ∷ rule.SameSpecial ∷ rule.IvmdRange ∷ rule.SpcrLength ∷
+    rule.SpcrAddress ∷ rule.SpcrBaud ∷ rule.SpcrGsi ∷ rule.SpcrPci ∷ rule.SpcrName ∷ rule.RsdpText ∷
+    rule.RootHeader ∷ rule.DsdtText ∷ rule.FadtPastRevision ∷ rule.ArmBootEarly ∷ rule.FixedInReduced ∷
+    rule.SmiHandshake ∷ rule.S4BiosDiffers ∷ rule.GpePastEnd ∷ rule.BlockTooLong ∷ rule.BlockSpace ∷
+    rule.BlockUsualWidth ∷ rule.SleepNotReduced ∷ rule.FadtForRiscv ∷ rule.GiccShort ∷ rule.GiccNoGicr ∷
+    rule.CapableNoGicr ∷ rule.GiccDiffers ∷ rule.SameGicrBase ∷ rule.ParkingVersion ∷ rule.GiccNoPpi ∷
+    rule.PicVersion ∷ rule.FurtherReserved ∷ rule.HartInvalid ∷ rule.WakeupMailbox ∷ rule.LapicAtZero ∷
+    rule.MadtRevision ∷ rule.AffinityReserved ∷ rule.DeviceHandle ∷ rule.ItsDomain ∷ rule.PpttUnread ∷
+    rule.CacheIdZero ∷ rule.SameCacheType ∷ []
 
 -- the rule with this number
 unfoldable pub rule_numbered : ℕ → Option Rule
@@ -222,11 +258,11 @@ rule_named name = find (λ r. bytes_eq (rule_name r) name) all_rules
 -- ---- the code's table of the rules
 
 abbrev pub BorRule : Type 0
-BorRule = Rule × ℕ × Bor (List ℕ)
+BorRule = Rule × ℕ
 
--- whether a row has its rule's number and name
+-- whether a row has its rule's number
 abbrev pub is_row : BorRule → Bool
-is_row row = (row.1 == rule_number row.0) && bytes_eq row.2.now (rule_name row.0)
+is_row row = row.1 == rule_number row.0
 
 -- the rows are those of all rules, in their order
 pub record AreRows (rows : List BorRule) : Type 0 where

@@ -5,7 +5,9 @@ use crate::rows::fadt_fields::*;
 use crate::rows::madt::{OTHER_MADT_LENGTHS, OTHER_MADT_WHOLE};
 use crate::rows::madt_fields::{GICC, GICC_FLAGS, GICC_PARKING_VERSION, MADT_ENTRIES, RINTC};
 use crate::rows::table_fields::{REVISION, TABLE, WHOLE};
-use acpi_rules::{Case, Clause, Form, Guard, Kind, Need, Row, Source, Test, Value, Within};
+use acpi_rules::{
+    Case, Clause, Clauses, Form, Guard, Kind, Need, Row, Source, Test, Value, Within,
+};
 
 /// The hardware is reduced, or is not: bit 20 of Flags, HW_REDUCED_ACPI.
 const REDUCED: Guard<'static> = guard!((some table TABLE: REDUCED_FLAG));

@@ -4,7 +4,7 @@ use crate::rows::gtdt_fields::*;
 use crate::rows::madt::{OTHER_GIC, OTHER_MADT_LENGTHS, OTHER_MADT_WHOLE};
 use crate::rows::table_fields::{LENGTH, REVISION, TABLE, WHOLE};
 use acpi_rules::{
-    Clause, Form, Guard, Kind, Need, Range, Repeat, Row, Source, Test, Value, Within,
+    Clause, Clauses, Form, Guard, Kind, Need, Range, Repeat, Row, Source, Test, Value, Within,
 };
 
 /// The table has the fields of its Revision.

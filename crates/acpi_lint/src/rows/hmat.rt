@@ -4,7 +4,7 @@ use crate::rows::hmat_fields::*;
 use crate::rows::srat::{ALL_DOMAINS, OTHER_SRAT_LENGTHS, OTHER_SRAT_READ, OTHER_SRAT_WHOLE};
 use crate::rows::srat_fields::{MEMORY, MEMORY_DOMAIN, PORT, PORT_DOMAIN, SRAT_ENTRIES};
 use crate::rows::table_fields::{LENGTH, REVISION, TABLE, WHOLE};
-use acpi_rules::{Clause, Form, Kind, LookUp, Repeat, Row, Source, Test, Value, Within};
+use acpi_rules::{Clause, Clauses, Form, Kind, LookUp, Repeat, Row, Source, Test, Value, Within};
 
 /// Rules on the HMAT. By hand is 207 HmatAlone, since a row does not see which tables are listed.
 pub static HMAT: [Row<'static>; 10] = [

@@ -2,7 +2,7 @@
 
 use crate::rows::hpet_fields::*;
 use crate::rows::table_fields::{LENGTH, TABLE, WHOLE};
-use acpi_rules::{Clause, Form, Row, Test, Value, Within};
+use acpi_rules::{Clause, Clauses, Form, Row, Test, Value, Within};
 
 /// Rules on the HPET.
 pub static HPET: [Row<'static>; 3] = [

@@ -13,7 +13,8 @@ use crate::rows::srat::{
 use crate::rows::srat_fields::SRAT_ENTRIES;
 use crate::rows::table_fields::*;
 use acpi_rules::{
-    Case, Clause, Form, Guard, Kind, LookUp, Need, Range, Repeat, Row, Source, Test, Value, Within,
+    Case, Clause, Clauses, Form, FoundAs, Guard, Kind, LookUp, Need, Range, Repeat, Row, Source,
+    Test, Value, Within,
 };
 
 // ---- what entries give
@@ -82,11 +83,11 @@ const HAS_NO_REDISTRIBUTORS: Guard<'static> = guard!((first table MADT_ENTRIES: 
 
 /// The entries fill the table, and those of a type that `check` reads have its length. Of such a table alone it is known
 /// what is not in it.
-const MADT_WHOLE: Guard<'static> = guard!((whole table MADT_ENTRIES));
+pub const MADT_WHOLE: Guard<'static> = guard!((whole table MADT_ENTRIES));
 
 pub const OTHER_MADT_WHOLE: Guard<'static> = guard!((whole other MADT_ENTRIES));
 
-const MADT_LENGTHS: Guard<'static> = guard!((none table MADT_ENTRIES: WRONG_LENGTHS));
+pub const MADT_LENGTHS: Guard<'static> = guard!((none table MADT_ENTRIES: WRONG_LENGTHS));
 
 pub const OTHER_MADT_LENGTHS: Guard<'static> = guard!((none other MADT_ENTRIES: WRONG_LENGTHS));
 

@@ -2,7 +2,7 @@
 
 use crate::rows::mcfg_fields::*;
 use crate::rows::table_fields::{LENGTH, OEM_ID_0_2, REVISION, TABLE, WHOLE};
-use acpi_rules::{Case, Clause, Form, Range, Row, Test, Value, Within};
+use acpi_rules::{Case, Clause, Clauses, Form, Range, Row, Test, Value, Within};
 
 /// The base address of each entry with buses, and 256 times its End Bus Number and its Start Bus Number; for EcamOverlap.
 pub const ECAMS: &[Case<'static>] = cases!({

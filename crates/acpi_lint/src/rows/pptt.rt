@@ -5,7 +5,8 @@ use crate::rows::madt_fields::{CORE_PIC, GICC, MADT_ENTRIES, RINTC};
 use crate::rows::pptt_fields::*;
 use crate::rows::table_fields::{RESERVED_2, RESERVED_3, REVISION, TABLE, TYPE, WHOLE};
 use acpi_rules::{
-    Case, Clause, Form, Guard, Kind, LookUp, Need, Repeat, Row, Source, Test, Value, Within,
+    Case, Clause, Clauses, Form, FoundAs, Guard, Kind, LookUp, Need, Repeat, Row, Source, Test,
+    Value, Within,
 };
 
 // ---- what entries give

@@ -3,7 +3,7 @@
 use crate::rows::madt::{OTHER_GIC, OTHER_MADT_LENGTHS, OTHER_MADT_WHOLE};
 use crate::rows::spcr_fields::*;
 use crate::rows::table_fields::{LENGTH, REVISION, TABLE, WHOLE};
-use acpi_rules::{Clause, Form, Guard, Need, Row, Source, Test, Value, Within};
+use acpi_rules::{Clause, Clauses, Form, Guard, Need, Row, Source, Test, Value, Within};
 
 /// The table has the fields of its Revision.
 const SPCR_FULL: Guard<'static> = guard!((some table TABLE: { SPCR_80 if REVISION < 4; SPCR_88 }));

@@ -8,7 +8,8 @@ use crate::rows::slit_fields::LOCALITIES;
 use crate::rows::srat_fields::*;
 use crate::rows::table_fields::*;
 use acpi_rules::{
-    Case, Clause, Form, Guard, Kind, LookUp, Need, Repeat, Row, Source, Test, Value, Within,
+    Case, Clause, Clauses, Form, Guard, Kind, LookUp, Need, Repeat, Row, Source, Test, Value,
+    Within,
 };
 
 // ---- what entries give

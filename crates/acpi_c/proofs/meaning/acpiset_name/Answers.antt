@@ -15,21 +15,21 @@ returns c =
         name,
         by_code (λ d. name ≡ code_name d) (λ r. name ≡ rule_name r) (name ≡ []) n w.in-Some-Code.code
             (rw (w.in-Some-Code.is, w.in-Some-Code.field-0-is) at c.with_number.ensures)
-            (ap bytes w.name-is ∙ w.name-name.ensures),
-        c.write_to.ensures,
+            (ap bytes w.name-is ∙ w.as_bytes-name.ensures.value ∙ w.name.ensures),
+        c.write_bytes.ensures,
       )
       | in-Some-Rule w ↦ (
         name,
         by_rule (λ d. name ≡ code_name d) (λ r. name ≡ rule_name r) (name ≡ []) n w.in-Some-Rule.rule
             (rw (w.in-Some-Rule.is, w.in-Some-Rule.field-0-is) at c.with_number.ensures)
-            (ap bytes w.name-is ∙ w.name-name-in-Some-Rule.ensures),
-        c.write_to.ensures,
+            (ap bytes w.name-is ∙ w.rule_name-name.ensures),
+        c.write_bytes.ensures,
       )
       | in-None w ↦ (
         name,
         by_none (λ d. name ≡ code_name d) (λ r. name ≡ rule_name r) (name ≡ []) n
             (rw w.in-None.is at c.with_number.ensures)
             (ap bytes w.name-is),
-        c.write_to.ensures,
+        c.write_bytes.ensures,
       )
     ]

@@ -20,7 +20,12 @@ returns-in_default c = λ at other point small.
     let no : None ≡ Some g = none ∙ ap (λ items. slice_get items 0) lengths ∙ is in
     absurd cc
 
+pub returns-then-count-due : goal.returns-then-count-due
+unfolding guard_holds
+returns-then-count-due c = λ at other point small. search rules
+
 pub returns : goal.returns
+unfolding guard_holds
 returns c =
     let madt = c.args.madt.now in
     let g = c.in-Some.first.now in

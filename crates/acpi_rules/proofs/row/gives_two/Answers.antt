@@ -1,8 +1,13 @@
-use Rattle.std.proofs.Common.{◌∙◌, map}
+use Rattle.std.proofs.Common.{◌∙◌, map, sym}
 use Rattle.acpi_rules.specs.Cases.{case_value}
 use Rattle.acpi_rules.specs.Terms.{tables_value}
-use Rattle.acpi_rules.proofs.ToldNumbers.{none_given_twice, two_given}
+use Rattle.acpi_rules.proofs.ToldNumbers.{no_two, none_given_twice, two_given}
 use Rattle.acpi_rules.proofs.row.gives_two.Goals as goal
+
+pub returns-then-not-gives_any : goal.returns-then-not-gives_any
+returns-then-not-gives_any c =
+    no_two (tables_value c.args.tables.now) c.args.path.now (map case_value c.args.cases.now)
+    (sym c.if-not-gives_any.ensures)
 
 pub returns-then-is_none : goal.returns-then-is_none
 returns-then-is_none c =

@@ -1,8 +1,13 @@
-use Rattle.std.proofs.Common.{map}
+use Rattle.std.proofs.Common.{map, sym}
 use Rattle.acpi_rules.specs.Cases.{case_value}
 use Rattle.acpi_rules.specs.Terms.{tables_value}
-use Rattle.acpi_rules.proofs.ToldNumbers.{first_is, first_is_none}
+use Rattle.acpi_rules.proofs.ToldNumbers.{first_is, first_is_none, no_first}
 use Rattle.acpi_rules.proofs.row.is_first_some.Goals as goal
+
+pub returns-then-not-gives_any : goal.returns-then-not-gives_any
+returns-then-not-gives_any c =
+    no_first (tables_value c.args.tables.now) c.args.path.now (map case_value c.args.cases.now)
+    (sym c.if-not-gives_any.ensures)
 
 pub returns-in-Some : goal.returns-in-Some
 returns-in-Some c =

@@ -10,4 +10,5 @@ returns-clause-tables c =
     (c.found-4.ensures c.args.rsdp firsts) (c.found-5.ensures c.args.rsdp firsts)
     (c.found_further.ensures c.args.rsdp firsts) (c.found_further-2.ensures c.args.rsdp firsts)
     (c.found_further-3.ensures c.args.rsdp firsts) (c.found_further-4.ensures c.args.rsdp firsts)
-    (c.found_further-5.ensures c.args.rsdp firsts)
+    (c.found_further-5.ensures c.args.rsdp firsts) (c.found_further-6.ensures c.args.rsdp firsts)
+    (c.found_further-7.ensures c.args.rsdp firsts)
